@@ -1,0 +1,20 @@
+//! The words that all crates share: numbers of tasks, phones and calls, messages and replies,
+//! what a task asks and is told, what a script says, and the entries of a trace.
+//!
+//! Contracts see every type as the record or enum that it is, but for the lists `Ops`, `Bodies` and
+//! `Buffer`, which they see as lists, and `Trace`, a list of entries with room for more.
+#![tactic(auto)]
+
+mod buffer;
+mod entry;
+mod message;
+mod numbers;
+mod op;
+mod trace;
+
+pub use buffer::Buffer;
+pub use entry::Entry;
+pub use message::{Event, Mode, Msg, Outcome, PhoneState, Reply, Request};
+pub use numbers::{CallNo, Code, Label, PhoneNo, TaskNo};
+pub use op::{Bodies, Body, Op, Ops, Value};
+pub use trace::{NoMemory, Trace};

@@ -1,0 +1,99 @@
+//! Numbers of tasks, phones and calls, and the codes of answers.
+
+use std::fmt;
+
+/// A task, from 1 on in the order in which tasks are added.
+#[derive(Clone, Copy, Debug, PartialEq, Eq)]
+pub struct TaskNo(pub u64);
+
+/// A phone of a task, from 0 on.
+#[derive(Clone, Copy, Debug, PartialEq, Eq)]
+pub struct PhoneNo(pub u32);
+
+/// A call, from 1 on in the order of acceptance. No number is used twice.
+#[derive(Clone, Copy, Debug, PartialEq, Eq)]
+pub struct CallNo(pub u64);
+
+/// What an answer says. 0 is success; a task may answer with any number.
+#[derive(Clone, Copy, Debug, PartialEq, Eq)]
+pub struct Code(pub u64);
+
+/// A phone of a task: where a call comes from.
+#[derive(Clone, Copy, Debug, PartialEq, Eq)]
+pub struct Label {
+    pub task: TaskNo,
+    pub phone: PhoneNo,
+}
+
+impl Code {
+    pub const EOK: Code = Code(0);
+
+    pub const ENOENT: Code = Code(1);
+
+    pub const EPERM: Code = Code(2);
+
+    pub const EEXIST: Code = Code(3);
+
+    pub const EINVAL: Code = Code(4);
+
+    pub const ELIMIT: Code = Code(5);
+
+    pub const EHANGUP: Code = Code(6);
+
+    pub const EFORWARD: Code = Code(7);
+
+    pub const EBUSY: Code = Code(8);
+
+    pub const ENOMEM: Code = Code(9);
+}
+
+/// `t` and the number.
+impl fmt::Display for TaskNo {
+    ghost use Rattle.std.specs.Prelude.{Some};
+    ghost use Rattle.ipc_ids.specs.Text.{task_text};
+
+    ghost output = { λ task. Some (task_text task) };
+
+    fn fmt<W: fmt::Write>(&self, f: &mut fmt::Formatter<W>) -> fmt::Result {
+        let number = self.0;
+        write!(f, "t{number}")
+    }
+}
+
+/// The task, a dot and the number of the phone.
+impl fmt::Display for Label {
+    ghost use Rattle.std.specs.Prelude.{Some};
+    ghost use Rattle.ipc_ids.specs.Text.{label_text};
+
+    ghost output = { λ label. Some (label_text label) };
+
+    fn fmt<W: fmt::Write>(&self, f: &mut fmt::Formatter<W>) -> fmt::Result {
+        let task = self.task;
+        let phone = self.phone.0;
+        write!(f, "{task}.{phone}")
+    }
+}
+
+/// The name of a code that has one, and else its number.
+impl fmt::Display for Code {
+    ghost use Rattle.std.specs.Prelude.{Some};
+    ghost use Rattle.ipc_ids.specs.Text.{code_text};
+
+    ghost output = { λ code. Some (code_text code) };
+
+    fn fmt<W: fmt::Write>(&self, f: &mut fmt::Formatter<W>) -> fmt::Result {
+        match self.0 {
+            0 => f.write_str("EOK"),
+            1 => f.write_str("ENOENT"),
+            2 => f.write_str("EPERM"),
+            3 => f.write_str("EEXIST"),
+            4 => f.write_str("EINVAL"),
+            5 => f.write_str("ELIMIT"),
+            6 => f.write_str("EHANGUP"),
+            7 => f.write_str("EFORWARD"),
+            8 => f.write_str("EBUSY"),
+            9 => f.write_str("ENOMEM"),
+            number => write!(f, "{number}"),
+        }
+    }
+}

@@ -1,0 +1,147 @@
+//! What a script says: operations, and bodies of them.
+ghost use Rattle.std.specs.Prelude.{◌≡◌, [], ◌∷◌, ◌++◌, OnOk, OnErr};
+
+use crate::message::Mode;
+use crate::trace::NoMemory;
+use std::alloc::Global;
+use std::marker::Model;
+
+/// A number, or what a register holds, `r0` to `r31`.
+#[derive(Clone, Copy, Debug, PartialEq, Eq)]
+pub enum Value {
+    Number(u64),
+    Register(u32),
+}
+
+/// One operation of a body. An argument that the script leaves out is `Value::Number(0)`.
+#[derive(Clone, Copy, Debug, PartialEq, Eq)]
+pub enum Op {
+    Call {
+        phone: Value,
+        method: Value,
+        args: [Value; 5],
+    },
+    Receive,
+    Answer {
+        call: Value,
+        code: Value,
+        args: [Value; 5],
+    },
+    Forward {
+        call: Value,
+        phone: Value,
+        mode: Mode,
+    },
+    ForwardWith {
+        call: Value,
+        phone: Value,
+        mode: Mode,
+        method: Value,
+        args: [Value; 5],
+    },
+    Hangup(Value),
+    Set {
+        register: u32,
+        value: Value,
+    },
+    Jump(u32),
+    JumpEqual {
+        left: Value,
+        right: Value,
+        to: u32,
+    },
+    JumpDiffer {
+        left: Value,
+        right: Value,
+        to: u32,
+    },
+}
+
+/// Operations in their order.
+#[derive(Drop)]
+pub struct Ops {
+    items: Vec<Op>,
+}
+
+impl Model for Ops {
+    ghost use Rattle.std.specs.Prelude.{List};
+    ghost use Rattle.ipc_ids.specs.declared.op.Op.{Op};
+
+    ghost Value = { List Op };
+
+    ghost view = { λ ops. ops.items.items };
+}
+
+/// What one fibril of a task does. The body of a task's connections is marked.
+#[derive(Drop)]
+pub struct Body {
+    pub connection: bool,
+    pub ops: Ops,
+}
+
+/// Bodies in the order of the script.
+#[derive(Drop)]
+pub struct Bodies {
+    items: Vec<Body>,
+}
+
+impl Model for Bodies {
+    ghost use Rattle.std.specs.Prelude.{List};
+    ghost use Rattle.ipc_ids.specs.declared.op.Body.{Body};
+
+    ghost Value = { List Body };
+
+    ghost view = { λ bodies. bodies.items.items };
+}
+
+impl Ops {
+    pub fn new(alloc: Global) -> Ops
+        ensures { result ≡ [] }
+    {
+        Ops {
+            items: Vec::new(alloc),
+        }
+    }
+
+    pub fn push(&mut self, item: Op) -> Result<(), NoMemory>
+        ensures ok { OnOk result (self.new ≡ self.old ++ item ∷ []) }
+        ensures err { OnErr result (self.new ≡ self.old) }
+    {
+        match self.items.push(item) {
+            Ok(()) => Ok(()),
+            Err(_) => Err(NoMemory),
+        }
+    }
+
+    pub fn as_slice(&self) -> &[Op]
+        ensures { result.now ≡ self.now }
+    {
+        self.items.as_slice()
+    }
+}
+
+impl Bodies {
+    pub fn new(alloc: Global) -> Bodies
+        ensures { result ≡ [] }
+    {
+        Bodies {
+            items: Vec::new(alloc),
+        }
+    }
+
+    pub fn push(&mut self, item: Body) -> Result<(), NoMemory>
+        ensures ok { OnOk result (self.new ≡ self.old ++ item ∷ []) }
+        ensures err { OnErr result (self.new ≡ self.old) }
+    {
+        match self.items.push(item) {
+            Ok(()) => Ok(()),
+            Err(_) => Err(NoMemory),
+        }
+    }
+
+    pub fn as_slice(&self) -> &[Body]
+        ensures { result.now ≡ self.now }
+    {
+        self.items.as_slice()
+    }
+}
