@@ -1,0 +1,2 @@
+//! The calls of all tasks, each in one place of one task's answerbox.
+#![tactic(auto)]

@@ -1,0 +1,6 @@
+//! The phones of all tasks.
+#![tactic(auto)]
+
+mod hung;
+
+pub use hung::Hung;
