@@ -1,0 +1,4 @@
+pub mod Lookups
+pub mod Rows
+pub mod Loops
+pub mod Soundness
