@@ -1,8 +1,10 @@
 -- What the kernel's code keeps beside a sound state: a count of active calls at each phone.
-use Rattle.std.specs.Prelude.{◌≡◌, ℕ, ◌-◌, List, Option, Some, length, slice_get, slice_set}
+use Rattle.std.specs.Prelude.{◌≡◌, ℕ, ◌-◌, ◌<◌, ◌≤◌, List, Option, Some, length, slice_get, slice_set, if◌then◌else◌}
+use Rattle.std.specs.FinMap.{len}
 use Rattle.std.specs.Option.{option_map_or}
+use Rattle.ipc_ids.specs.declared.numbers.TaskNo.{TaskNo}
 use Rattle.ipc_ids.specs.declared.numbers.Label.{Label}
-use Rattle.answerbox.specs.Calls.{CallTable, active_calls}
+use Rattle.answerbox.specs.Calls.{CallTable, active_calls, is_caller}
 use Rattle.phone_table.specs.Phones.{row_at, count_at}
 use Rattle.kernel_core.specs.State.{KernelState}
 use Rattle.kernel_core.specs.Sound.{IsSound}
@@ -21,8 +23,13 @@ recount change rows t p = option_map_or (λ row. slice_set rows (t - 1) (count_c
 abbrev pub IsCounted : List (List ℕ) → CallTable → Type 0
 IsCounted counts calls = (t p n : ℕ) → count_at counts t p ≡ Some n → n ≡ active_calls calls (label_at t p)
 
--- the state is sound, the counts are right, and each task has its places
+-- the counts after a call over this phone has left, or has lost its caller
+abbrev pub counts_without : List (List ℕ) → Option TaskNo → Label → List (List ℕ)
+counts_without counts caller from = if is_caller from.task caller then recount (λ n. n - 1) counts from.task.0 from.phone.0 else counts
+
+-- the state is sound, the counts are right, there are fewer calls than numbers given, and each task has its places
 pub record IsKept (k : KernelState) (counts : List (List ℕ)) (places : ℕ) : Type 0 where
   pub sound : IsSound k
   pub counted : IsCounted counts k.calls
-  pub places_are : places ≡ length k.tasks.alive
+  pub few : len k.calls.records < k.calls.next_number
+  pub placed : length k.tasks.alive ≤ places
