@@ -2,5 +2,12 @@
 #![tactic(auto)]
 
 mod hung;
+mod phones;
+mod rows;
+
+#[cfg(test)]
+mod tests;
 
 pub use hung::Hung;
+pub use phones::Phones;
+pub use rows::PhoneRows;
