@@ -2,3 +2,4 @@ pub mod Lookups
 pub mod Rows
 pub mod Loops
 pub mod Soundness
+pub mod Counting

@@ -1,18 +1,11 @@
 //! The kernel: it serves one system call of one task at a time.
-//!
-//! A `Kernel` is seen as `KernelState`: whether each task is alive, the states of its phones, the records
-//! of the live calls, and the number of events. `Kernel::serve` is the definition `serve` on that state.
-//! Inside, every state is sound, and each phone keeps the number of its active calls.
 #![tactic(auto)]
 
-mod answering;
-mod calling;
-mod forwarding;
-mod hanging_up;
-mod kernel;
-mod machine;
-mod receiving;
-#[cfg(test)]
-mod tests;
+ghost use Rattle.std.specs.Prelude.{◌≡◌};
+ghost use Rattle.kernel_core.specs.State.{KernelState, is_alive};
+ghost use Rattle.kernel_core.specs.Serve.{serve};
 
-pub use kernel::Kernel;
+pub fn probe()
+    ensures { (k : KernelState) → k ≡ k }
+{
+}
