@@ -3,3 +3,4 @@ pub mod Rows
 pub mod Loops
 pub mod Soundness
 pub mod Counting
+pub mod Keeping

@@ -114,14 +114,14 @@ sound_under old new q s alive phones = record {
   called from None h = h
   called from (Some u) h = (h.0, alive u.0 h.1)
 
-some_set : {A : Type 0} (xs : List A) (i j : ℕ) (v : A) → IsSome (slice_get xs j) → IsSome (slice_get (set xs i v) j)
+pub some_set : {A : Type 0} (xs : List A) (i j : ℕ) (v : A) → IsSome (slice_get xs j) → IsSome (slice_get (set xs i v) j)
 some_set [] i j v h = h
 some_set (x ∷ xs) zero zero v h = refl
 some_set (x ∷ xs) zero (suc j) v h = h
 some_set (x ∷ xs) (suc i) zero v h = refl
 some_set (x ∷ xs) (suc i) (suc j) v h = some_set xs i j v h
 
-value_of : {A : Type 0} (o : Option A) → IsSome o → (x : A) × (o ≡ Some x)
+pub value_of : {A : Type 0} (o : Option A) → IsSome o → (x : A) × (o ≡ Some x)
 value_of None h = absurd (cc h)
 value_of (Some x) h = (x, refl)
 
@@ -129,7 +129,7 @@ is_some : {A : Type 0} (o : Option A) (x : A) → o ≡ Some x → IsSome o
 is_some o x e = rw e refl
 
 -- the row that a task has after a change of one row
-row_after : {A : Type 0} (rows : List A) (a t : ℕ) (old new row : A) → row_at rows a ≡ Some old → row_at rows t ≡ Some row → ((t ≡ a) × (row_at (set rows (a - 1) new) t ≡ Some new)) ⊎ ((t ≡ a → ⊥) × (row_at (set rows (a - 1) new) t ≡ Some row))
+pub row_after : {A : Type 0} (rows : List A) (a t : ℕ) (old new row : A) → row_at rows a ≡ Some old → row_at rows t ≡ Some row → ((t ≡ a) × (row_at (set rows (a - 1) new) t ≡ Some new)) ⊎ ((t ≡ a → ⊥) × (row_at (set rows (a - 1) new) t ≡ Some row))
 row_after rows a t old new row is has = elim (cases_eq t 0) [
     inl e ↦ absurd (let g = rw (eq-eqb t 0 e) at has in cc)
   | inr nt ↦ elim (cases_eq a 0) [
@@ -208,7 +208,7 @@ get_before [] y i v h = absurd (cc h)
 get_before (x ∷ xs) y zero v h = h
 get_before (x ∷ xs) y (suc i) v h = get_before xs y i v h
 
-get_last : {A : Type 0} (xs : List A) (y : A) (i : ℕ) → i ≡ length xs → slice_get (xs ++ y ∷ []) i ≡ Some y
+pub get_last : {A : Type 0} (xs : List A) (y : A) (i : ℕ) → i ≡ length xs → slice_get (xs ++ y ∷ []) i ≡ Some y
 get_last [] y zero e = refl
 get_last [] y (suc i) e = absurd (omega arith)
 get_last (x ∷ xs) y zero e = absurd (omega arith)
@@ -220,13 +220,13 @@ all_same (suc k) zero x y h = cc
 all_same (suc k) (suc p) x y h = all_same k p x y h
 
 -- a row of the old list, or the new one
-row_append : {A : Type 0} (rows : List A) (row : A) (t : ℕ) (v : A) → row_at (rows ++ row ∷ []) t ≡ Some v → (row_at rows t ≡ Some v) ⊎ ((t ≡ length rows + 1) × (row ≡ v))
+pub row_append : {A : Type 0} (rows : List A) (row : A) (t : ℕ) (v : A) → row_at (rows ++ row ∷ []) t ≡ Some v → (row_at rows t ≡ Some v) ⊎ ((t ≡ length rows + 1) × (row ≡ v))
 row_append rows row t v h = elim (cases_eq t 0) [
     inl e ↦ absurd (let g = rw (eq-eqb t 0 e) at h in cc)
   | inr nt ↦ elim (get_append rows row (t - 1) v (rw (ne_eqb t 0 nt) at h)) [ inl e ↦ inl (rw (ne_eqb t 0 nt) e) | inr e ↦ inr (omega arith, e.1) ]
   ]
 
-row_before : {A : Type 0} (rows : List A) (row : A) (t : ℕ) (v : A) → row_at rows t ≡ Some v → row_at (rows ++ row ∷ []) t ≡ Some v
+pub row_before : {A : Type 0} (rows : List A) (row : A) (t : ℕ) (v : A) → row_at rows t ≡ Some v → row_at (rows ++ row ∷ []) t ≡ Some v
 row_before rows row t v h = elim (cases_eq t 0) [
     inl e ↦ absurd (let g = rw (eq-eqb t 0 e) at h in cc)
   | inr nt ↦ rw (ne_eqb t 0 nt) (get_before rows row (t - 1) v (rw (ne_eqb t 0 nt) at h))
