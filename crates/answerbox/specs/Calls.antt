@@ -1,5 +1,5 @@
 -- The live calls as a finite map from number to record, and what may be done with them.
-use Rattle.std.specs.Prelude.{ℕ, ◌+◌, ◌≤◌, ◌==◌, Bool, true, false, ◌&&◌, if◌then◌else◌, List, [], ◌∷◌, fold, Option, None, Some, nat_lt, nat_le, refl, option_and_then}
+use Rattle.std.specs.Prelude.{ℕ, ◌+◌, ◌==◌, Bool, false, ◌&&◌, if◌then◌else◌, List, [], ◌∷◌, fold, Option, None, Some, nat_lt, nat_le, refl, option_and_then}
 use Rattle.std.specs.Coded.{Coded, code_by, coded×, coded_ℕ}
 use Rattle.std.specs.Ordering.{nat_cmp}
 use Rattle.std.specs.FinMap.{FinMap, code, empty, get, insert, remove, values, entries}
