@@ -5,5 +5,7 @@
 
 mod boxes;
 mod search;
+#[cfg(test)]
+mod tests;
 
 pub use boxes::Boxes;

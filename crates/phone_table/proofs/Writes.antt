@@ -1,5 +1,5 @@
 -- What a row is after one phone of it was written, and what a pass over its phones finds.
-use Rattle.std.proofs.Common.{◌≡◌, ℕ, ◌+◌, ◌-◌, ◌<◌, ◌≤◌, List, [], ◌∷◌, length, get_or, map, drop, replicate, take, Option, Some, None, refl, sym, ap, ◌∙◌, arith, zero, suc, true}
+use Rattle.std.proofs.Common.{◌≡◌, ℕ, ◌+◌, ◌-◌, ◌<◌, ◌≤◌, List, [], ◌∷◌, length, get_or, map, drop, replicate, take, Some, refl, ap, arith, zero, suc}
 use Rattle.std.specs.Prelude.{slice_get, slice_index, if◌then◌else◌}
 use Rattle.std.proofs.Math.ListN.{set}
 use Rattle.std.specs.List.{refill}
@@ -9,7 +9,7 @@ use Rattle.std.proofs.lemmas.Option.{slice_get_read, slice_get-map}
 use Rattle.std.proofs.lemmas.Bool.{ne_eqb}
 use Rattle.ipc_ids.specs.declared.message.PhoneState.{PhoneState}
 use Rattle.phone_table.specs.declared.phones.Phone.{Phone}
-use Rattle.phone_table.specs.Phones.{Row, Rows, with_phone, with_count, with_row, row_at, is_usable, first_usable_from, free_row}
+use Rattle.phone_table.specs.Phones.{Row, Rows, with_phone, with_count, row_at, is_usable, first_usable_from}
 use Rattle.phone_table.specs.Usable.{usable_at}
 use Rattle.phone_table.specs.Views.{states_of, counts_of}
 

@@ -1,5 +1,4 @@
 -- What the phones of all tasks end as, where a `&mut` to those of one task is returned.
-use Rattle.std.specs.Prelude.{ℕ}
 use Rattle.std.specs.Borrow.{Lends, Fml, MutBor}
 use Rattle.ipc_ids.specs.declared.numbers.TaskNo.{TaskNo}
 use Rattle.phone_table.specs.Phones.{Row, Rows, with_row}

@@ -1,5 +1,5 @@
 -- The states and the counts of a list of phones.
-use Rattle.std.specs.Prelude.{ℕ, ◌≤◌, List, length, map}
+use Rattle.std.specs.Prelude.{ℕ, List, map}
 use Rattle.ipc_ids.specs.declared.message.PhoneState.{PhoneState}
 use Rattle.phone_table.specs.declared.phones.Phone.{Phone}
 
@@ -8,8 +8,3 @@ states_of phones = map (λ (phone : Phone). phone.state) phones
 
 abbrev pub counts_of : List Phone → List ℕ
 counts_of phones = map (λ (phone : Phone). phone.count) phones
-
--- 1 to 64 phones
-pub record IsFew (phones : List Phone) : Type 0 where
-  pub some : 1 ≤ length phones
-  pub few : length phones ≤ 64

@@ -4,7 +4,6 @@
 mod hung;
 mod phones;
 mod rows;
-
 #[cfg(test)]
 mod tests;
 

@@ -47,14 +47,14 @@ pub struct Phones {
 }
 
 impl Model for Phones {
-    ghost use Rattle.phone_table.specs.Phones.{Row};
-    ghost use Rattle.phone_table.specs.Views.{states_of, counts_of, IsFew};
+    ghost use Rattle.phone_table.specs.Phones.{Row, IsRow};
+    ghost use Rattle.phone_table.specs.Views.{states_of, counts_of};
 
     ghost Value = { Row };
 
     ghost view = { λ a. record { states = states_of a.phones.items; counts = counts_of a.phones.items } };
 
-    ghost invariant = { λ a. IsFew a.phones.items };
+    ghost invariant = { λ a. IsRow (states_of a.phones.items) (counts_of a.phones.items) };
 }
 
 impl Phones {
@@ -160,7 +160,8 @@ impl Phones {
         requires free { slice_get self.old.states p.0 ≡ Some PhoneState.Free }
         ensures { self.new ≡ with_phone self.old p.0 (PhoneState.Connected to) }
     {
-        self.put_state(p.0 as usize, PhoneState::Connected(to));
+        let wired = PhoneState::Connected(to);
+        self.put_state(p.0 as usize, wired);
     }
 
     /// Hangs the phone up, where it leads or led to a task, and says whom to tell.

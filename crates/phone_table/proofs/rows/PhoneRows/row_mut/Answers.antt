@@ -1,4 +1,4 @@
-use Rattle.std.proofs.Common.{refl, length, ◌≤◌, arith}
+use Rattle.std.proofs.Common.{refl, length, ◌≤◌}
 use Rattle.std.proofs.lemmas.List.{length-map}
 use Rattle.phone_table.specs.Phones.{Row}
 use Rattle.phone_table.proofs.Writes.{row_written, row_read}
@@ -7,8 +7,7 @@ use Rattle.phone_table.proofs.rows.PhoneRows.row_mut.Goals as goal
 pub returns : goal.returns
 returns c =
     let rows = c.self.inside.rows.items in
-    let added : c.args.t.0 ≤ length rows = rw (← c.self.view_is, length-map) at c.requires.added in
-    (
+    let added : c.args.t.0 ≤ length rows = rw (← c.self.view_is, length-map) at c.requires.added in (
       (refl, λ w. rw (← c.self.view_is) (row_written rows _ w)),
       record {
         writes_back = tt;
