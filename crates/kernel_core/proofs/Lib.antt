@@ -4,3 +4,5 @@ pub mod Loops
 pub mod Soundness
 pub mod Counting
 pub mod Keeping
+pub mod Reading
+pub mod Inner

@@ -7,7 +7,8 @@ use Rattle.ipc_ids.specs.declared.message.Reply.{Reply}
 use Rattle.ipc_ids.specs.declared.message.PhoneState.{PhoneState}
 use Rattle.ipc_ids.specs.declared.message.PhoneState.TheVariants.{Free, Connecting, Connected, HungUp, Slammed}
 use Rattle.call_slab.specs.declared.call.Call.{Call}
-use Rattle.call_slab.specs.declared.call.Place.TheVariants.{Answers}
+use Rattle.call_slab.specs.declared.call.Place.{Place}
+use Rattle.call_slab.specs.declared.call.Place.TheVariants.{Incoming, Dispatched, Answers}
 use Rattle.answerbox.specs.Calls.{CallTable, call_at, put_at}
 use Rattle.phone_table.specs.declared.hung.Hung.{Hung}
 use Rattle.phone_table.specs.declared.hung.Hung.TheVariants.{Sent, Silent}
@@ -16,6 +17,22 @@ use Rattle.kernel_core.specs.State.{KernelState, is_alive, with_phone}
 -- the live call with this number takes the reply to the answers of a task
 abbrev pub with_answer : CallTable → ℕ → Reply → TaskNo → CallTable
 with_answer calls n reply caller = option_map_or (λ c. put_at calls (record c { reply = reply }) (Answers caller)) (call_at calls n) calls
+
+-- the live call is one of this caller
+abbrev pub IsCallOf : Option Call → TaskNo → Type 0
+IsCallOf None caller = ⊥
+IsCallOf (Some c) caller = c.caller ≡ Some caller
+
+-- the task in whose answerbox a place is
+abbrev pub owner : Place → TaskNo
+owner (Incoming t) = t
+owner (Dispatched t) = t
+owner (Answers t) = t
+
+-- a caller that has not ended is alive
+abbrev pub IsAliveCaller : KernelState → Option TaskNo → Type 0
+IsAliveCaller k None = ⊤
+IsAliveCaller k (Some u) = is_alive k u ≡ true
 
 -- a phone in this state leads to a task that is alive, where it leads to one
 abbrev pub LeadsToTask : KernelState → PhoneState → Type 0

@@ -6,10 +6,11 @@ ghost use Rattle.phone_table.specs.Phones.{state_at, count_at, hangup_answer};
 ghost use Rattle.kernel_core.specs.State.{start, is_alive as is_alive_in, phone_at, with_task, with_phone, with_calls, with_event, label_of as the_label};
 ghost use Rattle.kernel_core.specs.Calling.{new_call as the_call};
 ghost use Rattle.kernel_core.specs.Sound.{IsPlaced, IsSoundCall};
-ghost use Rattle.kernel_core.specs.Kept.{recount, counts_without};
-ghost use Rattle.kernel_core.specs.Steps.{with_answer, has_caller, LeadsToTask, TellsTask, with_hangup};
+ghost use Rattle.kernel_core.specs.Kept.{HasPlaces};
+ghost use Rattle.kernel_core.specs.Steps.{with_answer, IsCallOf, owner, IsAliveCaller, LeadsToTask, TellsTask, with_hangup};
 ghost use Rattle.call_slab.specs.declared.call.Place.TheVariants.{Dispatched};
 
+use crate::counts::{count_out, count_up};
 use answerbox::Boxes;
 use call_slab::{Call, Place};
 use ipc_ids::{Buffer, CallNo, Code, Label, Msg, NoMemory, PhoneNo, PhoneState, Reply, TaskNo};
@@ -77,32 +78,16 @@ impl Machine {
         ensures number { IfOk result (λ t. t.0 ≡ length self.old.k.tasks.alive + 1) }
         ensures err { OnErr result (self.new.k ≡ self.old.k) }
     {
-        if self.alive.reserve(1).is_err() {
-            return Err(NoMemory);
+        match self.alive.reserve(1) {
+            Ok(()) => {}
+            Err(_) => return Err(NoMemory),
         }
         let number = TaskNo(self.phones.tasks() + 1);
-        self.add_place()?;
+        add_place(&mut self.boxes, &mut self.places, self.alive.len() as u64)?;
         match self.phones.add(Phones::new(limit)) {
             Ok(()) => {
                 self.alive.push_reserved(true);
                 Ok(number)
-            }
-            Err(NoMemory) => Err(NoMemory),
-        }
-    }
-
-    /// One task more than there are has its places.
-    fn add_place(&mut self) -> Result<(), NoMemory>
-        requires few_tasks { length self.old.k.tasks.alive < 64 }
-        ensures same { self.new ≡ self.old }
-    {
-        if self.places > self.alive.len() as u64 {
-            return Ok(());
-        }
-        match self.boxes.add_task() {
-            Ok(()) => {
-                self.places += 1;
-                Ok(())
             }
             Err(NoMemory) => Err(NoMemory),
         }
@@ -163,18 +148,144 @@ impl Machine {
     pub fn get(&self, call: CallNo) -> Option<&Call>
         ensures call { option_copied result ≡ call_at self.now.k.calls call.0 }
         ensures number { IfSome result (λ c. c.now.number ≡ call) }
-        ensures caller { IfSome result (λ c. has_caller self.now.k c.now.caller) }
+        ensures caller { IfSome result (λ c. IsAliveCaller self.now.k c.now.caller) }
     {
         self.boxes.get(call)
     }
 
     /// The call that came first to this place.
     pub fn front(&self, place: Place) -> Option<CallNo>
-        requires { place_is_alive self.now.k place }
+        requires { is_alive_in self.now.k (owner place) ≡ true }
         ensures none { IfNone result (front self.now.k.calls place ≡ None) }
         ensures some { IfSome result (λ n. front self.now.k.calls place ≡ call_at self.now.k.calls n.0) }
         ensures live { IfSome result (λ n. IsSome (call_at self.now.k.calls n.0)) }
     {
         self.boxes.front(place)
+    }
+
+    /// A new call over that phone, which is bound for a place.
+    pub fn new_call(&self, from: Label, msg: &Msg, place: Place) -> Call
+        ensures call { result ≡ the_call self.now.k from.task from.phone.0 msg.now place }
+        ensures free { call_at self.now.k.calls result.number.0 ≡ None }
+    {
+        Call {
+            number: self.boxes.next_number(),
+            caller: Some(from.task),
+            from,
+            label: from,
+            request: *msg,
+            msg: *msg,
+            reply: Reply::bare(Code::EOK),
+            discard: false,
+            buffer: Buffer::new(self.alloc),
+            reserved: None,
+            place,
+            stamp: 0,
+        }
+    }
+
+    /// A new call goes to the end of its place. There is room for it.
+    pub fn enqueue(&mut self, call: Call)
+        requires room { 0 < self.old.spare }
+        requires number { call.number.0 ≡ self.old.k.calls.next_number }
+        requires caller { call.caller ≡ Some call.from.task }
+        requires alive { is_alive_in self.old.k call.from.task ≡ true }
+        requires there { IsSome (phone_at self.old.k call.from.task call.from.phone.0) }
+        requires place { IsPlaced self.old.k.tasks call.caller call.place }
+        requires discard { call.discard ≡ (call.request.method == 0) }
+        requires few_calls { self.old.k.calls.next_number < 2 ^ 31 }
+        requires few_stamps { self.old.k.calls.next_stamp < 2 ^ 63 }
+        ensures k { self.new.k ≡ with_calls self.old.k (enqueue self.old.k.calls call) }
+        ensures numbers { self.new.k.calls.next_number ≡ self.old.k.calls.next_number + 1 }
+        ensures stamps { self.new.k.calls.next_stamp ≡ self.old.k.calls.next_stamp + 1 }
+        ensures spare { self.old.spare ≤ self.new.spare + 1 }
+    {
+        let _number = self.boxes.next_number();
+        count_up(&mut self.phones, call.from);
+        self.boxes.enqueue(call);
+    }
+
+    /// The call is over.
+    pub fn leave(&mut self, call: CallNo) -> Call
+        requires live { IsSome (call_at self.old.k.calls call.0) }
+        ensures call { call_at self.old.k.calls call.0 ≡ Some result }
+        ensures number { result.number ≡ call }
+        ensures k { self.new.k ≡ with_calls self.old.k (without_call self.old.k.calls call.0) }
+        ensures numbers { self.new.k.calls.next_number ≡ self.old.k.calls.next_number }
+        ensures stamps { self.new.k.calls.next_stamp ≡ self.old.k.calls.next_stamp }
+        ensures spare { self.old.spare ≤ self.new.spare }
+    {
+        let call = self.boxes.leave(call);
+        count_out(&mut self.phones, call.caller, call.from);
+        call
+    }
+
+    /// The call is received by that task.
+    pub fn dispatch(&mut self, call: CallNo, by: TaskNo)
+        requires live { IsSome (call_at self.old.k.calls call.0) }
+        requires alive { is_alive_in self.old.k by ≡ true }
+        requires few_stamps { self.old.k.calls.next_stamp < 2 ^ 63 }
+        ensures k { self.new.k ≡ with_calls self.old.k (with_place self.old.k.calls call.0 (Dispatched by)) }
+        ensures numbers { self.new.k.calls.next_number ≡ self.old.k.calls.next_number }
+        ensures stamps { self.new.k.calls.next_stamp ≡ self.old.k.calls.next_stamp + 1 }
+        ensures spare { self.new.spare ≡ self.old.spare }
+    {
+        self.boxes.move_to(call, Place::Dispatched(by));
+    }
+
+    /// The call takes the reply to the answers of its caller.
+    pub fn answer_to(&mut self, call: CallNo, reply: Reply, caller: TaskNo)
+        requires called { IsCallOf (call_at self.old.k.calls call.0) caller }
+        requires few_stamps { self.old.k.calls.next_stamp < 2 ^ 63 }
+        ensures k { self.new.k ≡ with_calls self.old.k (with_answer self.old.k.calls call.0 reply caller) }
+        ensures numbers { self.new.k.calls.next_number ≡ self.old.k.calls.next_number }
+        ensures stamps { self.new.k.calls.next_stamp ≡ self.old.k.calls.next_stamp + 1 }
+        ensures spare { self.new.spare ≡ self.old.spare }
+    {
+        self.boxes.set_reply(call, reply);
+        self.boxes.move_to(call, Place::Answers(caller));
+    }
+
+    /// Hangs the phone up, where it leads or led to a task, and says whom to tell.
+    pub fn hang_phone(&mut self, t: TaskNo, phone: u64) -> Result<Hung, Code>
+        requires alive { is_alive_in self.old.k t ≡ true }
+        ensures answer { result ≡ hangup_answer (phone_at self.old.k t phone) }
+        ensures k { self.new.k ≡ with_hangup self.old.k t phone result }
+        ensures tells { TellsTask self.new.k result }
+        ensures there { OnOk result (IsSome (phone_at self.new.k t phone)) }
+        ensures few { OnOk result (phone < 64) }
+        ensures spare { self.new.spare ≡ self.old.spare }
+    {
+        self.phones.row_mut(t).hangup(phone)
+    }
+
+    /// A free phone leads to that task from now on.
+    pub fn wire(&mut self, t: TaskNo, phone: PhoneNo, to: TaskNo)
+        requires alive { is_alive_in self.old.k t ≡ true }
+        requires target { is_alive_in self.old.k to ≡ true }
+        requires free { phone_at self.old.k t phone.0 ≡ Some PhoneState.Free }
+        ensures { self.new.k ≡ with_phone self.old.k t phone.0 (PhoneState.Connected to) }
+    {
+        self.phones.row_mut(t).wire(phone, to);
+    }
+}
+
+/// One task more than there are has its places.
+fn add_place(boxes: &mut Boxes, places: &mut u64, tasks: u64) -> Result<(), NoMemory>
+    requires few { tasks < 64 }
+    requires places { HasPlaces tasks places.old boxes.old.tasks }
+    ensures places { HasPlaces tasks places.new boxes.new.tasks }
+    ensures ok { OnOk result (tasks < places.new) }
+    ensures calls { boxes.new.calls ≡ boxes.old.calls }
+{
+    if *places > tasks {
+        return Ok(());
+    }
+    match boxes.add_task() {
+        Ok(()) => {
+            *places += 1;
+            Ok(())
+        }
+        Err(NoMemory) => Err(NoMemory),
     }
 }
