@@ -17,11 +17,11 @@ abbrev Later : ℕ → Call → Place → List (ℕ × Call) → Type 0
 Later n c place [] = Unit {0}
 Later n c place (e ∷ es) = (same_place e.1.place place ≡ true → (e.0 ≡ n) ⊎ (c.stamp < e.1.stamp)) × Later n c place es
 
-second : (a b : Bool) → T (a && b) → T b
+pub second : (a b : Bool) → T (a && b) → T b
 second true b p = p
 second false b p = absurd p
 
-first : (a b : Bool) → T (a && b) → T a
+pub first : (a b : Bool) → T (a && b) → T a
 first true b p = tt
 first false b p = p
 
@@ -72,7 +72,7 @@ worse_pick place c d o w h =
 key_apart : (n k : ℕ) → is_eq (nat_cmp n k) ≡ false → k ≡ n → ⊥
 key_apart n k h e = grind (arith, nat_tests)
 
-key_same : (n k : ℕ) → is_eq (nat_cmp n k) ≡ true → k ≡ n
+pub key_same : (n k : ℕ) → is_eq (nat_cmp n k) ≡ true → k ≡ n
 key_same n k h = grind (arith, nat_tests)
 
 some_same : (c d : Call) → Some c ≡ Some d → c ≡ d
@@ -94,7 +94,7 @@ reached place n c (e ∷ es) o s f at l w =
     ] refl f
 
 -- what stands after an entry has a greater number
-greater : (n : ℕ) (es : List (ℕ × Call)) (k : ℕ) (d : Call) → T (below_all nat_cmp n es) → find nat_cmp k es ≡ Some d → n < k
+pub greater : (n : ℕ) (es : List (ℕ × Call)) (k : ℕ) (d : Call) → T (below_all nat_cmp n es) → find nat_cmp k es ≡ Some d → n < k
 greater n [] k d b f = absurd (cc f)
 greater n (e ∷ es) k d b f =
     let lt : n < e.0 = lt_of n e.0 (first _ _ b) in
@@ -103,10 +103,10 @@ greater n (e ∷ es) k d b f =
       | false ↦ λ t g. greater n es k d (second _ _ b) g
     ] refl f
 
-ties : (n : ℕ) → is_eq (nat_cmp n n) ≡ true
+pub ties : (n : ℕ) → is_eq (nat_cmp n n) ≡ true
 ties n = grind (arith, nat_tests)
 
-not_tied : (k n : ℕ) → n < k → is_eq (nat_cmp k n) ≡ false
+pub not_tied : (k n : ℕ) → n < k → is_eq (nat_cmp k n) ≡ false
 not_tied k n h = grind (arith, nat_tests)
 
 later : (n : ℕ) (c : Call) (place : Place) (es : List (ℕ × Call)) → T (is_sorted nat_cmp es) → ((k : ℕ) (d : Call) → find nat_cmp k es ≡ Some d → same_place d.place place ≡ true → (k ≡ n) ⊎ (c.stamp < d.stamp)) → Later n c place es

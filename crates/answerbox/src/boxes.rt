@@ -31,7 +31,11 @@ impl Model for Boxes {
 
     ghost coded = { boxes_code call.the_row.coded };
 
-    ghost view = { λ a. record { calls = record { records = map_of a.records.items; next_number = a.next_number; next_stamp = a.next_stamp }; tasks = a.tasks; spare = vec_capacity a.records - vec_len a.records } };
+    ghost view = { λ a. record {
+      calls = record { records = map_of a.records.items; next_number = a.next_number; next_stamp = a.next_stamp };
+      tasks = a.tasks;
+      spare = vec_capacity a.records - vec_len a.records;
+    } };
 
     ghost invariant = { λ a. RisesWithin 1 a.records.items a.next_number };
 }
@@ -50,7 +54,7 @@ impl Boxes {
         }
     }
 
-    /// One more task has places.
+    /// One more task has places. `NoMemory` where memory has run out.
     pub fn add_task(&mut self) -> Result<(), NoMemory>
         requires few_tasks { self.old.tasks < 2 ^ 32 }
         ensures ok { OnOk result (self.new.tasks ≡ self.old.tasks + 1) }
@@ -62,7 +66,7 @@ impl Boxes {
         Ok(())
     }
 
-    /// Makes room for `n` more calls.
+    /// Makes room for `n` more calls. `NoMemory` where memory has run out.
     pub fn reserve(&mut self, n: usize) -> Result<(), NoMemory>
         ensures calls { self.new.calls ≡ self.old.calls }
         ensures tasks { self.new.tasks ≡ self.old.tasks }

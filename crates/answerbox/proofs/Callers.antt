@@ -1,0 +1,72 @@
+-- The calls of a caller, told by what the map has at each number.
+use Rattle.std.proofs.Common.{◌≡◌, ℕ, ◌+◌, ◌<◌, ◌≤◌, Bool, true, false, cond, ◌&&◌, List, [], ◌∷◌, Option, None, Some, refl, sym, ◌∙◌, arith, T}
+use Rattle.std.specs.Prelude.{nat_le}
+use Rattle.std.specs.Ordering.{nat_cmp, is_eq}
+use Rattle.std.specs.FinMap.{find, is_sorted, entries, entries_sorted, get-entries}
+use Rattle.std.specs.FinMap.Entries.{below_all}
+use Rattle.std.proofs.lemmas.Bool.Decides.{nat_tests}
+use Rattle.call_slab.specs.declared.call.Call.{Call}
+use Rattle.ipc_ids.specs.declared.numbers.TaskNo.{TaskNo}
+use Rattle.answerbox.specs.Calls.{CallTable, call_at, is_caller, first_from, calls_of, next_of}
+use Rattle.answerbox.proofs.Fronts.{first, second, greater, ties, not_tied, key_same}
+
+-- a call of the entries that t made and whose number is at least low
+pub record IsCallFrom (t : TaskNo) (low : ℕ) (at : ℕ → Option Call) (c : Call) : Type 0 where
+  pub number : ℕ
+  pub is : at number ≡ Some c
+  pub made : is_caller t c.caller ≡ true
+  pub from : low ≤ number
+
+further : (t : TaskNo) (low : ℕ) (e : ℕ × Call) (es : List (ℕ × Call)) (c : Call) → T (below_all nat_cmp e.0 es) → IsCallFrom t low (λ k. find nat_cmp k es) c → IsCallFrom t low (λ k. find nat_cmp k (e ∷ es)) c
+further t low e es c b h =
+    record { number = h.number; is = rw (not_tied h.number e.0 (greater e.0 es h.number c b h.is)) h.is; made = h.made; from = h.from }
+
+here : (t : TaskNo) (low : ℕ) (e : ℕ × Call) (es : List (ℕ × Call)) (c : Call) (a b : Bool) → nat_le low e.0 ≡ a → is_caller t e.1.caller ≡ b → cond (a && b) (Some e.1) (first_from t low es) ≡ Some c → (first_from t low es ≡ Some c → IsCallFrom t low (λ k. find nat_cmp k (e ∷ es)) c) → IsCallFrom t low (λ k. find nat_cmp k (e ∷ es)) c
+here t low e es c true true l m g later =
+    let same : e.1 ≡ c = cc in
+    record { number = e.0; is = rw (ties e.0) g; made = rw same at m; from = grind (arith, nat_tests) }
+here t low e es c true false l m g later = later g
+here t low e es c false b l m g later = later g
+
+found : (t : TaskNo) (low : ℕ) (es : List (ℕ × Call)) (c : Call) → T (is_sorted nat_cmp es) → first_from t low es ≡ Some c → IsCallFrom t low (λ k. find nat_cmp k es) c
+found t low [] c s f = absurd (cc f)
+found t low (e ∷ es) c s f = here t low e es c (nat_le low e.0) (is_caller t e.1.caller) refl refl f (λ g. further t low e es c (first _ _ s) (found t low es c (second _ _ s) g))
+
+-- a number below low, or another caller
+missed : (a b : Bool) (x : Call) (y : Option Call) → cond (a && b) (Some x) y ≡ None → (a ≡ true → b ≡ false) × (y ≡ None)
+missed true true x y h = absurd (cc h)
+missed true false x y h = (λ _. refl, h)
+missed false b x y h = (λ g. absurd (cc g), h)
+
+none_found : (t : TaskNo) (low : ℕ) (es : List (ℕ × Call)) (k : ℕ) (c : Call) → first_from t low es ≡ None → find nat_cmp k es ≡ Some c → low ≤ k → is_caller t c.caller ≡ false
+none_found t low [] k c f g l = absurd (cc g)
+none_found t low (e ∷ es) k c f g l =
+    let m = missed (nat_le low e.0) (is_caller t e.1.caller) e.1 (first_from t low es) f in
+    at_head (is_eq (nat_cmp k e.0)) refl g m.0 (none_found t low es k c m.1)
+  where
+    at_head : (b : Bool) → is_eq (nat_cmp k e.0) ≡ b → cond b (Some e.1) (find nat_cmp k es) ≡ Some c → (nat_le low e.0 ≡ true → is_caller t e.1.caller ≡ false) → (find nat_cmp k es ≡ Some c → low ≤ k → is_caller t c.caller ≡ false) → is_caller t c.caller ≡ false
+    at_head true q h m later =
+        let same : e.1 ≡ c = cc in
+        let key = key_same k e.0 q in
+        let le : nat_le low e.0 ≡ true = grind (arith, nat_tests) in
+        rw same at (m le)
+    at_head false q h m later = later h l
+
+-- what a task's first call is, and that there is none
+pub calls_of_live : (q : CallTable) (t : TaskNo) (c : Call) → calls_of q t ≡ Some c → IsCallFrom t 0 (call_at q) c
+calls_of_live q t c is =
+    let h = found t 0 (entries q.records) c (entries_sorted q.records) is in
+    record { number = h.number; is = get-entries q.records h.number ∙ h.is; made = h.made; from = h.from }
+
+pub calls_of_none : (q : CallTable) (t : TaskNo) (k : ℕ) (c : Call) → calls_of q t ≡ None → call_at q k ≡ Some c → is_caller t c.caller ≡ false
+calls_of_none q t k c none is = none_found t 0 (entries q.records) k c none (sym (get-entries q.records k) ∙ is) (omega arith)
+
+-- what the next call of the same caller is, and that there is none
+pub next_of_live : (q : CallTable) (n : ℕ) (b c : Call) (t : TaskNo) → call_at q n ≡ Some b → b.caller ≡ Some t → next_of q n ≡ Some c → IsCallFrom t (n + 1) (call_at q) c
+next_of_live q n b c t at from is =
+    let h = found t (n + 1) (entries q.records) c (entries_sorted q.records) (rw (at, from) at is) in
+    record { number = h.number; is = get-entries q.records h.number ∙ h.is; made = h.made; from = h.from }
+
+pub next_of_none : (q : CallTable) (n : ℕ) (b : Call) (t : TaskNo) (k : ℕ) (c : Call) → call_at q n ≡ Some b → b.caller ≡ Some t → next_of q n ≡ None → n < k → call_at q k ≡ Some c → is_caller t c.caller ≡ false
+next_of_none q n b t k c at from none above is =
+    none_found t (n + 1) (entries q.records) k c (rw (at, from) at none) (sym (get-entries q.records k) ∙ is) (omega arith)
