@@ -129,13 +129,17 @@ tells_of k t p (Some (Connected u)) s is = s.leads t.0 p u is
 tells_of k t p (Some HungUp) s is = tt
 tells_of k t p (Some Slammed) s is = tt
 
-pub there_after : (k : KernelState) (t : TaskNo) (p : ℕ) (o : Option PhoneState) → phone_at k t p ≡ o → OnOk (hangup_answer o) (IsSome (phone_at (with_hangup k t p (hangup_answer o)) t p))
-there_after k t p None is = tt
-there_after k t p (Some Free) is = tt
-there_after k t p (Some Connecting) is = tt
-there_after k t p (Some (Connected u)) is = phone_kept k.tasks.phones t.0 p t.0 p HungUp (rw is refl)
-there_after k t p (Some HungUp) is = tt
-there_after k t p (Some Slammed) is = phone_kept k.tasks.phones t.0 p t.0 p HungUp (rw is refl)
+pub there_after : (rows : List (List PhoneState)) (t p : ℕ) (o : Option PhoneState) → state_at rows t p ≡ o → OnOk (hangup_answer o) (IsSome (state_at (hung_rows rows t p (hangup_answer o)) t p))
+there_after rows t p None is = tt
+there_after rows t p (Some Free) is = tt
+there_after rows t p (Some Connecting) is = tt
+there_after rows t p (Some (Connected u)) is = phone_kept rows t p t p HungUp (rw is refl)
+there_after rows t p (Some HungUp) is = tt
+there_after rows t p (Some Slammed) is = phone_kept rows t p t p HungUp (rw is refl)
+
+-- a row after a phone of it was wired
+pub wired_states : (rows : List (List PhoneState)) (t p : ℕ) (row : List PhoneState) (s : PhoneState) → row_at rows t ≡ Some row → set rows (t - 1) (set row p s) ≡ with_state_at rows t p s
+wired_states rows t p row s is = rw is refl
 
 -- a call goes to those that a task has received
 pub kept_dispatch : (k : KernelState) (counts : List (List ℕ)) (n : ℕ) (t : TaskNo) → IsKept k counts → IsSome (call_at k.calls n) → is_alive k t ≡ true → IsKept (with_calls k (with_place k.calls n (Dispatched t))) counts

@@ -24,6 +24,11 @@ settle_for k c reply by (Some caller) =
 abbrev pub settle : KernelState → Call → Reply → Option TaskNo → Transition
 settle k c reply by = settle_for k c reply by c.caller
 
+-- the same of a live call, where there is one
+abbrev pub settle_live : KernelState → Reply → Option TaskNo → Option Call → Transition
+settle_live k reply by None = nothing k
+settle_live k reply by (Some c) = settle k c reply by
+
 -- the live call, where task t has received it and has not answered it
 abbrev pub held_by : TaskNo → Option Call → Option Call
 held_by t None = None

@@ -39,3 +39,9 @@ pub record HasPlaces (tasks places added : ℕ) : Type 0 where
   pub same : added ≡ places
   pub enough : tasks ≤ places
   pub no_more : places ≤ tasks + 1
+
+-- each event gives at most one number and one stamp
+pub record HasFewCalls (k : KernelState) : Type 0 where
+  pub numbers : k.calls.next_number ≤ k.events + 1
+  pub stamps : k.calls.next_stamp ≤ k.events + 1
+  pub some : 1 ≤ k.calls.next_number

@@ -1,5 +1,5 @@
 -- The steps of which the kernel's code is made.
-use Rattle.std.specs.Prelude.{ℕ, ◌≡◌, ⊤, true, Option, None, Some, Result, Ok, Err}
+use Rattle.std.specs.Prelude.{ℕ, ◌≡◌, List, ◌++◌, ⊤, true, Option, None, Some, Result, Ok, Err}
 use Rattle.std.specs.Option.{option_map_or}
 use Rattle.ipc_ids.specs.declared.numbers.TaskNo.{TaskNo}
 use Rattle.ipc_ids.specs.declared.numbers.Code.{Code}
@@ -12,7 +12,9 @@ use Rattle.call_slab.specs.declared.call.Place.TheVariants.{Incoming, Dispatched
 use Rattle.answerbox.specs.Calls.{CallTable, call_at, put_at}
 use Rattle.phone_table.specs.declared.hung.Hung.{Hung}
 use Rattle.phone_table.specs.declared.hung.Hung.TheVariants.{Sent, Silent}
+use Rattle.ipc_ids.specs.declared.entry.Entry.{Entry}
 use Rattle.kernel_core.specs.State.{KernelState, is_alive, with_phone}
+use Rattle.kernel_core.specs.Receiving.{drop_answer}
 
 -- the live call with this number takes the reply to the answers of a task
 abbrev pub with_answer : CallTable → ℕ → Reply → TaskNo → CallTable
@@ -52,3 +54,8 @@ TellsTask k (Err _) = ⊤
 abbrev pub with_hangup : KernelState → TaskNo → ℕ → Result Hung Code → KernelState
 with_hangup k t p (Ok _) = with_phone k t p HungUp
 with_hangup k t p (Err _) = k
+
+-- the live call is an answer that is dropped: the state and the entries after it
+abbrev pub DropsAnswer : TaskNo → KernelState → Option Call → List Entry → KernelState → List Entry → Type 0
+DropsAnswer t k None told new now = ⊥
+DropsAnswer t k (Some c) told new now = (new ≡ (drop_answer t k c).state) × (now ≡ told ++ (drop_answer t k c).entries)

@@ -1,0 +1,110 @@
+//! The kernel.
+ghost use Rattle.std.specs.Prelude.{◌≡◌, ◌+◌, ◌^◌, ◌<◌, ◌≤◌, ◌++◌, true, Some, IfOk, OnOk, OnErr, length};
+ghost use Rattle.kernel_core.specs.State.{start, is_alive, phone_at, with_task, with_phone};
+ghost use Rattle.kernel_core.specs.Serve.{serve};
+
+use crate::machine::Machine;
+use ipc_ids::{NoMemory, Outcome, PhoneNo, PhoneState, Request, TaskNo, Trace};
+use std::alloc::Global;
+use std::marker::Model;
+
+/// The kernel of all tasks, which are added and wired before the first event.
+#[derive(Drop)]
+pub struct Kernel {
+    machine: Machine,
+}
+
+impl Model for Kernel {
+    ghost use Rattle.call_slab.specs.contracts.call.Call as call;
+    ghost use Rattle.ipc_ids.specs.contracts.message.PhoneState as phone;
+    ghost use Rattle.kernel_core.specs.State.{KernelState, state_code};
+    ghost use Rattle.kernel_core.specs.Kept.{HasFewCalls};
+
+    ghost Value = { KernelState };
+
+    ghost coded = { state_code phone.the_row.coded call.the_row.coded };
+
+    ghost view = { λ a. a.machine.k };
+
+    ghost invariant = { λ a. HasFewCalls a.machine.k };
+}
+
+impl Kernel {
+    /// No tasks.
+    pub fn new(alloc: Global) -> Kernel
+        ensures { result ≡ start }
+    {
+        Kernel {
+            machine: Machine::new(alloc),
+        }
+    }
+
+    /// Adds a task with so many phones, all free.
+    ///
+    /// # Errors
+    ///
+    /// `NoMemory` where no memory was found.
+    pub fn add_task(&mut self, limit: u32) -> Result<TaskNo, NoMemory>
+        requires some { 1 ≤ limit }
+        requires few_phones { limit ≤ 64 }
+        requires few_tasks { length self.old.tasks.alive < 64 }
+        requires no_event { self.old.events ≡ 0 }
+        ensures state { OnOk result (self.new ≡ with_task self.old limit) }
+        ensures number { IfOk result (λ t. t.0 ≡ length self.old.tasks.alive + 1) }
+        ensures unchanged { OnErr result (self.new ≡ self.old) }
+    {
+        self.machine.add_task(limit)
+    }
+
+    /// The free phone of the first task leads to the second, which may be the same.
+    pub fn wire(&mut self, t: TaskNo, p: PhoneNo, to: TaskNo)
+        requires no_event { self.old.events ≡ 0 }
+        requires alive { is_alive self.old t ≡ true }
+        requires target { is_alive self.old to ≡ true }
+        requires free { phone_at self.old t p.0 ≡ Some PhoneState.Free }
+        ensures { self.new ≡ with_phone self.old t p.0 (PhoneState.Connected to) }
+    {
+        self.machine.wire(t, p, to);
+    }
+
+    /// Whether a task has this number and has not ended.
+    pub fn alive(&self, t: TaskNo) -> bool
+        ensures { result ≡ is_alive self.now t }
+    {
+        self.machine.is_alive(t)
+    }
+
+    /// How many events there were.
+    pub fn events(&self) -> u64
+        ensures { result ≡ self.now.events }
+    {
+        self.machine.events()
+    }
+
+    /// Serves one system call of the task: an event.
+    ///
+    /// # Errors
+    ///
+    /// `NoMemory` where no memory was found.
+    pub fn serve(
+        &mut self,
+        who: TaskNo,
+        request: &Request,
+        out: &mut Trace,
+    ) -> Result<Outcome, NoMemory>
+        requires alive { is_alive self.old who ≡ true }
+        requires few_events { self.old.events < 2 ^ 24 }
+        ensures state { OnOk result (self.new ≡ (serve self.old who request.now).state) }
+        ensures outcome { IfOk result (λ outcome. outcome ≡ (serve self.old who request.now).outcome) }
+        ensures entries { OnOk result (out.new.entries ≡ out.old.entries ++ (serve self.old who request.now).entries) }
+        ensures unchanged { OnErr result (self.new ≡ self.old) }
+        ensures trace_unchanged { OnErr result (out.new.entries ≡ out.old.entries) }
+    {
+        self.machine.reserve(1)?;
+        // A receive may drop as many answers as there are calls, of which there are fewer than numbers given.
+        out.reserve(self.machine.next_number().0 as usize + 2)?;
+        let outcome = self.machine.serve_request(who, request, out);
+        self.machine.count_event();
+        Ok(outcome)
+    }
+}
