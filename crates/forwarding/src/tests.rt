@@ -1,0 +1,1 @@
+//! A call goes from its receiver to a third task.
