@@ -1,6 +1,6 @@
 -- The calls after the two steps of a forward: what the next receiver sees, and then its place.
 use Rattle.std.proofs.Common.{◌≡◌, ℕ, Option, Some, ap, refl, ◌∙◌}
-use Rattle.std.specs.Prelude.{Ok, IsSome}
+use Rattle.std.specs.Prelude.{Ok, IsSome, ◌==◌, if◌then◌else◌}
 use Rattle.ipc_ids.specs.declared.message.Msg.{Msg}
 use Rattle.ipc_ids.specs.declared.message.Mode.{Mode}
 use Rattle.ipc_ids.specs.declared.numbers.Label.{Label}
@@ -31,3 +31,7 @@ module _ (calls written moved : CallTable) (n : ℕ) (c : Call) (by : TaskNo) (t
   -- neither the caller nor its phone changes
   pub active_passed : (on : Label) → active_calls moved on ≡ active_calls calls on
   active_passed on = rw passed (active-put_at calls c (call_after by through mode change c) (Incoming to) on (ap (call_at calls) number ∙ found) refl)
+
+-- each call after a forward
+pub call_at-table_after : (calls : CallTable) (n : ℕ) (c : Call) (by : TaskNo) (through : ℕ) (mode : Mode) (change : Option Msg) (to : TaskNo) (m : ℕ) → call_at calls n ≡ Some c → c.number.0 ≡ n → call_at (table_after calls by through mode change (Ok (record { call = record { 0 = n }; to = to }))) m ≡ (if m == n then Some (record (call_after by through mode change c) { place = Incoming to; stamp = calls.next_stamp }) else call_at calls m)
+call_at-table_after calls n c by through mode change to m found number = rw (found, call_at-put_at calls (call_after by through mode change c) (Incoming to) m, number) refl

@@ -1,5 +1,5 @@
 -- Which calls may be passed on, and what the next receiver sees of them.
-use Rattle.std.specs.Prelude.{ℕ, ⊤, ◌≤◌, ◌==◌, Bool, true, false, not, ◌&&◌, if◌then◌else◌, Option, None, Some, nat_lt}
+use Rattle.std.specs.Prelude.{ℕ, ⊤, ◌≤◌, ◌==◌, Bool, false, not, ◌&&◌, if◌then◌else◌, Option, None, Some, nat_lt}
 use Rattle.ipc_ids.specs.declared.message.Msg.{Msg}
 use Rattle.ipc_ids.specs.declared.message.Mode.{Mode}
 use Rattle.ipc_ids.specs.declared.message.Mode.TheVariants.{Plain, Route}

@@ -2,8 +2,7 @@
 #![tactic(auto)]
 
 mod passing;
-
 #[cfg(test)]
 mod tests;
 
-pub use passing::{route, ForwardFault, Forwarded};
+pub use passing::{ForwardFault, Forwarded, route};
