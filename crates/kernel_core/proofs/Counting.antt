@@ -1,17 +1,15 @@
 -- Each change of the kernel keeps the counts at the phones right.
-use Rattle.std.proofs.Common.{◌≡◌, ℕ, zero, suc, ◌+◌, ◌-◌, ◌<◌, ◌≤◌, ◌^◌, Bool, true, false, cond, ◌&&◌, ◌⊎◌, inl, inr, Option, None, Some, List, [], ◌∷◌, ◌++◌, replicate, length, refl, ap, sym, ◌∙◌, arith, set}
-use Rattle.std.specs.Prelude.{IsSome, slice_get, slice_index, ◌==◌, if◌then◌else◌}
-use Rattle.std.specs.Option.{option_map_or}
+use Rattle.std.proofs.Common.{◌≡◌, ℕ, zero, suc, ◌+◌, ◌-◌, ◌≤◌, Bool, true, false, cond, ◌⊎◌, inl, inr, None, Some, List, [], ◌∷◌, ◌++◌, replicate, refl, sym, ◌∙◌, arith}
+use Rattle.std.specs.Prelude.{slice_get}
 use Rattle.std.proofs.lemmas.Bool.{cases_eq, eq-eqb, ne_eqb}
-use Rattle.std.specs.FinMap.{len, entries}
-use Rattle.ipc_ids.specs.declared.numbers.TaskNo.{TaskNo}
+use Rattle.std.specs.FinMap.{len}
 use Rattle.ipc_ids.specs.declared.numbers.Label.{Label}
 use Rattle.call_slab.specs.declared.call.Call.{Call}
 use Rattle.call_slab.specs.declared.call.Place.{Place}
 use Rattle.answerbox.specs.Calls.{CallTable, call_at, enqueue, put_at, without_call, no_calls, is_active_on, same_label, is_caller, active_calls}
 use Rattle.answerbox.proofs.Counts.{active-enqueue, active-without_call, active-put_at, active-len, count-positive}
-use Rattle.phone_table.specs.Phones.{row_at, count_at}
-use Rattle.kernel_core.specs.Kept.{label_at, count_changed, recount, counts_without, IsCounted}
+use Rattle.phone_table.specs.Phones.{count_at}
+use Rattle.kernel_core.specs.Kept.{label_at, recount, counts_without, IsCounted}
 use Rattle.kernel_core.proofs.Rows.{recount_at, some_of}
 
 -- at the phone that it was made over, a call is active unless its caller has ended
@@ -20,9 +18,9 @@ here c t p e f = rw (e, f, eq-eqb c.from.task.0 c.from.task.0 refl, eq-eqb c.fro
 
 apart_label : (a b t p : ℕ) → ((t ≡ a) × (p ≡ b) → ⊥) → same_label (label_at a b) (label_at t p) ≡ false
 apart_label a b t p ne = elim (cases_eq a t) [
-    inl e ↦ elim (cases_eq b p) [ inl f ↦ absurd (ne (sym e, sym f)) | inr nf ↦ rw (eq-eqb a t e, ne_eqb b p nf) ]
+  | inl e ↦ elim (cases_eq b p) [ inl f ↦ absurd (ne (sym e, sym f)) | inr nf ↦ rw (eq-eqb a t e, ne_eqb b p nf) ]
   | inr nt ↦ rw (ne_eqb a t nt)
-  ]
+]
 
 -- and at no other
 elsewhere : (c : Call) (t p : ℕ) → ((t ≡ c.from.task.0) × (p ≡ c.from.phone.0) → ⊥) → is_active_on (label_at t p) c ≡ false
@@ -43,15 +41,15 @@ pub counted_enqueue : (counts : List (List ℕ)) (q : CallTable) (c : Call) → 
 counted_enqueue counts q c s free caller t p n h =
     let more = active-enqueue q c (label_at t p) free in
     elim (recount_at (λ n. n + 1) counts c.from.task.0 c.from.phone.0 t p n h) [
-      inl e ↦
-        let m = s t p e.2.0 e.2.1 in
-        let count = e.2.2 in
-        let sum = one_more (is_active_on (label_at t p) c) _ _ more (here c t p e.0 e.1 ∙ its_caller c caller) in
-        omega arith
-    | inr e ↦
-        let m = s t p n e.1 in
-        let sum = no_more (is_active_on (label_at t p) c) _ _ more (elsewhere c t p e.0) in
-        omega arith
+      | inl e ↦
+          let m = s t p e.2.0 e.2.1 in
+          let count = e.2.2 in
+          let sum = one_more (is_active_on (label_at t p) c) _ _ more (here c t p e.0 e.1 ∙ its_caller c caller) in
+          omega arith
+      | inr e ↦
+          let m = s t p n e.1 in
+          let sum = no_more (is_active_on (label_at t p) c) _ _ more (elsewhere c t p e.0) in
+          omega arith
     ]
 
 not_here : (c : Call) (t p : ℕ) → (t ≡ c.from.task.0) ⊎ (t ≡ c.from.task.0 → ⊥) → (p ≡ c.from.phone.0) ⊎ (p ≡ c.from.phone.0 → ⊥) → is_caller c.from.task c.caller ≡ false → is_active_on (label_at t p) c ≡ false
@@ -65,15 +63,15 @@ counted_without counts q n c s is = by_caller (is_caller c.from.task c.caller) r
   by_caller true own t p m h =
       let less = active-without_call q n c (label_at t p) is in
       elim (recount_at (λ i. i - 1) counts c.from.task.0 c.from.phone.0 t p m h) [
-        inl e ↦
-          let was = s t p e.2.0 e.2.1 in
-          let count = e.2.2 in
-          let sum = one_more (is_active_on (label_at t p) c) _ _ less (here c t p e.0 e.1 ∙ own) in
-          omega arith
-      | inr e ↦
-          let was = s t p m e.1 in
-          let sum = no_more (is_active_on (label_at t p) c) _ _ less (elsewhere c t p e.0) in
-          omega arith
+        | inl e ↦
+            let was = s t p e.2.0 e.2.1 in
+            let count = e.2.2 in
+            let sum = one_more (is_active_on (label_at t p) c) _ _ less (here c t p e.0 e.1 ∙ own) in
+            omega arith
+        | inr e ↦
+            let was = s t p m e.1 in
+            let sum = no_more (is_active_on (label_at t p) c) _ _ less (elsewhere c t p e.0) in
+            omega arith
       ]
   by_caller false own t p m h =
       let less = active-without_call q n c (label_at t p) is in
@@ -113,18 +111,19 @@ pub counted_task : (counts : List (List ℕ)) (q : CallTable) (limit : ℕ) → 
 counted_task counts q limit s none t p n h = let l = active-len q (label_at t p) in let z : n ≡ 0 = all_zero t p n h in omega arith where
   old_zero : (t p n : ℕ) → count_at counts t p ≡ Some n → n ≡ 0
   old_zero t p n h = let m = s t p n h in let l = active-len q (label_at t p) in omega arith
+
   all_zero : (t p n : ℕ) → count_at (counts ++ replicate limit 0 ∷ []) t p ≡ Some n → n ≡ 0
   all_zero t p n h =
-    elim (cases_eq t 0) [
-      inl e ↦ absurd (let g = rw (eq-eqb t 0 e) at h in cc)
-    | inr ne ↦
-        let g = rw (ne_eqb t 0 ne) at h in
-        let found = some_of (slice_get (counts ++ replicate limit 0 ∷ []) (t - 1)) (λ r. slice_get r p) n g in
-        elim (row_last counts (t - 1) (replicate limit 0) found.0 found.1) [
-          inl e ↦ old_zero t p n (rw (ne_eqb t 0 ne, e) found.2)
-        | inr e ↦ zeros limit p n (rw e found.2)
-        ]
-    ]
+      elim (cases_eq t 0) [
+        | inl e ↦ absurd (let g = rw (eq-eqb t 0 e) at h in cc)
+        | inr ne ↦
+            let g = rw (ne_eqb t 0 ne) at h in
+            let found = some_of (slice_get (counts ++ replicate limit 0 ∷ []) (t - 1)) (λ r. slice_get r p) n g in
+            elim (row_last counts (t - 1) (replicate limit 0) found.0 found.1) [
+              | inl e ↦ old_zero t p n (rw (ne_eqb t 0 ne, e) found.2)
+              | inr e ↦ zeros limit p n (rw e found.2)
+            ]
+      ]
 
 pub counted_none : IsCounted [] no_calls
 counted_none t p n h = absurd (elim (cases_eq t 0) [ inl e ↦ let g = rw (eq-eqb t 0 e) at h in cc | inr ne ↦ let g = rw (ne_eqb t 0 ne) at h in cc ])

@@ -1,6 +1,6 @@
 -- Each step of the kernel's code keeps what the code keeps.
-use Rattle.std.proofs.Common.{◌≡◌, ℕ, zero, suc, ◌+◌, ◌-◌, ◌<◌, ◌≤◌, ◌^◌, Bool, true, false, cond, ◌&&◌, ◌⊎◌, inl, inr, Option, None, Some, List, [], ◌∷◌, ◌++◌, replicate, length, refl, ap, sym, ◌∙◌, subst, arith, set}
-use Rattle.std.specs.Prelude.{IsSome, slice_get, slice_index, ◌==◌, if◌then◌else◌, unwrap_or}
+use Rattle.std.proofs.Common.{◌≡◌, ℕ, zero, suc, ◌+◌, ◌-◌, ◌≤◌, Bool, true, false, cond, inl, inr, Option, None, Some, List, [], ◌∷◌, ◌++◌, replicate, length, refl, ap, sym, ◌∙◌, subst, arith, set}
+use Rattle.std.specs.Prelude.{IsSome, slice_get, ◌==◌, unwrap_or}
 use Rattle.std.specs.Option.{option_map_or}
 use Rattle.std.proofs.lemmas.Bool.{cases_eq, cases_lt, eq-eqb, ne_eqb}
 use Rattle.std.proofs.lemmas.Option.{slice_get_past}
@@ -13,14 +13,12 @@ use Rattle.ipc_ids.specs.declared.message.PhoneState.{PhoneState}
 use Rattle.ipc_ids.specs.declared.message.PhoneState.TheVariants.{Free, Connected, HungUp}
 use Rattle.call_slab.specs.declared.call.Call.{Call}
 use Rattle.call_slab.specs.declared.call.Place.{Place}
-use Rattle.call_slab.specs.declared.call.Place.TheVariants.{Incoming, Dispatched, Answers}
-use Rattle.answerbox.specs.Calls.{CallTable, call_at, enqueue, put_at, without_call, with_place, no_calls, is_active_on, is_caller}
+use Rattle.answerbox.specs.Calls.{CallTable, call_at, enqueue, put_at, without_call, is_caller}
 use Rattle.answerbox.proofs.Counts.{insert-remove, ties}
 use Rattle.phone_table.specs.Phones.{row_at, state_at, count_at}
-use Rattle.kernel_core.specs.State.{Tasks, KernelState, start, alive_in, with_calls, with_phone, with_task, with_event, with_state_at}
-use Rattle.kernel_core.specs.Sound.{IsPlaced, IsCaller, IsSoundCall, AreSoundCalls, IsSound}
-use Rattle.kernel_core.specs.Kept.{IsKept, IsCounted, recount, count_changed, counts_without}
-use Rattle.kernel_core.proofs.Lookups.{chosen}
+use Rattle.kernel_core.specs.State.{KernelState, start, alive_in, with_calls, with_phone, with_task, with_event, with_state_at}
+use Rattle.kernel_core.specs.Sound.{IsPlaced, IsCaller}
+use Rattle.kernel_core.specs.Kept.{IsKept, recount, count_changed, counts_without}
 use Rattle.kernel_core.proofs.Rows.{some_of, state_changed_at}
 use Rattle.kernel_core.proofs.Soundness.{sound_enqueue, sound_put, sound_without, kept_calls, kept_hung_up, kept_wired, kept_task, sound_start, some_set, value_of, row_after, row_append, row_before, get_last}
 use Rattle.kernel_core.proofs.Counting.{counted_enqueue, counted_put, counted_without, counted_task, counted_none}
@@ -56,12 +54,12 @@ shaped_recount f counts a b t p h = by_row (row_at counts a) refl where
   by_row : (o : Option (List ℕ)) → row_at counts a ≡ o → IsSome (count_at (option_map_or (λ row. set counts (a - 1) (count_changed f row b)) o counts) t p)
   by_row None is = h
   by_row (Some old) is =
-    let found = value_of (count_at counts t p) h in
-    let row = some_of (row_at counts t) (λ r. slice_get r p) found.0 found.1 in
-    elim (row_after counts a t old (count_changed f old b) row.0 is row.1) [
-      inl e ↦ let same : row.0 ≡ old = row_inj row.0 old (sym row.1 ∙ ap (row_at counts) e.0 ∙ is) in rw (e.1) (some_changed f old b p (rw (← same, row.2) refl))
-    | inr e ↦ rw (e.1, row.2) refl
-    ]
+      let found = value_of (count_at counts t p) h in
+      let row = some_of (row_at counts t) (λ r. slice_get r p) found.0 found.1 in
+      elim (row_after counts a t old (count_changed f old b) row.0 is row.1) [
+        | inl e ↦ let same : row.0 ≡ old = row_inj row.0 old (sym row.1 ∙ ap (row_at counts) e.0 ∙ is) in rw (e.1) (some_changed f old b p (rw (← same, row.2) refl))
+        | inr e ↦ rw (e.1, row.2) refl
+      ]
 
 shaped_without : (counts : List (List ℕ)) (caller : Option TaskNo) (from : Label) (t p : ℕ) → IsSome (count_at counts t p) → IsSome (count_at (counts_without counts caller from) t p)
 shaped_without counts caller from t p h = by_caller (is_caller from.task caller) where
@@ -77,8 +75,8 @@ phone_was : (rows : List (List PhoneState)) (a b t p : ℕ) (s : PhoneState) →
 phone_was rows a b t p s there h =
     let found = value_of (state_at (with_state_at rows a b s) t p) h in
     elim (state_changed_at rows a b t p s found.0 found.1) [
-      inl e ↦ subst (λ (i : ℕ). IsSome (state_at rows i p)) (sym e.0) (subst (λ (i : ℕ). IsSome (state_at rows a i)) (sym e.1) there)
-    | inr e ↦ is_some (state_at rows t p) found.0 e.1
+      | inl e ↦ subst (λ (i : ℕ). IsSome (state_at rows i p)) (sym e.0) (subst (λ (i : ℕ). IsSome (state_at rows a i)) (sym e.1) there)
+      | inr e ↦ is_some (state_at rows t p) found.0 e.1
     ]
 
 get_all : {A B : Type 0} (k p : ℕ) (x : A) (y : B) → IsSome (slice_get (replicate k x) p) → slice_get (replicate k y) p ≡ Some y
@@ -95,14 +93,14 @@ shaped_task phones counts limit t p paired s h =
     let found = value_of (state_at (phones ++ replicate limit Free ∷ []) t p) h in
     let row = some_of (row_at (phones ++ replicate limit Free ∷ []) t) (λ r. slice_get r p) found.0 found.1 in
     elim (row_append phones (replicate limit Free) t row.0 row.1) [
-      inl e ↦
-        let was : IsSome (state_at phones t p) = rw (e, row.2) refl in
-        let count = value_of (count_at counts t p) (s t p was) in
-        let counted = some_of (row_at counts t) (λ r. slice_get r p) count.0 count.1 in
-        rw (row_before counts (replicate limit 0) t counted.0 counted.1, counted.2) refl
-    | inr e ↦
-        let there : IsSome (slice_get (replicate limit Free) p) = rw (e.1, row.2) refl in
-        rw (last_row counts (replicate limit 0) t (omega arith), get_all {B = ℕ} limit p Free 0 there) refl
+      | inl e ↦
+          let was : IsSome (state_at phones t p) = rw (e, row.2) refl in
+          let count = value_of (count_at counts t p) (s t p was) in
+          let counted = some_of (row_at counts t) (λ r. slice_get r p) count.0 count.1 in
+          rw (row_before counts (replicate limit 0) t counted.0 counted.1, counted.2) refl
+      | inr e ↦
+          let there : IsSome (slice_get (replicate limit Free) p) = rw (e.1, row.2) refl in
+          rw (last_row counts (replicate limit 0) t (omega arith), get_all {B = ℕ} limit p Free 0 there) refl
     ]
 
 -- the steps
@@ -158,7 +156,7 @@ kept_wire k counts t p u s there from to = record {
   few = s.few;
 }
 
-pub kept_addition : (k : KernelState) (counts : List (List ℕ)) (limit : ℕ) → IsKept k counts → length counts ≡ length k.tasks.phones → k.calls.next_number ≡ 1 → IsKept (with_task k limit) (counts ++ replicate limit 0 ∷ [])
+pub kept_addition : (k : KernelState) (counts : List (List ℕ)) (limit : ℕ) → IsKept k counts → length counts ≡ length k.tasks.phones → k.calls.next_number ≤ 1 → IsKept (with_task k limit) (counts ++ replicate limit 0 ∷ [])
 kept_addition k counts limit s paired first = record {
   sound = kept_task k limit s.sound;
   shaped = λ t p h. shaped_task k.tasks.phones counts limit t p paired s.shaped h;
@@ -172,8 +170,8 @@ kept_event k counts s = record { sound = record { calls = s.sound.calls; tasks =
 -- a task that is alive is one of those that are there
 pub within : (alive : List Bool) (t : ℕ) → alive_in alive t ≡ true → (1 ≤ t) × (t ≤ length alive)
 within alive t h = elim (cases_eq t 0) [
-    inl e ↦ absurd (let g = rw (eq-eqb t 0 e) at h in cc)
+  | inl e ↦ absurd (let g = rw (eq-eqb t 0 e) at h in cc)
   | inr ne ↦ (omega arith, there (rw (ne_eqb t 0 ne) at h))
-  ] where
+] where
   there : unwrap_or (slice_get alive (t - 1)) false ≡ true → t ≤ length alive
   there g = elim (cases_lt (t - 1) (length alive)) [ inl l ↦ omega arith | inr past ↦ absurd (let f = rw (slice_get_past alive (t - 1) past) at g in cc) ]

@@ -6,3 +6,4 @@ pub mod Counting
 pub mod Keeping
 pub mod Reading
 pub mod Inner
+pub mod Passing

@@ -1,5 +1,5 @@
 -- What the table of calls has at each number after a change.
-use Rattle.std.proofs.Common.{◌≡◌, ℕ, ◌+◌, ◌<◌, Bool, true, false, cond, ◌⊎◌, inl, inr, Option, None, Some, refl, ap, sym, ◌∙◌, arith}
+use Rattle.std.proofs.Common.{◌≡◌, ℕ, cond, ◌⊎◌, inl, inr, Option, None, Some, refl, ap, ◌∙◌, arith}
 use Rattle.std.specs.Prelude.{◌==◌, if◌then◌else◌, IsSome}
 use Rattle.std.specs.Ordering.{nat_cmp, eq_by_cmp}
 use Rattle.std.specs.Cmp.{nat_cmp_total}
@@ -7,8 +7,6 @@ use Rattle.std.specs.FinMap.{FinMap, get, insert, remove, get-insert, get-remove
 use Rattle.std.proofs.lemmas.Bool.Decides.{nat_tests}
 use Rattle.std.proofs.lemmas.Bool.{cases_eq, eq-eqb, ne_eqb}
 use Rattle.call_slab.specs.declared.call.Call.{Call}
-use Rattle.call_slab.specs.declared.call.Place.{Place}
-use Rattle.answerbox.specs.Calls.{CallTable, call_at, enqueue, put_at, without_call}
 
 same_test : (q n : ℕ) → eq_by_cmp nat_cmp q n ≡ (n == q)
 same_test q n = elim (cases_eq n q) [ inl e ↦ grind (arith, nat_tests, eq-eqb) | inr ne ↦ grind (arith, nat_tests, ne_eqb) ]

@@ -1,10 +1,8 @@
 -- What the kernel's code reads from sound states, and writes into rows.
-use Rattle.std.proofs.Common.{◌≡◌, ℕ, ◌+◌, ◌-◌, ◌<◌, ◌≤◌, ◌^◌, Bool, true, false, cond, Option, None, Some, List, length, refl, ap, sym, subst, ◌∙◌, arith, set, Result, Ok, Err}
-use Rattle.std.specs.Prelude.{IsSome, IfSome, OnOk, slice_get, slice_set, slice_index, ◌==◌, if◌then◌else◌, option_and_then}
+use Rattle.std.proofs.Common.{◌≡◌, ℕ, ◌+◌, ◌-◌, ◌<◌, ◌≤◌, ◌^◌, Bool, true, Option, None, Some, List, length, refl, ap, sym, subst, ◌∙◌, arith, set, Result, Ok, Err}
+use Rattle.std.specs.Prelude.{IsSome, IfSome, OnOk, slice_get, slice_index, option_and_then}
 use Rattle.std.specs.Option.{IsSomeAnd, option_map_or, option_copied}
 use Rattle.std.specs.Borrow.{Bor}
-use Rattle.std.proofs.lemmas.Bool.{cases_eq, eq-eqb, ne_eqb}
-use Rattle.std.specs.FinMap.{len}
 use Rattle.ipc_ids.specs.declared.numbers.TaskNo.{TaskNo}
 use Rattle.ipc_ids.specs.declared.numbers.Label.{Label}
 use Rattle.ipc_ids.specs.declared.numbers.Code.{Code}
@@ -15,15 +13,14 @@ use Rattle.call_slab.specs.declared.call.Call.{Call}
 use Rattle.call_slab.specs.declared.call.Place.{Place}
 use Rattle.call_slab.specs.declared.call.Place.TheVariants.{Incoming, Dispatched, Answers}
 use Rattle.answerbox.specs.Calls.{CallTable, call_at, task_of, is_caller, with_reply, with_place, with_record, put_at}
-use Rattle.answerbox.proofs.Steps.{with_place-with_reply, live-with_change}
-use Rattle.phone_table.specs.Phones.{Row, Rows, row_at, state_at, count_at, with_phone as with_phone_of, hangup_answer, after_hangup}
+use Rattle.answerbox.proofs.Steps.{with_place-with_reply}
+use Rattle.phone_table.specs.Phones.{Row, Rows, row_at, state_at, count_at, hangup_answer, after_hangup}
 use Rattle.phone_table.specs.declared.hung.Hung.{Hung}
-use Rattle.phone_table.specs.declared.hung.Hung.TheVariants.{Sent, Silent}
 use Rattle.phone_table.proofs.Lookups.{same_row}
 use Rattle.phone_table.proofs.Writes.{counted}
-use Rattle.kernel_core.specs.State.{Tasks, KernelState, state_from, alive_in, is_alive, phone_at, with_state_at, with_phone, with_calls}
-use Rattle.kernel_core.specs.Sound.{IsPlaced, IsCaller, IsSoundCall, IsSound, AreSoundTasks}
-use Rattle.kernel_core.specs.Kept.{IsKept, recount, counts_without}
+use Rattle.kernel_core.specs.State.{Tasks, KernelState, state_from, alive_in, is_alive, phone_at, with_state_at, with_calls}
+use Rattle.kernel_core.specs.Sound.{IsPlaced, IsCaller, IsSound, AreSoundTasks}
+use Rattle.kernel_core.specs.Kept.{IsKept, recount}
 use Rattle.kernel_core.specs.Steps.{IsAliveCaller, LeadsToTask, TellsTask, with_hangup, IsCallOf, with_answer}
 use Rattle.kernel_core.proofs.Lookups.{record_of}
 use Rattle.kernel_core.proofs.Soundness.{value_of, phone_kept}
@@ -86,8 +83,8 @@ placed_within tasks caller from (Answers t) n h own alive few =
     let same : t.0 ≡ from.0 = same_task t from (sym h ∙ own) in
     let w = (within tasks.alive from.0 alive).1 in omega arith
   where
-  same_task : (a b : TaskNo) → Some a ≡ Some b → a.0 ≡ b.0
-  same_task a b e = cc
+    same_task : (a b : TaskNo) → Some a ≡ Some b → a.0 ≡ b.0
+    same_task a b e = cc
 
 -- the live call of a caller
 pub call_of : (o : Option Call) (caller : TaskNo) → IsCallOf o caller → (c : Call) × (o ≡ Some c) × (c.caller ≡ Some caller)

@@ -1,6 +1,6 @@
 -- What stands in rows of phones and counts after one place of them has changed.
-use Rattle.std.proofs.Common.{◌≡◌, ℕ, zero, suc, ◌+◌, ◌-◌, ◌<◌, ◌≤◌, ◌⊎◌, Bool, true, false, cond, List, [], ◌∷◌, length, Option, Some, None, refl, sym, ap, ◌∙◌, arith, inl, inr, set}
-use Rattle.std.specs.Prelude.{slice_get, ◌==◌, if◌then◌else◌, option_and_then}
+use Rattle.std.proofs.Common.{◌≡◌, ℕ, zero, suc, ◌-◌, ◌⊎◌, List, [], ◌∷◌, Option, Some, None, refl, sym, ap, ◌∙◌, arith, inl, inr, set}
+use Rattle.std.specs.Prelude.{slice_get, option_and_then}
 use Rattle.std.specs.Option.{option_map_or}
 use Rattle.std.proofs.lemmas.Bool.{cases_eq, eq-eqb, ne_eqb}
 use Rattle.ipc_ids.specs.declared.message.PhoneState.{PhoneState}
@@ -24,11 +24,11 @@ row_set rows a t r v w is h =
     let na : a ≡ 0 → ⊥ = not_zero rows a r is in
     let g : slice_get (set rows (a - 1) v) (t - 1) ≡ Some w = rw (ne_eqb t 0 ne) at h in
     elim (set_at rows (a - 1) (t - 1) v w g) [
-      inl e ↦ inl (same t a ne na e.0, e.1)
-    | inr e ↦ inr (λ s. e.0 (ap (λ x. x - 1) s), rw (ne_eqb t 0 ne) e.1)
+      | inl e ↦ inl (same t a ne na e.0, e.1)
+      | inr e ↦ inr (λ s. e.0 (ap (λ x. x - 1) s), rw (ne_eqb t 0 ne) e.1)
     ] where
-  same : (t a : ℕ) → (t ≡ 0 → ⊥) → (a ≡ 0 → ⊥) → t - 1 ≡ a - 1 → t ≡ a
-  same t a nt na e = omega arith
+      same : (t a : ℕ) → (t ≡ 0 → ⊥) → (a ≡ 0 → ⊥) → t - 1 ≡ a - 1 → t ≡ a
+      same t a nt na e = omega arith
 
 pub some_of : {A B : Type 0} (o : Option A) (f : A → Option B) (y : B) → option_and_then f o ≡ Some y → (x : A) × (o ≡ Some x) × (f x ≡ Some y)
 some_of None f y h = absurd (cc h)
@@ -46,14 +46,14 @@ recount_at f rows a b t p n h = by_row f rows a b t p n (row_at rows a) refl h w
   by_row : (f : ℕ → ℕ) (rows : List (List ℕ)) (a b t p n : ℕ) (o : Option (List ℕ)) → row_at rows a ≡ o → count_at (option_map_or (λ row. set rows (a - 1) (count_changed f row b)) o rows) t p ≡ Some n → ((t ≡ a) × (p ≡ b) × ((m : ℕ) × (count_at rows t p ≡ Some m) × (n ≡ f m))) ⊎ (((t ≡ a) × (p ≡ b) → ⊥) × (count_at rows t p ≡ Some n))
   by_row f rows a b t p n None is h = elim (cases_eq t a) [ inl e ↦ absurd (let g : count_at rows a p ≡ Some n = rw e at h in let k = rw is at g in cc) | inr ne ↦ inr (λ s. ne s.0, h) ]
   by_row f rows a b t p n (Some row) is h =
-    let found = some_of (row_at (set rows (a - 1) (count_changed f row b)) t) (λ r. slice_get r p) n h in
-    elim (row_set rows a t row (count_changed f row b) found.0 is found.1) [
-      inl e ↦
-        let g : slice_get (count_changed f row b) p ≡ Some n = rw (e.1) found.2 in
-        let there : count_at rows t p ≡ slice_get row p = rw (e.0, is) in
-        elim (changed_at f row b p n g) [ inl x ↦ inl (e.0, x.0, (x.1.0, there ∙ x.1.1, x.1.2)) | inr x ↦ inr (λ s. x.0 s.1, there ∙ x.1) ]
-    | inr e ↦ inr (λ s. e.0 s.0, rw (e.1) found.2)
-    ]
+      let found = some_of (row_at (set rows (a - 1) (count_changed f row b)) t) (λ r. slice_get r p) n h in
+      elim (row_set rows a t row (count_changed f row b) found.0 is found.1) [
+        | inl e ↦
+            let g : slice_get (count_changed f row b) p ≡ Some n = rw (e.1) found.2 in
+            let there : count_at rows t p ≡ slice_get row p = rw (e.0, is) in
+            elim (changed_at f row b p n g) [ inl x ↦ inl (e.0, x.0, (x.1.0, there ∙ x.1.1, x.1.2)) | inr x ↦ inr (λ s. x.0 s.1, there ∙ x.1) ]
+        | inr e ↦ inr (λ s. e.0 s.0, rw (e.1) found.2)
+      ]
 
 -- a state after one has changed
 pub state_changed_at : (rows : List (List PhoneState)) (a b t p : ℕ) (s x : PhoneState) → state_at (with_state_at rows a b s) t p ≡ Some x → ((t ≡ a) × (p ≡ b) × (s ≡ x)) ⊎ (((t ≡ a) × (p ≡ b) → ⊥) × (state_at rows t p ≡ Some x))
@@ -61,11 +61,11 @@ state_changed_at rows a b t p s x h = by_row rows a b t p s x (row_at rows a) re
   by_row : (rows : List (List PhoneState)) (a b t p : ℕ) (s x : PhoneState) (o : Option (List PhoneState)) → row_at rows a ≡ o → state_at (option_map_or (λ row. set rows (a - 1) (set row b s)) o rows) t p ≡ Some x → ((t ≡ a) × (p ≡ b) × (s ≡ x)) ⊎ (((t ≡ a) × (p ≡ b) → ⊥) × (state_at rows t p ≡ Some x))
   by_row rows a b t p s x None is h = elim (cases_eq t a) [ inl e ↦ absurd (let g : state_at rows a p ≡ Some x = rw e at h in let k = rw is at g in cc) | inr ne ↦ inr (λ z. ne z.0, h) ]
   by_row rows a b t p s x (Some row) is h =
-    let found = some_of (row_at (set rows (a - 1) (set row b s)) t) (λ r. slice_get r p) x h in
-    elim (row_set rows a t row (set row b s) found.0 is found.1) [
-      inl e ↦
-        let g : slice_get (set row b s) p ≡ Some x = rw (e.1) found.2 in
-        let there : state_at rows t p ≡ slice_get row p = rw (e.0, is) in
-        elim (set_at row b p s x g) [ inl y ↦ inl (e.0, y.0, y.1) | inr y ↦ inr (λ z. y.0 z.1, there ∙ y.1) ]
-    | inr e ↦ inr (λ z. e.0 z.0, rw (e.1) found.2)
-    ]
+      let found = some_of (row_at (set rows (a - 1) (set row b s)) t) (λ r. slice_get r p) x h in
+      elim (row_set rows a t row (set row b s) found.0 is found.1) [
+        | inl e ↦
+            let g : slice_get (set row b s) p ≡ Some x = rw (e.1) found.2 in
+            let there : state_at rows t p ≡ slice_get row p = rw (e.0, is) in
+            elim (set_at row b p s x g) [ inl y ↦ inl (e.0, y.0, y.1) | inr y ↦ inr (λ z. y.0 z.1, there ∙ y.1) ]
+        | inr e ↦ inr (λ z. e.0 z.0, rw (e.1) found.2)
+      ]

@@ -1,7 +1,7 @@
 -- Each change of the kernel keeps a sound state sound.
-use Rattle.std.proofs.Common.{◌≡◌, ℕ, zero, suc, ◌+◌, ◌-◌, ◌<◌, ◌≤◌, Bool, true, false, cond, ◌⊎◌, inl, inr, Option, None, Some, List, [], ◌∷◌, ◌++◌, length, replicate, refl, ap, sym, subst, ◌∙◌, arith, set, length-append}
+use Rattle.std.proofs.Common.{◌≡◌, ℕ, zero, suc, ◌+◌, ◌-◌, ◌≤◌, Bool, true, false, ◌⊎◌, inl, inr, Option, None, Some, List, [], ◌∷◌, ◌++◌, length, replicate, refl, ap, sym, subst, ◌∙◌, arith, set, length-append}
 use Rattle.std.proofs.Math.ListN.{length-set}
-use Rattle.std.specs.Prelude.{◌==◌, if◌then◌else◌, IsSome, slice_get, slice_set, option_and_then, unwrap_or}
+use Rattle.std.specs.Prelude.{◌==◌, if◌then◌else◌, IsSome, slice_get, unwrap_or}
 use Rattle.std.specs.Option.{option_map_or}
 use Rattle.std.proofs.lemmas.Bool.{cases_eq, eq-eqb, ne_eqb}
 use Rattle.std.specs.Ordering.{nat_cmp}
@@ -9,11 +9,11 @@ use Rattle.std.specs.FinMap.{get-empty}
 use Rattle.ipc_ids.specs.declared.numbers.TaskNo.{TaskNo}
 use Rattle.ipc_ids.specs.declared.numbers.Label.{Label}
 use Rattle.ipc_ids.specs.declared.message.PhoneState.{PhoneState}
-use Rattle.ipc_ids.specs.declared.message.PhoneState.TheVariants.{Free, Connecting, Connected, HungUp, Slammed}
+use Rattle.ipc_ids.specs.declared.message.PhoneState.TheVariants.{Free, Connected, HungUp}
 use Rattle.call_slab.specs.declared.call.Call.{Call}
 use Rattle.call_slab.specs.declared.call.Place.{Place}
 use Rattle.call_slab.specs.declared.call.Place.TheVariants.{Incoming, Dispatched, Answers}
-use Rattle.answerbox.specs.Calls.{CallTable, call_at, enqueue, put_at, without_call, no_calls}
+use Rattle.answerbox.specs.Calls.{CallTable, call_at, enqueue, put_at, without_call}
 use Rattle.phone_table.specs.Phones.{row_at, state_at}
 use Rattle.kernel_core.specs.State.{Tasks, KernelState, alive_in, with_state_at, with_calls, with_phone, with_task, start}
 use Rattle.kernel_core.specs.Sound.{IsPlaced, IsCaller, IsSoundCall, AreSoundCalls, IsQuiet, AreSoundTasks, IsSound}
@@ -37,18 +37,18 @@ pub sound_with : (tasks : Tasks) (q r : CallTable) (n : ℕ) (d : Call) → AreS
 sound_with tasks q r n d s at more stamps behind sound = record {
   each = λ m c is.
       elim (chosen n m (Some d) (call_at q m) (Some c) (sym (at m) ∙ is)) [
-        inl e ↦ subst (λ (x : Call). IsSoundCall tasks r.next_number r.next_stamp m x) (same_call d c e.1) (subst (λ (i : ℕ). IsSoundCall tasks r.next_number r.next_stamp i d) e.0 sound)
-      | inr e ↦ later tasks q.next_number q.next_stamp r.next_number r.next_stamp m c (s.each m c e.1) more (omega arith)
+        | inl e ↦ subst (λ (x : Call). IsSoundCall tasks r.next_number r.next_stamp m x) (same_call d c e.1) (subst (λ (i : ℕ). IsSoundCall tasks r.next_number r.next_stamp i d) e.0 sound)
+        | inr e ↦ later tasks q.next_number q.next_stamp r.next_number r.next_stamp m c (s.each m c e.1) more (omega arith)
       ];
   stamps_differ = λ m i b c is has same.
       elim (chosen n m (Some d) (call_at q m) (Some b) (sym (at m) ∙ is)) [
-        inl e ↦ elim (chosen n i (Some d) (call_at q i) (Some c) (sym (at i) ∙ has)) [
-          inl f ↦ sym e.0 ∙ f.0
-        | inr f ↦ let old = (s.each i c f.1).stamp in let b_is : b.stamp ≡ d.stamp = ap (λ (x : Call). x.stamp) (sym (same_call d b e.1)) in absurd (omega arith)
+        | inl e ↦ elim (chosen n i (Some d) (call_at q i) (Some c) (sym (at i) ∙ has)) [
+          | inl f ↦ sym e.0 ∙ f.0
+          | inr f ↦ let old = (s.each i c f.1).stamp in let b_is : b.stamp ≡ d.stamp = ap (λ (x : Call). x.stamp) (sym (same_call d b e.1)) in absurd (omega arith)
         ]
-      | inr e ↦ elim (chosen n i (Some d) (call_at q i) (Some c) (sym (at i) ∙ has)) [
-          inl f ↦ let old = (s.each m b e.1).stamp in let c_is : c.stamp ≡ d.stamp = ap (λ (x : Call). x.stamp) (sym (same_call d c f.1)) in absurd (omega arith)
-        | inr f ↦ s.stamps_differ m i b c e.1 f.1 same
+        | inr e ↦ elim (chosen n i (Some d) (call_at q i) (Some c) (sym (at i) ∙ has)) [
+          | inl f ↦ let old = (s.each m b e.1).stamp in let c_is : c.stamp ≡ d.stamp = ap (λ (x : Call). x.stamp) (sym (same_call d c f.1)) in absurd (omega arith)
+          | inr f ↦ s.stamps_differ m i b c e.1 f.1 same
         ]
       ];
 }
@@ -58,15 +58,15 @@ pub sound_without : (tasks : Tasks) (q : CallTable) (n : ℕ) → AreSoundCalls 
 sound_without tasks q n s = record {
   each = λ m c is.
       elim (chosen n m None (call_at q m) (Some c) (sym (at_remove q.records n m) ∙ is)) [
-        inl e ↦ absurd (cc e.1)
-      | inr e ↦ s.each m c e.1
+        | inl e ↦ absurd (cc e.1)
+        | inr e ↦ s.each m c e.1
       ];
   stamps_differ = λ m i b c is has same.
       elim (chosen n m None (call_at q m) (Some b) (sym (at_remove q.records n m) ∙ is)) [
-        inl e ↦ absurd (cc e.1)
-      | inr e ↦ elim (chosen n i None (call_at q i) (Some c) (sym (at_remove q.records n i) ∙ has)) [
-          inl f ↦ absurd (cc f.1)
-        | inr f ↦ s.stamps_differ m i b c e.1 f.1 same
+        | inl e ↦ absurd (cc e.1)
+        | inr e ↦ elim (chosen n i None (call_at q i) (Some c) (sym (at_remove q.records n i) ∙ has)) [
+          | inl f ↦ absurd (cc f.1)
+          | inr f ↦ s.stamps_differ m i b c e.1 f.1 same
         ]
       ];
 }
@@ -110,6 +110,7 @@ sound_under old new q s alive phones = record {
   placed caller (Incoming t) h = alive t.0 h
   placed caller (Dispatched t) h = alive t.0 h
   placed caller (Answers t) h = h
+
   called : (from : Label) (caller : Option TaskNo) → IsCaller old from caller → IsCaller new from caller
   called from None h = h
   called from (Some u) h = (h.0, alive u.0 h.1)
@@ -131,23 +132,24 @@ is_some o x e = rw e refl
 -- the row that a task has after a change of one row
 pub row_after : {A : Type 0} (rows : List A) (a t : ℕ) (old new row : A) → row_at rows a ≡ Some old → row_at rows t ≡ Some row → ((t ≡ a) × (row_at (set rows (a - 1) new) t ≡ Some new)) ⊎ ((t ≡ a → ⊥) × (row_at (set rows (a - 1) new) t ≡ Some row))
 row_after rows a t old new row is has = elim (cases_eq t 0) [
-    inl e ↦ absurd (let g = rw (eq-eqb t 0 e) at has in cc)
+  | inl e ↦ absurd (let g = rw (eq-eqb t 0 e) at has in cc)
   | inr nt ↦ elim (cases_eq a 0) [
-      inl e ↦ absurd (let g = rw (eq-eqb a 0 e) at is in cc)
+    | inl e ↦ absurd (let g = rw (eq-eqb a 0 e) at is in cc)
     | inr na ↦
-      let here : slice_get rows (t - 1) ≡ Some row = rw (ne_eqb t 0 nt) at has in
-      elim (cases_eq t a) [
-        inl e ↦ inl (e, rw (ne_eqb t 0 nt) (same rows (a - 1) (t - 1) new row (omega arith) here))
-      | inr ne ↦ inr (ne, rw (ne_eqb t 0 nt) (other rows (a - 1) (t - 1) new row (λ e. ne (omega arith)) here))
-      ]
-    ]
-  ] where
+        let here : slice_get rows (t - 1) ≡ Some row = rw (ne_eqb t 0 nt) at has in
+        elim (cases_eq t a) [
+          | inl e ↦ inl (e, rw (ne_eqb t 0 nt) (same rows (a - 1) (t - 1) new row (omega arith) here))
+          | inr ne ↦ inr (ne, rw (ne_eqb t 0 nt) (other rows (a - 1) (t - 1) new row (λ e. ne (omega arith)) here))
+        ]
+  ]
+] where
   same : {A : Type 0} (xs : List A) (i j : ℕ) (v w : A) → j ≡ i → slice_get xs j ≡ Some w → slice_get (set xs i v) j ≡ Some v
   same [] i j v w e h = absurd (cc h)
   same (x ∷ xs) zero zero v w e h = refl
   same (x ∷ xs) zero (suc j) v w e h = absurd (omega arith)
   same (x ∷ xs) (suc i) zero v w e h = absurd (omega arith)
   same (x ∷ xs) (suc i) (suc j) v w e h = same xs i j v w (omega arith) h
+
   other : {A : Type 0} (xs : List A) (i j : ℕ) (v w : A) → (j ≡ i → ⊥) → slice_get xs j ≡ Some w → slice_get (set xs i v) j ≡ Some w
   other [] i j v w ne h = absurd (cc h)
   other (x ∷ xs) zero zero v w ne h = absurd (ne refl)
@@ -164,12 +166,12 @@ phone_kept rows a b t p s h = by_row (row_at rows a) refl where
   by_row : (o : Option (List PhoneState)) → row_at rows a ≡ o → IsSome (state_at (option_map_or (λ row. set rows (a - 1) (set row b s)) o rows) t p)
   by_row None is = h
   by_row (Some old) is =
-    let found = value_of (state_at rows t p) h in
-    let row = some_of (row_at rows t) (λ r. slice_get r p) found.0 found.1 in
-    elim (row_after rows a t old (set old b s) row.0 is row.1) [
-      inl e ↦ let same : row.0 ≡ old = some_inj row.0 old (sym row.1 ∙ ap (row_at rows) e.0 ∙ is) in rw (e.1) (some_set old b p s (rw (← same, row.2) refl))
-    | inr e ↦ rw (e.1, row.2) refl
-    ]
+      let found = value_of (state_at rows t p) h in
+      let row = some_of (row_at rows t) (λ r. slice_get r p) found.0 found.1 in
+      elim (row_after rows a t old (set old b s) row.0 is row.1) [
+        | inl e ↦ let same : row.0 ≡ old = some_inj row.0 old (sym row.1 ∙ ap (row_at rows) e.0 ∙ is) in rw (e.1) (some_set old b p s (rw (← same, row.2) refl))
+        | inr e ↦ rw (e.1, row.2) refl
+      ]
 
 length_rows : (rows : List (List PhoneState)) (a b : ℕ) (s : PhoneState) → length (with_state_at rows a b s) ≡ length rows
 length_rows rows a b s = by_row (row_at rows a) where
@@ -194,6 +196,7 @@ sound_wired tasks t p u s from to = record {
 } where
   connected_to : (u v : TaskNo) → Connected u ≡ Connected v → u ≡ v
   connected_to u v e = cc
+
   not_both : (b : Bool) → b ≡ true → b ≡ false → ⊥
   not_both b x y = cc
 
@@ -222,31 +225,31 @@ all_same (suc k) (suc p) x y h = all_same k p x y h
 -- a row of the old list, or the new one
 pub row_append : {A : Type 0} (rows : List A) (row : A) (t : ℕ) (v : A) → row_at (rows ++ row ∷ []) t ≡ Some v → (row_at rows t ≡ Some v) ⊎ ((t ≡ length rows + 1) × (row ≡ v))
 row_append rows row t v h = elim (cases_eq t 0) [
-    inl e ↦ absurd (let g = rw (eq-eqb t 0 e) at h in cc)
+  | inl e ↦ absurd (let g = rw (eq-eqb t 0 e) at h in cc)
   | inr nt ↦ elim (get_append rows row (t - 1) v (rw (ne_eqb t 0 nt) at h)) [ inl e ↦ inl (rw (ne_eqb t 0 nt) e) | inr e ↦ inr (omega arith, e.1) ]
-  ]
+]
 
 pub row_before : {A : Type 0} (rows : List A) (row : A) (t : ℕ) (v : A) → row_at rows t ≡ Some v → row_at (rows ++ row ∷ []) t ≡ Some v
 row_before rows row t v h = elim (cases_eq t 0) [
-    inl e ↦ absurd (let g = rw (eq-eqb t 0 e) at h in cc)
+  | inl e ↦ absurd (let g = rw (eq-eqb t 0 e) at h in cc)
   | inr nt ↦ rw (ne_eqb t 0 nt) (get_before rows row (t - 1) v (rw (ne_eqb t 0 nt) at h))
-  ]
+]
 
 -- the mark of a task is that of its row
 mark_of : (alive : List Bool) (t : ℕ) → alive_in alive t ≡ true → row_at alive t ≡ Some true
 mark_of alive t h = elim (cases_eq t 0) [
-    inl e ↦ absurd (let g = rw (eq-eqb t 0 e) at h in cc)
+  | inl e ↦ absurd (let g = rw (eq-eqb t 0 e) at h in cc)
   | inr nt ↦ rw (ne_eqb t 0 nt) (by_mark (slice_get alive (t - 1)) (rw (ne_eqb t 0 nt) at h))
-  ] where
+] where
   by_mark : (o : Option Bool) → unwrap_or o false ≡ true → o ≡ Some true
   by_mark None h = absurd (cc h)
   by_mark (Some b) h = ap Some h
 
 mark_is : (alive : List Bool) (t : ℕ) (b : Bool) → row_at alive t ≡ Some b → alive_in alive t ≡ b
 mark_is alive t b h = elim (cases_eq t 0) [
-    inl e ↦ absurd (let g = rw (eq-eqb t 0 e) at h in cc)
+  | inl e ↦ absurd (let g = rw (eq-eqb t 0 e) at h in cc)
   | inr nt ↦ let g : slice_get alive (t - 1) ≡ Some b = rw (ne_eqb t 0 nt) at h in rw (ne_eqb t 0 nt, g) refl
-  ]
+]
 
 pub alive_before : (alive : List Bool) (t : ℕ) → alive_in alive t ≡ true → alive_in (alive ++ true ∷ []) t ≡ true
 alive_before alive t h = mark_is (alive ++ true ∷ []) t true (row_before alive true t true (mark_of alive t h))
@@ -270,14 +273,14 @@ sound_task tasks limit s = record {
   leads = λ t p u is.
       let row = some_of (row_at (tasks.phones ++ replicate limit Free ∷ []) t) (λ r. slice_get r p) (Connected u) is in
       elim (row_append tasks.phones (replicate limit Free) t row.0 row.1) [
-        inl e ↦ alive_before tasks.alive u.0 (s.leads t p u (rw e row.2))
-      | inr e ↦ absurd (let g : slice_get (replicate limit Free) p ≡ Some (Connected u) = rw (e.1) row.2 in let f = all_same limit p Free (Connected u) g in cc)
+        | inl e ↦ alive_before tasks.alive u.0 (s.leads t p u (rw e row.2))
+        | inr e ↦ absurd (let g : slice_get (replicate limit Free) p ≡ Some (Connected u) = rw (e.1) row.2 in let f = all_same limit p Free (Connected u) g in cc)
       ];
   quiet = λ t p state is ended.
       let row = some_of (row_at (tasks.phones ++ replicate limit Free ∷ []) t) (λ r. slice_get r p) state is in
       elim (row_append tasks.phones (replicate limit Free) t row.0 row.1) [
-        inl e ↦ s.quiet t p state (rw e row.2) (ended_before tasks.alive t ended)
-      | inr e ↦ let g : slice_get (replicate limit Free) p ≡ Some state = rw (e.1) row.2 in subst IsQuiet (all_same limit p Free state g) tt
+        | inl e ↦ s.quiet t p state (rw e row.2) (ended_before tasks.alive t ended)
+        | inr e ↦ let g : slice_get (replicate limit Free) p ≡ Some state = rw (e.1) row.2 in subst IsQuiet (all_same limit p Free state g) tt
       ];
 }
 

@@ -1,5 +1,5 @@
 -- A call by task t over its phone p.
-use Rattle.std.specs.Prelude.{ℕ, ◌==◌, false, if◌then◌else◌, nat_lt, nat_le, [], ◌∷◌, Option, None, Some, replicate}
+use Rattle.std.specs.Prelude.{ℕ, false, if◌then◌else◌, nat_lt, nat_le, [], ◌∷◌, Option, None, Some, replicate}
 use Rattle.ipc_ids.specs.declared.numbers.TaskNo.{TaskNo}
 use Rattle.ipc_ids.specs.declared.numbers.Code.{Code}
 use Rattle.ipc_ids.specs.declared.message.Msg.{Msg}

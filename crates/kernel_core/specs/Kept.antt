@@ -1,5 +1,5 @@
 -- What the kernel's code keeps beside a sound state: a count of active calls at each phone.
-use Rattle.std.specs.Prelude.{◌≡◌, ℕ, ◌+◌, ◌-◌, ◌<◌, ◌≤◌, List, Option, Some, IsSome, length, slice_get, slice_set, if◌then◌else◌}
+use Rattle.std.specs.Prelude.{◌≡◌, ℕ, ◌+◌, ◌-◌, ◌<◌, ◌≤◌, List, Option, Some, IsSome, slice_get, slice_set, if◌then◌else◌}
 use Rattle.std.specs.FinMap.{len}
 use Rattle.std.specs.Option.{option_map_or}
 use Rattle.ipc_ids.specs.declared.numbers.TaskNo.{TaskNo}
@@ -44,4 +44,3 @@ pub record HasPlaces (tasks places added : ℕ) : Type 0 where
 pub record HasFewCalls (k : KernelState) : Type 0 where
   pub numbers : k.calls.next_number ≤ k.events + 1
   pub stamps : k.calls.next_stamp ≤ k.events + 1
-  pub some : 1 ≤ k.calls.next_number

@@ -1,5 +1,5 @@
 -- What every state of the kernel keeps between two events.
-use Rattle.std.specs.Prelude.{◌≡◌, ℕ, ◌<◌, ◌==◌, ⊤, true, false, Option, None, Some, IsSome, List, length}
+use Rattle.std.specs.Prelude.{◌≡◌, ℕ, ◌<◌, ◌==◌, ⊤, true, false, Option, None, Some, IsSome, length}
 use Rattle.ipc_ids.specs.declared.numbers.TaskNo.{TaskNo}
 use Rattle.ipc_ids.specs.declared.numbers.Label.{Label}
 use Rattle.ipc_ids.specs.declared.message.PhoneState.{PhoneState}

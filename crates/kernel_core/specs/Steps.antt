@@ -1,9 +1,10 @@
 -- The steps of which the kernel's code is made.
-use Rattle.std.specs.Prelude.{ℕ, ◌≡◌, List, ◌++◌, ⊤, true, Option, None, Some, Result, Ok, Err}
+use Rattle.std.specs.Prelude.{ℕ, ◌≡◌, List, [], ◌∷◌, ◌++◌, ⊤, true, Option, None, Some, Result, Ok, Err}
 use Rattle.std.specs.Option.{option_map_or}
 use Rattle.ipc_ids.specs.declared.numbers.TaskNo.{TaskNo}
 use Rattle.ipc_ids.specs.declared.numbers.Code.{Code}
 use Rattle.ipc_ids.specs.declared.message.Reply.{Reply}
+use Rattle.ipc_ids.specs.declared.message.Mode.{Mode}
 use Rattle.ipc_ids.specs.declared.message.PhoneState.{PhoneState}
 use Rattle.ipc_ids.specs.declared.message.PhoneState.TheVariants.{Free, Connecting, Connected, HungUp, Slammed}
 use Rattle.call_slab.specs.declared.call.Call.{Call}
@@ -13,6 +14,9 @@ use Rattle.answerbox.specs.Calls.{CallTable, call_at, put_at}
 use Rattle.phone_table.specs.declared.hung.Hung.{Hung}
 use Rattle.phone_table.specs.declared.hung.Hung.TheVariants.{Sent, Silent}
 use Rattle.ipc_ids.specs.declared.entry.Entry.{Entry}
+use Rattle.ipc_ids.specs.declared.entry.Entry.TheVariants.{Forwarded as Passed}
+use Rattle.forwarding.specs.declared.passing.Forwarded.{Forwarded}
+use Rattle.forwarding.specs.Forwarding.{label_after}
 use Rattle.kernel_core.specs.State.{KernelState, is_alive, with_phone}
 use Rattle.kernel_core.specs.Receiving.{drop_answer}
 
@@ -59,3 +63,14 @@ with_hangup k t p (Err _) = k
 abbrev pub DropsAnswer : TaskNo → KernelState → Option Call → List Entry → KernelState → List Entry → Type 0
 DropsAnswer t k None told new now = ⊥
 DropsAnswer t k (Some c) told new now = (new ≡ (drop_answer t k c).state) × (now ≡ told ++ (drop_answer t k c).entries)
+
+-- the live call, as it was and as it is, is seen with the label that it has after a forward
+abbrev pub SeesLabel : Option Call → Option Call → TaskNo → ℕ → Mode → Type 0
+SeesLabel None d by through mode = ⊥
+SeesLabel (Some c) None by through mode = ⊥
+SeesLabel (Some c) (Some d) by through mode = d.label ≡ label_after by through mode c
+
+-- the trace tells that the live call went on, with the label that it has now
+abbrev pub TellsLabel : Option Call → TaskNo → Forwarded → List Entry → List Entry → Type 0
+TellsLabel None t forwarded told now = ⊥
+TellsLabel (Some c) t forwarded told now = now ≡ told ++ Passed forwarded.call t forwarded.to c.label ∷ []

@@ -40,13 +40,7 @@ impl Machine {
     }
 
     /// The tests of the method and of the active calls.
-    fn call_tested(
-        &mut self,
-        from: Label,
-        msg: &Msg,
-        state: PhoneState,
-        out: &mut Trace,
-    ) -> Outcome
+    fn call_tested(&mut self, from: Label, msg: &Msg, state: PhoneState, out: &mut Trace) -> Outcome
         requires alive { is_alive self.old.k from.task ≡ true }
         requires there { IsSome (phone_at self.old.k from.task from.phone.0) }
         requires leads { LeadsToTask self.old.k state }

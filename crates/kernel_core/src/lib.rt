@@ -1,9 +1,18 @@
 //! The kernel: it serves one system call of one task at a time.
+//!
+//! A `Kernel` is seen as `KernelState`: whether each task is alive, the states of its phones, the records
+//! of the live calls, and the number of events. `Kernel::serve` is the definition `serve` on that state.
+//! Inside, every state is sound, and each phone keeps the number of its active calls.
 #![tactic(auto)]
 
-pub mod answering;
-pub mod calling;
-pub mod counts;
-pub mod hanging_up;
-pub mod machine;
-pub mod receiving;
+mod answering;
+mod calling;
+mod counts;
+mod forwarding;
+mod hanging_up;
+mod kernel;
+mod machine;
+mod receiving;
+mod request;
+
+pub use kernel::Kernel;

@@ -3,17 +3,21 @@ ghost use Rattle.std.specs.Prelude.{◌≡◌, ℕ, ◌+◌, ◌-◌, ◌^◌, �
 ghost use Rattle.std.specs.Option.{option_copied};
 ghost use Rattle.answerbox.specs.Calls.{call_at, active_calls, is_caller, enqueue, without_call, with_place, front};
 ghost use Rattle.phone_table.specs.Phones.{state_at, count_at, hangup_answer};
+ghost use Rattle.forwarding.specs.Routes.{forward_answer, table_after};
 ghost use Rattle.kernel_core.specs.State.{start, is_alive as is_alive_in, phone_at, with_task, with_phone, with_calls, with_event, label_of as the_label};
 ghost use Rattle.kernel_core.specs.Calling.{new_call as the_call};
 ghost use Rattle.kernel_core.specs.Sound.{IsPlaced, IsSoundCall};
 ghost use Rattle.kernel_core.specs.Kept.{HasPlaces};
-ghost use Rattle.kernel_core.specs.Steps.{with_answer, IsCallOf, owner, IsAliveCaller, LeadsToTask, TellsTask, with_hangup};
+ghost use Rattle.kernel_core.specs.Steps.{with_answer, IsCallOf, owner, IsAliveCaller, LeadsToTask, SeesLabel, TellsTask, with_hangup};
 ghost use Rattle.call_slab.specs.declared.call.Place.TheVariants.{Dispatched};
 
 use crate::counts::{count_out, count_up};
 use answerbox::Boxes;
 use call_slab::{Call, Place};
-use ipc_ids::{Buffer, CallNo, Code, Label, Msg, NoMemory, PhoneNo, PhoneState, Reply, TaskNo};
+use forwarding::{ForwardFault, Forwarded, route};
+use ipc_ids::{
+    Buffer, CallNo, Code, Label, Mode, Msg, NoMemory, PhoneNo, PhoneState, Reply, TaskNo,
+};
 use phone_table::{Hung, PhoneRows, Phones};
 use std::alloc::Global;
 use std::marker::Model;
@@ -73,7 +77,7 @@ impl Machine {
         requires some { 1 ≤ limit }
         requires few_phones { limit ≤ 64 }
         requires few_tasks { length self.old.k.tasks.alive < 64 }
-        requires no_call { self.old.k.calls.next_number ≡ 1 }
+        requires no_call { self.old.k.calls.next_number ≤ 1 }
         ensures ok { OnOk result (self.new.k ≡ with_task self.old.k limit) }
         ensures number { IfOk result (λ t. t.0 ≡ length self.old.k.tasks.alive + 1) }
         ensures err { OnErr result (self.new.k ≡ self.old.k) }
@@ -244,6 +248,30 @@ impl Machine {
     {
         self.boxes.set_reply(call, reply);
         self.boxes.move_to(call, Place::Answers(caller));
+    }
+
+    /// Passes the call on over a phone of the task that holds it.
+    pub fn pass_on(
+        &mut self,
+        by: TaskNo,
+        call: u64,
+        phone: u64,
+        mode: Mode,
+        change: Option<Msg>,
+    ) -> Result<Forwarded, ForwardFault>
+        requires alive { is_alive_in self.old.k by ≡ true }
+        requires few_stamps { self.old.k.calls.next_stamp < 2 ^ 62 }
+        ensures answer { result ≡ forward_answer self.old.k.calls by (phone_at self.old.k by phone) call change }
+        ensures k { self.new.k ≡ with_calls self.old.k (table_after self.old.k.calls by phone mode change result) }
+        ensures numbers { self.new.k.calls.next_number ≡ self.old.k.calls.next_number }
+        ensures stamps { self.new.k.calls.next_stamp ≤ self.old.k.calls.next_stamp + 1 }
+        ensures live { OnOk result (IsSome (call_at self.new.k.calls call)) }
+        ensures number { IfOk result (λ forwarded. forwarded.call.0 ≡ call) }
+        ensures label { OnOk result (SeesLabel (call_at self.old.k.calls call) (call_at self.new.k.calls call) by phone mode) }
+        ensures spare { self.new.spare ≡ self.old.spare }
+    {
+        let state = self.phone(by, phone);
+        route(&mut self.boxes, by, state, phone, call, mode, change)
     }
 
     /// Hangs the phone up, where it leads or led to a task, and says whom to tell.

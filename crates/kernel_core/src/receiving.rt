@@ -20,6 +20,7 @@ impl Machine {
         ensures entries { out.new.entries ≡ out.old.entries ++ (receive_of self.old.k who).entries }
         ensures numbers { self.new.k.calls.next_number ≡ self.old.k.calls.next_number }
         ensures stamps { self.new.k.calls.next_stamp ≤ self.old.k.calls.next_stamp + 1 }
+        ensures events { self.new.k.events ≡ self.old.k.events }
     {
         self.drop_unawaited(who, out);
         self.receive_now(who, out)
@@ -47,6 +48,7 @@ impl Machine {
         ensures alive { is_alive self.new.k who ≡ true }
         ensures numbers { self.new.k.calls.next_number ≡ self.old.k.calls.next_number }
         ensures stamps { self.new.k.calls.next_stamp ≡ self.old.k.calls.next_stamp }
+        ensures events { self.new.k.events ≡ self.old.k.events }
         ensures lines { out.old.spare ≤ out.new.spare + self.old.k.calls.next_number }
     {
         for _ in 0..self.next_number().0 {
@@ -66,6 +68,7 @@ impl Machine {
         ensures alive { is_alive self.new.k who ≡ true }
         ensures numbers { self.new.k.calls.next_number ≡ self.old.k.calls.next_number }
         ensures stamps { self.new.k.calls.next_stamp ≡ self.old.k.calls.next_stamp }
+        ensures events { self.new.k.events ≡ self.old.k.events }
         ensures lines { out.new.spare + 1 ≡ out.old.spare }
     {
         let call = self.leave(number);
@@ -85,6 +88,7 @@ impl Machine {
         ensures entries { out.new.entries ≡ out.old.entries ++ (receive_now_of who self.old.k).entries }
         ensures numbers { self.new.k.calls.next_number ≡ self.old.k.calls.next_number }
         ensures stamps { self.new.k.calls.next_stamp ≤ self.old.k.calls.next_stamp + 1 }
+        ensures events { self.new.k.events ≡ self.old.k.events }
     {
         if let Some(number) = self.front(Place::Answers(who)) {
             return self.deliver(number, who, out);

@@ -1,4 +1,4 @@
-use Rattle.std.proofs.Common.{◌≡◌, ◌≤◌, ◌+◌, ℕ, ap, sym, ◌∙◌, refl, Some, None, arith, length-append, length}
+use Rattle.std.proofs.Common.{ap, arith, length-append, length}
 use Rattle.kernel_core.proofs.Inner.{inner}
 use Rattle.kernel_core.proofs.Keeping.{kept_addition}
 use Rattle.kernel_core.proofs.machine.Machine.add_task.Goals as goal

@@ -1,11 +1,9 @@
-use Rattle.std.proofs.Common.{◌≡◌, ◌≤◌, ℕ, ap, sym, ◌∙◌, refl, Some, None, arith}
+use Rattle.std.proofs.Common.{refl, arith}
 use Rattle.kernel_core.proofs.Inner.{inner}
-use Rattle.std.specs.Prelude.{IsSome}
-use Rattle.answerbox.specs.Calls.{call_at, with_reply, with_place}
+use Rattle.answerbox.specs.Calls.{call_at}
 use Rattle.answerbox.proofs.Steps.{live-with_change}
 use Rattle.call_slab.specs.declared.call.Call.{Call}
-use Rattle.kernel_core.specs.Steps.{IsCallOf, with_answer}
-use Rattle.kernel_core.specs.State.{with_calls}
+use Rattle.kernel_core.specs.Steps.{IsCallOf}
 use Rattle.kernel_core.proofs.Keeping.{within}
 use Rattle.kernel_core.proofs.Reading.{answered, call_of, kept_answer, caller_alive, stamp_after}
 use Rattle.kernel_core.proofs.machine.Machine.answer_to.Goals as goal

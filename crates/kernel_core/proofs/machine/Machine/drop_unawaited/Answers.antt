@@ -1,4 +1,4 @@
-use Rattle.std.proofs.Common.{◌≡◌, ◌∙◌, arith}
+use Rattle.std.proofs.Common.{◌∙◌, arith}
 use Rattle.answerbox.specs.Calls.{call_at}
 use Rattle.kernel_core.specs.Receiving.{next_unawaited, drop_answer, drop_unawaited}
 use Rattle.kernel_core.proofs.Lookups.{record_of}
@@ -17,5 +17,6 @@ loop-preserved c =
       alive = c.drop_answer.ensures.alive;
       numbers = omega arith;
       stamps = omega arith;
+      events = omega arith;
       room = omega arith;
     }

@@ -13,5 +13,6 @@ invariant-loop l =
       alive : is_alive l.self.k l.who ≡ true;
       numbers : l.self.k.calls.next_number ≡ l.fn.self.k.calls.next_number;
       stamps : l.self.k.calls.next_stamp ≡ l.fn.self.k.calls.next_stamp;
+      events : l.self.k.events ≡ l.fn.self.k.events;
       room : l.fn.out.spare ≤ l.out.spare + l.counter;
     }

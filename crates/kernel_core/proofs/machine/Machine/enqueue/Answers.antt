@@ -1,7 +1,6 @@
-use Rattle.std.proofs.Common.{◌≡◌, ◌≤◌, ℕ, ap, sym, ◌∙◌, refl, Some, None, arith}
+use Rattle.std.proofs.Common.{◌≡◌, ap, ◌∙◌, arith}
 use Rattle.kernel_core.proofs.Inner.{inner}
 use Rattle.answerbox.specs.Calls.{call_at}
-use Rattle.kernel_core.specs.State.{alive_in}
 use Rattle.kernel_core.proofs.Keeping.{kept_enqueue, within}
 use Rattle.kernel_core.proofs.Reading.{may_count, placed_within}
 use Rattle.kernel_core.proofs.machine.Machine.enqueue.Goals as goal

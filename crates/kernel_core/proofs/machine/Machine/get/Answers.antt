@@ -1,4 +1,3 @@
-use Rattle.std.proofs.Common.{◌≡◌, ◌≤◌, ℕ, ap, sym, ◌∙◌, refl, Some, None, arith}
 use Rattle.kernel_core.proofs.Inner.{inner}
 use Rattle.kernel_core.proofs.Reading.{caller_of}
 use Rattle.kernel_core.proofs.machine.Machine.get.Goals as goal

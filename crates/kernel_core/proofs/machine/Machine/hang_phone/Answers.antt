@@ -1,9 +1,6 @@
-use Rattle.std.proofs.Common.{◌≡◌, ◌≤◌, ℕ, ap, sym, ◌∙◌, refl, Some, None, arith}
+use Rattle.std.proofs.Common.{◌≡◌, ap, ◌∙◌, refl}
 use Rattle.kernel_core.proofs.Inner.{inner}
-use Rattle.std.specs.Prelude.{OnOk}
 use Rattle.phone_table.specs.Phones.{hangup_answer, state_at}
-use Rattle.kernel_core.specs.Steps.{TellsTask, with_hangup}
-use Rattle.kernel_core.specs.Kept.{IsKept}
 use Rattle.kernel_core.proofs.Reading.{phone_of, hung_states, hung_counts, hung_state, kept_hang, tells_of, there_after}
 use Rattle.kernel_core.proofs.machine.Machine.hang_phone.Goals as goal
 

@@ -1,4 +1,3 @@
-use Rattle.std.proofs.Common.{◌≡◌, ◌≤◌, ℕ, ap, sym, ◌∙◌, refl, Some, None, arith}
 use Rattle.kernel_core.proofs.Inner.{inner}
 use Rattle.kernel_core.proofs.Keeping.{kept_without}
 use Rattle.kernel_core.proofs.Reading.{was_counted}

@@ -1,5 +1,4 @@
-use Rattle.std.proofs.Common.{◌≡◌, ◌≤◌, ℕ, ap, sym, ◌∙◌, refl, Some, None, arith}
-use Rattle.kernel_core.proofs.Inner.{inner}
+use Rattle.std.proofs.Common.{refl, arith}
 use Rattle.kernel_core.proofs.Keeping.{kept_start}
 use Rattle.kernel_core.proofs.machine.Machine.new.Goals as goal
 

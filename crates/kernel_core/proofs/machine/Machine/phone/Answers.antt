@@ -1,4 +1,3 @@
-use Rattle.std.proofs.Common.{◌≡◌, ◌≤◌, ℕ, ap, sym, ◌∙◌, refl, Some, None, arith}
 use Rattle.kernel_core.proofs.Inner.{inner}
 use Rattle.kernel_core.proofs.Reading.{leads_of, phone_of}
 use Rattle.kernel_core.proofs.machine.Machine.phone.Goals as goal

@@ -1,4 +1,4 @@
-use Rattle.std.proofs.Common.{◌≡◌, ◌≤◌, ℕ, ap, sym, ◌∙◌, refl, Some, None, arith}
+use Rattle.std.proofs.Common.{◌≡◌, refl, Some}
 use Rattle.kernel_core.proofs.Inner.{inner}
 use Rattle.kernel_core.proofs.Keeping.{kept_wire}
 use Rattle.phone_table.proofs.Lookups.{same_row}
