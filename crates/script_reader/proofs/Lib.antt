@@ -1,2 +1,6 @@
 pub mod Arguments
 pub mod Numbers
+pub mod Places
+pub mod ReaderAnswers
+pub mod Readings
+pub mod Soundness
