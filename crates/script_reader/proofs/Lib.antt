@@ -1,4 +1,5 @@
 pub mod Arguments
+pub mod DraftSteps
 pub mod Numbers
 pub mod Places
 pub mod ReaderAnswers

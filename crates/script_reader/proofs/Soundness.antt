@@ -1,5 +1,5 @@
 -- Scripts stay sound as lines add to them.
-use Rattle.std.proofs.Common.{◌≡◌, ◌≢◌, ℕ, zero, suc, ◌+◌, ◌-◌, ◌<◌, ◌≤◌, Bool, true, false, cond, List, [], ◌∷◌, ◌++◌, length, get_or, map, Option, Some, None, Result, Ok, Err, refl, sym, ap, subst, ◌∙◌, inl, inr, arith, length-append, ◌&&◌, eqb}
+use Rattle.std.proofs.Common.{◌≡◌, ◌≢◌, ℕ, zero, suc, ◌+◌, ◌-◌, ◌<◌, ◌≤◌, Bool, true, false, cond, List, [], ◌∷◌, ◌++◌, length, get_or, map, take, length-take-le, Option, Some, None, Result, Ok, Err, refl, sym, ap, subst, ◌∙◌, inl, inr, arith, length-append, ◌&&◌, eqb}
 use Rattle.std.specs.Prelude.{position, is_some, All, AllPairs, slice_get, option_map}
 use Rattle.std.specs.List.{position_or_len}
 use Rattle.std.specs.Option.{option_map_or}
@@ -30,8 +30,11 @@ pub all_one : {X : Type 0} (P : X → Type 0) (x : X) → P x → All P (x ∷ [
 all_one P x h zero d lt = h
 all_one P x h (suc k) d lt = absurd (omega arith)
 
-pub raw_last : (last : LastTask) → 1 ≤ last.limit → last.limit ≤ 64 → length last.ops ≤ 4096 → All KeepsRanges last.ops → IsRawTask (last_plan last)
+raw_last : (last : LastTask) → 1 ≤ last.limit → last.limit ≤ 64 → length last.ops ≤ 4096 → All KeepsRanges last.ops → IsRawTask (last_plan last)
 raw_last last some few short ranges = record { some_phones = some; few_phones = few; one_body = refl; raw_bodies = all_one IsRawBody _ (record { no_connection = refl; few = short; ranges = ranges }) }
+
+pub raw_last_new : (last : LastTask) → 1 ≤ last.limit → last.limit ≤ 64 → last.ops ≡ [] → IsRawTask (last_plan last)
+raw_last_new last some few none = let len = ap length none in raw_last last some few (omega arith) (λ k d lt. absurd (omega arith))
 
 -- one more operation
 pub raw_with_op : (old new : LastTask) (op : Op) → IsRawTask (last_plan old) → new.limit ≡ old.limit → new.ops ≡ old.ops ++ op ∷ [] → length old.ops < 4096 → KeepsRanges op → IsRawTask (last_plan new)
@@ -58,6 +61,19 @@ name_is_new tasks name e k d lt same =
     let fails = fails_before_first (λ (t : TaskPlan). bytes_eq name t.name) tasks k d (omega arith) in
     let passes = (bytes_eq-Decides name (get_or tasks k d).name).1 (sym same) in
     absurd cc
+
+-- nothing passes: there is no place
+none_is : {X : Type 0} (p : X → Bool) (xs : List X) → ((k : ℕ) (d : X) → k < length xs → p (get_or xs k d) ≡ false) → is_some (position p xs) ≡ false
+none_is p [] h = refl
+none_is p (x ∷ xs) h = ?
+
+-- the names of the tasks before one do not have its name
+pub name_before_is_new : (tasks : List TaskPlan) (i : ℕ) (d : TaskPlan) → NamesDiffer tasks → i < length tasks → is_some (place_of (task_names (take i tasks)) (get_or tasks i d).name) ≡ false
+name_before_is_new tasks i d differ lt =
+    let name = (get_or tasks i d).name in
+    let len = length-take-le i tasks (omega arith) in
+    let fails : (k : ℕ) (e : TaskPlan) → k < length (take i tasks) → bytes_eq name (get_or (take i tasks) k e).name ≡ false = λ k e below. ? in
+    ap is_some (sym (position_through (λ (t : TaskPlan). t.name) (bytes_eq name) (take i tasks))) ∙ none_is (λ (t : TaskPlan). bytes_eq name t.name) (take i tasks) fails
 
 -- ---- the parts of a sound script
 
