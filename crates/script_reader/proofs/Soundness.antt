@@ -5,12 +5,12 @@ use Rattle.std.specs.List.{position_or_len}
 use Rattle.std.specs.Option.{option_map_or}
 use Rattle.std.specs.Str.{bytes_eq}
 use Rattle.std.proofs.Math.ListN.{get_or-append}
-use Rattle.std.proofs.lemmas.Bool.{cases_lt, lt-ltb, eq-eqb, and_from}
-use Rattle.std.proofs.lemmas.List.{map_push, length-map}
+use Rattle.std.proofs.lemmas.Bool.{cases_lt, lt-ltb, le-ltb, eq-eqb, and_from}
+use Rattle.std.proofs.lemmas.List.{map_push, length-map, get_or-take}
 use Rattle.std.proofs.lemmas.List.Elements.{All-push, All-weaker}
 use Rattle.std.proofs.lemmas.List.Quantifiers.{all_pairs_push}
 use Rattle.std.proofs.lemmas.List.Folds.{list_any_at}
-use Rattle.std.proofs.lemmas.List.Sums.{fails_before_first}
+use Rattle.std.proofs.lemmas.List.Sums.{fails_before_first, position_or_len_is}
 use Rattle.std.proofs.lemmas.Option.{slice_get_past, get_or_from_slice_get}
 use Rattle.std.proofs.lemmas.Slice.Eq.{bytes_eq-Decides}
 use Rattle.ipc_ids.specs.declared.op.Op.{Op}
@@ -63,17 +63,24 @@ name_is_new tasks name e k d lt same =
     absurd cc
 
 -- nothing passes: there is no place
-none_is : {X : Type 0} (p : X → Bool) (xs : List X) → ((k : ℕ) (d : X) → k < length xs → p (get_or xs k d) ≡ false) → is_some (position p xs) ≡ false
-none_is p [] h = refl
-none_is p (x ∷ xs) h = ?
+none_is : {X : Type 0} (p : X → Bool) (xs : List X) (d : X) → ((k : ℕ) → k < length xs → p (get_or xs k d) ≡ false) → is_some (position p xs) ≡ false
+none_is p xs d fails =
+    let end = position_or_len_is p xs (length xs) d (omega arith) fails (λ lt. absurd (omega arith)) in
+    ap (λ (b : Bool). is_some (cond b (Some (position_or_len p xs)) None)) (le-ltb (position_or_len p xs) (length xs) (omega arith))
+
+is_false : (b : Bool) → (b ≡ true → ⊥) → b ≡ false
+is_false true h = absurd (h refl)
+is_false false h = refl
 
 -- the names of the tasks before one do not have its name
 pub name_before_is_new : (tasks : List TaskPlan) (i : ℕ) (d : TaskPlan) → NamesDiffer tasks → i < length tasks → is_some (place_of (task_names (take i tasks)) (get_or tasks i d).name) ≡ false
 name_before_is_new tasks i d differ lt =
     let name = (get_or tasks i d).name in
     let len = length-take-le i tasks (omega arith) in
-    let fails : (k : ℕ) (e : TaskPlan) → k < length (take i tasks) → bytes_eq name (get_or (take i tasks) k e).name ≡ false = λ k e below. ? in
-    ap is_some (sym (position_through (λ (t : TaskPlan). t.name) (bytes_eq name) (take i tasks))) ∙ none_is (λ (t : TaskPlan). bytes_eq name t.name) (take i tasks) fails
+    let other : (k : ℕ) → k < i → bytes_eq name (get_or tasks k d).name ≡ true → ⊥ = λ k below same. differ k i d below lt (sym ((bytes_eq-Decides name (get_or tasks k d).name).0 same)) in
+    let fails : (k : ℕ) → k < length (take i tasks) → bytes_eq name (get_or (take i tasks) k d).name ≡ false =
+    λ k below. rw (get_or-take i tasks k d (omega arith)) (is_false (bytes_eq name (get_or tasks k d).name) (other k (omega arith))) in
+    ap is_some (sym (position_through (λ (t : TaskPlan). t.name) (bytes_eq name) (take i tasks))) ∙ none_is (λ (t : TaskPlan). bytes_eq name t.name) (take i tasks) d fails
 
 -- ---- the parts of a sound script
 
