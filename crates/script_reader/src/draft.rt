@@ -44,18 +44,14 @@ fn is_ns(name: &[u8]) -> bool
 fn is_wired(wires: &[Wire], from: u64, phone: u64) -> bool
     ensures { result ≡ is_wired wires.now from phone }
 {
-    wires
-        .iter()
-        .any(|wire| wire.from.0 == from && u64::from(wire.phone.0) == phone)
+    wires.iter().any(|wire| wire.from.0 == from && u64::from(wire.phone.0) == phone)
 }
 
 impl LastTask {
     fn add_op(&mut self, op: Op) -> Result<(), LineFault>
         requires ranges { KeepsRanges op }
         requires raw { IsRawTask (last_plan self.old) }
-        ensures value {
-            Follows result (last_plan self.new) (task_with_op op (last_plan self.old))
-        }
+        ensures value { Follows result (last_plan self.new) (task_with_op op (last_plan self.old)) }
         ensures name { self.new.name ≡ self.old.name }
         ensures limit { self.new.limit ≡ self.old.limit }
         ensures raw { OnOk result (IsRawTask (last_plan self.new)) }
@@ -125,9 +121,7 @@ impl Draft {
         requires some_phones { 1 ≤ limit }
         requires few_phones { limit ≤ 64 }
         requires whole { IsWhole self.old }
-        ensures value {
-            Follows result (plan_of self.new) (with_task (plan_of self.old) name kind limit)
-        }
+        ensures value { Follows result (plan_of self.new) (with_task (plan_of self.old) name kind limit) }
         ensures whole { OnOk result (IsWhole self.new) }
     {
         if is_ns(name.as_slice()) || self.names.place_of(name.as_slice()).is_some() {
@@ -164,9 +158,7 @@ impl Draft {
     #[tactic(auto, unfolding(crate::specs::Plans::with_wire))]
     pub fn add_wire(&mut self, from: &[u8], phone: u64, to: &[u8]) -> Result<(), LineFault>
         requires whole { IsWhole self.old }
-        ensures value {
-            Follows result (plan_of self.new) (with_wire (plan_of self.old) from.now phone to.now)
-        }
+        ensures value { Follows result (plan_of self.new) (with_wire (plan_of self.old) from.now phone to.now) }
         ensures whole { OnOk result (IsWhole self.new) }
     {
         let from = self.names.place_of(from).ok_or(Reason::Fault)?;

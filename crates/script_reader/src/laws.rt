@@ -11,22 +11,13 @@ ghost use Rattle.script_reader.specs.Schedules.{after_event};
 
 /// What `script_of` and `schedule_of` compute is what bytes spell, and else their first fault.
 pub fn readings_are_what_bytes_spell()
-    ensures script_spelled {
-        (text : List ℕ) (script : Plan)
-            → (script_of text ≡ Ok script) ↔ Spells after_line nothing text script
-    }
-    ensures script_at_fault {
-        (text : List ℕ) (line : ℕ) (reason : Reason)
-            → (script_of text ≡ Err (line, reason)) ↔ IsFirstFault after_line nothing text line reason
-    }
-    ensures schedule_spelled {
-        (script : Plan) (text : List ℕ) (events : List Event)
-            → (schedule_of script text ≡ Ok events) ↔ Spells (after_event script) [] text events
-    }
-    ensures schedule_at_fault {
-        (script : Plan) (text : List ℕ) (line : ℕ) (reason : Reason)
-            → (schedule_of script text ≡ Err (line, reason))
-            ↔ IsFirstFault (after_event script) [] text line reason
-    }
-{
-}
+    ensures script_spelled { (text : List ℕ) (script : Plan)
+        → (script_of text ≡ Ok script) ↔ Spells after_line nothing text script }
+    ensures script_at_fault { (text : List ℕ) (line : ℕ) (reason : Reason)
+        → (script_of text ≡ Err (line, reason)) ↔ IsFirstFault after_line nothing text line reason }
+    ensures schedule_spelled { (script : Plan) (text : List ℕ) (events : List Event)
+        → (schedule_of script text ≡ Ok events) ↔ Spells (after_event script) [] text events }
+    ensures schedule_at_fault { (script : Plan) (text : List ℕ) (line : ℕ) (reason : Reason)
+        → (schedule_of script text ≡ Err (line, reason))
+        ↔ IsFirstFault (after_event script) [] text line reason }
+{}

@@ -25,5 +25,5 @@ pub use plan::{Kind, Script, TaskPlan, TaskPlans, Wire, Wires};
 pub use reading::read_script;
 pub use schedule::read_schedule;
 
-
-
+#[cfg(test)]
+mod tests;

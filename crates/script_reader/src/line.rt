@@ -83,9 +83,7 @@ fn wire_of(words: &[&[u8]]) -> Result<(Name, u64, Name), Reason>
 #[tactic(auto, unfolding(crate::specs::Lines::task))]
 fn add_task(draft: &mut Draft, alloc: Global, words: &[&[u8]]) -> Result<(), LineFault>
     requires { IsWhole draft.old }
-    ensures value {
-        Follows result (plan_of draft.new) (task (plan_of draft.old) (texts words.now))
-    }
+    ensures value { Follows result (plan_of draft.new) (task (plan_of draft.old) (texts words.now)) }
     ensures whole { OnOk result (IsWhole draft.new) }
 {
     let (name, kind, limit) = task_of(words)?;
@@ -95,9 +93,7 @@ fn add_task(draft: &mut Draft, alloc: Global, words: &[&[u8]]) -> Result<(), Lin
 #[tactic(auto, unfolding(crate::specs::Lines::wire))]
 fn add_wire(draft: &mut Draft, words: &[&[u8]]) -> Result<(), LineFault>
     requires { IsWhole draft.old }
-    ensures value {
-        Follows result (plan_of draft.new) (wire (plan_of draft.old) (texts words.now))
-    }
+    ensures value { Follows result (plan_of draft.new) (wire (plan_of draft.old) (texts words.now)) }
     ensures whole { OnOk result (IsWhole draft.new) }
 {
     let (from, phone, to) = wire_of(words)?;
@@ -107,9 +103,7 @@ fn add_wire(draft: &mut Draft, words: &[&[u8]]) -> Result<(), LineFault>
 #[tactic(auto, unfolding(crate::specs::Lines::operation))]
 fn add_operation(draft: &mut Draft, verb: OpVerb, words: &[&[u8]]) -> Result<(), LineFault>
     requires { IsWhole draft.old }
-    ensures value {
-        Follows result (plan_of draft.new) (operation (plan_of draft.old) verb (texts words.now))
-    }
+    ensures value { Follows result (plan_of draft.new) (operation (plan_of draft.old) verb (texts words.now)) }
     ensures whole { OnOk result (IsWhole draft.new) }
 {
     let op = op_of(verb, words)?;
@@ -118,9 +112,7 @@ fn add_operation(draft: &mut Draft, verb: OpVerb, words: &[&[u8]]) -> Result<(),
 
 fn add_words(draft: &mut Draft, alloc: Global, words: &[&[u8]]) -> Result<(), LineFault>
     requires { IsWhole draft.old }
-    ensures value {
-        Follows result (plan_of draft.new) (after_words (plan_of draft.old) (texts words.now))
-    }
+    ensures value { Follows result (plan_of draft.new) (after_words (plan_of draft.old) (texts words.now)) }
     ensures whole { OnOk result (IsWhole draft.new) }
 {
     let [first, others @ ..] = words else {
@@ -138,9 +130,7 @@ fn add_words(draft: &mut Draft, alloc: Global, words: &[&[u8]]) -> Result<(), Li
 #[tactic(auto, unfolding(crate::specs::Lines::after_line))]
 pub fn add_line(draft: &mut Draft, alloc: Global, line: &[u8]) -> Result<(), LineFault>
     requires { IsWhole draft.old }
-    ensures value {
-        Follows result (plan_of draft.new) (after_line (plan_of draft.old) line.now)
-    }
+    ensures value { Follows result (plan_of draft.new) (after_line (plan_of draft.old) line.now) }
     ensures whole { OnOk result (IsWhole draft.new) }
 {
     if !all_allowed(line) {

@@ -18,10 +18,8 @@ use std::alloc::Global;
 
 fn add_lines(draft: &mut Draft, alloc: Global, lines: &[&[u8]]) -> Result<(), ScriptFault>
     requires { IsWhole draft.old }
-    ensures value {
-        Reads fault_in_script result (plan_of draft.new)
-            (lines_from after_line 1 (plan_of draft.old) (texts lines.now))
-    }
+    ensures value { Reads fault_in_script result (plan_of draft.new)
+        (lines_from after_line 1 (plan_of draft.old) (texts lines.now)) }
     ensures whole { OnOk result (IsWhole draft.new) }
 {
     for (index, line) in lines.iter().enumerate() {
@@ -66,21 +64,13 @@ fn read(alloc: Global, bytes: &[u8]) -> Result<Script, ScriptFault>
 /// come for any bytes.
 pub fn read_script(alloc: Global, bytes: &[u8]) -> Result<Script, ScriptFault>
     ensures value { Agrees fault_in_script result (script_of bytes.now) }
-    ensures read {
-        (script : Plan) → result ≡ Ok script → Spells after_line nothing bytes.now script
-    }
-    ensures spelled {
-        (script : Plan) → Spells after_line nothing bytes.now script
-            → result ≢ Err ScriptFault.NoMemory → result ≡ Ok script
-    }
-    ensures fault {
-        (line : ℕ) (reason : Reason) → result ≡ Err (ScriptFault.Bad line reason)
-            → IsFirstFault after_line nothing bytes.now line reason
-    }
-    ensures at_fault {
-        (line : ℕ) (reason : Reason) → IsFirstFault after_line nothing bytes.now line reason
-            → result ≢ Err ScriptFault.NoMemory → result ≡ Err (ScriptFault.Bad line reason)
-    }
+    ensures read { (script : Plan) → result ≡ Ok script → Spells after_line nothing bytes.now script }
+    ensures spelled { (script : Plan) → Spells after_line nothing bytes.now script
+        → result ≢ Err ScriptFault.NoMemory → result ≡ Ok script }
+    ensures fault { (line : ℕ) (reason : Reason) → result ≡ Err (ScriptFault.Bad line reason)
+        → IsFirstFault after_line nothing bytes.now line reason }
+    ensures at_fault { (line : ℕ) (reason : Reason) → IsFirstFault after_line nothing bytes.now line reason
+        → result ≢ Err ScriptFault.NoMemory → result ≡ Err (ScriptFault.Bad line reason) }
 {
     read(alloc, bytes)
 }

@@ -26,10 +26,7 @@ pub enum EventVerb {
     Hangup,
 }
 
-const VERBS: [(&[u8], EventVerb); 2] = [
-    (b"step", EventVerb::Step),
-    (b"hangup", EventVerb::Hangup),
-];
+const VERBS: [(&[u8], EventVerb); 2] = [(b"step", EventVerb::Step), (b"hangup", EventVerb::Hangup)];
 
 fn event_verb_of(word: &[u8]) -> Option<EventVerb>
     ensures { result ≡ event_verb_of word.now }
@@ -110,7 +107,11 @@ fn hangup_of(names: &Names, words: &[&[u8]]) -> Result<(Event, u64), Reason>
 }
 
 /// The event that a line gives, and how often.
-fn events_of(names: &Names, verb: Option<EventVerb>, words: &[&[u8]]) -> Result<(Event, u64), Reason>
+fn events_of(
+    names: &Names,
+    verb: Option<EventVerb>,
+    words: &[&[u8]],
+) -> Result<(Event, u64), Reason>
     ensures { result ≡ events_of names.now verb (texts words.now) }
 {
     match verb {
@@ -122,10 +123,8 @@ fn events_of(names: &Names, verb: Option<EventVerb>, words: &[&[u8]]) -> Result<
 
 fn add_words(names: &Names, events: &mut Vec<Event>, words: &[&[u8]]) -> Result<(), LineFault>
     requires { length events.old.items ≤ 65536 }
-    ensures value {
-        Follows result events.new.items
-            (after_event_words names.now events.old.items (texts words.now))
-    }
+    ensures value { Follows result events.new.items
+        (after_event_words names.now events.old.items (texts words.now)) }
     ensures few { OnOk result (length events.new.items ≤ 65536) }
 {
     let [first, others @ ..] = words else {
@@ -143,9 +142,7 @@ fn add_line(
     line: &[u8],
 ) -> Result<(), LineFault>
     requires { length events.old.items ≤ 65536 }
-    ensures value {
-        Follows result events.new.items (after_event_line names.now events.old.items line.now)
-    }
+    ensures value { Follows result events.new.items (after_event_line names.now events.old.items line.now) }
     ensures few { OnOk result (length events.new.items ≤ 65536) }
 {
     if !all_allowed(line) {
@@ -162,10 +159,8 @@ fn add_lines(
     lines: &[&[u8]],
 ) -> Result<(), ScheduleFault>
     requires { length events.old.items ≤ 65536 }
-    ensures value {
-        Reads fault_in_schedule result events.new.items
-            (lines_from (after_event_line names.now) 1 events.old.items (texts lines.now))
-    }
+    ensures value { Reads fault_in_schedule result events.new.items
+        (lines_from (after_event_line names.now) 1 events.old.items (texts lines.now)) }
     ensures few { OnOk result (length events.new.items ≤ 65536) }
 {
     for (index, line) in lines.iter().enumerate() {
@@ -185,10 +180,8 @@ fn add_lines(
 
 #[tactic(auto, unfolding(crate::specs::Reading::reading))]
 fn read(alloc: Global, bytes: &[u8], names: &Names) -> Result<Vec<Event>, ScheduleFault>
-    ensures value {
-        Agrees fault_in_schedule (events_in result)
-            (reading (after_event_line names.now) [] bytes.now)
-    }
+    ensures value { Agrees fault_in_schedule (events_in result)
+        (reading (after_event_line names.now) [] bytes.now) }
     ensures few { IfOk result (λ events. length events.items ≤ 65536) }
 {
     if bytes.len() > MOST_BYTES {
@@ -204,9 +197,7 @@ fn read(alloc: Global, bytes: &[u8], names: &Names) -> Result<Vec<Event>, Schedu
 }
 
 fn read_for(alloc: Global, bytes: &[u8], script: &Script) -> Result<Vec<Event>, ScheduleFault>
-    ensures value {
-        Agrees fault_in_schedule (events_in result) (schedule_of script.now bytes.now)
-    }
+    ensures value { Agrees fault_in_schedule (events_in result) (schedule_of script.now bytes.now) }
     ensures few { IfOk result (λ events. length events.items ≤ 65536) }
 {
     match names_of(alloc, script.tasks.as_slice()) {
@@ -226,27 +217,17 @@ pub fn read_schedule(
     bytes: &[u8],
     script: &Script,
 ) -> Result<Vec<Event>, ScheduleFault>
-    ensures value {
-        Agrees fault_in_schedule (events_in result) (schedule_of script.now bytes.now)
-    }
+    ensures value { Agrees fault_in_schedule (events_in result) (schedule_of script.now bytes.now) }
     ensures few { IfOk result (λ events. length events.items ≤ 65536) }
-    ensures read {
-        IfOk result (λ events. Spells (after_event script.now) [] bytes.now events.items)
-    }
-    ensures spelled {
-        (events : List Event) → Spells (after_event script.now) [] bytes.now events
-            → result ≢ Err ScheduleFault.NoMemory → IsOkAnd result (λ read. read.items ≡ events)
-    }
-    ensures fault {
-        (line : ℕ) (reason : Reason) → result ≡ Err (ScheduleFault.Bad line reason)
-            → IsFirstFault (after_event script.now) [] bytes.now line reason
-    }
-    ensures at_fault {
-        (line : ℕ) (reason : Reason)
-            → IsFirstFault (after_event script.now) [] bytes.now line reason
-            → result ≢ Err ScheduleFault.NoMemory
-            → result ≡ Err (ScheduleFault.Bad line reason)
-    }
+    ensures read { IfOk result (λ events. Spells (after_event script.now) [] bytes.now events.items) }
+    ensures spelled { (events : List Event) → Spells (after_event script.now) [] bytes.now events
+        → result ≢ Err ScheduleFault.NoMemory → IsOkAnd result (λ read. read.items ≡ events) }
+    ensures fault { (line : ℕ) (reason : Reason) → result ≡ Err (ScheduleFault.Bad line reason)
+        → IsFirstFault (after_event script.now) [] bytes.now line reason }
+    ensures at_fault { (line : ℕ) (reason : Reason)
+        → IsFirstFault (after_event script.now) [] bytes.now line reason
+        → result ≢ Err ScheduleFault.NoMemory
+        → result ≡ Err (ScheduleFault.Bad line reason) }
 {
     read_for(alloc, bytes, script)
 }
