@@ -1,0 +1,7 @@
+pub mod Arguments
+pub mod DraftSteps
+pub mod Numbers
+pub mod Places
+pub mod ReaderAnswers
+pub mod Readings
+pub mod Soundness

@@ -1,0 +1,12 @@
+pub mod Drafts
+pub mod Grammar
+pub mod Lines
+pub mod Operations
+pub mod Plan
+pub mod Plans
+pub mod Ranges
+pub mod Reading
+pub mod Schedules
+pub mod Sound
+pub mod Text
+pub mod Words

@@ -1,0 +1,122 @@
+-- What an operation's line says, from the words behind the first.
+use Rattle.std.specs.Prelude.{ℕ, ◌-◌, List, [], ◌∷◌, ◌++◌, length, replicate, Option, Some, Result, Ok, Err, option_map, nat_le, if◌then◌else◌}
+use Rattle.std.specs.Option.{option_and_then, ok_or}
+use Rattle.ipc_ids.specs.declared.op.Value.{Value}
+use Rattle.ipc_ids.specs.declared.op.Value.TheVariants.{Number}
+use Rattle.ipc_ids.specs.declared.op.Op.{Op}
+use Rattle.ipc_ids.specs.declared.op.Op.TheVariants as ops
+use Rattle.script_reader.specs.declared.fault.Reason.{Reason}
+use Rattle.script_reader.specs.declared.fault.Reason.TheVariants.{Fault}
+use Rattle.script_reader.specs.declared.word.OpVerb.{OpVerb}
+use Rattle.script_reader.specs.declared.word.OpVerb.TheVariants as verbs
+use Rattle.script_reader.specs.Words.{value, register, mode_of, number_below}
+
+-- a step that may be at fault
+infixl 10 ◌>>=◌
+abbrev pub ◌>>=◌ : {A B : Type 0} → Result A Reason → (A → Result B Reason) → Result B Reason
+(Ok x) >>= f = f x
+(Err e) >>= f = Err e
+
+-- a word of its kind
+abbrev pub needed : {A : Type 0} → Option A → Result A Reason
+needed word = ok_or word Fault
+
+-- each word is a value
+abbrev pub values : List (List ℕ) → Option (List Value)
+values [] = Some []
+values (word ∷ words) = option_and_then (λ v. option_map (λ vs. v ∷ vs) (values words)) (value word)
+
+-- five arguments, 0 where they are left out
+abbrev pub padded : List Value → List Value
+padded vs = vs ++ replicate (5 - length vs) (Number 0)
+
+unfoldable pub arguments : List (List ℕ) → Option (List Value)
+arguments words = option_map padded (values words)
+
+-- V V [V up to five]
+unfoldable pub two_and_arguments : List (List ℕ) → Result (Value × Value × List Value) Reason
+two_and_arguments (first ∷ second ∷ others) =
+    if nat_le (length others) 5 then (do
+      first ← needed (value first)
+      second ← needed (value second)
+      args ← needed (arguments others)
+      Ok (first, second, args))
+    else Err Fault
+two_and_arguments (first ∷ []) = Err Fault
+two_and_arguments [] = Err Fault
+
+-- phone, method, arguments
+unfoldable pub call_of : List (List ℕ) → Result Op Reason
+call_of words = two_and_arguments words >>= λ (phone, method, args). Ok (ops.Call phone method args)
+
+-- call, code, arguments
+unfoldable pub answer_of : List (List ℕ) → Result Op Reason
+answer_of words = two_and_arguments words >>= λ (call, code, args). Ok (ops.Answer call code args)
+
+-- no words
+unfoldable pub receive_of : List (List ℕ) → Result Op Reason
+receive_of [] = Ok ops.Receive
+receive_of (_ ∷ _) = Err Fault
+
+-- V V MODE, or V V MODE V [V up to five]
+unfoldable pub forward_of : List (List ℕ) → Result Op Reason
+forward_of (call ∷ phone ∷ mode ∷ []) = do
+  call ← needed (value call)
+  phone ← needed (value phone)
+  mode ← needed (mode_of mode)
+  Ok (ops.Forward call phone mode)
+forward_of (call ∷ phone ∷ mode ∷ method ∷ others) =
+    if nat_le (length others) 5 then (do
+      call ← needed (value call)
+      phone ← needed (value phone)
+      mode ← needed (mode_of mode)
+      method ← needed (value method)
+      args ← needed (arguments others)
+      Ok (ops.ForwardWith call phone mode method args))
+    else Err Fault
+forward_of _ = Err Fault
+
+-- V
+unfoldable pub hangup_of : List (List ℕ) → Result Op Reason
+hangup_of (phone ∷ []) = needed (value phone) >>= λ phone. Ok (ops.Hangup phone)
+hangup_of _ = Err Fault
+
+-- R V
+unfoldable pub set_of : List (List ℕ) → Result Op Reason
+set_of (target ∷ source ∷ []) = do
+  target ← needed (register target)
+  source ← needed (value source)
+  Ok (ops.Set target source)
+set_of _ = Err Fault
+
+-- K
+unfoldable pub jump_of : List (List ℕ) → Result Op Reason
+jump_of (to ∷ []) = needed (number_below 65536 to) >>= λ to. Ok (ops.Jump to)
+jump_of _ = Err Fault
+
+-- V V K
+unfoldable pub two_and_place : List (List ℕ) → Result (Value × Value × ℕ) Reason
+two_and_place (left ∷ right ∷ to ∷ []) = do
+  left ← needed (value left)
+  right ← needed (value right)
+  to ← needed (number_below 65536 to)
+  Ok (left, right, to)
+two_and_place _ = Err Fault
+
+unfoldable pub jump_equal_of : List (List ℕ) → Result Op Reason
+jump_equal_of words = two_and_place words >>= λ (left, right, to). Ok (ops.JumpEqual left right to)
+
+unfoldable pub jump_differ_of : List (List ℕ) → Result Op Reason
+jump_differ_of words = two_and_place words >>= λ (left, right, to). Ok (ops.JumpDiffer left right to)
+
+-- the form of each first word
+abbrev pub op_of : OpVerb → List (List ℕ) → Result Op Reason
+op_of verbs.Call words = call_of words
+op_of verbs.Receive words = receive_of words
+op_of verbs.Answer words = answer_of words
+op_of verbs.Forward words = forward_of words
+op_of verbs.Hangup words = hangup_of words
+op_of verbs.Set words = set_of words
+op_of verbs.Jump words = jump_of words
+op_of verbs.JumpEqual words = jump_equal_of words
+op_of verbs.JumpDiffer words = jump_differ_of words

@@ -1,0 +1,73 @@
+-- What a line of a schedule says, for the tasks of a script, after the events so far.
+use Rattle.std.specs.Prelude.{ℕ, ◌+◌, List, [], ◌∷◌, ◌++◌, length, ◌&&◌, nat_le, nat_lt, Option, Some, None, Result, Ok, Err, replicate, if◌then◌else◌, codes}
+use Rattle.std.specs.List.{list_all}
+use Rattle.std.specs.Option.{option_and_then, ok_or}
+use Rattle.std.specs.Str.{bytes_eq}
+use Rattle.ipc_ids.specs.Tables.{most_events}
+use Rattle.ipc_ids.specs.declared.message.Event.{Event}
+use Rattle.ipc_ids.specs.declared.message.Event.TheVariants as events
+use Rattle.script_reader.specs.declared.fault.Reason.{Reason}
+use Rattle.script_reader.specs.declared.fault.Reason.TheVariants.{Fault}
+use Rattle.script_reader.specs.declared.schedule.EventVerb.{EventVerb}
+use Rattle.script_reader.specs.declared.schedule.EventVerb.TheVariants.{Step, Hangup}
+use Rattle.script_reader.specs.Text.{is_allowed, words}
+use Rattle.script_reader.specs.Words.{look_up, number, name_of}
+use Rattle.script_reader.specs.Operations.{◌>>=◌, needed}
+use Rattle.script_reader.specs.Plan.{Plan}
+use Rattle.script_reader.specs.Plans.{task_names, task_named}
+
+-- the first words of a schedule's lines
+abbrev pub event_verbs : List (List ℕ × EventVerb)
+event_verbs = (codes "step", Step) ∷ (codes "hangup", Hangup) ∷ []
+
+unfoldable pub event_verb_of : List ℕ → Option EventVerb
+event_verb_of word = look_up event_verbs word
+
+-- x N, where N is from 1 to 65,536
+unfoldable pub count_of : List ℕ → List ℕ → Option ℕ
+count_of times word = option_and_then (λ n. if bytes_eq times (codes "x") && nat_le 1 n && nat_le n most_events then Some n else None) (number word)
+
+-- so many steps of the task of a name
+unfoldable pub step_with : List (List ℕ) → List ℕ → Option ℕ → Result (Event × ℕ) Reason
+step_with names name count = do
+  name ← needed (name_of name)
+  count ← needed count
+  task ← ok_or (task_named names name) Fault
+  Ok (events.Step task, count)
+
+-- NAME, or NAME x N
+unfoldable pub step_of : List (List ℕ) → List (List ℕ) → Result (Event × ℕ) Reason
+step_of names (name ∷ []) = step_with names name (Some 1)
+step_of names (name ∷ times ∷ count ∷ []) = step_with names name (count_of times count)
+step_of names _ = Err Fault
+
+-- NAME N
+unfoldable pub hangup_of : List (List ℕ) → List (List ℕ) → Result (Event × ℕ) Reason
+hangup_of names (name ∷ phone ∷ []) = do
+  name ← needed (name_of name)
+  phone ← needed (number phone)
+  task ← ok_or (task_named names name) Fault
+  Ok (events.Hangup task phone, 1)
+hangup_of names _ = Err Fault
+
+-- an event so many times more, if there is room for it
+unfoldable pub with_events : List Event → Event → ℕ → Result (List Event) Reason
+with_events before event count = if nat_lt most_events (length before + count) then Err Fault else Ok (before ++ replicate count event)
+
+-- what a first word gives, and how often
+abbrev pub events_of : List (List ℕ) → Option EventVerb → List (List ℕ) → Result (Event × ℕ) Reason
+events_of names None words = Err Fault
+events_of names (Some Step) words = step_of names words
+events_of names (Some Hangup) words = hangup_of names words
+
+-- a line without words is passed over
+abbrev pub after_event_words : List (List ℕ) → List Event → List (List ℕ) → Result (List Event) Reason
+after_event_words names before [] = Ok before
+after_event_words names before (first ∷ others) = events_of names (event_verb_of first) others >>= λ (event, count). with_events before event count
+
+unfoldable pub after_event_line : List (List ℕ) → List Event → List ℕ → Result (List Event) Reason
+after_event_line names before line = if list_all is_allowed line then after_event_words names before (words line) else Err Fault
+
+-- the names are those of the script's tasks
+abbrev pub after_event : Plan → List Event → List ℕ → Result (List Event) Reason
+after_event script before line = after_event_line (task_names script.tasks) before line

@@ -1,0 +1,141 @@
+//! What one line adds to a script.
+ghost use Rattle.std.specs.Prelude.{◌≡◌, ◌≤◌, IfSome, IfOk, OnOk};
+ghost use Rattle.std.specs.Option.{ForSome};
+ghost use Rattle.script_reader.specs.Text.{texts};
+ghost use Rattle.script_reader.specs.Lines.{kind_of, limit_of, task_with, task_of, wire_of, task, wire, operation, after_words, after_line};
+ghost use Rattle.script_reader.specs.Plans.{Follows};
+ghost use Rattle.script_reader.specs.Drafts.{plan_of, IsWhole};
+
+use crate::draft::Draft;
+use crate::fault::{LineFault, Reason};
+use crate::name::Name;
+use crate::operation::op_of;
+use crate::plan::Kind;
+use crate::text::{all_allowed, words};
+use crate::word::{OpVerb, Verb, look_up, number, verb_of};
+use std::alloc::Global;
+
+const MOST_PHONES: u32 = 64;
+
+const KINDS: [(&[u8], Kind); 1] = [(b"raw", Kind::Raw)];
+
+fn kind_of(word: &[u8]) -> Option<Kind>
+    ensures { result ≡ kind_of word.now }
+{
+    look_up(&KINDS, word)
+}
+
+/// A number of phones, from 1 to 64.
+#[tactic(auto, unfolding(crate::specs::Lines::limit_of))]
+fn limit_of(word: &[u8]) -> Option<u32>
+    ensures value { result ≡ limit_of word.now }
+    ensures within { IfSome result (λ limit. (1 ≤ limit) × (limit ≤ 64)) }
+{
+    let limit = number(word)?;
+    if 1 <= limit && limit <= u64::from(MOST_PHONES) {
+        Some(limit as u32)
+    } else {
+        None
+    }
+}
+
+#[tactic(auto, unfolding(crate::specs::Lines::task_with))]
+fn task_with(name: &[u8], kind: &[u8], limit: Option<u32>) -> Result<(Name, Kind, u32), Reason>
+    requires { ForSome limit (λ n. (1 ≤ n) × (n ≤ 64)) }
+    ensures value { result ≡ task_with name.now kind.now limit }
+    ensures within { IfOk result (λ task. (1 ≤ task.2) × (task.2 ≤ 64)) }
+{
+    let name = Name::from_slice(name).ok_or(Reason::Fault)?;
+    let kind = kind_of(kind).ok_or(Reason::Fault)?;
+    let limit = limit.ok_or(Reason::Fault)?;
+    Ok((name, kind, limit))
+}
+
+/// `NAME raw`, or `NAME raw N`
+#[tactic(auto, unfolding(crate::specs::Lines::task_of))]
+fn task_of(words: &[&[u8]]) -> Result<(Name, Kind, u32), Reason>
+    ensures value { result ≡ task_of (texts words.now) }
+    ensures within { IfOk result (λ task. (1 ≤ task.2) × (task.2 ≤ 64)) }
+{
+    match words {
+        [name, kind] => task_with(*name, *kind, Some(MOST_PHONES)),
+        [name, kind, limit] => task_with(*name, *kind, limit_of(*limit)),
+        _ => Err(Reason::Fault),
+    }
+}
+
+/// `NAME N NAME`
+#[tactic(auto, unfolding(crate::specs::Lines::wire_of))]
+fn wire_of(words: &[&[u8]]) -> Result<(Name, u64, Name), Reason>
+    ensures { result ≡ wire_of (texts words.now) }
+{
+    match words {
+        [from, phone, to] => {
+            let from = Name::from_slice(*from).ok_or(Reason::Fault)?;
+            let phone = number(*phone).ok_or(Reason::Fault)?;
+            let to = Name::from_slice(*to).ok_or(Reason::Fault)?;
+            Ok((from, phone, to))
+        }
+        _ => Err(Reason::Fault),
+    }
+}
+
+#[tactic(auto, unfolding(crate::specs::Lines::task))]
+fn add_task(draft: &mut Draft, alloc: Global, words: &[&[u8]]) -> Result<(), LineFault>
+    requires { IsWhole draft.old }
+    ensures value { Follows result (plan_of draft.new) (task (plan_of draft.old) (texts words.now)) }
+    ensures whole { OnOk result (IsWhole draft.new) }
+{
+    let (name, kind, limit) = task_of(words)?;
+    draft.add_task(alloc, name, kind, limit)
+}
+
+#[tactic(auto, unfolding(crate::specs::Lines::wire))]
+fn add_wire(draft: &mut Draft, words: &[&[u8]]) -> Result<(), LineFault>
+    requires { IsWhole draft.old }
+    ensures value { Follows result (plan_of draft.new) (wire (plan_of draft.old) (texts words.now)) }
+    ensures whole { OnOk result (IsWhole draft.new) }
+{
+    let (from, phone, to) = wire_of(words)?;
+    draft.add_wire(from.as_slice(), phone, to.as_slice())
+}
+
+#[tactic(auto, unfolding(crate::specs::Lines::operation))]
+fn add_operation(draft: &mut Draft, verb: OpVerb, words: &[&[u8]]) -> Result<(), LineFault>
+    requires { IsWhole draft.old }
+    ensures value { Follows result (plan_of draft.new) (operation (plan_of draft.old) verb (texts words.now)) }
+    ensures whole { OnOk result (IsWhole draft.new) }
+{
+    let op = op_of(verb, words)?;
+    draft.add_op(op)
+}
+
+fn add_words(draft: &mut Draft, alloc: Global, words: &[&[u8]]) -> Result<(), LineFault>
+    requires { IsWhole draft.old }
+    ensures value { Follows result (plan_of draft.new) (after_words (plan_of draft.old) (texts words.now)) }
+    ensures whole { OnOk result (IsWhole draft.new) }
+{
+    let [first, others @ ..] = words else {
+        return Ok(());
+    };
+    match verb_of(*first) {
+        None => Err(LineFault::Bad(Reason::Fault)),
+        Some(Verb::Task) => add_task(draft, alloc, others),
+        Some(Verb::Wire) => add_wire(draft, others),
+        Some(Verb::Op(verb)) => add_operation(draft, verb, others),
+    }
+}
+
+/// Adds what the line says.
+#[tactic(auto, unfolding(crate::specs::Lines::after_line))]
+pub fn add_line(draft: &mut Draft, alloc: Global, line: &[u8]) -> Result<(), LineFault>
+    requires { IsWhole draft.old }
+    ensures value { Follows result (plan_of draft.new) (after_line (plan_of draft.old) line.now) }
+    ensures whole { OnOk result (IsWhole draft.new) }
+{
+    if !all_allowed(line) {
+        return Err(LineFault::Bad(Reason::Fault));
+    }
+    let words = words(alloc, line)?;
+    add_words(draft, alloc, words.as_slice())
+}

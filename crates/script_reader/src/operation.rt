@@ -1,0 +1,197 @@
+//! A line that is an operation.
+ghost use Rattle.std.specs.Prelude.{◌≡◌, ◌≤◌, ◌<◌, length, IfOk, IfSome, All};
+ghost use Rattle.script_reader.specs.Ranges.{IsInRange, KeepsRanges};
+ghost use Rattle.script_reader.specs.Text.{texts};
+ghost use Rattle.script_reader.specs.Operations.{arguments, two_and_arguments, call_of, answer_of, forward_of, receive_of, set_of, jump_of, hangup_of, two_and_place, jump_equal_of, jump_differ_of, op_of};
+
+use crate::fault::Reason;
+use crate::word::{OpVerb, mode_of, number_below, register, value};
+use ipc_ids::{Op, Value};
+
+/// Up to five arguments, with 0 for those that are left out.
+#[tactic(auto, unfolding(crate::specs::Operations::arguments))]
+fn arguments(words: &[&[u8]]) -> Option<[Value; 5]>
+    requires { length words.now ≤ 5 }
+    ensures value { result ≡ arguments (texts words.now) }
+    ensures ranges { IfSome result (All IsInRange) }
+{
+    let mut args = [Value::Number(0); 5];
+    for (i, word) in words.iter().enumerate() {
+        args[i] = value(*word)?;
+    }
+    Some(args)
+}
+
+/// Two values, and up to five arguments.
+#[tactic(auto, unfolding(crate::specs::Operations::two_and_arguments))]
+fn two_and_arguments(words: &[&[u8]]) -> Result<(Value, Value, [Value; 5]), Reason>
+    ensures value { result ≡ two_and_arguments (texts words.now) }
+    ensures ranges { IfOk result (λ x. IsInRange x.0 × IsInRange x.1 × All IsInRange x.2) }
+{
+    match words {
+        [first, second, args @ ..] if args.len() <= 5 => {
+            let first = value(*first).ok_or(Reason::Fault)?;
+            let second = value(*second).ok_or(Reason::Fault)?;
+            let args = arguments(args).ok_or(Reason::Fault)?;
+            Ok((first, second, args))
+        }
+        _ => Err(Reason::Fault),
+    }
+}
+
+#[tactic(auto, unfolding(crate::specs::Operations::call_of))]
+fn call_of(words: &[&[u8]]) -> Result<Op, Reason>
+    ensures value { result ≡ call_of (texts words.now) }
+    ensures ranges { IfOk result KeepsRanges }
+{
+    let (phone, method, args) = two_and_arguments(words)?;
+    Ok(Op::Call {
+        phone,
+        method,
+        args,
+    })
+}
+
+#[tactic(auto, unfolding(crate::specs::Operations::answer_of))]
+fn answer_of(words: &[&[u8]]) -> Result<Op, Reason>
+    ensures value { result ≡ answer_of (texts words.now) }
+    ensures ranges { IfOk result KeepsRanges }
+{
+    let (call, code, args) = two_and_arguments(words)?;
+    Ok(Op::Answer { call, code, args })
+}
+
+#[tactic(auto, unfolding(crate::specs::Operations::receive_of))]
+fn receive_of(words: &[&[u8]]) -> Result<Op, Reason>
+    ensures value { result ≡ receive_of (texts words.now) }
+    ensures ranges { IfOk result KeepsRanges }
+{
+    match words {
+        [] => Ok(Op::Receive),
+        _ => Err(Reason::Fault),
+    }
+}
+
+/// Without a change, or with a method and up to five arguments.
+#[tactic(auto, unfolding(crate::specs::Operations::forward_of))]
+fn forward_of(words: &[&[u8]]) -> Result<Op, Reason>
+    ensures value { result ≡ forward_of (texts words.now) }
+    ensures ranges { IfOk result KeepsRanges }
+{
+    match words {
+        [call, phone, mode] => {
+            let call = value(*call).ok_or(Reason::Fault)?;
+            let phone = value(*phone).ok_or(Reason::Fault)?;
+            let mode = mode_of(*mode).ok_or(Reason::Fault)?;
+            Ok(Op::Forward { call, phone, mode })
+        }
+        [call, phone, mode, method, args @ ..] if args.len() <= 5 => {
+            let call = value(*call).ok_or(Reason::Fault)?;
+            let phone = value(*phone).ok_or(Reason::Fault)?;
+            let mode = mode_of(*mode).ok_or(Reason::Fault)?;
+            let method = value(*method).ok_or(Reason::Fault)?;
+            let args = arguments(args).ok_or(Reason::Fault)?;
+            Ok(Op::ForwardWith {
+                call,
+                phone,
+                mode,
+                method,
+                args,
+            })
+        }
+        _ => Err(Reason::Fault),
+    }
+}
+
+#[tactic(auto, unfolding(crate::specs::Operations::hangup_of))]
+fn hangup_of(words: &[&[u8]]) -> Result<Op, Reason>
+    ensures value { result ≡ hangup_of (texts words.now) }
+    ensures ranges { IfOk result KeepsRanges }
+{
+    match words {
+        [phone] => Ok(Op::Hangup(value(*phone).ok_or(Reason::Fault)?)),
+        _ => Err(Reason::Fault),
+    }
+}
+
+#[tactic(auto, unfolding(crate::specs::Operations::set_of))]
+fn set_of(words: &[&[u8]]) -> Result<Op, Reason>
+    ensures value { result ≡ set_of (texts words.now) }
+    ensures ranges { IfOk result KeepsRanges }
+{
+    match words {
+        [target, source] => {
+            let target = register(*target).ok_or(Reason::Fault)?;
+            let source = value(*source).ok_or(Reason::Fault)?;
+            Ok(Op::Set {
+                register: target,
+                value: source,
+            })
+        }
+        _ => Err(Reason::Fault),
+    }
+}
+
+#[tactic(auto, unfolding(crate::specs::Operations::jump_of))]
+fn jump_of(words: &[&[u8]]) -> Result<Op, Reason>
+    ensures value { result ≡ jump_of (texts words.now) }
+    ensures ranges { IfOk result KeepsRanges }
+{
+    match words {
+        [to] => Ok(Op::Jump(number_below(65536, *to).ok_or(Reason::Fault)?)),
+        _ => Err(Reason::Fault),
+    }
+}
+
+/// Two values, and a place.
+#[tactic(auto, unfolding(crate::specs::Operations::two_and_place))]
+fn two_and_place(words: &[&[u8]]) -> Result<(Value, Value, u32), Reason>
+    ensures value { result ≡ two_and_place (texts words.now) }
+    ensures ranges { IfOk result (λ x. IsInRange x.0 × IsInRange x.1 × (x.2 < 65536)) }
+{
+    match words {
+        [left, right, to] => {
+            let left = value(*left).ok_or(Reason::Fault)?;
+            let right = value(*right).ok_or(Reason::Fault)?;
+            let to = number_below(65536, *to).ok_or(Reason::Fault)?;
+            Ok((left, right, to))
+        }
+        _ => Err(Reason::Fault),
+    }
+}
+
+#[tactic(auto, unfolding(crate::specs::Operations::jump_equal_of))]
+fn jump_equal_of(words: &[&[u8]]) -> Result<Op, Reason>
+    ensures value { result ≡ jump_equal_of (texts words.now) }
+    ensures ranges { IfOk result KeepsRanges }
+{
+    let (left, right, to) = two_and_place(words)?;
+    Ok(Op::JumpEqual { left, right, to })
+}
+
+#[tactic(auto, unfolding(crate::specs::Operations::jump_differ_of))]
+fn jump_differ_of(words: &[&[u8]]) -> Result<Op, Reason>
+    ensures value { result ≡ jump_differ_of (texts words.now) }
+    ensures ranges { IfOk result KeepsRanges }
+{
+    let (left, right, to) = two_and_place(words)?;
+    Ok(Op::JumpDiffer { left, right, to })
+}
+
+/// The operation that a first word and the words behind it spell.
+pub fn op_of(verb: OpVerb, words: &[&[u8]]) -> Result<Op, Reason>
+    ensures value { result ≡ op_of verb (texts words.now) }
+    ensures ranges { IfOk result KeepsRanges }
+{
+    match verb {
+        OpVerb::Call => call_of(words),
+        OpVerb::Receive => receive_of(words),
+        OpVerb::Answer => answer_of(words),
+        OpVerb::Forward => forward_of(words),
+        OpVerb::Hangup => hangup_of(words),
+        OpVerb::Set => set_of(words),
+        OpVerb::Jump => jump_of(words),
+        OpVerb::JumpEqual => jump_equal_of(words),
+        OpVerb::JumpDiffer => jump_differ_of(words),
+    }
+}

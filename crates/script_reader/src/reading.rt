@@ -1,0 +1,76 @@
+//! Reads a script, line by line.
+ghost use Rattle.std.specs.Prelude.{◌≡◌, ◌≢◌, ℕ, Ok, Err, OnOk};
+ghost use Rattle.script_reader.specs.declared.fault.Reason.{Reason};
+ghost use Rattle.script_reader.specs.Text.{texts};
+ghost use Rattle.script_reader.specs.Plan.{Plan};
+ghost use Rattle.script_reader.specs.Plans.{nothing};
+ghost use Rattle.script_reader.specs.Lines.{after_line};
+ghost use Rattle.script_reader.specs.Drafts.{plan_of, IsWhole};
+ghost use Rattle.script_reader.specs.Grammar.{Spells, IsFirstFault};
+ghost use Rattle.script_reader.specs.Reading.{lines_from, script_of, fault_in_script, Reads, Agrees};
+
+use crate::draft::Draft;
+use crate::fault::{LineFault, Reason, ScriptFault};
+use crate::line::add_line;
+use crate::plan::Script;
+use crate::text::{MOST_BYTES, lines};
+use std::alloc::Global;
+
+fn add_lines(draft: &mut Draft, alloc: Global, lines: &[&[u8]]) -> Result<(), ScriptFault>
+    requires { IsWhole draft.old }
+    ensures value { Reads fault_in_script result (plan_of draft.new)
+        (lines_from after_line 1 (plan_of draft.old) (texts lines.now)) }
+    ensures whole { OnOk result (IsWhole draft.new) }
+{
+    for (index, line) in lines.iter().enumerate() {
+        match add_line(draft, alloc, *line) {
+            Ok(()) => {}
+            Err(LineFault::NoMemory) => return Err(ScriptFault::NoMemory),
+            Err(LineFault::Bad(reason)) => {
+                return Err(ScriptFault::Bad {
+                    line: index as u64 + 1,
+                    reason,
+                });
+            }
+        }
+    }
+    Ok(())
+}
+
+#[tactic(auto, unfolding(crate::specs::Reading::reading))]
+fn read(alloc: Global, bytes: &[u8]) -> Result<Script, ScriptFault>
+    ensures { Agrees fault_in_script result (script_of bytes.now) }
+{
+    if bytes.len() > MOST_BYTES {
+        return Err(ScriptFault::Bad {
+            line: 0,
+            reason: Reason::Fault,
+        });
+    }
+    let lines = lines(alloc, bytes)?;
+    let mut draft = Draft::new(alloc);
+    add_lines(&mut draft, alloc, lines.as_slice())?;
+    match draft.into_script(alloc) {
+        Ok(script) => Ok(script),
+        Err(_) => Err(ScriptFault::NoMemory),
+    }
+}
+
+/// The script that the bytes of a file spell.
+///
+/// # Errors
+///
+/// `Bad` where they spell none, with their first fault; `NoMemory` where memory ran out, which may
+/// come for any bytes.
+pub fn read_script(alloc: Global, bytes: &[u8]) -> Result<Script, ScriptFault>
+    ensures value { Agrees fault_in_script result (script_of bytes.now) }
+    ensures read { (script : Plan) → result ≡ Ok script → Spells after_line nothing bytes.now script }
+    ensures spelled { (script : Plan) → Spells after_line nothing bytes.now script
+        → result ≢ Err ScriptFault.NoMemory → result ≡ Ok script }
+    ensures fault { (line : ℕ) (reason : Reason) → result ≡ Err (ScriptFault.Bad line reason)
+        → IsFirstFault after_line nothing bytes.now line reason }
+    ensures at_fault { (line : ℕ) (reason : Reason) → IsFirstFault after_line nothing bytes.now line reason
+        → result ≢ Err ScriptFault.NoMemory → result ≡ Err (ScriptFault.Bad line reason) }
+{
+    read(alloc, bytes)
+}

@@ -1,0 +1,233 @@
+//! Reads a schedule, line by line.
+ghost use Rattle.std.specs.Prelude.{◌≡◌, ◌≢◌, ◌≤◌, ℕ, List, [], ◌++◌, length, replicate, Ok, Err, IfOk, IsOkAnd, OnOk};
+ghost use Rattle.ipc_ids.specs.declared.message.Event.{Event};
+ghost use Rattle.script_reader.specs.declared.fault.Reason.{Reason};
+ghost use Rattle.script_reader.specs.Text.{texts};
+ghost use Rattle.script_reader.specs.Plans.{task_names, Follows};
+ghost use Rattle.script_reader.specs.Schedules.{event_verb_of, count_of, with_events, step_with, step_of, hangup_of, events_of, after_event_words, after_event_line, after_event};
+ghost use Rattle.script_reader.specs.Grammar.{Spells, IsFirstFault};
+ghost use Rattle.script_reader.specs.Reading.{lines_from, reading, schedule_of, events_in, fault_in_schedule, Reads, Agrees};
+
+use crate::fault::{LineFault, Reason, ScheduleFault};
+use crate::name::Name;
+use crate::names::{Names, names_of};
+use crate::plan::Script;
+use crate::text::{MOST_BYTES, all_allowed, lines, words};
+use crate::word::{look_up, number};
+use ipc_ids::Event;
+use std::alloc::Global;
+
+const MOST_EVENTS: u64 = 65_536;
+
+/// The first word of a line.
+#[derive(Clone, Copy, Debug, PartialEq, Eq)]
+pub enum EventVerb {
+    Step,
+    Hangup,
+}
+
+const VERBS: [(&[u8], EventVerb); 2] = [(b"step", EventVerb::Step), (b"hangup", EventVerb::Hangup)];
+
+fn event_verb_of(word: &[u8]) -> Option<EventVerb>
+    ensures { result ≡ event_verb_of word.now }
+{
+    look_up(&VERBS, word)
+}
+
+fn push_times(events: &mut Vec<Event>, event: Event, count: u64) -> Result<(), LineFault>
+    ensures { Follows result events.new.items (Ok (events.old.items ++ replicate count event)) }
+{
+    for _ in 0..count {
+        events.push(event)?;
+    }
+    Ok(())
+}
+
+/// Adds an event so many times, if there is room for it.
+#[tactic(auto, unfolding(crate::specs::Schedules::with_events))]
+fn add_events(events: &mut Vec<Event>, event: Event, count: u64) -> Result<(), LineFault>
+    ensures value { Follows result events.new.items (with_events events.old.items event count) }
+    ensures few { OnOk result (length events.new.items ≤ 65536) }
+{
+    if count > MOST_EVENTS || events.len() as u64 + count > MOST_EVENTS {
+        return Err(LineFault::Bad(Reason::Fault));
+    }
+    push_times(events, event, count)
+}
+
+/// `x N`, where N is from 1 to 65,536
+#[tactic(auto, unfolding(crate::specs::Schedules::count_of))]
+fn count_of(times: &[u8], word: &[u8]) -> Option<u64>
+    ensures { result ≡ count_of times.now word.now }
+{
+    let count = number(word)?;
+    if times == b"x".as_slice() && 1 <= count && count <= MOST_EVENTS {
+        Some(count)
+    } else {
+        None
+    }
+}
+
+#[tactic(auto, unfolding(crate::specs::Schedules::step_with))]
+fn step_with(names: &Names, name: &[u8], count: Option<u64>) -> Result<(Event, u64), Reason>
+    ensures { result ≡ step_with names.now name.now count }
+{
+    let name = Name::from_slice(name).ok_or(Reason::Fault)?;
+    let count = count.ok_or(Reason::Fault)?;
+    let task = names.task_named(name.as_slice()).ok_or(Reason::Fault)?;
+    Ok((Event::Step(task), count))
+}
+
+/// `NAME`, or `NAME x N`
+#[tactic(auto, unfolding(crate::specs::Schedules::step_of))]
+fn step_of(names: &Names, words: &[&[u8]]) -> Result<(Event, u64), Reason>
+    ensures { result ≡ step_of names.now (texts words.now) }
+{
+    match words {
+        [name] => step_with(names, *name, Some(1)),
+        [name, times, count] => step_with(names, *name, count_of(*times, *count)),
+        _ => Err(Reason::Fault),
+    }
+}
+
+/// `NAME N`
+#[tactic(auto, unfolding(crate::specs::Schedules::hangup_of))]
+fn hangup_of(names: &Names, words: &[&[u8]]) -> Result<(Event, u64), Reason>
+    ensures { result ≡ hangup_of names.now (texts words.now) }
+{
+    match words {
+        [name, phone] => {
+            let name = Name::from_slice(*name).ok_or(Reason::Fault)?;
+            let phone = number(*phone).ok_or(Reason::Fault)?;
+            let task = names.task_named(name.as_slice()).ok_or(Reason::Fault)?;
+            Ok((Event::Hangup(task, phone), 1))
+        }
+        _ => Err(Reason::Fault),
+    }
+}
+
+/// The event that a line gives, and how often.
+fn events_of(
+    names: &Names,
+    verb: Option<EventVerb>,
+    words: &[&[u8]],
+) -> Result<(Event, u64), Reason>
+    ensures { result ≡ events_of names.now verb (texts words.now) }
+{
+    match verb {
+        None => Err(Reason::Fault),
+        Some(EventVerb::Step) => step_of(names, words),
+        Some(EventVerb::Hangup) => hangup_of(names, words),
+    }
+}
+
+fn add_words(names: &Names, events: &mut Vec<Event>, words: &[&[u8]]) -> Result<(), LineFault>
+    requires { length events.old.items ≤ 65536 }
+    ensures value { Follows result events.new.items
+        (after_event_words names.now events.old.items (texts words.now)) }
+    ensures few { OnOk result (length events.new.items ≤ 65536) }
+{
+    let [first, others @ ..] = words else {
+        return Ok(());
+    };
+    let (event, count) = events_of(names, event_verb_of(*first), others)?;
+    add_events(events, event, count)
+}
+
+#[tactic(auto, unfolding(crate::specs::Schedules::after_event_line))]
+fn add_line(
+    names: &Names,
+    events: &mut Vec<Event>,
+    alloc: Global,
+    line: &[u8],
+) -> Result<(), LineFault>
+    requires { length events.old.items ≤ 65536 }
+    ensures value { Follows result events.new.items (after_event_line names.now events.old.items line.now) }
+    ensures few { OnOk result (length events.new.items ≤ 65536) }
+{
+    if !all_allowed(line) {
+        return Err(LineFault::Bad(Reason::Fault));
+    }
+    let words = words(alloc, line)?;
+    add_words(names, events, words.as_slice())
+}
+
+fn add_lines(
+    names: &Names,
+    events: &mut Vec<Event>,
+    alloc: Global,
+    lines: &[&[u8]],
+) -> Result<(), ScheduleFault>
+    requires { length events.old.items ≤ 65536 }
+    ensures value { Reads fault_in_schedule result events.new.items
+        (lines_from (after_event_line names.now) 1 events.old.items (texts lines.now)) }
+    ensures few { OnOk result (length events.new.items ≤ 65536) }
+{
+    for (index, line) in lines.iter().enumerate() {
+        match add_line(names, events, alloc, *line) {
+            Ok(()) => {}
+            Err(LineFault::NoMemory) => return Err(ScheduleFault::NoMemory),
+            Err(LineFault::Bad(reason)) => {
+                return Err(ScheduleFault::Bad {
+                    line: index as u64 + 1,
+                    reason,
+                });
+            }
+        }
+    }
+    Ok(())
+}
+
+#[tactic(auto, unfolding(crate::specs::Reading::reading))]
+fn read(alloc: Global, bytes: &[u8], names: &Names) -> Result<Vec<Event>, ScheduleFault>
+    ensures value { Agrees fault_in_schedule (events_in result)
+        (reading (after_event_line names.now) [] bytes.now) }
+    ensures few { IfOk result (λ events. length events.items ≤ 65536) }
+{
+    if bytes.len() > MOST_BYTES {
+        return Err(ScheduleFault::Bad {
+            line: 0,
+            reason: Reason::Fault,
+        });
+    }
+    let lines = lines(alloc, bytes)?;
+    let mut events = Vec::new(alloc);
+    add_lines(names, &mut events, alloc, lines.as_slice())?;
+    Ok(events)
+}
+
+fn read_for(alloc: Global, bytes: &[u8], script: &Script) -> Result<Vec<Event>, ScheduleFault>
+    ensures value { Agrees fault_in_schedule (events_in result) (schedule_of script.now bytes.now) }
+    ensures few { IfOk result (λ events. length events.items ≤ 65536) }
+{
+    match names_of(alloc, script.tasks.as_slice()) {
+        Ok(names) => read(alloc, bytes, &names),
+        Err(_) => Err(ScheduleFault::NoMemory),
+    }
+}
+
+/// The events that the bytes of a file spell, for the tasks of a script.
+///
+/// # Errors
+///
+/// `Bad` where they spell none, with their first fault; `NoMemory` where memory ran out, which may
+/// come for any bytes.
+pub fn read_schedule(
+    alloc: Global,
+    bytes: &[u8],
+    script: &Script,
+) -> Result<Vec<Event>, ScheduleFault>
+    ensures value { Agrees fault_in_schedule (events_in result) (schedule_of script.now bytes.now) }
+    ensures few { IfOk result (λ events. length events.items ≤ 65536) }
+    ensures read { IfOk result (λ events. Spells (after_event script.now) [] bytes.now events.items) }
+    ensures spelled { (events : List Event) → Spells (after_event script.now) [] bytes.now events
+        → result ≢ Err ScheduleFault.NoMemory → IsOkAnd result (λ read. read.items ≡ events) }
+    ensures fault { (line : ℕ) (reason : Reason) → result ≡ Err (ScheduleFault.Bad line reason)
+        → IsFirstFault (after_event script.now) [] bytes.now line reason }
+    ensures at_fault { (line : ℕ) (reason : Reason)
+        → IsFirstFault (after_event script.now) [] bytes.now line reason
+        → result ≢ Err ScheduleFault.NoMemory
+        → result ≡ Err (ScheduleFault.Bad line reason) }
+{
+    read_for(alloc, bytes, script)
+}

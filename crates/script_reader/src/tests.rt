@@ -1,0 +1,272 @@
+//! Whole files, compared field by field, and what each fault's line is.
+ghost use Rattle.std.specs.Prelude.{◌<◌, ◌≤◌, length, All};
+ghost use Rattle.script_reader.specs.Ranges.{KeepsRanges};
+
+use crate::{Kind, Reason, ScheduleFault, Script, ScriptFault, read_schedule, read_script};
+use ipc_ids::{Event, Mode, Op, TaskNo, Value};
+use std::test::Fail;
+
+const SCRIPT: &[u8] = b"# two tasks and two wires
+task client raw 2
+\twire client 0x1 client
+
+  call 0 PHONE_HUNGUP r31 EOK 1
+receive
+answer r2 ENOENT 1 2 3 4 5 # five arguments
+forward r2 1 route
+forward r2 1 plain 512 RW
+task s_9 raw
+wire client 0 s_9
+hangup 63
+set r0 0xfFFFffffFFFFffff
+set r10 18446744073709551615
+jump 65535
+jumpeq r1 R 0
+jumpne r1 W 0x2";
+
+const SCHEDULE: &[u8] = b"step client#once\n\nstep s_9 x 2\n\thangup s_9 18446744073709551615 \n";
+
+/// What a consumer of a script relies on: what a task does is there and in range.
+fn operations(script: &Script, index: usize) -> &[Op]
+    requires { index < length script.now.tasks }
+    ensures few { length result.now ≤ 4096 }
+    ensures ranges { All KeepsRanges result.now }
+{
+    script.tasks.as_slice()[index].bodies.as_slice()[0]
+        .ops
+        .as_slice()
+}
+
+/// What a consumer of a script relies on: each wire leads from a task that is there.
+fn limit_behind(script: &Script, index: usize) -> u32
+    requires { index < length script.now.wires }
+    ensures { result ≤ 64 }
+{
+    let from = script.wires.as_slice()[index].from.0 - 1;
+    script.tasks.as_slice()[from as usize].limit
+}
+
+fn number(number: u64) -> Value {
+    Value::Number(number)
+}
+
+/// The operation at a place of a task's body.
+fn op(script: &Script, task: usize, place: usize) -> Option<Op> {
+    let task = script.tasks.as_slice().get(task)?;
+    let body = task.bodies.as_slice().get(0)?;
+    body.ops.as_slice().get(place).copied()
+}
+
+const FIVE: [Value; 5] = [
+    Value::Number(1),
+    Value::Number(2),
+    Value::Number(3),
+    Value::Number(4),
+    Value::Number(5),
+];
+
+#[test]
+fn tasks_and_wires_are_read(rt: HostRuntime) {
+    let script = read_script(rt.alloc(), SCRIPT).expect(&rt, "a script");
+    let tasks = script.tasks.as_slice();
+    assert_eq!(rt; tasks.len(), 2);
+    assert_eq!(rt; tasks[0].name.as_slice(), b"client".as_slice());
+    assert_eq!(rt; tasks[0].kind, Kind::Raw);
+    assert_eq!(rt; tasks[0].limit, 2);
+    assert_eq!(rt; tasks[1].name.as_slice(), b"s_9".as_slice());
+    assert_eq!(rt; tasks[1].limit, 64);
+    assert_eq!(rt; operations(&script, 0).len(), 5);
+    assert_eq!(rt; operations(&script, 1).len(), 6);
+    let wires = script.wires.as_slice();
+    assert_eq!(rt; wires.len(), 2);
+    let (first, second) = (wires[0], wires[1]);
+    assert_eq!(rt; (first.from.0, first.phone.0, first.to.0), (1, 1, 1));
+    assert_eq!(rt; (second.from.0, second.phone.0, second.to.0), (1, 0, 2));
+    assert_eq!(rt; limit_behind(&script, 1), 2);
+}
+
+#[test]
+fn operations_of_messages_are_read(rt: HostRuntime) {
+    let script = read_script(rt.alloc(), SCRIPT).expect(&rt, "a script");
+    let wanted = [
+        Op::Call {
+            phone: number(0),
+            method: number(0),
+            args: [
+                Value::Register(31),
+                number(0),
+                number(1),
+                number(0),
+                number(0),
+            ],
+        },
+        Op::Receive,
+        Op::Answer {
+            call: Value::Register(2),
+            code: number(1),
+            args: FIVE,
+        },
+        Op::Forward {
+            call: Value::Register(2),
+            phone: number(1),
+            mode: Mode::Route,
+        },
+        Op::ForwardWith {
+            call: Value::Register(2),
+            phone: number(1),
+            mode: Mode::Plain,
+            method: number(512),
+            args: [number(3), number(0), number(0), number(0), number(0)],
+        },
+    ];
+    for (place, want) in wanted.iter().enumerate() {
+        assert_eq!(rt; op(&script, 0, place), Some(*want), "at {place}");
+    }
+}
+
+#[test]
+fn other_operations_are_read(rt: HostRuntime) {
+    let script = read_script(rt.alloc(), SCRIPT).expect(&rt, "a script");
+    let wanted = [
+        Op::Hangup(number(63)),
+        Op::Set {
+            register: 0,
+            value: number(u64::MAX),
+        },
+        Op::Set {
+            register: 10,
+            value: number(u64::MAX),
+        },
+        Op::Jump(65535),
+        Op::JumpEqual {
+            left: Value::Register(1),
+            right: number(1),
+            to: 0,
+        },
+        Op::JumpDiffer {
+            left: Value::Register(1),
+            right: number(2),
+            to: 2,
+        },
+    ];
+    for (place, want) in wanted.iter().enumerate() {
+        assert_eq!(rt; op(&script, 1, place), Some(*want), "at {place}");
+    }
+}
+
+/// The line of the first fault, or `None` where the bytes spell a script.
+fn fault_of_script(rt: &HostRuntime, bytes: &[u8]) -> Option<u64> {
+    match read_script(rt.alloc(), bytes) {
+        Err(
+            ScriptFault::Bad {
+                line,
+                reason: Reason::Fault,
+            },
+        ) => Some(line),
+        _ => None,
+    }
+}
+
+#[test]
+fn the_first_faulty_line_of_a_script_is_named(rt: HostRuntime) {
+    let faults: [(&[u8], u64); 30] = [
+        (b"task a raw\r\n", 1),
+        (b"task a raw\n# \x7f\n", 2),
+        (b"\n\nfoo\nbar", 3),
+        (b"ns", 1),
+        (b"receive", 1),
+        (b"task a async", 1),
+        (b"task a", 1),
+        (b"task a raw 1 2", 1),
+        (b"task a raw 0", 1),
+        (b"task a raw 65", 1),
+        (b"task 1a raw", 1),
+        (b"task abcdefghijklmnop raw", 1),
+        (b"task ns raw", 1),
+        (b"task a raw\ntask a raw", 2),
+        (b"task a raw\nwire a 0 b", 2),
+        (b"task a raw 2\nwire a 2 a", 2),
+        (b"task a raw\nwire a 0 a\nwire a 0 a", 3),
+        (b"task a raw\nset r32 0", 2),
+        (b"task a raw\nset r01 0", 2),
+        (b"task a raw\nset 0 r1", 2),
+        (b"task a raw\nhangup 18446744073709551616", 2),
+        (b"task a raw\nhangup 0x10000000000000000", 2),
+        (b"task a raw\nhangup 000000000000000000000", 2),
+        (b"task a raw\nhangup 0x", 2),
+        (b"task a raw\nhangup eok", 2),
+        (b"task a raw\njump 65536", 2),
+        (b"task a raw\njump r1", 2),
+        (b"task a raw\ncall 1", 2),
+        (b"task a raw\ncall 1 2 3 4 5 6 7 8", 2),
+        (b"task a raw\nforward 1 2 3", 2),
+    ];
+    for (bytes, line) in faults {
+        assert_eq!(rt; fault_of_script(&rt, bytes), Some(line), "at {line}");
+    }
+    assert_eq!(rt; fault_of_script(&rt, b""), None);
+}
+
+/// The line of the first fault, or `None` where the bytes spell events.
+fn fault_of_schedule(rt: &HostRuntime, bytes: &[u8], script: &Script) -> Option<u64> {
+    match read_schedule(rt.alloc(), bytes, script) {
+        Err(
+            ScheduleFault::Bad {
+                line,
+                reason: Reason::Fault,
+            },
+        ) => Some(line),
+        _ => None,
+    }
+}
+
+#[test]
+fn the_first_faulty_line_of_a_schedule_is_named(rt: HostRuntime) {
+    let script = read_script(rt.alloc(), b"task a raw").expect(&rt, "a script");
+    let faults: [(&[u8], u64); 11] = [
+        (b"step a\nstep b", 2),
+        (b"kill a", 1),
+        (b"step", 1),
+        (b"step a 2", 1),
+        (b"step a y 2", 1),
+        (b"step a x 0", 1),
+        (b"step a x 65537", 1),
+        (b"step a x 65536\n\nstep a", 3),
+        (b"hangup a", 1),
+        (b"hangup a r1", 1),
+        (b"step a # \x80", 1),
+    ];
+    for (bytes, line) in faults {
+        assert_eq!(rt;
+            fault_of_schedule(&rt, bytes, &script),
+            Some(line),
+            "at {line}"
+        );
+    }
+    assert_eq!(rt; fault_of_schedule(&rt, b"step a x 65536", &script), None);
+}
+
+#[test]
+fn events_are_read(rt: HostRuntime) {
+    let script = read_script(rt.alloc(), SCRIPT).expect(&rt, "a script");
+    let events = read_schedule(rt.alloc(), SCHEDULE, &script).expect(&rt, "a schedule");
+    let wanted = [
+        Event::Step(TaskNo(1)),
+        Event::Step(TaskNo(2)),
+        Event::Step(TaskNo(2)),
+        Event::Hangup(TaskNo(2), u64::MAX),
+    ];
+    assert_eq!(rt; events.as_slice(), wanted.as_slice());
+}
+
+#[test]
+fn the_longest_file_is_read(rt: HostRuntime) -> Result<(), Fail> {
+    let spaces = vec![in rt.alloc(); b' '; 1_048_577]?;
+    let script = read_script(rt.alloc(), &spaces[..1_048_576]).expect(&rt, "a script");
+    assert_eq!(rt; script.tasks.as_slice().len(), 0);
+    let events = read_schedule(rt.alloc(), &spaces[..1_048_576], &script);
+    assert_eq!(rt; events.expect(&rt, "a schedule").len(), 0);
+    assert_eq!(rt; fault_of_script(&rt, spaces.as_slice()), Some(0));
+    assert_eq!(rt; fault_of_schedule(&rt, spaces.as_slice(), &script), Some(0));
+    Ok(())
+}
