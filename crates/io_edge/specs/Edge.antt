@@ -22,7 +22,8 @@ Holds (Some files) name bytes = file_of files name ≡ Some bytes
 -- these are the first bytes of the file, at most so many, where the files are told
 abbrev pub Gives : Option (List (List ℕ × List ℕ)) → List ℕ → ℕ → List ℕ → Type 0
 Gives None name most bytes = ⊤
-Gives (Some files) name most bytes = option_map (λ all. take most all) (file_of files name) ≡ Some bytes
+Gives (Some files) name most bytes =
+    option_map (λ all. take most all) (file_of files name) ≡ Some bytes
 
 -- known bytes grow by a prefix of the piece
 abbrev pub AppendsStart : Option (List ℕ) → Option (List ℕ) → List ℕ → Type 0

@@ -39,7 +39,11 @@ impl<R: Files> FileShelf<R> {
 }
 
 // The first bytes of a reader, at most so many. A read of 0 bytes is its end.
-pub fn read_most<F: Read>(alloc: Global, file: &mut F, most: usize) -> Result<Vec<u8>, LoadFault>
+pub(crate) fn read_most<F: Read>(
+    alloc: Global,
+    file: &mut F,
+    most: usize,
+) -> Result<Vec<u8>, LoadFault>
     ensures { IfOk result (λ bytes. length bytes.items ≤ most) }
 {
     let mut bytes = Vec::new(alloc);

@@ -34,14 +34,12 @@ impl Model for MemShelf {
 
     ghost Value = { ShelfState };
 
-    ghost view = {
-        λ shelf. record {
-            files = all_named shelf.files.items;
-            failed = map string_bytes shelf.failed.items;
-            loads = shelf.loads;
-            loads_to_fail = shelf.loads_to_fail.items
-        }
-    };
+    ghost view = { λ shelf. record {
+      files = all_named shelf.files.items;
+      failed = map string_bytes shelf.failed.items;
+      loads = shelf.loads;
+      loads_to_fail = shelf.loads_to_fail.items;
+    } };
 }
 
 // The bytes of the first file of this name.
@@ -72,9 +70,8 @@ impl MemShelf {
 
     /// Adds a file. A name that is there gets the new bytes.
     pub fn add(&mut self, name: &str, bytes: &[u8]) -> Result<(), NoMemory>
-        ensures ok {
-            OnOk result (self.new ≡ record self.old { files = (name.now, bytes.now) ∷ self.old.files })
-        }
+        ensures ok { OnOk result (
+            self.new ≡ record self.old { files = (name.now, bytes.now) ∷ self.old.files }) }
         ensures unchanged { OnErr result (self.new ≡ self.old) }
     {
         let name = String::from_str(self.alloc, name)?;
@@ -101,18 +98,20 @@ impl Shelf for MemShelf {
     ghost failed = { λ shelf. shelf.failed };
 
     fn load(&mut self, alloc: Global, name: &str, most: usize) -> Result<Vec<u8>, LoadFault>
-        ensures bytes { IfOk result (λ bytes. Gives (Some self.old.files) name.now most bytes.items) }
+        ensures bytes { IfOk result (λ bytes.
+            Gives (Some self.old.files) name.now most bytes.items) }
         ensures most { IfOk result (λ bytes. length bytes.items ≤ most) }
         ensures files { self.new.files ≡ self.old.files }
-        ensures ok { OnOk result (self.new ≡ record self.old { loads = next_count self.old.loads }) }
+        ensures ok { OnOk result (
+            self.new ≡ record self.old { loads = next_count self.old.loads }) }
         ensures no_memory { IsErrOf result Memory → self.new ≡ self.old }
-        ensures failed { IsErrOf result Failed → self.new.failed ≡ self.old.failed ++ name.now ∷ [] }
+        ensures failed { IsErrOf result Failed →
+            self.new.failed ≡ self.old.failed ++ name.now ∷ [] }
         ensures counted { IsErrOf result Failed → self.new.loads ≡ next_count self.old.loads }
         ensures loads_to_fail { self.new.loads_to_fail ≡ self.old.loads_to_fail }
         // It fails exactly where the call is listed or the name is missing, want of memory aside.
-        ensures due {
-            IsErrOf result Failed → IsNextLoadListed self.old ⊎ (file_of self.old.files name.now ≡ None)
-        }
+        ensures due { IsErrOf result Failed →
+            IsNextLoadListed self.old ⊎ (file_of self.old.files name.now ≡ None) }
         ensures unlisted { OnOk result (¬ IsNextLoadListed self.old) }
     {
         let entry = String::from_str(self.alloc, name)?;

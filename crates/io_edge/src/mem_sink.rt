@@ -33,18 +33,17 @@ impl Model for MemSink {
 
     ghost Value = { SinkState };
 
-    ghost view = {
-        λ sink. record {
-            bytes = sink.bytes.items;
-            room = sink.room;
-            puts = sink.puts;
-            faults = sink.faults;
-            puts_to_fail = map stop_pair sink.stops.items
-        }
-    };
+    ghost view = { λ sink. record {
+      bytes = sink.bytes.items;
+      room = sink.room;
+      puts = sink.puts;
+      faults = sink.faults;
+      puts_to_fail = map stop_pair sink.stops.items;
+    } };
 
     // The bytes are within the room, all of which was taken at the start.
-    ghost invariant = { λ sink. (vec_len sink.bytes ≤ sink.room) × (sink.room ≤ vec_capacity sink.bytes) };
+    ghost invariant = { λ sink.
+        (vec_len sink.bytes ≤ sink.room) × (sink.room ≤ vec_capacity sink.bytes) };
 }
 
 // How many bytes of the put of this number are kept, if it is to fail.
@@ -73,7 +72,8 @@ impl MemSink {
         })
     }
 
-    /// The `nth` put from now, counted from 1, fails after `kept` bytes, or the whole piece if it is shorter.
+    /// The `nth` put from now, counted from 1, fails after `kept` bytes, or after the whole
+    /// piece if that is shorter.
     pub fn fail_at(&mut self, nth: u64, kept: usize) -> Result<(), NoMemory>
         ensures ok { OnOk result (self.new ≡ with_failing_put self.old (self.old.puts + nth) kept) }
         ensures unchanged { OnErr result (self.new ≡ self.old) }
@@ -99,12 +99,13 @@ impl Sink for MemSink {
 
     fn put(&mut self, piece: &[u8]) -> Result<(), PutFailed>
         ensures ok { OnOk result (self.new.bytes ≡ self.old.bytes ++ piece.now) }
-        ensures err { OnErr result (AppendsStart (Some self.old.bytes) (Some self.new.bytes) piece.now) }
+        ensures err { OnErr result (
+            AppendsStart (Some self.old.bytes) (Some self.new.bytes) piece.now) }
         ensures none { OnOk result (self.new.faults ≡ self.old.faults) }
         ensures cause { OnErr result (self.new.faults ≡ next_count self.old.faults) }
         ensures later { self.old.faults ≤ self.new.faults }
         ensures last { self.new.faults < 2 ^ 64 }
-        // It fails exactly where the call is listed or the piece passes the room, and keeps what fits.
+        // It fails exactly where the call is listed or the piece passes the room.
         ensures unlisted { OnOk result (next_kept self.old ≡ None) }
         ensures fits { OnOk result (Fits self.old piece.now) }
         ensures succeeds { next_kept self.old ≡ None → Fits self.old piece.now → IsOk result }

@@ -35,7 +35,7 @@ impl<W: Write> Sink for OutSink<W> {
 
     fn put(&mut self, piece: &[u8]) -> Result<(), PutFailed> {
         let faults = self.faults;
-        // `write_all` goes on after a short or an interrupted write; a write of 0 bytes is its fault.
+        // It goes on after a short or an interrupted write; a write of 0 bytes is a fault.
         match self.out.write_all(piece) {
             Ok(()) => Ok(()),
             Err(_) => {

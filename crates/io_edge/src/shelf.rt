@@ -35,7 +35,7 @@ impl<T: Drop> From<AllocFailed<T>> for LoadFault {
 
 /// A place that has files under names.
 pub trait Shelf {
-    /// The files, each a name and its bytes, where the shelf tells them. Of a name the first counts.
+    /// The files, each a name and its bytes, where the shelf tells them. The first of a name counts.
     ghost files: { Self → Option (List (List ℕ × List ℕ)) };
 
     /// The names whose load failed, in the order of the loads.
@@ -48,5 +48,6 @@ pub trait Shelf {
         ensures files { files self.new ≡ files self.old }
         ensures ok { OnOk result (failed self.new ≡ failed self.old) }
         ensures no_memory { IsErrOf result NoMemory → failed self.new ≡ failed self.old }
-        ensures failed { IsErrOf result Failed → failed self.new ≡ failed self.old ++ name.now ∷ [] };
+        ensures failed { IsErrOf result Failed →
+            failed self.new ≡ failed self.old ++ name.now ∷ [] };
 }
