@@ -32,6 +32,7 @@ abbrev pub answer_for_script : Result Plan (ℕ × Reason) → List ℕ → Stat
 answer_for_script (Ok script) schedule = answer_for_events script (schedule_of script schedule)
 answer_for_script (Err fault) schedule = (BadScript, fault_line (codes "script") fault)
 
--- for the bytes of the two files: the run's text, or the line of the first fault; the script's fault goes before
+-- for the bytes of the two files: the run's text, or the line of the first fault,
+-- where any fault of the script comes before those of the schedule
 abbrev pub answer_of : List ℕ → List ℕ → Status × List ℕ
 answer_of script schedule = answer_for_script (script_of script) schedule

@@ -31,7 +31,8 @@ files_of (command ∷ script ∷ schedule ∷ []) =
     if bytes_eq command (codes "replay") then Some (script, schedule) else None
 files_of words = None
 
--- the load of this name failed in a call, if among the names whose load failed it then stands more often than before
+-- the load of this name failed in a call:
+-- among the names whose load failed it stands more often after the call than before
 abbrev pub lost : Names → Names → List ℕ → Bool
 lost before after name = nat_lt (times name before) (times name after)
 
@@ -39,10 +40,13 @@ lost before after name = nat_lt (times name before) (times name after)
 abbrev pub DueForBytes : List ℕ → List ℕ → Answers
 DueForBytes script schedule status text = answer_of script schedule ≡ (status, text)
 
--- due for the names of two files: the script was lost, or else the schedule, or else for the bytes that they have
+-- due for the names of two files: either the script was lost, or else the schedule,
+-- or else it is due for the bytes that they have
 abbrev pub DueForNames : Files → List ℕ → List ℕ → Bool → Bool → Answers
-DueForNames files script schedule true second status text = (status ≡ CannotRead) × (text ≡ cannot_line script)
-DueForNames files script schedule false true status text = (status ≡ CannotRead) × (text ≡ cannot_line schedule)
+DueForNames files script schedule true second status text =
+    (status ≡ CannotRead) × (text ≡ cannot_line script)
+DueForNames files script schedule false true status text =
+    (status ≡ CannotRead) × (text ≡ cannot_line schedule)
 DueForNames files script schedule false false status text =
     (first : List ℕ) × (second : List ℕ)
     × Holds files script first × Holds files schedule second × DueForBytes first second status text
@@ -58,21 +62,22 @@ DueForWords files before after None status text = (status ≡ Usage) × (text �
 DueForWords files before after (Some names) status text =
     DueForFiles files before after names.0 names.1 status text
 
--- due for the words, the files where they are told, and the names whose load failed before and after the call
+-- due for the words, by the files and the names whose load failed before and after the call
 abbrev pub Due : List (List ℕ) → Files → Names → Names → Answers
 Due words files before after = DueForWords files before after (files_of words)
 
 -- the status is due with a text that was written whole, unless a put failed or memory was wanted
 abbrev pub Whole : Answers → Option (List ℕ) → Option (List ℕ) → Status → Type 0
 Whole due old new status =
-    status ≢ WriteFailed → status ≢ NoMemory → (text : List ℕ) × due status text × Appends old new text
+    status ≢ WriteFailed → status ≢ NoMemory
+    → (text : List ℕ) × due status text × Appends old new text
 
 -- a prefix of a text that is due was written
 abbrev pub Part : Answers → Option (List ℕ) → Option (List ℕ) → Type 0
 Part due old new =
     (status : Status) × (text : List ℕ) × due status text × AppendsStart old new text
 
--- the load of none of these names failed in the call, or that of one of them, once; and of no other name
+-- in the call no load failed, or just one did, of one of these names
 abbrev pub LosesOneAtMost : Option (List ℕ × List ℕ) → Names → Names → Type 0
 LosesOneAtMost None before after = after ≡ before
 LosesOneAtMost (Some names) before after =

@@ -70,7 +70,8 @@ fn answer(alloc: Global, script: &[u8], schedule: &[u8]) -> Result<(Status, Vec<
 /// first fault.
 pub fn replay_bytes<K: Sink>(alloc: Global, script: &[u8], schedule: &[u8], sink: &mut K) -> Status
     // But for WriteFailed and NoMemory, the status is the one that is due, its text written whole.
-    ensures whole { Whole (DueForBytes script.now schedule.now) (K.written sink.old) (K.written sink.new) result }
+    ensures whole { Whole (DueForBytes script.now schedule.now)
+        (K.written sink.old) (K.written sink.new) result }
     // Else a prefix of the text that is due was written; after want of memory maybe nothing.
     ensures part { result ≡ WriteFailed →
         Part (DueForBytes script.now schedule.now) (K.written sink.old) (K.written sink.new) }

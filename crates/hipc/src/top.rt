@@ -64,20 +64,24 @@ fn replay_files<S: Shelf, K: Sink>(
     sink: &mut K,
 ) -> Status
     ensures whole { Whole
-        (DueForFiles (S.files shelf.old) (S.failed shelf.old) (S.failed shelf.new) script.now schedule.now)
+        (DueForFiles (S.files shelf.old) (S.failed shelf.old) (S.failed shelf.new)
+        script.now schedule.now)
         (K.written sink.old) (K.written sink.new) result }
     ensures part { result ≡ WriteFailed → Part
-        (DueForFiles (S.files shelf.old) (S.failed shelf.old) (S.failed shelf.new) script.now schedule.now)
+        (DueForFiles (S.files shelf.old) (S.failed shelf.old) (S.failed shelf.new)
+        script.now schedule.now)
         (K.written sink.old) (K.written sink.new) }
     ensures memory { result ≡ Memory → Keeps (K.written sink.old) (K.written sink.new) ⊎ Part
-        (DueForFiles (S.files shelf.old) (S.failed shelf.old) (S.failed shelf.new) script.now schedule.now)
+        (DueForFiles (S.files shelf.old) (S.failed shelf.old) (S.failed shelf.new)
+        script.now schedule.now)
         (K.written sink.old) (K.written sink.new) }
     ensures write_failed { result ≡ WriteFailed → Rose (K.faults sink.old) (K.faults sink.new) }
     ensures risen { K.faults sink.old < K.faults sink.new →
         (result ≡ WriteFailed) ⊎ (result ≡ Memory) }
     ensures later { K.faults sink.old ≤ K.faults sink.new }
     ensures files { S.files shelf.new ≡ S.files shelf.old }
-    ensures failed { LosesOneAtMost (Some (script.now, schedule.now)) (S.failed shelf.old) (S.failed shelf.new) }
+    ensures failed { LosesOneAtMost (Some (script.now, schedule.now))
+        (S.failed shelf.old) (S.failed shelf.new) }
 {
     let first = match shelf.load(alloc, script, MOST) {
         Ok(bytes) => bytes,
@@ -118,7 +122,8 @@ pub fn run<S: Shelf, K: Sink>(
     ensures later { K.faults sink.old ≤ K.faults sink.new }
     // The shelf keeps its files, and no name but one of the two words comes to those that failed.
     ensures files { S.files shelf.new ≡ S.files shelf.old }
-    ensures failed { LosesOneAtMost (files_of (texts words.now)) (S.failed shelf.old) (S.failed shelf.new) }
+    ensures failed { LosesOneAtMost (files_of (texts words.now))
+        (S.failed shelf.old) (S.failed shelf.new) }
 {
     match file_words(words) {
         Some((script, schedule)) => replay_files(alloc, script, schedule, shelf, sink),

@@ -28,4 +28,5 @@ pub returns-in-None-clause-part : goal.returns-in-None-clause-part
 returns-in-None-clause-part g c = λ w.
     let files = g.S.Shelf.files c.args.shelf.now in
     let failed = g.S.Shelf.failed c.args.shelf.now in
-    (Usage, usage_line, words_none (texts c.args.words.now) files failed failed c.in-None.ensures, c.tell.ensures.part w)
+    let due = words_none (texts c.args.words.now) files failed failed c.in-None.ensures in
+    (Usage, usage_line, due, c.tell.ensures.part w)
