@@ -1,0 +1,84 @@
+-- Which status with which text is due for a command line, and how much of the text was written.
+use Rattle.std.specs.Prelude.{◌≡◌, ◌≢◌, ◌⊎◌, ◌++◌, ℕ, List, [], ◌∷◌, Bool, true, false, None, Some, codes, nat_lt, map, String, string_bytes, if◌then◌else◌}
+use Rattle.std.specs.declared.option.Option.{Option}
+use Rattle.std.specs.declared.alloc.Global.{Global}
+use Rattle.std.specs.Str.{bytes_eq}
+use Rattle.std.specs.Io.KnownBytes.{Appends}
+use Rattle.io_edge.specs.Edge.{times, Holds, AppendsStart}
+use Rattle.hipc.specs.declared.status.Status.{Status}
+use Rattle.hipc.specs.declared.status.Status.TheVariants.{Usage, CannotRead, WriteFailed, NoMemory}
+use Rattle.hipc.specs.Answer.{answer_of, usage_line, cannot_line}
+
+-- files, each a name and its bytes, where a shelf tells them
+abbrev pub Files : Type 0
+Files = Option (List (List ℕ × List ℕ))
+
+-- names of files
+abbrev pub Names : Type 0
+Names = List (List ℕ)
+
+-- which status may come with which text
+abbrev pub Answers : Type 1
+Answers = Status → List ℕ → Type 0
+
+-- words as bytes
+abbrev pub texts : List (String Global) → List (List ℕ)
+texts words = map string_bytes words
+
+-- the names of the script and the schedule, where the words are `replay SCRIPT SCHEDULE`
+abbrev pub files_of : List (List ℕ) → Option (List ℕ × List ℕ)
+files_of (command ∷ script ∷ schedule ∷ []) =
+    if bytes_eq command (codes "replay") then Some (script, schedule) else None
+files_of words = None
+
+-- the load of this name failed in a call:
+-- among the names whose load failed it stands more often after the call than before
+abbrev pub lost : Names → Names → List ℕ → Bool
+lost before after name = nat_lt (times name before) (times name after)
+
+-- due for the bytes of the two files
+abbrev pub DueForBytes : List ℕ → List ℕ → Answers
+DueForBytes script schedule status text = answer_of script schedule ≡ (status, text)
+
+-- due for the names of two files: either the script was lost, or else the schedule,
+-- or else it is due for the bytes that they have
+abbrev pub DueForNames : Files → List ℕ → List ℕ → Bool → Bool → Answers
+DueForNames files script schedule true second status text =
+    (status ≡ CannotRead) × (text ≡ cannot_line script)
+DueForNames files script schedule false true status text =
+    (status ≡ CannotRead) × (text ≡ cannot_line schedule)
+DueForNames files script schedule false false status text =
+    (first : List ℕ) × (second : List ℕ)
+    × Holds files script first × Holds files schedule second × DueForBytes first second status text
+
+-- due for the names of two files, by the names whose load failed before and after
+abbrev pub DueForFiles : Files → Names → Names → List ℕ → List ℕ → Answers
+DueForFiles files before after script schedule =
+    DueForNames files script schedule (lost before after script) (lost before after schedule)
+
+-- due for the names that the words give, if they give any
+abbrev pub DueForWords : Files → Names → Names → Option (List ℕ × List ℕ) → Answers
+DueForWords files before after None status text = (status ≡ Usage) × (text ≡ usage_line)
+DueForWords files before after (Some names) status text =
+    DueForFiles files before after names.0 names.1 status text
+
+-- due for the words, by the files and the names whose load failed before and after the call
+abbrev pub Due : List (List ℕ) → Files → Names → Names → Answers
+Due words files before after = DueForWords files before after (files_of words)
+
+-- the status is due with a text that was written whole, unless a put failed or memory was wanted
+abbrev pub Whole : Answers → Option (List ℕ) → Option (List ℕ) → Status → Type 0
+Whole due old new status =
+    status ≢ WriteFailed → status ≢ NoMemory
+    → (text : List ℕ) × due status text × Appends old new text
+
+-- a prefix of a text that is due was written
+abbrev pub Part : Answers → Option (List ℕ) → Option (List ℕ) → Type 0
+Part due old new =
+    (status : Status) × (text : List ℕ) × due status text × AppendsStart old new text
+
+-- in the call no load failed, or just one did, of one of these names
+abbrev pub LosesOneAtMost : Option (List ℕ × List ℕ) → Names → Names → Type 0
+LosesOneAtMost None before after = after ≡ before
+LosesOneAtMost (Some names) before after =
+    (after ≡ before) ⊎ (after ≡ before ++ names.0 ∷ []) ⊎ (after ≡ before ++ names.1 ∷ [])

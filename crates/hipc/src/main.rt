@@ -1,0 +1,43 @@
+//! Replays a schedule over a script of tasks that call each other, and writes what happened.
+#![tactic(auto)]
+
+mod answer;
+mod replay;
+mod status;
+#[cfg(test)]
+mod tests;
+mod top;
+
+pub use answer::replay_bytes;
+use io_edge::{FileShelf, OutSink};
+use ipc_ids::NoMemory;
+pub use status::Status;
+use std::env;
+use std::io::ErrorKind;
+use std::process::ExitCode;
+use std::rt::Env;
+pub use top::run;
+
+// The words after the program's name. Words that are no text are no words, and so no command.
+fn words_of(rt: &HostRuntime) -> Result<Vec<String>, NoMemory> {
+    match env::args(rt) {
+        Ok(mut words) => {
+            let _program = words.next();
+            Ok(words.collect(rt.alloc())?)
+        }
+        Err(e) if e.kind() == ErrorKind::OutOfMemory => Err(NoMemory),
+        Err(_) => Ok(Vec::new(rt.alloc())),
+    }
+}
+
+fn main(rt: HostRuntime) -> ExitCode {
+    let status = match words_of(&rt) {
+        Ok(words) => {
+            let mut shelf = FileShelf::new(&rt, rt.alloc());
+            let mut sink = OutSink::new(rt.stdout());
+            run(rt.alloc(), &words, &mut shelf, &mut sink)
+        }
+        Err(NoMemory) => Status::NoMemory,
+    };
+    ExitCode::from(status.number())
+}

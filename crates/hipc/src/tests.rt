@@ -1,0 +1,136 @@
+//! Each status with its text, over a shelf and a sink in memory.
+use crate::{Status, replay_bytes, run};
+use io_edge::{MemShelf, MemSink};
+use std::alloc::{AllocError, Global};
+use std::test::Fail;
+
+const SCRIPT: &[u8] = b"task a raw\n\
+call 0 512 7\n\
+receive\n\
+task b raw\n\
+receive\n\
+answer r2 EOK 8\n\
+wire a 0 b\n";
+
+const SCHEDULE: &[u8] = b"step a\nstep b x 2\nstep a\n";
+
+const TEXT: &[u8] = b"t1 call 0 512 7 0 0 0 0\n\
+\x20 call 1 accepted t1.0 method 512 to t2\n\
+\x20 = call 1\n\
+t2 receive\n\
+\x20 call 1 received t2\n\
+\x20 = received 1 512 7 0 0 0 0 from t1.0\n\
+t2 answer 1 EOK 8 0 0 0 0\n\
+\x20 call 1 answered EOK 8 0 0 0 0 by t2\n\
+\x20 = EOK\n\
+t1 receive\n\
+\x20 call 1 delivered t1\n\
+\x20 = answer 1 EOK 8 0 0 0 0\n";
+
+const USAGE: &[u8] = b"usage: hipc replay SCRIPT SCHEDULE\n";
+
+fn words(alloc: Global, line: &[&str]) -> Result<Vec<String>, AllocError> {
+    let mut words = Vec::new(alloc);
+    for word in line {
+        words.push(String::from_str(alloc, *word)?)?;
+    }
+    Ok(words)
+}
+
+fn shelf(alloc: Global) -> Result<MemShelf, Fail> {
+    let mut shelf = MemShelf::new(alloc);
+    shelf.add("a", SCRIPT)?;
+    shelf.add("b", SCHEDULE)?;
+    shelf.add("bad", b"x\n")?;
+    Ok(shelf)
+}
+
+#[test]
+fn a_run_is_written_whole(rt: HostRuntime) -> Result<(), Fail> {
+    let alloc = rt.alloc();
+    let mut sink = MemSink::new(alloc, 1000)?;
+    let words = words(alloc, &["replay", "a", "b"])?;
+    assert_eq!(rt;
+        run(alloc, &words, &mut shelf(alloc)?, &mut sink),
+        Status::Done
+    );
+    assert_eq!(rt; sink.written(), TEXT);
+    Ok(())
+}
+
+#[test]
+fn each_fault_has_its_status_and_text(rt: HostRuntime) -> Result<(), Fail> {
+    let alloc = rt.alloc();
+    let rows: [(&[&str], Status, &[u8]); 8] = [
+        (&[], Status::Usage, USAGE),
+        (&["replay", "a"], Status::Usage, USAGE),
+        (&["play", "a", "b"], Status::Usage, USAGE),
+        (&["replay", "a", "b", "b"], Status::Usage, USAGE),
+        (
+            &["replay", "none", "void"],
+            Status::CannotRead,
+            b"cannot read none\n",
+        ),
+        (
+            &["replay", "bad", "void"],
+            Status::CannotRead,
+            b"cannot read void\n",
+        ),
+        (
+            &["replay", "bad", "bad"],
+            Status::BadScript,
+            b"script line 1: fault\n",
+        ),
+        (
+            &["replay", "a", "bad"],
+            Status::BadSchedule,
+            b"schedule line 1: fault\n",
+        ),
+    ];
+    for (line, status, text) in rows {
+        let mut sink = MemSink::new(alloc, 1000)?;
+        let words = words(alloc, line)?;
+        assert_eq!(rt; run(alloc, &words, &mut shelf(alloc)?, &mut sink), status);
+        assert_eq!(rt; sink.written(), text);
+    }
+    Ok(())
+}
+
+#[test]
+fn a_load_fails(rt: HostRuntime) -> Result<(), Fail> {
+    let alloc = rt.alloc();
+    let words = words(alloc, &["replay", "a", "b"])?;
+    for (nth, text) in [(1, b"cannot read a\n"), (2, b"cannot read b\n")] {
+        let mut shelf = shelf(alloc)?;
+        shelf.fail_at(nth)?;
+        let mut sink = MemSink::new(alloc, 1000)?;
+        assert_eq!(rt;
+            run(alloc, &words, &mut shelf, &mut sink),
+            Status::CannotRead
+        );
+        assert_eq!(rt; sink.written(), text.as_slice());
+    }
+    Ok(())
+}
+
+#[test]
+fn a_put_fails(rt: HostRuntime) -> Result<(), Fail> {
+    let alloc = rt.alloc();
+    for kept in [0, 5] {
+        let mut sink = MemSink::new(alloc, 1000)?;
+        sink.fail_at(1, kept)?;
+        let words = words(alloc, &["replay", "a", "b"])?;
+        assert_eq!(rt;
+            run(alloc, &words, &mut shelf(alloc)?, &mut sink),
+            Status::WriteFailed
+        );
+        assert_eq!(rt; sink.written(), &TEXT[..kept]);
+    }
+    let mut small = MemSink::new(alloc, 3)?;
+    assert_eq!(rt;
+        replay_bytes(alloc, b"x\n", SCHEDULE, &mut small),
+        Status::WriteFailed
+    );
+    assert_eq!(rt; small.written(), b"scr".as_slice());
+    Ok(())
+}

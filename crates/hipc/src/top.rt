@@ -1,0 +1,132 @@
+//! The top call: words, files, and the sink that takes the text.
+ghost use Rattle.std.specs.Prelude.{◌≡◌, ◌≢◌, ◌≤◌, ◌<◌, ◌++◌, ◌⊎◌, ◌∷◌, [], IfOk, Some, map, string_bytes};
+ghost use Rattle.std.specs.Option.{option_map};
+ghost use Rattle.std.specs.Io.KnownBytes.{Appends, Keeps};
+ghost use Rattle.io_edge.specs.Edge.{AppendsStart, Rose};
+ghost use Rattle.hipc.specs.Answer.{cannot_line};
+ghost use Rattle.hipc.specs.Due.{texts, files_of, Due, DueForFiles, Whole, Part, LosesOneAtMost};
+ghost use Rattle.hipc.specs.declared.status.Status.TheVariants.{CannotRead, WriteFailed, NoMemory as Memory};
+
+use crate::Status;
+use crate::answer::{replay_bytes, tell};
+use io_edge::{LoadFault, Shelf, Sink};
+use ipc_ids::NoMemory;
+use std::alloc::Global;
+
+// One more byte than a file may have, so that a longer one shows.
+const MOST: usize = 1_048_577;
+
+const USAGE: &[u8] = b"usage: hipc replay SCRIPT SCHEDULE\n";
+
+// The names of the two files, if the words are a command.
+fn file_words(words: &[String]) -> Option<(&str, &str)>
+    ensures { option_map (λ names. (names.0.now, names.1.now)) result ≡ files_of (texts words.now) }
+{
+    match words {
+        [command, script, schedule] if command.as_str() == "replay" => {
+            Some((script.as_str(), schedule.as_str()))
+        }
+        _ => None,
+    }
+}
+
+// The line that names a file that could not be loaded.
+fn cannot_text(alloc: Global, name: &str) -> Result<Vec<u8>, NoMemory>
+    ensures { IfOk result (λ text. text.items ≡ cannot_line name.now) }
+{
+    let text = format!(in alloc; "cannot read {name}\n")?;
+    Ok(text.into_bytes())
+}
+
+// Tells that a file could not be loaded.
+fn tell_cannot<K: Sink>(alloc: Global, name: &str, sink: &mut K) -> Status
+    ensures ok { result ≢ WriteFailed → result ≢ Memory → (result ≡ CannotRead)
+        × Appends (K.written sink.old) (K.written sink.new) (cannot_line name.now) }
+    ensures part { result ≡ WriteFailed →
+        AppendsStart (K.written sink.old) (K.written sink.new) (cannot_line name.now) }
+    ensures memory { result ≡ Memory → Keeps (K.written sink.old) (K.written sink.new) }
+    ensures cause { result ≡ WriteFailed → Rose (K.faults sink.old) (K.faults sink.new) }
+    ensures risen { K.faults sink.old < K.faults sink.new → result ≡ WriteFailed }
+    ensures later { K.faults sink.old ≤ K.faults sink.new }
+{
+    match cannot_text(alloc, name) {
+        Ok(text) => tell(Status::CannotRead, &text, sink),
+        Err(NoMemory) => Status::NoMemory,
+    }
+}
+
+// Loads the two files, the script first, and replays them.
+fn replay_files<S: Shelf, K: Sink>(
+    alloc: Global,
+    script: &str,
+    schedule: &str,
+    shelf: &mut S,
+    sink: &mut K,
+) -> Status
+    ensures whole { Whole
+        (DueForFiles (S.files shelf.old) (S.failed shelf.old) (S.failed shelf.new)
+        script.now schedule.now)
+        (K.written sink.old) (K.written sink.new) result }
+    ensures part { result ≡ WriteFailed → Part
+        (DueForFiles (S.files shelf.old) (S.failed shelf.old) (S.failed shelf.new)
+        script.now schedule.now)
+        (K.written sink.old) (K.written sink.new) }
+    ensures memory { result ≡ Memory → Keeps (K.written sink.old) (K.written sink.new) ⊎ Part
+        (DueForFiles (S.files shelf.old) (S.failed shelf.old) (S.failed shelf.new)
+        script.now schedule.now)
+        (K.written sink.old) (K.written sink.new) }
+    ensures write_failed { result ≡ WriteFailed → Rose (K.faults sink.old) (K.faults sink.new) }
+    ensures risen { K.faults sink.old < K.faults sink.new →
+        (result ≡ WriteFailed) ⊎ (result ≡ Memory) }
+    ensures later { K.faults sink.old ≤ K.faults sink.new }
+    ensures files { S.files shelf.new ≡ S.files shelf.old }
+    ensures failed { LosesOneAtMost (Some (script.now, schedule.now))
+        (S.failed shelf.old) (S.failed shelf.new) }
+{
+    let first = match shelf.load(alloc, script, MOST) {
+        Ok(bytes) => bytes,
+        Err(LoadFault::Failed) => return tell_cannot(alloc, script, sink),
+        Err(LoadFault::NoMemory) => return Status::NoMemory,
+    };
+    let second = match shelf.load(alloc, schedule, MOST) {
+        Ok(bytes) => bytes,
+        Err(LoadFault::Failed) => return tell_cannot(alloc, schedule, sink),
+        Err(LoadFault::NoMemory) => return Status::NoMemory,
+    };
+    replay_bytes(alloc, &first, &second, sink)
+}
+
+/// Does what the words of a command line ask: `replay SCRIPT SCHEDULE` loads the two files from the
+/// shelf and writes the text of their run, or the line of what is wrong.
+pub fn run<S: Shelf, K: Sink>(
+    alloc: Global,
+    words: &[String],
+    shelf: &mut S,
+    sink: &mut K,
+) -> Status
+    // But for WriteFailed and NoMemory, the status is the one that is due, its text written whole.
+    ensures whole { Whole
+        (Due (texts words.now) (S.files shelf.old) (S.failed shelf.old) (S.failed shelf.new))
+        (K.written sink.old) (K.written sink.new) result }
+    // Else a prefix of a text that is due was written; after want of memory maybe nothing.
+    ensures part { result ≡ WriteFailed → Part
+        (Due (texts words.now) (S.files shelf.old) (S.failed shelf.old) (S.failed shelf.new))
+        (K.written sink.old) (K.written sink.new) }
+    ensures memory { result ≡ Memory → Keeps (K.written sink.old) (K.written sink.new) ⊎ Part
+        (Due (texts words.now) (S.files shelf.old) (S.failed shelf.old) (S.failed shelf.new))
+        (K.written sink.old) (K.written sink.new) }
+    // WriteFailed comes exactly where the sink's count rose, want of memory aside.
+    ensures write_failed { result ≡ WriteFailed → Rose (K.faults sink.old) (K.faults sink.new) }
+    ensures risen { K.faults sink.old < K.faults sink.new →
+        (result ≡ WriteFailed) ⊎ (result ≡ Memory) }
+    ensures later { K.faults sink.old ≤ K.faults sink.new }
+    // The shelf keeps its files, and no name but one of the two words comes to those that failed.
+    ensures files { S.files shelf.new ≡ S.files shelf.old }
+    ensures failed { LosesOneAtMost (files_of (texts words.now))
+        (S.failed shelf.old) (S.failed shelf.new) }
+{
+    match file_words(words) {
+        Some((script, schedule)) => replay_files(alloc, script, schedule, shelf, sink),
+        None => tell(Status::Usage, USAGE, sink),
+    }
+}

@@ -1,0 +1,4 @@
+pub mod Edge
+pub mod Memory
+pub mod Stops
+pub mod Stored

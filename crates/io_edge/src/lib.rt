@@ -1,0 +1,19 @@
+//! The edge of the program: files that are loaded whole, and a sink for text.
+//! Each is a trait with a written meaning, a form in memory, and a thin form over the real thing.
+#![tactic(auto)]
+
+mod file_shelf;
+mod mem_shelf;
+mod mem_sink;
+mod out_sink;
+mod shelf;
+mod sink;
+#[cfg(test)]
+mod tests;
+
+pub use file_shelf::FileShelf;
+pub use mem_shelf::MemShelf;
+pub use mem_sink::MemSink;
+pub use out_sink::OutSink;
+pub use shelf::{LoadFault, Shelf};
+pub use sink::{PutFailed, Sink};
