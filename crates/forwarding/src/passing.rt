@@ -125,7 +125,7 @@ pub fn route(
     ensures live { OnOk result (IsSome (call_at boxes.new.calls call)) }
     ensures numbers { boxes.new.calls.next_number ≡ boxes.old.calls.next_number }
     ensures stamps { boxes.new.calls.next_stamp ≤ boxes.old.calls.next_stamp + 1 }
-    ensures active { (on : Label) → active_calls boxes.new.calls on ≡ active_calls boxes.old.calls on }
+    ensures active { (l : Label) → active_calls boxes.new.calls l ≡ active_calls boxes.old.calls l }
 {
     let number = CallNo(call);
     let Some(held) = boxes.get(number) else {

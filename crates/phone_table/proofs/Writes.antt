@@ -9,13 +9,9 @@ use Rattle.std.proofs.lemmas.Option.{slice_get_read, slice_get-map}
 use Rattle.std.proofs.lemmas.Bool.{ne_eqb}
 use Rattle.ipc_ids.specs.declared.message.PhoneState.{PhoneState}
 use Rattle.phone_table.specs.declared.phones.Phone.{Phone}
-use Rattle.phone_table.specs.Phones.{Row, Rows, with_phone, with_count, row_at, is_usable, first_usable_from}
+use Rattle.phone_table.specs.Phones.{Row, with_phone, with_count, row_at, is_usable, first_usable_from}
 use Rattle.phone_table.specs.Usable.{usable_at}
-use Rattle.phone_table.specs.Views.{states_of, counts_of}
-
--- the row of a list of phones
-abbrev pub row_of : List Phone → Row
-row_of phones = record { states = states_of phones; counts = counts_of phones }
+use Rattle.phone_table.specs.Views.{states_of, counts_of, row_of, rows_of}
 
 refilled : (phones written : List Phone) → length written ≡ length phones → refill (length phones) phones written ≡ written
 refilled phones written same = rw (same, drop-length phones, append-nil written, ← same) (take-length written)
@@ -59,7 +55,7 @@ pub all_free : (phone : Phone) (limit : ℕ) → limit ≤ 64 → row_of (take l
 all_free phone limit h = rw (take-replicate limit 64 phone h, map_replicate (λ (x : Phone). x.state) limit phone, map_replicate (λ (x : Phone). x.count) limit phone) refl
 
 -- the rows after one of them was written
-pub row_written : (rows : List Row) (i : ℕ) (row : Row) → ◌≡◌ {A = Rows} (record { states = map (λ (x : Row). x.states) (set rows i row); counts = map (λ (x : Row). x.counts) (set rows i row) }) (record { states = set (map (λ (x : Row). x.states) rows) i row.states; counts = set (map (λ (x : Row). x.counts) rows) i row.counts })
+pub row_written : (rows : List Row) (i : ℕ) (row : Row) → rows_of (set rows i row) ≡ record { states = set (rows_of rows).states i row.states; counts = set (rows_of rows).counts i row.counts }
 row_written rows i row = rw (map-set (λ (x : Row). x.states) rows i row, map-set (λ (x : Row). x.counts) rows i row) refl
 
 -- what is known of a row that is found by its task

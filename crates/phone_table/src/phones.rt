@@ -48,11 +48,11 @@ pub struct Phones {
 
 impl Model for Phones {
     ghost use Rattle.phone_table.specs.Phones.{Row, IsRow};
-    ghost use Rattle.phone_table.specs.Views.{states_of, counts_of};
+    ghost use Rattle.phone_table.specs.Views.{states_of, counts_of, row_of};
 
     ghost Value = { Row };
 
-    ghost view = { λ a. record { states = states_of a.phones.items; counts = counts_of a.phones.items } };
+    ghost view = { λ a. row_of a.phones.items };
 
     ghost invariant = { λ a. IsRow (states_of a.phones.items) (counts_of a.phones.items) };
 }
@@ -168,7 +168,7 @@ impl Phones {
     ///
     /// # Errors
     ///
-    /// `ENOENT` where the task has no such phone, `EINVAL` where the phone is free, waits or is hung up.
+    /// `ENOENT` where the task has no such phone, `EINVAL` where it is free, waits or is hung up.
     pub fn hangup(&mut self, p: u64) -> Result<Hung, Code>
         ensures answer { result ≡ hangup_answer (slice_get self.old.states p) }
         ensures row { self.new ≡ after_hangup self.old p (hangup_answer (slice_get self.old.states p)) }

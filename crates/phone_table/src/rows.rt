@@ -14,12 +14,12 @@ pub struct PhoneRows {
 }
 
 impl Model for PhoneRows {
-    ghost use Rattle.std.specs.Prelude.{map};
-    ghost use Rattle.phone_table.specs.Phones.{Row, Rows};
+    ghost use Rattle.phone_table.specs.Phones.{Rows};
+    ghost use Rattle.phone_table.specs.Views.{rows_of};
 
     ghost Value = { Rows };
 
-    ghost view = { λ a. record { states = map (λ (row : Row). row.states) a.rows.items; counts = map (λ (row : Row). row.counts) a.rows.items } };
+    ghost view = { λ a. rows_of a.rows.items };
 }
 
 impl PhoneRows {
