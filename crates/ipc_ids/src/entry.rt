@@ -8,6 +8,8 @@ use crate::numbers::{CallNo, Label, TaskNo};
 pub enum Entry {
     /// The task asks for this.
     Head(TaskNo, Request),
+    /// The task is killed.
+    Kill(TaskNo),
     /// The event named a task that has ended.
     Gone(TaskNo),
     /// The call goes to that task; where `to` is `None`, it is answered at once.
@@ -34,6 +36,8 @@ pub enum Entry {
         reply: Reply,
         by: Option<TaskNo>,
     },
+    /// The call is over: its caller has ended.
+    Vanished(CallNo),
     Delivered {
         call: CallNo,
         to: TaskNo,
@@ -43,6 +47,8 @@ pub enum Entry {
         call: CallNo,
         at: TaskNo,
     },
+    /// The caller of the call has ended; its receiver still has it.
+    Forgotten(CallNo),
     /// The phone is in this state from now on.
     PhoneIs {
         phone: Label,

@@ -83,6 +83,8 @@ pub enum Outcome {
 pub enum Event {
     /// The task makes one step.
     Step(TaskNo),
+    /// The task is killed.
+    Kill(TaskNo),
     /// The phone of the task is hung up.
     Hangup(TaskNo, u64),
 }

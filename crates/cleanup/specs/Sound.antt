@@ -9,7 +9,7 @@ use Rattle.call_slab.specs.declared.call.Place.{Place}
 use Rattle.call_slab.specs.declared.call.Place.TheVariants.{Incoming, Dispatched, Answers}
 use Rattle.answerbox.specs.Calls.{CallTable, call_at}
 use Rattle.phone_table.specs.Phones.{state_at}
-use Rattle.kernel_core.specs.State.{Tasks, KernelState, alive_in}
+use Rattle.cleanup.specs.State.{Tasks, KernelState, alive_in}
 
 -- a call waits at a task that is alive, and an answer at its caller
 abbrev pub IsPlaced : Tasks → Option TaskNo → Place → Type 0

@@ -9,7 +9,6 @@ use Rattle.ipc_ids.specs.declared.numbers.TaskNo.{TaskNo}
 use Rattle.ipc_ids.specs.declared.numbers.Label.{Label}
 use Rattle.ipc_ids.specs.declared.message.PhoneState.{PhoneState}
 use Rattle.ipc_ids.specs.declared.message.PhoneState.TheVariants.{Free}
-use Rattle.ipc_ids.specs.declared.message.Outcome.{Outcome}
 use Rattle.ipc_ids.specs.declared.entry.Entry.{Entry}
 use Rattle.call_slab.specs.declared.call.Call.{Call}
 use Rattle.answerbox.specs.Calls.{CallTable, table_code, no_calls}
@@ -49,12 +48,6 @@ pub record MachineState : Type 0 where
 -- the state after a step, and the entries that tell of it
 pub record Transition : Type 0 where
   pub state : KernelState
-  pub entries : List Entry
-
--- the same of a request, with what its task is told
-pub record Served : Type 0 where
-  pub state : KernelState
-  pub outcome : Outcome
   pub entries : List Entry
 
 abbrev pub no_memory : Memory
@@ -116,15 +109,6 @@ with_event k = record { tasks = k.tasks; calls = k.calls; memory = k.memory; eve
 abbrev pub nothing : KernelState → Transition
 nothing k = record { state = k; entries = [] }
 
--- a step, and then a request on what it leaves
-abbrev pub then_serve : Transition → (KernelState → Served) → Served
-then_serve before next =
-    record {
-      state = (next before.state).state;
-      outcome = (next before.state).outcome;
-      entries = before.entries ++ (next before.state).entries;
-    }
-
 -- a step, and then another on what it leaves
 abbrev pub then_do : Transition → (KernelState → Transition) → Transition
 then_do before next = record { state = (next before.state).state; entries = before.entries ++ (next before.state).entries }
@@ -134,9 +118,10 @@ abbrev pub drain : (KernelState → Option Call) → (KernelState → Call → T
 drain next step zero k = nothing k
 drain next step (suc most) k = option_map_or (λ c. then_do (step k c) (drain next step most)) (next k) (nothing k)
 
--- what a step gives, as the answer to a request
-abbrev pub telling : Transition → Outcome → Served
-telling step outcome = record { state = step.state; outcome = outcome; entries = step.entries }
+-- a step for each of so many numbers, from i on
+abbrev pub each : (KernelState → ℕ → Transition) → ℕ → ℕ → KernelState → Transition
+each step zero i k = nothing k
+each step (suc most) i k = then_do (step k i) (each step most (i + 1))
 
 -- how states are told apart, by codes of phone states and of records
 abbrev pub tasks_code : Coded PhoneState → Coded Tasks

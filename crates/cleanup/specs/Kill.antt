@@ -1,0 +1,98 @@
+-- The end of task t: what a kill does, part by part.
+use Rattle.std.specs.Prelude.{ℕ, ◌+◌, ◌-◌, ◌==◌, false, if◌then◌else◌, [], ◌∷◌, Option, None, Some, List, length, slice_set}
+use Rattle.std.specs.Option.{option_map_or}
+use Rattle.ipc_ids.specs.declared.numbers.TaskNo.{TaskNo}
+use Rattle.ipc_ids.specs.declared.message.PhoneState.{PhoneState}
+use Rattle.ipc_ids.specs.declared.message.PhoneState.TheVariants.{Free, Connecting, Connected, HungUp, Slammed}
+use Rattle.ipc_ids.specs.declared.entry.Entry.TheVariants.{PhoneIs}
+use Rattle.ipc_ids.specs.Codes.{ehangup}
+use Rattle.call_slab.specs.declared.call.Call.{Call}
+use Rattle.call_slab.specs.declared.call.Place.{Place}
+use Rattle.call_slab.specs.declared.call.Place.TheVariants.{Incoming, Dispatched, Answers}
+use Rattle.answerbox.specs.Calls.{front, calls_of}
+use Rattle.phone_table.specs.Phones.{row_at}
+use Rattle.cleanup.specs.State.{KernelState, Transition, nothing, then_do, each, drain, phone_at, with_phone, label_of}
+use Rattle.cleanup.specs.Settling.{bare_reply, settle, drop_answer, forget_call}
+use Rattle.cleanup.specs.HangingUp.{hang_up}
+
+abbrev pub task_no : ℕ → TaskNo
+task_no n = record { 0 = n }
+
+-- how many phones task t has
+abbrev pub width : List (List PhoneState) → ℕ → ℕ
+width rows t = option_map_or (λ row. length row) (row_at rows t) 0
+
+-- task t has ended
+abbrev pub mark_ended : KernelState → TaskNo → KernelState
+mark_ended k t =
+    record {
+      tasks = record { alive = slice_set k.tasks.alive (t.0 - 1) false; phones = k.tasks.phones };
+      calls = k.calls;
+      memory = k.memory;
+      events = k.events;
+    }
+
+-- first, each phone of t by its number is hung up
+abbrev pub hang_up_at : TaskNo → KernelState → ℕ → Transition
+hang_up_at t k p = hang_up k t p (phone_at k t p)
+
+abbrev pub hang_up_own_phones : TaskNo → KernelState → Transition
+hang_up_own_phones t k = each (hang_up_at t) (width k.tasks.phones t.0) 0 k
+
+-- then the phones of other tasks that lead to t are slammed, by task and number
+abbrev pub slam : TaskNo → TaskNo → KernelState → ℕ → Option PhoneState → Transition
+slam t u k p (Some (Connected v)) = if v.0 == t.0 then record { state = with_phone k u p Slammed; entries = PhoneIs (label_of u p) Slammed ∷ [] } else nothing k
+slam t u k p None = nothing k
+slam t u k p (Some Free) = nothing k
+slam t u k p (Some Connecting) = nothing k
+slam t u k p (Some HungUp) = nothing k
+slam t u k p (Some Slammed) = nothing k
+
+abbrev pub slam_at : TaskNo → TaskNo → KernelState → ℕ → Transition
+slam_at t u k p = slam t u k p (phone_at k u p)
+
+abbrev pub slam_phones_of : TaskNo → TaskNo → KernelState → Transition
+slam_phones_of t u k = each (slam_at t u) (width k.tasks.phones u.0) 0 k
+
+abbrev pub slam_other : TaskNo → KernelState → ℕ → Transition
+slam_other t k i = if i + 1 == t.0 then nothing k else slam_phones_of t (task_no (i + 1)) k
+
+abbrev pub slam_phones_to : TaskNo → KernelState → Transition
+slam_phones_to t k = each (slam_other t) (length k.tasks.phones) 0 k
+
+-- then the kernel answers the calls that wait at t, from the first on; there are fewer calls than numbers given
+abbrev pub first_at : Place → KernelState → Option Call
+first_at place k = front k.calls place
+
+abbrev pub settle_call : KernelState → Call → Transition
+settle_call k c = settle k c (bare_reply ehangup) None
+
+abbrev pub settle_calls_at : Place → KernelState → Transition
+settle_calls_at place k = drain (first_at place) settle_call k.calls.next_number k
+
+abbrev pub settle_incoming : TaskNo → KernelState → Transition
+settle_incoming t k = settle_calls_at (Incoming t) k
+
+-- then those that t has received
+abbrev pub settle_dispatched : TaskNo → KernelState → Transition
+settle_dispatched t k = settle_calls_at (Dispatched t) k
+
+-- then the answers to t are dropped, from the first on
+abbrev pub drop_answers : TaskNo → KernelState → Transition
+drop_answers t k = drain (first_at (Answers t)) (drop_answer t) k.calls.next_number k
+
+-- then the calls of t that stand at other tasks are forgotten, by number
+abbrev pub first_call_of : TaskNo → KernelState → Option Call
+first_call_of t k = calls_of k.calls t
+
+abbrev pub forget_calls_elsewhere : TaskNo → KernelState → Transition
+forget_calls_elsewhere t k = drain (first_call_of t) forget_call k.calls.next_number k
+
+-- the parts in their order
+abbrev pub end_parts : TaskNo → KernelState → Transition
+end_parts t k =
+    then_do (then_do (then_do (then_do (then_do (hang_up_own_phones t k) (slam_phones_to t)) (settle_incoming t)) (settle_dispatched t)) (drop_answers t)) (forget_calls_elsewhere t)
+
+-- the end of task t, which is alive
+abbrev pub kill : KernelState → TaskNo → Transition
+kill k t = end_parts t (mark_ended k t)
