@@ -1,0 +1,7 @@
+//! Replays a script under a schedule.
+#![tactic(auto)]
+
+pub mod raw;
+pub mod text;
+
+fn main(_rt: HostRuntime) {}
