@@ -1,3 +1,4 @@
+pub mod Codes
 pub mod Tables
 pub mod Text
 pub mod Trace

@@ -1,0 +1,11 @@
+//! The calls of all tasks, each in one place of one task's answerbox.
+//!
+//! A place is a queue: its front is the call that came to it first, that with the least stamp.
+#![tactic(auto)]
+
+mod boxes;
+mod search;
+#[cfg(test)]
+mod tests;
+
+pub use boxes::Boxes;

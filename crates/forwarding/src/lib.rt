@@ -1,0 +1,2 @@
+//! Passing a held call on to another task.
+#![tactic(auto)]

@@ -1,0 +1,32 @@
+-- What the table of calls has at each number after a change.
+use Rattle.std.proofs.Common.{◌≡◌, ℕ, ◌+◌, ◌<◌, Bool, true, false, cond, ◌⊎◌, inl, inr, Option, None, Some, refl, ap, sym, ◌∙◌, arith}
+use Rattle.std.specs.Prelude.{◌==◌, if◌then◌else◌, IsSome}
+use Rattle.std.specs.Ordering.{nat_cmp, eq_by_cmp}
+use Rattle.std.specs.Cmp.{nat_cmp_total}
+use Rattle.std.specs.FinMap.{FinMap, get, insert, remove, get-insert, get-remove}
+use Rattle.std.proofs.lemmas.Bool.Decides.{nat_tests}
+use Rattle.std.proofs.lemmas.Bool.{cases_eq, eq-eqb, ne_eqb}
+use Rattle.call_slab.specs.declared.call.Call.{Call}
+use Rattle.call_slab.specs.declared.call.Place.{Place}
+use Rattle.answerbox.specs.Calls.{CallTable, call_at, enqueue, put_at, without_call}
+
+same_test : (q n : ℕ) → eq_by_cmp nat_cmp q n ≡ (n == q)
+same_test q n = elim (cases_eq n q) [ inl e ↦ grind (arith, nat_tests, eq-eqb) | inr ne ↦ grind (arith, nat_tests, ne_eqb) ]
+
+pub at_insert : (m : FinMap nat_cmp Call) (n q : ℕ) (c : Call) → get (insert m n c) q ≡ (if n == q then Some c else get m q)
+at_insert m n q c = get-insert nat_cmp_total m n c q ∙ ap (λ b. cond b (Some c) (get m q)) (same_test q n)
+
+pub at_remove : (m : FinMap nat_cmp Call) (n q : ℕ) → get (remove m n) q ≡ (if n == q then None else get m q)
+at_remove m n q = get-remove nat_cmp_total m n q ∙ ap (λ b. cond b None (get m q)) (same_test q n)
+
+-- what a choice gave
+pub chosen : {A : Type 0} (m n : ℕ) (x y z : A) → (if m == n then x else y) ≡ z → ((m ≡ n) × (x ≡ z)) ⊎ ((m ≡ n → ⊥) × (y ≡ z))
+chosen m n x y z h = elim (cases_eq m n) [ inl e ↦ inl (e, rw (eq-eqb m n e) at h) | inr ne ↦ inr (ne, rw (ne_eqb m n ne) at h) ]
+
+pub same_call : (c d : Call) → Some c ≡ Some d → c ≡ d
+same_call c d e = cc
+
+-- a live call has a record
+pub record_of : (o : Option Call) → IsSome o → (c : Call) × (o ≡ Some c)
+record_of None h = absurd (cc h)
+record_of (Some c) h = (c, refl)

@@ -1,0 +1,4 @@
+pub mod Lends
+pub mod Phones
+pub mod Usable
+pub mod Views

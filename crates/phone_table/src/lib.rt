@@ -1,0 +1,12 @@
+//! The phones of all tasks.
+#![tactic(auto)]
+
+mod hung;
+mod phones;
+mod rows;
+#[cfg(test)]
+mod tests;
+
+pub use hung::Hung;
+pub use phones::Phones;
+pub use rows::PhoneRows;
