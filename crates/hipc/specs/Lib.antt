@@ -1,2 +1,4 @@
 pub mod Raw
+pub mod Run
 pub mod Text
+pub mod Wiring

@@ -70,16 +70,9 @@ with_register raw k n =
 -- five registers, from k on
 abbrev pub with_five : RawState → ℕ → List ℕ → RawState
 with_five raw k ns =
-    with_register
-    (with_register
-    (with_register
-    (with_register (with_register raw k (slice_index ns 0)) (k + 1) (slice_index ns 1))
-    (k + 2)
-    (slice_index ns 2))
-    (k + 3)
-    (slice_index ns 3))
-    (k + 4)
-    (slice_index ns 4)
+    let two = with_register (with_register raw k (slice_index ns 0)) (k + 1) (slice_index ns 1) in
+    let four = with_register (with_register two (k + 2) (slice_index ns 2)) (k + 3) (slice_index ns 3) in
+    with_register four (k + 4) (slice_index ns 4)
 
 abbrev pub at_next : RawState → RawState
 at_next raw = record raw { place = raw.place + 1 }
@@ -94,17 +87,12 @@ after_outcome raw got.Done = at_next (with_register raw 0 0)
 after_outcome raw (got.Refused code) = at_next (with_register raw 0 code.0)
 after_outcome raw (got.Accepted call) = at_next (with_register (with_register raw 0 0) 1 call.0)
 after_outcome raw (got.Received call msg label) =
-    at_next
-    (with_register
-    (with_register
-    (with_five (with_register (with_register (with_register raw 0 0) 2 call.0) 3 msg.method) 4 msg.args)
-    16
-    label.task.0)
-    17
-    label.phone.0)
+    let called = with_register (with_register (with_register raw 0 0) 2 call.0) 3 msg.method in
+    let given = with_five called 4 msg.args in
+    at_next (with_register (with_register given 16 label.task.0) 17 label.phone.0)
 after_outcome raw (got.Answered call reply) =
-    at_next
-    (with_five (with_register (with_register (with_register raw 0 0) 9 call.0) 10 reply.code.0) 11 reply.args)
+    let answered = with_register (with_register (with_register raw 0 0) 9 call.0) 10 reply.code.0 in
+    at_next (with_five answered 11 reply.args)
 after_outcome raw got.Empty = raw
 
 -- setting a register and jumping do as they say, whatever the outcome is

@@ -2,6 +2,7 @@
 #![tactic(auto)]
 
 pub mod raw;
+pub mod replay;
 pub mod text;
 
 fn main(_rt: HostRuntime) {}
