@@ -1,5 +1,7 @@
 pub mod Answer
 pub mod Due
 pub mod Numbers
+pub mod Raw
 pub mod Run
 pub mod Text
+pub mod Wiring

@@ -2,10 +2,12 @@
 #![tactic(auto)]
 
 mod answer;
+mod raw;
 mod replay;
 mod status;
 #[cfg(test)]
 mod tests;
+mod text;
 mod top;
 
 pub use answer::replay_bytes;

@@ -1,0 +1,65 @@
+-- A caller and the task that answers it, step by step: what each asks, and what an outcome makes of it.
+use Rattle.std.proofs.Common.{◌≡◌, [], ◌∷◌, refl}
+use Rattle.ipc_ids.specs.declared.message.Request.TheVariants as ask
+use Rattle.ipc_ids.specs.declared.message.Outcome.TheVariants as got
+use Rattle.ipc_ids.specs.declared.op.Value.TheVariants.{Number, Register}
+use Rattle.ipc_ids.specs.declared.op.Op.TheVariants as op
+use Rattle.hipc.specs.Raw.{RawState, started, wanted, after}
+
+-- call 0 512 7, receive
+abbrev caller : RawState
+caller =
+    started
+    (op.Call (Number 0) (Number 512) (Number 7 ∷ Number 0 ∷ Number 0 ∷ Number 0 ∷ Number 0 ∷ [])
+    ∷ op.Receive ∷ [])
+
+caller_calls : wanted caller ≡ ask.Call 0 (record { method = 512; args = 7 ∷ 0 ∷ 0 ∷ 0 ∷ 0 ∷ [] })
+caller_calls = refl
+
+abbrev waiting : RawState
+waiting = after caller (got.Accepted (record { 0 = 1 }))
+
+caller_waits : wanted waiting ≡ ask.Receive
+caller_waits = refl
+
+nothing_came : after waiting got.Empty ≡ waiting
+nothing_came = refl
+
+refused_caller_goes_on : wanted (after caller (got.Refused (record { 0 = 5 }))) ≡ ask.Receive
+refused_caller_goes_on = refl
+
+caller_ends : wanted (after waiting got.Done) ≡ ask.Nothing
+caller_ends = refl
+
+ended_stays : after (after waiting got.Done) got.Done ≡ after waiting got.Done
+ended_stays = refl
+
+-- receive, answer r2 EOK 8, jumpeq r3 512 0
+abbrev server : RawState
+server =
+    started
+    (op.Receive
+    ∷ op.Answer (Register 2) (Number 0) (Number 8 ∷ Number 0 ∷ Number 0 ∷ Number 0 ∷ Number 0 ∷ [])
+    ∷ op.JumpEqual (Register 3) (Number 512) 0
+    ∷ [])
+
+abbrev answering : RawState
+answering =
+    after
+    server
+    (got.Received
+    (record { 0 = 1 })
+    (record { method = 512; args = 7 ∷ 0 ∷ 0 ∷ 0 ∷ 0 ∷ [] })
+    (record { task = record { 0 = 1 }; phone = record { 0 = 0 } }))
+
+server_answers : wanted answering ≡ ask.Answer 1 (record { code = record { 0 = 0 }; args = 8 ∷ 0 ∷ 0 ∷ 0 ∷ 0 ∷ [] })
+server_answers = refl
+
+-- the call, its method and its arguments are in r2 to r8, the label's task in r16
+answering_registers : answering.registers
+    ≡ 0 ∷ 0 ∷ 1 ∷ 512 ∷ 7 ∷ 0 ∷ 0 ∷ 0 ∷ 0 ∷ 0 ∷ 0 ∷ 0 ∷ 0 ∷ 0 ∷ 0 ∷ 0 ∷ 1 ∷ 0 ∷ 0 ∷ 0 ∷ 0 ∷ 0 ∷ 0 ∷ 0 ∷ 0 ∷ 0 ∷ 0 ∷ 0
+    ∷ 0 ∷ 0 ∷ 0 ∷ 0 ∷ []
+answering_registers = refl
+
+server_jumps_back : wanted (after (after answering got.Done) got.Done) ≡ ask.Receive
+server_jumps_back = refl

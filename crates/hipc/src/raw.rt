@@ -1,0 +1,253 @@
+//! The raw program, which does one operation of its body at a time.
+ghost use Rattle.std.specs.Prelude.{◌≡◌, ◌+◌, ◌^◌, ◌<◌, length, IfOk, IfSome};
+ghost use Rattle.std.specs.Option.{option_copied};
+ghost use Rattle.hipc.specs.Raw.{started, operation, value_in, value_of, values_of, request_of};
+ghost use Rattle.hipc.specs.Raw.{with_register, with_five, at_next, at_place};
+ghost use Rattle.hipc.specs.Raw.{after_outcome, after_operation, wanted, after};
+
+use ipc_ids::{Code, Msg, NoMemory, Op, Outcome, Reply, Request, Value};
+use std::alloc::Global;
+use std::marker::Model;
+
+/// Operations, the number of the next one, and the registers `r0` to `r31`.
+#[derive(Drop)]
+pub struct RawProgram {
+    ops: Vec<Op>,
+    place: usize,
+    registers: [u64; 32],
+}
+
+impl Model for RawProgram {
+    ghost use Rattle.hipc.specs.Raw.{RawState};
+
+    ghost Value = { RawState };
+
+    ghost view = { λ a. record { ops = a.ops.items; place = a.place; registers = a.registers } };
+}
+
+impl RawProgram {
+    /// A program before its first operation, with 0 in all registers.
+    pub fn new(alloc: Global, ops: &[Op]) -> Result<RawProgram, NoMemory>
+        ensures { IfOk result (λ raw. raw ≡ started ops.now) }
+    {
+        match Vec::from_slice(alloc, ops) {
+            Ok(ops) => Ok(RawProgram {
+                ops,
+                place: 0,
+                registers: [0; 32],
+            }),
+            Err(_) => Err(NoMemory),
+        }
+    }
+
+    /// What the next operation asks of the kernel.
+    pub fn next(&self) -> Request
+        ensures { result ≡ wanted self.now }
+    {
+        match self.operation() {
+            Some(op) => self.request(op),
+            None => Request::Nothing,
+        }
+    }
+
+    /// The program gets the outcome of the request that `next` gave.
+    pub fn take(&mut self, got: &Outcome)
+        ensures { self.new ≡ after self.old got.now }
+    {
+        match self.operation() {
+            Some(op) => {
+                let op = *op;
+                self.do_operation(&op, got);
+            }
+            None => {}
+        }
+    }
+
+    fn operation(&self) -> Option<&Op>
+        ensures operation { option_copied result ≡ operation self.now }
+        ensures within { IfSome result (λ _. self.now.place < length self.now.ops) }
+        ensures few { length self.now.ops < 2 ^ 63 }
+    {
+        self.ops.get(self.place)
+    }
+
+    fn value(&self, value: Value) -> u64
+        ensures { result ≡ value_of self.now value }
+    {
+        value_in(&self.registers, value)
+    }
+
+    fn values(&self, args: &[Value; 5]) -> [u64; 5]
+        ensures { result ≡ values_of self.now args.now }
+    {
+        [
+            self.value(args[0]),
+            self.value(args[1]),
+            self.value(args[2]),
+            self.value(args[3]),
+            self.value(args[4]),
+        ]
+    }
+
+    fn request(&self, op: &Op) -> Request
+        ensures { result ≡ request_of self.now op.now }
+    {
+        match op {
+            Op::Call {
+                phone,
+                method,
+                args,
+            } => Request::Call {
+                phone: self.value(*phone),
+                msg: Msg {
+                    method: self.value(*method),
+                    args: self.values(args),
+                },
+            },
+            Op::Receive => Request::Receive,
+            Op::Answer { call, code, args } => Request::Answer {
+                call: self.value(*call),
+                reply: Reply {
+                    code: Code(self.value(*code)),
+                    args: self.values(args),
+                },
+            },
+            Op::Forward { call, phone, mode } => Request::Forward {
+                call: self.value(*call),
+                phone: self.value(*phone),
+                mode: *mode,
+                change: None,
+            },
+            Op::ForwardWith {
+                call,
+                phone,
+                mode,
+                method,
+                args,
+            } => Request::Forward {
+                call: self.value(*call),
+                phone: self.value(*phone),
+                mode: *mode,
+                change: Some(Msg {
+                    method: self.value(*method),
+                    args: self.values(args),
+                }),
+            },
+            Op::Hangup(phone) => Request::Hangup {
+                phone: self.value(*phone),
+            },
+            Op::Set { .. } | Op::Jump(_) | Op::JumpEqual { .. } | Op::JumpDiffer { .. } => {
+                Request::Nothing
+            }
+        }
+    }
+
+    fn do_operation(&mut self, op: &Op, got: &Outcome)
+        requires { self.old.place < 2 ^ 63 }
+        ensures { self.new ≡ after_operation self.old op.now got.now }
+    {
+        match op {
+            Op::Set { register, value } => {
+                let value = self.value(*value);
+                self.set(*register, value);
+                self.move_on();
+            }
+            Op::Jump(to) => self.jump(*to),
+            Op::JumpEqual { left, right, to } => {
+                if self.value(*left) == self.value(*right) {
+                    self.jump(*to);
+                } else {
+                    self.move_on();
+                }
+            }
+            Op::JumpDiffer { left, right, to } => {
+                if self.value(*left) == self.value(*right) {
+                    self.move_on();
+                } else {
+                    self.jump(*to);
+                }
+            }
+            _ => self.take_outcome(got),
+        }
+    }
+
+    fn take_outcome(&mut self, got: &Outcome)
+        requires { self.old.place < 2 ^ 63 }
+        ensures { self.new ≡ after_outcome self.old got.now }
+    {
+        match got {
+            Outcome::Done => {
+                self.set(0, 0);
+                self.move_on();
+            }
+            Outcome::Refused(code) => {
+                self.set(0, code.0);
+                self.move_on();
+            }
+            Outcome::Accepted(call) => {
+                self.set(0, 0);
+                self.set(1, call.0);
+                self.move_on();
+            }
+            Outcome::Received { call, msg, label } => {
+                self.set(0, 0);
+                self.set(2, call.0);
+                self.set(3, msg.method);
+                self.set_five(4, &msg.args);
+                self.set(16, label.task.0);
+                self.set(17, label.phone.0 as u64);
+                self.move_on();
+            }
+            Outcome::Answered { call, reply } => {
+                self.set(0, 0);
+                self.set(9, call.0);
+                self.set(10, reply.code.0);
+                self.set_five(11, &reply.args);
+                self.move_on();
+            }
+            Outcome::Empty => {}
+        }
+    }
+
+    fn set(&mut self, register: u32, value: u64)
+        ensures { self.new ≡ with_register self.old register value }
+    {
+        if register < 32 {
+            self.registers[register as usize] = value;
+        }
+    }
+
+    /// Five registers, from `first` on.
+    fn set_five(&mut self, first: u32, values: &[u64; 5])
+        requires { first < 1000 }
+        ensures { self.new ≡ with_five self.old first values.now }
+    {
+        self.set(first, values[0]);
+        self.set(first + 1, values[1]);
+        self.set(first + 2, values[2]);
+        self.set(first + 3, values[3]);
+        self.set(first + 4, values[4]);
+    }
+
+    fn move_on(&mut self)
+        requires { self.old.place < 2 ^ 63 }
+        ensures { self.new ≡ at_next self.old }
+    {
+        self.place += 1;
+    }
+
+    fn jump(&mut self, to: u32)
+        ensures { self.new ≡ at_place self.old to }
+    {
+        self.place = to as usize;
+    }
+}
+
+fn value_in(registers: &[u64], value: Value) -> u64
+    ensures { result ≡ value_in registers.now value }
+{
+    match value {
+        Value::Number(number) => number,
+        Value::Register(register) => registers.get(register as usize).copied().unwrap_or(0),
+    }
+}
