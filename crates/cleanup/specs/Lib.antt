@@ -1,5 +1,6 @@
 pub mod State
 pub mod Sound
+pub mod Counts
 pub mod Settling
 pub mod HangingUp
 pub mod Kill

@@ -1,12 +1,6 @@
-//! The end of a task.
+//! The end of a task, and the steps that it shares with the kernel's requests.
 #![tactic(auto)]
 
-ghost use Rattle.std.specs.Prelude.{◌≡◌};
-ghost use Rattle.cleanup.specs.State.{KernelState};
-ghost use Rattle.cleanup.specs.Sound.{IsSound};
-ghost use Rattle.cleanup.specs.Kill.{kill};
+mod counts;
 
-pub fn probe()
-    ensures { (k : KernelState) → k ≡ k }
-{
-}
+pub use counts::{count_out, count_up, label};

@@ -18,12 +18,16 @@ use Rattle.call_slab.specs.declared.call.Place.TheVariants.{Incoming, Answers}
 use Rattle.ipc_ids.specs.Codes.{enoent, eperm, elimit, eforward}
 use Rattle.ipc_ids.specs.Tables.{first_user_method, most_active}
 use Rattle.answerbox.specs.Calls.{call_at, front, active_calls}
-use Rattle.kernel_core.specs.State.{KernelState, Transition, Served, is_alive, phone_at, label_of, then_do, drain, nothing}
-use Rattle.kernel_core.specs.Calling.{refusal, bare_reply, call_tested, call_through, call_over}
-use Rattle.kernel_core.specs.Answering.{settle_for, settle, answer_held, held_by}
+use Rattle.cleanup.specs.State.{KernelState, Transition, is_alive, phone_at, label_of, then_do, drain, nothing}
+use Rattle.kernel_core.specs.Served.{Served}
+use Rattle.cleanup.specs.Settling.{bare_reply}
+use Rattle.kernel_core.specs.Calling.{refusal, call_tested, call_through, call_over}
+use Rattle.cleanup.specs.Settling.{settle_for, settle}
+use Rattle.kernel_core.specs.Answering.{answer_held, held_by}
 use Rattle.kernel_core.specs.Forwarding.{failed_forward, forward_over, forward_held, is_forwardable}
 use Rattle.kernel_core.specs.HangingUp.{hangup_over}
-use Rattle.kernel_core.specs.Receiving.{receive_first, next_unawaited, drop_answer, drop_unawaited}
+use Rattle.cleanup.specs.Settling.{drop_answer}
+use Rattle.kernel_core.specs.Receiving.{receive_first, next_unawaited, drop_unawaited}
 use Rattle.kernel_core.specs.Serve.{serve_request, serve}
 use Rattle.hipc.specs.Raw.{RawState, wanted}
 use Rattle.hipc.specs.Run.{RunState, program_at, turn, step_by, request, request_served, gone}

@@ -13,9 +13,9 @@ use Rattle.script_reader.specs.declared.plan.Wire.{Wire}
 use Rattle.script_reader.specs.Plan.{Plan}
 use Rattle.script_reader.specs.Sound.{IsTask, Leads, PhonesDiffer, IsSound}
 use Rattle.phone_table.specs.Phones.{row_at, state_at}
-use Rattle.kernel_core.specs.State.{Tasks, KernelState, start, alive_in, with_task, with_state_at}
-use Rattle.kernel_core.proofs.Rows.{state_changed_at}
-use Rattle.kernel_core.proofs.Soundness.{value_of, phone_kept}
+use Rattle.cleanup.specs.State.{Tasks, KernelState, start, alive_in, with_task, with_state_at}
+use Rattle.cleanup.proofs.Rows.{state_changed_at}
+use Rattle.cleanup.proofs.Soundness.{value_of, phone_kept}
 use Rattle.hipc.specs.Run.{with_tasks}
 use Rattle.hipc.specs.Wiring.{IsOpen, AreOpen, with_wire}
 

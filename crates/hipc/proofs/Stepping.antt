@@ -5,7 +5,7 @@ use Rattle.std.proofs.lemmas.Option.{get_or_from_slice_get}
 use Rattle.ipc_ids.specs.declared.numbers.TaskNo.{TaskNo}
 use Rattle.ipc_ids.specs.declared.message.Request.{Request}
 use Rattle.ipc_ids.specs.declared.message.Outcome.{Outcome}
-use Rattle.kernel_core.specs.State.{KernelState, is_alive}
+use Rattle.cleanup.specs.State.{KernelState, is_alive}
 use Rattle.kernel_core.specs.Serve.{serve}
 use Rattle.hipc.specs.Raw.{RawState, wanted, after}
 use Rattle.hipc.specs.Run.{RunState, program_at, step_by, step}

@@ -14,8 +14,9 @@ use Rattle.ipc_ids.specs.declared.op.Body.{Body}
 use Rattle.script_reader.specs.declared.plan.TaskPlan.{TaskPlan}
 use Rattle.script_reader.specs.declared.plan.Wire.{Wire}
 use Rattle.script_reader.specs.Plan.{Plan}
-use Rattle.kernel_core.specs.State.{KernelState, Served, is_alive, with_task}
-use Rattle.kernel_core.specs.State as kernel
+use Rattle.cleanup.specs.State.{KernelState, is_alive, with_task}
+use Rattle.kernel_core.specs.Served.{Served}
+use Rattle.cleanup.specs.State as kernel
 use Rattle.kernel_core.specs.Serve.{serve}
 use Rattle.hipc.specs.Wiring.{with_wire}
 use Rattle.hipc.specs.Raw.{RawState, started, wanted, after}

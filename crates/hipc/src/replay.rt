@@ -1,7 +1,7 @@
 //! Replays the events of a schedule on the tasks of a script.
 ghost use Rattle.std.specs.Prelude.{◌≡◌, ◌+◌, ◌^◌, ◌<◌, ◌≤◌, ◌++◌, ◌∷◌, [], true, Some, map, length};
 ghost use Rattle.std.specs.Prelude.{All, IfOk, OnOk, OnErr, IfSome, option_map};
-ghost use Rattle.kernel_core.specs.State.{is_alive};
+ghost use Rattle.cleanup.specs.State.{is_alive};
 ghost use Rattle.kernel_core.specs.Serve.{serve};
 ghost use Rattle.script_reader.specs.Sound.{IsRawTask};
 ghost use Rattle.hipc.specs.Raw.{wanted};

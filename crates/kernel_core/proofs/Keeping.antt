@@ -16,12 +16,13 @@ use Rattle.call_slab.specs.declared.call.Place.{Place}
 use Rattle.answerbox.specs.Calls.{CallTable, call_at, enqueue, put_at, without_call, is_caller}
 use Rattle.answerbox.proofs.Counts.{insert-remove, ties}
 use Rattle.phone_table.specs.Phones.{row_at, state_at, count_at}
-use Rattle.kernel_core.specs.State.{KernelState, start, alive_in, with_calls, with_phone, with_task, with_event, with_state_at}
-use Rattle.kernel_core.specs.Sound.{IsPlaced, IsCaller}
-use Rattle.kernel_core.specs.Kept.{IsKept, recount, count_changed, counts_without}
-use Rattle.kernel_core.proofs.Rows.{some_of, state_changed_at}
-use Rattle.kernel_core.proofs.Soundness.{sound_enqueue, sound_put, sound_without, kept_calls, kept_hung_up, kept_wired, kept_task, sound_start, some_set, value_of, row_after, row_append, row_before, get_last}
-use Rattle.kernel_core.proofs.Counting.{counted_enqueue, counted_put, counted_without, counted_task, counted_none}
+use Rattle.cleanup.specs.State.{KernelState, start, alive_in, with_calls, with_phone, with_task, with_event, with_state_at}
+use Rattle.cleanup.specs.Sound.{IsPlaced, IsCaller}
+use Rattle.cleanup.specs.Counts.{recount, count_changed, counts_without}
+use Rattle.kernel_core.specs.Kept.{IsKept}
+use Rattle.cleanup.proofs.Rows.{some_of, state_changed_at}
+use Rattle.cleanup.proofs.Soundness.{sound_enqueue, sound_put, sound_without, kept_calls, kept_hung_up, kept_wired, kept_task, sound_start, some_set, value_of, row_after, row_append, row_before, get_last}
+use Rattle.cleanup.proofs.Counting.{counted_enqueue, counted_put, counted_without, counted_task, counted_none}
 
 -- how many calls are live
 

@@ -1,8 +1,3 @@
-pub mod Lookups
-pub mod Rows
-pub mod Loops
-pub mod Soundness
-pub mod Counting
 pub mod Keeping
 pub mod Reading
 pub mod Inner

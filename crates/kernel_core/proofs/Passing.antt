@@ -18,7 +18,7 @@ use Rattle.forwarding.specs.declared.passing.ForwardFault.TheVariants.{NotHeld, 
 use Rattle.forwarding.specs.Forwarding.{is_held, is_forwardable}
 use Rattle.forwarding.specs.Routes.{callee_of, receiver_of, answer_of, forward_answer, table_after, call_after}
 use Rattle.forwarding.proofs.Passed.{call_at-table_after}
-use Rattle.kernel_core.specs.State.{KernelState, is_alive, with_calls}
+use Rattle.cleanup.specs.State.{KernelState, is_alive, with_calls}
 use Rattle.kernel_core.specs.Kept.{IsKept}
 use Rattle.kernel_core.specs.Steps.{LeadsToTask, SeesLabel, TellsLabel}
 use Rattle.kernel_core.specs.Forwarding.{passing_on}

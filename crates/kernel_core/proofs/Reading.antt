@@ -18,13 +18,15 @@ use Rattle.phone_table.specs.Phones.{Row, Rows, row_at, state_at, count_at, hang
 use Rattle.phone_table.specs.declared.hung.Hung.{Hung}
 use Rattle.phone_table.proofs.Lookups.{same_row}
 use Rattle.phone_table.proofs.Writes.{counted}
-use Rattle.kernel_core.specs.State.{Tasks, KernelState, state_from, alive_in, is_alive, phone_at, with_state_at, with_calls}
-use Rattle.kernel_core.specs.Sound.{IsPlaced, IsCaller, IsSound, AreSoundTasks}
-use Rattle.kernel_core.specs.Kept.{IsKept, recount}
+use Rattle.cleanup.specs.State.{Tasks, KernelState, state_from, alive_in, is_alive, phone_at, with_state_at, with_calls}
+use Rattle.cleanup.specs.Sound.{IsPlaced, IsCaller, IsSound, AreSoundTasks}
+use Rattle.cleanup.specs.Counts.{recount}
+use Rattle.kernel_core.specs.Kept.{IsKept}
 use Rattle.kernel_core.specs.Steps.{IsAliveCaller, LeadsToTask, TellsTask, with_hangup, IsCallOf, with_answer}
-use Rattle.kernel_core.proofs.Lookups.{record_of}
-use Rattle.kernel_core.proofs.Soundness.{value_of, phone_kept}
-use Rattle.kernel_core.proofs.Counting.{count_few, count_positive}
+use Rattle.cleanup.proofs.Lookups.{record_of}
+use Rattle.cleanup.proofs.Soundness.{value_of, phone_kept}
+use Rattle.cleanup.proofs.Recounting.{some_and}
+use Rattle.cleanup.proofs.Counting.{count_few, count_positive}
 use Rattle.kernel_core.proofs.Keeping.{within, kept_hangup, kept_put}
 
 -- the phone of a row that was looked up
@@ -46,21 +48,6 @@ alive_caller k from (Some u) h = h.1
 pub caller_of : (k : KernelState) (n : ℕ) (o : Option (Bor Call)) → IsSound k → option_copied o ≡ call_at k.calls n → IfSome o (λ c. IsAliveCaller k c.now.caller)
 caller_of k n None s e = tt
 caller_of k n (Some c) s e = alive_caller k c.now.from c.now.caller (s.calls.each n c.now (sym e)).caller
-
-pub some_and : (o : Option ℕ) (P : ℕ → Type 0) → IsSome o → ((n : ℕ) → o ≡ Some n → P n) → IsSomeAnd o P
-some_and None P h f = absurd (cc h)
-some_and (Some n) P h f = f n refl
-
-pub some_if : (o : Option ℕ) (P : ℕ → Type 0) → IsSomeAnd o P → IsSome o
-some_if None P h = absurd h
-some_if (Some n) P h = refl
-
--- a count of a row that is written is a count that changes
-pub recount_row : (f : ℕ → ℕ) (counts : List (List ℕ)) (t p : ℕ) (row : List ℕ) → row_at counts t ≡ Some row → IsSome (count_at counts t p) → set counts (t - 1) (set row p (f (slice_index row p))) ≡ recount f counts t p
-recount_row f counts t p row is some =
-    let h : IsSome (slice_get row p) = rw is at some in
-    let n = value_of (slice_get row p) h in
-    rw (is, n.1, counted row p n.0 n.1) refl
 
 -- there is room to count one call more
 pub may_count : (k : KernelState) (counts : List (List ℕ)) (from : Label) → IsKept k counts → IsSome (state_at k.tasks.phones from.task.0 from.phone.0) → k.calls.next_number < 2 ^ 31 → IsSomeAnd (count_at counts from.task.0 from.phone.0) (λ n. n < 2 ^ 31)

@@ -1,33 +1,16 @@
--- An answer by task t to a call that it holds, and the kernel's own answer.
-use Rattle.std.specs.Prelude.{ℕ, if◌then◌else◌, [], ◌∷◌, Option, None, Some}
+-- An answer by task t to a call that it holds.
+use Rattle.std.specs.Prelude.{ℕ, if◌then◌else◌, Option, None, Some}
 use Rattle.ipc_ids.specs.declared.numbers.TaskNo.{TaskNo}
 use Rattle.ipc_ids.specs.declared.message.Reply.{Reply}
 use Rattle.ipc_ids.specs.declared.message.Outcome.TheVariants.{Done}
-use Rattle.ipc_ids.specs.declared.entry.Entry.TheVariants.{Answered}
 use Rattle.ipc_ids.specs.Codes.{enoent}
 use Rattle.call_slab.specs.declared.call.Call.{Call}
-use Rattle.call_slab.specs.declared.call.Place.TheVariants.{Dispatched, Answers}
-use Rattle.answerbox.specs.Calls.{call_at, put_at, same_place}
-use Rattle.kernel_core.specs.State.{KernelState, Transition, Served, nothing, with_calls, telling}
+use Rattle.call_slab.specs.declared.call.Place.TheVariants.{Dispatched}
+use Rattle.answerbox.specs.Calls.{call_at, same_place}
+use Rattle.cleanup.specs.State.{KernelState}
+use Rattle.cleanup.specs.Settling.{settle}
+use Rattle.kernel_core.specs.Served.{Served, telling}
 use Rattle.kernel_core.specs.Calling.{refusal}
-
--- the reply goes with the call to the answers of its caller
-abbrev pub settle_for : KernelState → Call → Reply → Option TaskNo → Option TaskNo → Transition
-settle_for k c reply by None = nothing k
-settle_for k c reply by (Some caller) =
-    record {
-      state = with_calls k (put_at k.calls (record c { reply = reply }) (Answers caller));
-      entries = Answered c.number reply by ∷ [];
-    }
-
--- the call is answered, by a task or by the kernel where `by` is None
-abbrev pub settle : KernelState → Call → Reply → Option TaskNo → Transition
-settle k c reply by = settle_for k c reply by c.caller
-
--- the same of a live call, where there is one
-abbrev pub settle_live : KernelState → Reply → Option TaskNo → Option Call → Transition
-settle_live k reply by None = nothing k
-settle_live k reply by (Some c) = settle k c reply by
 
 -- the live call, where task t has received it and has not answered it
 abbrev pub held_by : TaskNo → Option Call → Option Call

@@ -14,33 +14,14 @@ use Rattle.call_slab.specs.declared.call.Call.{Call}
 use Rattle.call_slab.specs.declared.call.Place.{Place}
 use Rattle.call_slab.specs.declared.call.Place.TheVariants.{Incoming, Answers}
 use Rattle.answerbox.specs.Calls.{enqueue, active_calls}
-use Rattle.kernel_core.specs.State.{KernelState, Served, phone_at, with_calls, label_of}
+use Rattle.cleanup.specs.State.{KernelState, phone_at, with_calls, label_of}
+use Rattle.kernel_core.specs.Served.{Served}
+use Rattle.cleanup.specs.Settling.{bare_reply}
+use Rattle.cleanup.specs.HangingUp.{new_call}
 
 -- nothing changes, and the task is told this code
 abbrev pub refusal : KernelState → Code → Served
 refusal k code = record { state = k; outcome = Refused code; entries = [] }
-
--- the kernel's own replies have arguments 0
-abbrev pub bare_reply : Code → Reply
-bare_reply code = record { code = code; args = replicate 5 0 }
-
--- a new call of task t over phone p, bound for a place
-abbrev pub new_call : KernelState → TaskNo → ℕ → Msg → Place → Call
-new_call k t p msg place =
-    record {
-      number = record { 0 = k.calls.next_number };
-      caller = Some t;
-      from = label_of t p;
-      label = label_of t p;
-      request = msg;
-      msg = msg;
-      reply = bare_reply eok;
-      discard = false;
-      buffer = [];
-      reserved = None;
-      place = place;
-      stamp = 0;
-    }
 
 -- the call is accepted, and goes to the end of its place
 abbrev pub acceptance : KernelState → Call → Option TaskNo → Served

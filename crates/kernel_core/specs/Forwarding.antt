@@ -14,9 +14,11 @@ use Rattle.forwarding.specs.declared.passing.ForwardFault.{ForwardFault}
 use Rattle.forwarding.specs.declared.passing.ForwardFault.TheVariants.{NotHeld, NotForwardable, NotConnected}
 use Rattle.forwarding.specs.Forwarding.{label_after}
 use Rattle.forwarding.specs.Routes.{forward_answer, table_after}
-use Rattle.kernel_core.specs.State.{KernelState, Served, phone_at, with_calls, telling}
-use Rattle.kernel_core.specs.Calling.{refusal, bare_reply}
-use Rattle.kernel_core.specs.Answering.{settle_live}
+use Rattle.cleanup.specs.State.{KernelState, phone_at, with_calls}
+use Rattle.kernel_core.specs.Served.{Served, telling}
+use Rattle.cleanup.specs.Settling.{bare_reply}
+use Rattle.kernel_core.specs.Calling.{refusal}
+use Rattle.cleanup.specs.Settling.{settle_live}
 
 -- the kernel answers the call, and the task is refused with this code
 abbrev pub failed_forward : KernelState → Option Call → Code → Served

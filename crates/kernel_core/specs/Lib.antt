@@ -1,10 +1,9 @@
-pub mod State
+pub mod Served
 pub mod Calling
 pub mod Receiving
 pub mod Answering
 pub mod HangingUp
 pub mod Forwarding
 pub mod Serve
-pub mod Sound
 pub mod Kept
 pub mod Steps

@@ -2,11 +2,13 @@
 use Rattle.std.specs.Prelude.{if◌then◌else◌, [], ◌∷◌, Option, None, Some}
 use Rattle.ipc_ids.specs.declared.numbers.TaskNo.{TaskNo}
 use Rattle.ipc_ids.specs.declared.message.Outcome.TheVariants.{Received as ToldCall, Answered as ToldAnswer, Empty}
-use Rattle.ipc_ids.specs.declared.entry.Entry.TheVariants.{Received, Delivered, Dropped}
+use Rattle.ipc_ids.specs.declared.entry.Entry.TheVariants.{Received, Delivered}
 use Rattle.call_slab.specs.declared.call.Call.{Call}
 use Rattle.call_slab.specs.declared.call.Place.TheVariants.{Incoming, Dispatched, Answers}
 use Rattle.answerbox.specs.Calls.{front, put_at, without_call}
-use Rattle.kernel_core.specs.State.{KernelState, Transition, Served, with_calls, drain, then_serve}
+use Rattle.cleanup.specs.State.{KernelState, Transition, with_calls, drain}
+use Rattle.cleanup.specs.Settling.{drop_answer}
+use Rattle.kernel_core.specs.Served.{Served, then_serve}
 
 -- the answer is delivered, and its call is over
 abbrev pub delivery : KernelState → TaskNo → Call → Served
@@ -42,10 +44,6 @@ unawaited (Some c) = if c.discard then Some c else None
 
 abbrev pub next_unawaited : TaskNo → KernelState → Option Call
 next_unawaited t k = unawaited (front k.calls (Answers t))
-
--- the answer is dropped, and its call is over
-abbrev pub drop_answer : TaskNo → KernelState → Call → Transition
-drop_answer t k c = record { state = with_calls k (without_call k.calls c.number.0); entries = Dropped c.number t ∷ [] }
 
 -- the answers at the front that nobody waits for; there are fewer calls than numbers given
 abbrev pub drop_unawaited : TaskNo → KernelState → Transition

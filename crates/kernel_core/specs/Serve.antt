@@ -4,7 +4,8 @@ use Rattle.ipc_ids.specs.declared.numbers.TaskNo.{TaskNo}
 use Rattle.ipc_ids.specs.declared.message.Request.{Request}
 use Rattle.ipc_ids.specs.declared.message.Request.TheVariants.{Call, Receive, Answer, Forward, Hangup, Nothing}
 use Rattle.ipc_ids.specs.declared.message.Outcome.TheVariants.{Done}
-use Rattle.kernel_core.specs.State.{KernelState, Served, with_event}
+use Rattle.cleanup.specs.State.{KernelState, with_event}
+use Rattle.kernel_core.specs.Served.{Served}
 use Rattle.kernel_core.specs.Calling.{call}
 use Rattle.kernel_core.specs.Receiving.{receive}
 use Rattle.kernel_core.specs.Answering.{answer}

@@ -17,8 +17,8 @@ use Rattle.ipc_ids.specs.declared.entry.Entry.{Entry}
 use Rattle.ipc_ids.specs.declared.entry.Entry.TheVariants.{Forwarded as Passed}
 use Rattle.forwarding.specs.declared.passing.Forwarded.{Forwarded}
 use Rattle.forwarding.specs.Forwarding.{label_after}
-use Rattle.kernel_core.specs.State.{KernelState, is_alive, with_phone}
-use Rattle.kernel_core.specs.Receiving.{drop_answer}
+use Rattle.cleanup.specs.State.{KernelState, is_alive, with_phone}
+use Rattle.cleanup.specs.Settling.{drop_answer}
 
 -- the live call with this number takes the reply to the answers of a task
 abbrev pub with_answer : CallTable → ℕ → Reply → TaskNo → CallTable

@@ -1,8 +1,9 @@
 //! The answer of a task to a call that it holds, and the kernel's own answer.
 ghost use Rattle.std.specs.Prelude.{◌≡◌, ◌+◌, ◌^◌, ◌<◌, ◌≤◌, ◌++◌, true, IsSome};
 ghost use Rattle.answerbox.specs.Calls.{call_at};
-ghost use Rattle.kernel_core.specs.State.{is_alive};
-ghost use Rattle.kernel_core.specs.Answering.{answer as answer_of, settle_live};
+ghost use Rattle.cleanup.specs.State.{is_alive};
+ghost use Rattle.cleanup.specs.Settling.{settle_live};
+ghost use Rattle.kernel_core.specs.Answering.{answer as answer_of};
 
 use crate::machine::Machine;
 use call_slab::Place;
@@ -29,7 +30,7 @@ impl Machine {
         }
     }
 
-    /// The call is answered, by a task or by the kernel where `by` is `None`.
+    /// The call is answered, by a task or by the kernel where `by` is `None`; it vanishes where its caller has ended.
     pub fn settle(&mut self, number: CallNo, reply: &Reply, by: Option<TaskNo>, out: &mut Trace)
         requires live { IsSome (call_at self.old.k.calls number.0) }
         requires line { 0 < out.old.spare }
@@ -48,7 +49,10 @@ impl Machine {
                     by,
                 });
             }
-            None => {}
+            None => {
+                let call = self.leave(number);
+                out.push(Entry::Vanished(call.number));
+            }
         }
     }
 }

@@ -1,14 +1,14 @@
 //! A call over a phone.
 ghost use Rattle.std.specs.Prelude.{◌≡◌, ◌+◌, ◌^◌, ◌<◌, ◌≤◌, ◌++◌, ◌==◌, true, IsSome, Some, None};
 ghost use Rattle.answerbox.specs.Calls.{call_at};
-ghost use Rattle.kernel_core.specs.State.{is_alive, phone_at, label_of as the_label};
+ghost use Rattle.cleanup.specs.State.{is_alive, phone_at, label_of as the_label};
 ghost use Rattle.kernel_core.specs.Calling.{call as call_of, call_tested, call_through, acceptance, answer_at_once as answer_at_once_of};
-ghost use Rattle.kernel_core.specs.Sound.{IsPlaced};
+ghost use Rattle.cleanup.specs.Sound.{IsPlaced};
 ghost use Rattle.kernel_core.specs.Steps.{LeadsToTask};
 
-use crate::counts::label;
 use crate::machine::Machine;
 use call_slab::{Call, Place};
+use cleanup::label;
 use ipc_ids::{Code, Entry, Label, Msg, Outcome, PhoneState, Reply, TaskNo, Trace};
 
 /// Methods below this one are the system's, and none of them is built.

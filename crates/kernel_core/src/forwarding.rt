@@ -1,7 +1,7 @@
 //! A forward of a call that a task holds.
 ghost use Rattle.std.specs.Prelude.{◌≡◌, ◌+◌, ◌^◌, ◌<◌, ◌≤◌, ◌++◌, ◌∷◌, [], true, IsSome};
 ghost use Rattle.answerbox.specs.Calls.{call_at};
-ghost use Rattle.kernel_core.specs.State.{is_alive};
+ghost use Rattle.cleanup.specs.State.{is_alive};
 ghost use Rattle.kernel_core.specs.Forwarding.{forward as forward_of, failed_forward};
 ghost use Rattle.kernel_core.specs.Steps.{TellsLabel};
 

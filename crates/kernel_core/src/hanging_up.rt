@@ -1,11 +1,11 @@
 //! A hangup of a phone.
 ghost use Rattle.std.specs.Prelude.{◌≡◌, ◌+◌, ◌^◌, ◌<◌, ◌≤◌, ◌++◌, ◌∷◌, [], true};
-ghost use Rattle.kernel_core.specs.State.{is_alive};
+ghost use Rattle.cleanup.specs.State.{is_alive};
 ghost use Rattle.kernel_core.specs.HangingUp.{hangup as hangup_of};
 
-use crate::counts::label;
 use crate::machine::Machine;
 use call_slab::Place;
+use cleanup::label;
 use ipc_ids::{Entry, Label, Msg, Outcome, PhoneState, TaskNo, Trace};
 use phone_table::Hung;
 

@@ -1,6 +1,6 @@
 //! The kernel.
 ghost use Rattle.std.specs.Prelude.{◌≡◌, ◌+◌, ◌^◌, ◌<◌, ◌≤◌, ◌++◌, true, Some, IfOk, OnOk, OnErr, length};
-ghost use Rattle.kernel_core.specs.State.{start, is_alive, phone_at, with_task, with_phone};
+ghost use Rattle.cleanup.specs.State.{start, is_alive, phone_at, with_task, with_phone};
 ghost use Rattle.kernel_core.specs.Serve.{serve};
 
 use crate::machine::Machine;
@@ -17,7 +17,7 @@ pub struct Kernel {
 impl Model for Kernel {
     ghost use Rattle.call_slab.specs.contracts.call.Call as call;
     ghost use Rattle.ipc_ids.specs.contracts.message.PhoneState as phone;
-    ghost use Rattle.kernel_core.specs.State.{KernelState, state_code};
+    ghost use Rattle.cleanup.specs.State.{KernelState, state_code};
     ghost use Rattle.kernel_core.specs.Kept.{HasFewCalls};
 
     ghost Value = { KernelState };

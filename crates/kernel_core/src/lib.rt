@@ -7,7 +7,6 @@
 
 mod answering;
 mod calling;
-mod counts;
 mod forwarding;
 mod hanging_up;
 mod kernel;

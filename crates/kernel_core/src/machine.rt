@@ -4,16 +4,16 @@ ghost use Rattle.std.specs.Option.{option_copied};
 ghost use Rattle.answerbox.specs.Calls.{call_at, active_calls, is_caller, enqueue, without_call, with_place, front};
 ghost use Rattle.phone_table.specs.Phones.{state_at, count_at, hangup_answer};
 ghost use Rattle.forwarding.specs.Routes.{forward_answer, table_after};
-ghost use Rattle.kernel_core.specs.State.{start, is_alive as is_alive_in, phone_at, with_task, with_phone, with_calls, with_event, label_of as the_label};
-ghost use Rattle.kernel_core.specs.Calling.{new_call as the_call};
-ghost use Rattle.kernel_core.specs.Sound.{IsPlaced, IsSoundCall};
+ghost use Rattle.cleanup.specs.State.{start, is_alive as is_alive_in, phone_at, with_task, with_phone, with_calls, with_event, label_of as the_label};
+ghost use Rattle.cleanup.specs.HangingUp.{new_call as the_call};
+ghost use Rattle.cleanup.specs.Sound.{IsPlaced, IsSoundCall};
 ghost use Rattle.kernel_core.specs.Kept.{HasPlaces};
 ghost use Rattle.kernel_core.specs.Steps.{with_answer, IsCallOf, owner, IsAliveCaller, LeadsToTask, SeesLabel, TellsTask, with_hangup};
 ghost use Rattle.call_slab.specs.declared.call.Place.TheVariants.{Dispatched};
 
-use crate::counts::{count_out, count_up};
 use answerbox::Boxes;
 use call_slab::{Call, Place};
+use cleanup::{count_out, count_up};
 use forwarding::{ForwardFault, Forwarded, route};
 use ipc_ids::{
     Buffer, CallNo, Code, Label, Mode, Msg, NoMemory, PhoneNo, PhoneState, Reply, TaskNo,
@@ -38,7 +38,7 @@ impl Model for Machine {
     ghost use Rattle.std.specs.Prelude.{length};
     ghost use Rattle.call_slab.specs.contracts.call.Call as call;
     ghost use Rattle.ipc_ids.specs.contracts.message.PhoneState as phone;
-    ghost use Rattle.kernel_core.specs.State.{MachineState, machine_code, state_from};
+    ghost use Rattle.cleanup.specs.State.{MachineState, machine_code, state_from};
     ghost use Rattle.kernel_core.specs.Kept.{IsKept, HasPlaces};
 
     ghost Value = { MachineState };

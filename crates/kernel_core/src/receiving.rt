@@ -1,8 +1,9 @@
 //! What a task receives: answers first, and then calls.
 ghost use Rattle.std.specs.Prelude.{◌≡◌, ◌+◌, ◌^◌, ◌<◌, ◌≤◌, ◌++◌, true, IsSome, IfSome, IfNone, None};
 ghost use Rattle.answerbox.specs.Calls.{call_at};
-ghost use Rattle.kernel_core.specs.State.{is_alive};
-ghost use Rattle.kernel_core.specs.Receiving.{receive as receive_of, receive_now as receive_now_of, receive_first, next_unawaited as next_unawaited_of, drop_unawaited as drop_unawaited_of, drop_answer as drop_answer_of};
+ghost use Rattle.cleanup.specs.State.{is_alive};
+ghost use Rattle.cleanup.specs.Settling.{drop_answer as drop_answer_of};
+ghost use Rattle.kernel_core.specs.Receiving.{receive as receive_of, receive_now as receive_now_of, receive_first, next_unawaited as next_unawaited_of, drop_unawaited as drop_unawaited_of};
 ghost use Rattle.kernel_core.specs.Steps.{DropsAnswer};
 
 use crate::machine::Machine;

@@ -1,6 +1,6 @@
 //! What each request does.
 ghost use Rattle.std.specs.Prelude.{◌≡◌, ◌+◌, ◌^◌, ◌<◌, ◌≤◌, ◌++◌, true};
-ghost use Rattle.kernel_core.specs.State.{is_alive};
+ghost use Rattle.cleanup.specs.State.{is_alive};
 ghost use Rattle.kernel_core.specs.Serve.{serve_request as serve_request_of};
 
 use crate::machine::Machine;

@@ -1,8 +1,9 @@
 use Rattle.std.proofs.Common.{◌∙◌, arith}
 use Rattle.answerbox.specs.Calls.{call_at}
-use Rattle.kernel_core.specs.Receiving.{next_unawaited, drop_answer, drop_unawaited}
-use Rattle.kernel_core.proofs.Lookups.{record_of}
-use Rattle.kernel_core.proofs.Loops.{drained_state, drained_entries}
+use Rattle.cleanup.specs.Settling.{drop_answer}
+use Rattle.kernel_core.specs.Receiving.{next_unawaited, drop_unawaited}
+use Rattle.cleanup.proofs.Lookups.{record_of}
+use Rattle.cleanup.proofs.Loops.{drained_state, drained_entries}
 use Rattle.kernel_core.proofs.machine.Machine.drop_unawaited.Goals as goal
 
 pub loop-preserved : goal.loop-preserved

@@ -1,6 +1,7 @@
 use Rattle.std.proofs.Common.{◌≡◌, ◌+◌, ◌-◌, ◌≤◌, ◌++◌, true}
-use Rattle.kernel_core.specs.State.{drain, is_alive}
-use Rattle.kernel_core.specs.Receiving.{next_unawaited, drop_answer, drop_unawaited}
+use Rattle.cleanup.specs.State.{drain, is_alive}
+use Rattle.cleanup.specs.Settling.{drop_answer}
+use Rattle.kernel_core.specs.Receiving.{next_unawaited, drop_unawaited}
 use Rattle.kernel_core.proofs.machine.Machine.drop_unawaited.Given as goal
 
 -- what was dropped and what is still to be dropped make the whole

@@ -3,7 +3,7 @@ use Rattle.kernel_core.proofs.Inner.{inner}
 use Rattle.kernel_core.proofs.Keeping.{kept_wire}
 use Rattle.phone_table.proofs.Lookups.{same_row}
 use Rattle.ipc_ids.specs.declared.message.PhoneState.TheVariants.{Free, Connected}
-use Rattle.kernel_core.specs.State.{phone_at}
+use Rattle.cleanup.specs.State.{phone_at}
 use Rattle.kernel_core.proofs.Reading.{wired_states}
 use Rattle.kernel_core.proofs.machine.Machine.wire.Goals as goal
 

@@ -9,8 +9,8 @@ use Rattle.call_slab.specs.declared.call.Place.{Place}
 use Rattle.answerbox.specs.Calls.{CallTable, call_at, enqueue, put_at, without_call, no_calls, is_active_on, same_label, is_caller, active_calls}
 use Rattle.answerbox.proofs.Counts.{active-enqueue, active-without_call, active-put_at, active-len, count-positive}
 use Rattle.phone_table.specs.Phones.{count_at}
-use Rattle.kernel_core.specs.Kept.{label_at, recount, counts_without, IsCounted}
-use Rattle.kernel_core.proofs.Rows.{recount_at, some_of}
+use Rattle.cleanup.specs.Counts.{label_at, recount, counts_without, IsCounted}
+use Rattle.cleanup.proofs.Rows.{recount_at, some_of}
 
 -- at the phone that it was made over, a call is active unless its caller has ended
 here : (c : Call) (t p : ℕ) → t ≡ c.from.task.0 → p ≡ c.from.phone.0 → is_active_on (label_at t p) c ≡ is_caller c.from.task c.caller

@@ -15,10 +15,10 @@ use Rattle.call_slab.specs.declared.call.Place.{Place}
 use Rattle.call_slab.specs.declared.call.Place.TheVariants.{Incoming, Dispatched, Answers}
 use Rattle.answerbox.specs.Calls.{CallTable, call_at, enqueue, put_at, without_call}
 use Rattle.phone_table.specs.Phones.{row_at, state_at}
-use Rattle.kernel_core.specs.State.{Tasks, KernelState, alive_in, with_state_at, with_calls, with_phone, with_task, start}
-use Rattle.kernel_core.specs.Sound.{IsPlaced, IsCaller, IsSoundCall, AreSoundCalls, IsQuiet, AreSoundTasks, IsSound}
-use Rattle.kernel_core.proofs.Lookups.{at_insert, at_remove, chosen, same_call}
-use Rattle.kernel_core.proofs.Rows.{some_of, state_changed_at}
+use Rattle.cleanup.specs.State.{Tasks, KernelState, alive_in, with_state_at, with_calls, with_phone, with_task, start}
+use Rattle.cleanup.specs.Sound.{IsPlaced, IsCaller, IsSoundCall, AreSoundCalls, IsQuiet, AreSoundTasks, IsSound}
+use Rattle.cleanup.proofs.Lookups.{at_insert, at_remove, chosen, same_call}
+use Rattle.cleanup.proofs.Rows.{some_of, state_changed_at}
 
 -- a record stays sound while the next number and the next stamp rise
 later : (tasks : Tasks) (a b a' b' n : ℕ) (c : Call) → IsSoundCall tasks a b n c → a ≤ a' → b ≤ b' → IsSoundCall tasks a' b' n c

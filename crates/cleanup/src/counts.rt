@@ -2,8 +2,8 @@
 ghost use Rattle.std.specs.Prelude.{◌≡◌, ℕ, ◌+◌, ◌-◌, ◌^◌, ◌<◌, ◌≤◌, true, Some, IsSome, IsSomeAnd};
 ghost use Rattle.answerbox.specs.Calls.{is_caller};
 ghost use Rattle.phone_table.specs.Phones.{state_at, count_at};
-ghost use Rattle.kernel_core.specs.State.{label_of};
-ghost use Rattle.kernel_core.specs.Kept.{recount, counts_without};
+ghost use Rattle.cleanup.specs.State.{label_of};
+ghost use Rattle.cleanup.specs.Counts.{recount, counts_without};
 
 use ipc_ids::{Label, PhoneNo, TaskNo};
 use phone_table::PhoneRows;

@@ -2,7 +2,7 @@
 use Rattle.std.proofs.Common.{◌≡◌, ℕ, zero, suc, ◌+◌, ◌-◌, ◌<◌, Option, Some, None, List, ◌++◌, refl, ap, ◌∙◌, sym, append_assoc, arith}
 use Rattle.ipc_ids.specs.declared.entry.Entry.{Entry}
 use Rattle.call_slab.specs.declared.call.Call.{Call}
-use Rattle.kernel_core.specs.State.{KernelState, Transition, then_do, drain, nothing}
+use Rattle.cleanup.specs.State.{KernelState, Transition, then_do, drain, nothing}
 
 drain_step : (next : KernelState → Option Call) (step : KernelState → Call → Transition) (n : ℕ) (k : KernelState) (c : Call) → next k ≡ Some c → drain next step (suc n) k ≡ then_do (step k c) (drain next step n)
 drain_step next step n k c is = rw is

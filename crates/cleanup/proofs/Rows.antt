@@ -5,8 +5,8 @@ use Rattle.std.specs.Option.{option_map_or}
 use Rattle.std.proofs.lemmas.Bool.{cases_eq, eq-eqb, ne_eqb}
 use Rattle.ipc_ids.specs.declared.message.PhoneState.{PhoneState}
 use Rattle.phone_table.specs.Phones.{row_at, state_at, count_at}
-use Rattle.kernel_core.specs.State.{with_state_at}
-use Rattle.kernel_core.specs.Kept.{count_changed, recount}
+use Rattle.cleanup.specs.State.{with_state_at}
+use Rattle.cleanup.specs.Counts.{count_changed, recount}
 
 set_at : {A : Type 0} (xs : List A) (i j : ℕ) (v w : A) → slice_get (set xs i v) j ≡ Some w → ((j ≡ i) × (v ≡ w)) ⊎ ((j ≡ i → ⊥) × (slice_get xs j ≡ Some w))
 set_at [] i j v w h = absurd (cc h)

@@ -1,7 +1,7 @@
 use Rattle.std.proofs.Common.{◌+◌}
 use Rattle.phone_table.proofs.Lookups.{same_row}
-use Rattle.kernel_core.proofs.Reading.{recount_row, some_if}
-use Rattle.kernel_core.proofs.counts.count_up.Goals as goal
+use Rattle.cleanup.proofs.Recounting.{recount_row, some_if}
+use Rattle.cleanup.proofs.counts.count_up.Goals as goal
 
 pub returns-clause-states : goal.returns-clause-states
 returns-clause-states c = rw c.count_up.ensures (same_row c.args.phones.now.states c.args.from.task.0 c.row_mut.result.now.states c.row_mut.ensures.states)

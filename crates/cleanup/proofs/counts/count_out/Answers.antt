@@ -1,8 +1,8 @@
 use Rattle.std.proofs.Common.{◌-◌}
 use Rattle.std.proofs.lemmas.Bool.{eq-eqb}
 use Rattle.phone_table.proofs.Lookups.{same_row}
-use Rattle.kernel_core.proofs.Reading.{recount_row, some_if}
-use Rattle.kernel_core.proofs.counts.count_out.Goals as goal
+use Rattle.cleanup.proofs.Recounting.{recount_row, some_if}
+use Rattle.cleanup.proofs.counts.count_out.Goals as goal
 
 pub returns-in-Some-clause-states : goal.returns-in-Some-clause-states
 returns-in-Some-clause-states c = rw c.count_down.ensures (same_row c.args.phones.now.states c.args.from.task.0 c.row_mut.result.now.states c.row_mut.ensures.states)

@@ -1,0 +1,6 @@
+pub mod Lookups
+pub mod Rows
+pub mod Loops
+pub mod Soundness
+pub mod Counting
+pub mod Recounting
