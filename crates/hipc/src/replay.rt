@@ -79,7 +79,7 @@ impl Replay {
     fn request(&self, task: TaskNo) -> Option<Request>
         ensures { result ≡ option_map wanted (program_at self.now task) }
     {
-        if !self.kernel.is_alive(task) {
+        if !self.kernel.alive(task) {
             return None;
         }
         match self.programs.get((task.0 as usize).saturating_sub(1)) {
@@ -114,7 +114,7 @@ impl Replay {
         ensures state { OnOk result (self.new ≡ (hangup self.old task phone).state) }
         ensures entries { OnOk result (Tells out.old out.new (hangup self.old task phone).entries) }
     {
-        if !self.kernel.is_alive(task) {
+        if !self.kernel.alive(task) {
             return tell_gone(task, out);
         }
         match serve_request(&mut self.kernel, task, &Request::Hangup { phone }, out) {
