@@ -1,5 +1,5 @@
 -- A system call is one event, and an event of a schedule one system call at most.
-use Rattle.std.proofs.Common.{◌≡◌, ℕ, zero, suc, ◌+◌, ◌≤◌, Bool, true, false, Option, None, Some, refl, ap, sym, ◌∙◌, arith}
+use Rattle.std.proofs.Common.{◌≡◌, ℕ, zero, suc, ◌+◌, ◌≤◌, Bool, true, false, Option, None, Some, refl, ◌∙◌, arith}
 use Rattle.std.specs.Prelude.{if◌then◌else◌, nat_lt, nat_le}
 use Rattle.std.specs.Option.{option_map_or}
 use Rattle.ipc_ids.specs.declared.numbers.TaskNo.{TaskNo}
@@ -18,9 +18,9 @@ use Rattle.call_slab.specs.declared.call.Place.TheVariants.{Incoming, Answers}
 use Rattle.ipc_ids.specs.Codes.{enoent, eperm, elimit, eforward}
 use Rattle.ipc_ids.specs.Tables.{first_user_method, most_active}
 use Rattle.answerbox.specs.Calls.{call_at, front, active_calls}
-use Rattle.kernel_core.specs.State.{KernelState, Transition, Served, is_alive, phone_at, label_of, then_do, drain, nothing}
+use Rattle.kernel_core.specs.State.{KernelState, Served, is_alive, phone_at, label_of, then_do, drain, nothing}
 use Rattle.kernel_core.specs.Calling.{refusal, bare_reply, call_tested, call_through, call_over}
-use Rattle.kernel_core.specs.Answering.{settle_for, settle, answer_held, held_by}
+use Rattle.kernel_core.specs.Answering.{settle_for, answer_held, held_by}
 use Rattle.kernel_core.specs.Forwarding.{failed_forward, forward_over, forward_held, is_forwardable}
 use Rattle.kernel_core.specs.HangingUp.{hangup_over}
 use Rattle.kernel_core.specs.Receiving.{receive_first, next_unawaited, drop_answer, drop_unawaited}

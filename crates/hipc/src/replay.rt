@@ -41,6 +41,10 @@ impl Replay {
     ghost use Rattle.hipc.specs.Run.{start, program_at, turn, step, hangup};
 
     /// The tasks of a script before the first event.
+    ///
+    /// # Errors
+    ///
+    /// `NoMemory` where no memory was found.
     pub fn new(alloc: Global, script: &Script) -> Result<Replay, NoMemory>
         ensures { IfOk result (λ replay. replay ≡ start script.now) }
     {
@@ -53,8 +57,12 @@ impl Replay {
     }
 
     /// One event, whose entries go to the end of `out`.
+    ///
+    /// # Errors
+    ///
+    /// `NoMemory` where no memory was found. The event may be half done then.
     pub fn step(&mut self, event: &Event, out: &mut Trace) -> Result<(), NoMemory>
-        requires few { self.old.kernel.events < 2 ^ 24 }
+        requires few_events { self.old.kernel.events < 2 ^ 24 }
         ensures state { OnOk result (self.new ≡ (turn self.old event.now).state) }
         ensures entries { OnOk result (Tells out.old out.new (turn self.old event.now).entries) }
     {
@@ -65,7 +73,7 @@ impl Replay {
     }
 
     fn step_task(&mut self, task: TaskNo, out: &mut Trace) -> Result<(), NoMemory>
-        requires few { self.old.kernel.events < 2 ^ 24 }
+        requires few_events { self.old.kernel.events < 2 ^ 24 }
         ensures state { OnOk result (self.new ≡ (step self.old task).state) }
         ensures entries { OnOk result (Tells out.old out.new (step self.old task).entries) }
     {
@@ -94,7 +102,7 @@ impl Replay {
         request: &Request,
         out: &mut Trace,
     ) -> Result<(), NoMemory>
-        requires few { self.old.kernel.events < 2 ^ 24 }
+        requires few_events { self.old.kernel.events < 2 ^ 24 }
         requires request { option_map wanted (program_at self.old task) ≡ Some request.now }
         ensures state { OnOk result (self.new ≡ (step self.old task).state) }
         ensures entries { OnOk result (Tells out.old out.new (step self.old task).entries) }
@@ -110,7 +118,7 @@ impl Replay {
     }
 
     fn hang_up(&mut self, task: TaskNo, phone: u64, out: &mut Trace) -> Result<(), NoMemory>
-        requires few { self.old.kernel.events < 2 ^ 24 }
+        requires few_events { self.old.kernel.events < 2 ^ 24 }
         ensures state { OnOk result (self.new ≡ (hangup self.old task phone).state) }
         ensures entries { OnOk result (Tells out.old out.new (hangup self.old task phone).entries) }
     {
@@ -132,7 +140,7 @@ fn serve_request(
     out: &mut Trace,
 ) -> Result<Outcome, NoMemory>
     requires alive { is_alive kernel.old task ≡ true }
-    requires few { kernel.old.events < 2 ^ 24 }
+    requires few_events { kernel.old.events < 2 ^ 24 }
     ensures state { OnOk result (kernel.new ≡ (serve kernel.old task request.now).state) }
     ensures outcome { IfOk result (λ o. o ≡ (serve kernel.old task request.now).outcome) }
     ensures entries { OnOk result (Tells out.old out.new (request_entries task request.now (serve kernel.old task request.now))) }
@@ -156,8 +164,9 @@ fn tell_gone(task: TaskNo, out: &mut Trace) -> Result<(), NoMemory>
 fn add_tasks(kernel: &mut Kernel, tasks: &[TaskPlan]) -> Result<(), NoMemory>
     requires few { length kernel.old.tasks.alive + length tasks.now ≤ 64 }
     requires raw { All IsRawTask tasks.now }
-    requires no_call { kernel.old.calls.next_number ≡ 1 }
-    ensures { OnOk result (kernel.new ≡ with_tasks kernel.old tasks.now) }
+    requires no_event { kernel.old.events ≡ 0 }
+    ensures state { OnOk result (kernel.new ≡ with_tasks kernel.old tasks.now) }
+    ensures no_event { kernel.new.events ≡ 0 }
 {
     for task in tasks {
         let _ = kernel.add_task(task.limit)?;
@@ -166,7 +175,8 @@ fn add_tasks(kernel: &mut Kernel, tasks: &[TaskPlan]) -> Result<(), NoMemory>
 }
 
 fn add_wires(kernel: &mut Kernel, wires: &[Wire])
-    requires { AreOpen kernel.old wires.now }
+    requires free { AreOpen kernel.old wires.now }
+    requires no_event { kernel.old.events ≡ 0 }
     ensures { kernel.new ≡ with_wires kernel.old wires.now }
 {
     for wire in wires {
@@ -195,6 +205,10 @@ fn ops_of(bodies: &[Body]) -> &[Op]
 }
 
 /// The text of the run of a script under events.
+///
+/// # Errors
+///
+/// `NoMemory` where no memory was found.
 pub fn run_text(alloc: Global, script: &Script, events: &[Event]) -> Result<Vec<u8>, NoMemory>
     requires few { length events.now ≤ 65536 }
     ensures { IfOk result (λ text. text.items ≡ text_of (run script.now events.now)) }
