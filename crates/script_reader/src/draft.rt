@@ -158,7 +158,7 @@ impl Draft {
     #[tactic(auto, unfolding(crate::specs::Plans::with_wire))]
     pub fn add_wire(&mut self, from: &[u8], phone: u64, to: &[u8]) -> Result<(), LineFault>
         requires whole { IsWhole self.old }
-        ensures value { IsStep result self.old self.new (λ plan. with_wire plan from.now phone to.now) }
+        ensures value { IsStep result self.old self.new (λ p. with_wire p from.now phone to.now) }
         ensures whole { OnOk result (IsWhole self.new) }
     {
         let from = self.names.place_of(from).ok_or(Reason::Fault)?;

@@ -102,7 +102,7 @@ fn add_wire(draft: &mut Draft, words: &[&[u8]]) -> Result<(), LineFault>
 #[tactic(auto, unfolding(crate::specs::Lines::operation))]
 fn add_operation(draft: &mut Draft, verb: OpVerb, words: &[&[u8]]) -> Result<(), LineFault>
     requires { IsWhole draft.old }
-    ensures value { IsStep result draft.old draft.new (λ plan. operation plan verb (texts words.now)) }
+    ensures value { IsStep result draft.old draft.new (λ p. operation p verb (texts words.now)) }
     ensures whole { OnOk result (IsWhole draft.new) }
 {
     let op = op_of(verb, words)?;

@@ -67,10 +67,13 @@ pub fn read_script(alloc: Global, bytes: &[u8]) -> Result<Script, ScriptFault>
     ensures read { (plan : Plan) → result ≡ Ok plan → Spells after_line nothing bytes.now plan }
     ensures spelled { (plan : Plan) → Spells after_line nothing bytes.now plan
         → result ≢ Err ScriptFault.NoMemory → result ≡ Ok plan }
-    ensures fault { (n : ℕ) (why : Reason) → result ≡ Err (ScriptFault.Bad n why)
-        → IsFirstFault after_line nothing bytes.now n why }
-    ensures at_fault { (n : ℕ) (why : Reason) → IsFirstFault after_line nothing bytes.now n why
-        → result ≢ Err ScriptFault.NoMemory → result ≡ Err (ScriptFault.Bad n why) }
+    ensures fault { (line : ℕ) (reason : Reason)
+        → result ≡ Err (ScriptFault.Bad line reason)
+        → IsFirstFault after_line nothing bytes.now line reason }
+    ensures at_fault { (line : ℕ) (reason : Reason)
+        → IsFirstFault after_line nothing bytes.now line reason
+        → result ≢ Err ScriptFault.NoMemory
+        → result ≡ Err (ScriptFault.Bad line reason) }
 {
     read(alloc, bytes)
 }

@@ -222,10 +222,13 @@ pub fn read_schedule(
     ensures read { IfOk result (λ got. Spells (after_event script.now) [] bytes.now got.items) }
     ensures spelled { (events : List Event) → Spells (after_event script.now) [] bytes.now events
         → result ≢ Err ScheduleFault.NoMemory → IsOkAnd result (λ got. got.items ≡ events) }
-    ensures fault { (n : ℕ) (why : Reason) → result ≡ Err (ScheduleFault.Bad n why)
-        → IsFirstFault (after_event script.now) [] bytes.now n why }
-    ensures at_fault { (n : ℕ) (why : Reason) → IsFirstFault (after_event script.now) [] bytes.now n why
-        → result ≢ Err ScheduleFault.NoMemory → result ≡ Err (ScheduleFault.Bad n why) }
+    ensures fault { (line : ℕ) (reason : Reason)
+        → result ≡ Err (ScheduleFault.Bad line reason)
+        → IsFirstFault (after_event script.now) [] bytes.now line reason }
+    ensures at_fault { (line : ℕ) (reason : Reason)
+        → IsFirstFault (after_event script.now) [] bytes.now line reason
+        → result ≢ Err ScheduleFault.NoMemory
+        → result ≡ Err (ScheduleFault.Bad line reason) }
 {
     read_for(alloc, bytes, script)
 }
