@@ -46,7 +46,8 @@ impl Replay {
     ///
     /// `NoMemory` where no memory was found.
     pub fn new(alloc: Global, script: &Script) -> Result<Replay, NoMemory>
-        ensures { IfOk result (λ replay. replay ≡ start script.now) }
+        ensures state { IfOk result (λ replay. replay ≡ start script.now) }
+        ensures no_event { IfOk result (λ replay. replay.kernel.events ≡ 0) }
     {
         let mut kernel = Kernel::new(alloc);
         let tasks = script.tasks.as_slice();
@@ -65,6 +66,7 @@ impl Replay {
         requires few_events { self.old.kernel.events < 2 ^ 24 }
         ensures state { OnOk result (self.new ≡ (turn self.old event.now).state) }
         ensures entries { OnOk result (Tells out.old out.new (turn self.old event.now).entries) }
+        ensures events { OnOk result (self.new.kernel.events ≤ self.old.kernel.events + 1) }
     {
         match event {
             Event::Step(task) => self.step_task(*task, out),
@@ -76,6 +78,7 @@ impl Replay {
         requires few_events { self.old.kernel.events < 2 ^ 24 }
         ensures state { OnOk result (self.new ≡ (step self.old task).state) }
         ensures entries { OnOk result (Tells out.old out.new (step self.old task).entries) }
+        ensures events { OnOk result (self.new.kernel.events ≤ self.old.kernel.events + 1) }
     {
         match self.request(task) {
             Some(request) => self.step_alive(task, &request, out),
@@ -106,6 +109,7 @@ impl Replay {
         requires request { option_map wanted (program_at self.old task) ≡ Some request.now }
         ensures state { OnOk result (self.new ≡ (step self.old task).state) }
         ensures entries { OnOk result (Tells out.old out.new (step self.old task).entries) }
+        ensures events { OnOk result (self.new.kernel.events ≤ self.old.kernel.events + 1) }
     {
         match serve_request(&mut self.kernel, task, request, out) {
             Ok(outcome) => {
@@ -121,6 +125,7 @@ impl Replay {
         requires few_events { self.old.kernel.events < 2 ^ 24 }
         ensures state { OnOk result (self.new ≡ (hangup self.old task phone).state) }
         ensures entries { OnOk result (Tells out.old out.new (hangup self.old task phone).entries) }
+        ensures events { OnOk result (self.new.kernel.events ≤ self.old.kernel.events + 1) }
     {
         if !self.kernel.alive(task) {
             return tell_gone(task, out);
@@ -144,6 +149,7 @@ fn serve_request(
     ensures state { OnOk result (kernel.new ≡ (serve kernel.old task request.now).state) }
     ensures outcome { IfOk result (λ o. o ≡ (serve kernel.old task request.now).outcome) }
     ensures entries { OnOk result (Tells out.old out.new (request_entries task request.now (serve kernel.old task request.now))) }
+    ensures events { OnOk result (kernel.new.events ≡ kernel.old.events + 1) }
 {
     out.reserve(1)?;
     out.push(Entry::Head(task, *request));
@@ -177,7 +183,8 @@ fn add_tasks(kernel: &mut Kernel, tasks: &[TaskPlan]) -> Result<(), NoMemory>
 fn add_wires(kernel: &mut Kernel, wires: &[Wire])
     requires free { AreOpen kernel.old wires.now }
     requires no_event { kernel.old.events ≡ 0 }
-    ensures { kernel.new ≡ with_wires kernel.old wires.now }
+    ensures state { kernel.new ≡ with_wires kernel.old wires.now }
+    ensures no_event { kernel.new.events ≡ 0 }
 {
     for wire in wires {
         kernel.wire(wire.from, wire.phone, wire.to);
