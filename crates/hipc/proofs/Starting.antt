@@ -1,5 +1,5 @@
 -- The wires of a sound script are open once its tasks are there.
-use Rattle.std.proofs.Common.{◌≡◌, ℕ, zero, suc, ◌-◌, ◌<◌, ◌≤◌, Bool, true, false, List, [], ◌∷◌, ◌++◌, length, map, replicate, Option, Some, refl, ap, sym, ◌∙◌, arith, append_assoc, inl, inr}
+use Rattle.std.proofs.Common.{◌≡◌, ℕ, zero, suc, ◌-◌, ◌<◌, Bool, true, List, [], ◌∷◌, ◌++◌, length, map, replicate, Option, Some, refl, ap, sym, ◌∙◌, arith, append_assoc, inl, inr}
 use Rattle.std.specs.Prelude.{slice_get, ◌≢◌, IsSome, All, slice_index_or}
 use Rattle.std.proofs.lemmas.Option.{slice_get-map, get_or_from_slice_get}
 use Rattle.std.proofs.lemmas.List.{append-nil}
@@ -12,7 +12,7 @@ use Rattle.script_reader.specs.declared.plan.TaskPlan.{TaskPlan}
 use Rattle.script_reader.specs.declared.plan.Wire.{Wire}
 use Rattle.script_reader.specs.Plan.{Plan}
 use Rattle.script_reader.specs.Sound.{IsTask, Leads, PhonesDiffer, IsSound}
-use Rattle.phone_table.specs.Phones.{row_at, state_at}
+use Rattle.phone_table.specs.Phones.{state_at}
 use Rattle.cleanup.specs.State.{Tasks, KernelState, start, alive_in, with_task, with_state_at}
 use Rattle.cleanup.proofs.Rows.{state_changed_at}
 use Rattle.cleanup.proofs.Soundness.{value_of, phone_kept}

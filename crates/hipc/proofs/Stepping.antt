@@ -1,5 +1,5 @@
 -- A step whose request is known is that of the task's program.
-use Rattle.std.proofs.Common.{◌≡◌, ℕ, ◌-◌, Bool, true, false, List, Option, None, Some, refl, ap, sym, ◌∙◌, set, subst}
+use Rattle.std.proofs.Common.{◌≡◌, ℕ, ◌-◌, Bool, true, false, Option, None, Some, refl, ap, ◌∙◌, set, subst}
 use Rattle.std.specs.Prelude.{slice_get, if◌then◌else◌, option_map, get_or}
 use Rattle.std.proofs.lemmas.Option.{get_or_from_slice_get}
 use Rattle.ipc_ids.specs.declared.numbers.TaskNo.{TaskNo}

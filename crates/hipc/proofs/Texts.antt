@@ -1,12 +1,11 @@
 -- The text of a run, event by event.
-use Rattle.std.proofs.Common.{◌≡◌, ℕ, suc, ◌+◌, ◌<◌, ◌≤◌, ◌++◌, [], ◌∷◌, List, length, drop, refl, ap, sym, ◌∙◌, append_assoc, arith, length-drop, drop-cons}
+use Rattle.std.proofs.Common.{◌≡◌, ℕ, suc, ◌+◌, ◌<◌, ◌≤◌, ◌++◌, [], ◌∷◌, List, length, drop, refl, ap, sym, ◌∙◌, append_assoc, arith, drop-cons}
 use Rattle.std.specs.Prelude.{slice_index_or}
 use Rattle.std.proofs.lemmas.List.{append-nil, drop_all}
 use Rattle.ipc_ids.specs.declared.entry.Entry.{Entry}
 use Rattle.ipc_ids.specs.declared.message.Event.{Event}
 use Rattle.hipc.specs.Text.{text_of_entry, text_of}
 use Rattle.hipc.specs.Run.{RunState, turn, run_from}
-use Rattle.hipc.proofs.Events.{events_after}
 
 text_append : (a b : List Entry) → text_of (a ++ b) ≡ text_of a ++ text_of b
 text_append [] b = refl
@@ -25,13 +24,6 @@ one_more now events i d text all h so_far =
     append_assoc text (text_of (turn now e).entries) (text_of rest)
     ∙ ap (λ t. text ++ t) (sym (text_append (turn now e).entries rest))
     ∙ rw split at so_far
-
--- the events so far and those that are left
-pub fewer : (now : RunState) (events : List Event) (i : ℕ) (d : Event) → i < length events
-    → now.kernel.events + length (drop i events) ≤ 65536
-    → (turn now (slice_index_or events i d)).state.kernel.events + length (drop (i + 1) events) ≤ 65536
-fewer now events i d h few =
-    omega (arith, events_after now (slice_index_or events i d), length-drop i events, length-drop (i + 1) events)
 
 -- no event is left
 pub no_more : (now : RunState) (events : List Event) (i : ℕ) (text all : List ℕ) → length events ≤ i

@@ -27,6 +27,10 @@ impl Model for RawProgram {
 
 impl RawProgram {
     /// A program before its first operation, with 0 in all registers.
+    ///
+    /// # Errors
+    ///
+    /// `NoMemory` where no memory was found.
     pub fn new(alloc: Global, ops: &[Op]) -> Result<RawProgram, NoMemory>
         ensures { IfOk result (λ raw. raw ≡ started ops.now) }
     {

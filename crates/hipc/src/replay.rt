@@ -41,8 +41,13 @@ impl Replay {
     ghost use Rattle.hipc.specs.Run.{start, program_at, turn, step, hangup};
 
     /// The tasks of a script before the first event.
+    ///
+    /// # Errors
+    ///
+    /// `NoMemory` where no memory was found.
     pub fn new(alloc: Global, script: &Script) -> Result<Replay, NoMemory>
-        ensures { IfOk result (λ replay. replay ≡ start script.now) }
+        ensures state { IfOk result (λ replay. replay ≡ start script.now) }
+        ensures no_event { IfOk result (λ replay. replay.kernel.events ≡ 0) }
     {
         let mut kernel = Kernel::new(alloc);
         let tasks = script.tasks.as_slice();
@@ -53,10 +58,15 @@ impl Replay {
     }
 
     /// One event, whose entries go to the end of `out`.
+    ///
+    /// # Errors
+    ///
+    /// `NoMemory` where no memory was found. The event may be half done then.
     pub fn step(&mut self, event: &Event, out: &mut Trace) -> Result<(), NoMemory>
-        requires few { self.old.kernel.events < 2 ^ 24 }
+        requires few_events { self.old.kernel.events < 2 ^ 24 }
         ensures state { OnOk result (self.new ≡ (turn self.old event.now).state) }
         ensures entries { OnOk result (Tells out.old out.new (turn self.old event.now).entries) }
+        ensures events { OnOk result (self.new.kernel.events ≤ self.old.kernel.events + 1) }
     {
         match event {
             Event::Step(task) => self.step_task(*task, out),
@@ -65,9 +75,10 @@ impl Replay {
     }
 
     fn step_task(&mut self, task: TaskNo, out: &mut Trace) -> Result<(), NoMemory>
-        requires few { self.old.kernel.events < 2 ^ 24 }
+        requires few_events { self.old.kernel.events < 2 ^ 24 }
         ensures state { OnOk result (self.new ≡ (step self.old task).state) }
         ensures entries { OnOk result (Tells out.old out.new (step self.old task).entries) }
+        ensures events { OnOk result (self.new.kernel.events ≤ self.old.kernel.events + 1) }
     {
         match self.request(task) {
             Some(request) => self.step_alive(task, &request, out),
@@ -79,7 +90,7 @@ impl Replay {
     fn request(&self, task: TaskNo) -> Option<Request>
         ensures { result ≡ option_map wanted (program_at self.now task) }
     {
-        if !self.kernel.is_alive(task) {
+        if !self.kernel.alive(task) {
             return None;
         }
         match self.programs.get((task.0 as usize).saturating_sub(1)) {
@@ -94,10 +105,11 @@ impl Replay {
         request: &Request,
         out: &mut Trace,
     ) -> Result<(), NoMemory>
-        requires few { self.old.kernel.events < 2 ^ 24 }
+        requires few_events { self.old.kernel.events < 2 ^ 24 }
         requires request { option_map wanted (program_at self.old task) ≡ Some request.now }
         ensures state { OnOk result (self.new ≡ (step self.old task).state) }
         ensures entries { OnOk result (Tells out.old out.new (step self.old task).entries) }
+        ensures events { OnOk result (self.new.kernel.events ≤ self.old.kernel.events + 1) }
     {
         match serve_request(&mut self.kernel, task, request, out) {
             Ok(outcome) => {
@@ -110,11 +122,12 @@ impl Replay {
     }
 
     fn hang_up(&mut self, task: TaskNo, phone: u64, out: &mut Trace) -> Result<(), NoMemory>
-        requires few { self.old.kernel.events < 2 ^ 24 }
+        requires few_events { self.old.kernel.events < 2 ^ 24 }
         ensures state { OnOk result (self.new ≡ (hangup self.old task phone).state) }
         ensures entries { OnOk result (Tells out.old out.new (hangup self.old task phone).entries) }
+        ensures events { OnOk result (self.new.kernel.events ≤ self.old.kernel.events + 1) }
     {
-        if !self.kernel.is_alive(task) {
+        if !self.kernel.alive(task) {
             return tell_gone(task, out);
         }
         match serve_request(&mut self.kernel, task, &Request::Hangup { phone }, out) {
@@ -132,10 +145,11 @@ fn serve_request(
     out: &mut Trace,
 ) -> Result<Outcome, NoMemory>
     requires alive { is_alive kernel.old task ≡ true }
-    requires few { kernel.old.events < 2 ^ 24 }
+    requires few_events { kernel.old.events < 2 ^ 24 }
     ensures state { OnOk result (kernel.new ≡ (serve kernel.old task request.now).state) }
     ensures outcome { IfOk result (λ o. o ≡ (serve kernel.old task request.now).outcome) }
     ensures entries { OnOk result (Tells out.old out.new (request_entries task request.now (serve kernel.old task request.now))) }
+    ensures events { OnOk result (kernel.new.events ≡ kernel.old.events + 1) }
 {
     out.reserve(1)?;
     out.push(Entry::Head(task, *request));
@@ -156,8 +170,9 @@ fn tell_gone(task: TaskNo, out: &mut Trace) -> Result<(), NoMemory>
 fn add_tasks(kernel: &mut Kernel, tasks: &[TaskPlan]) -> Result<(), NoMemory>
     requires few { length kernel.old.tasks.alive + length tasks.now ≤ 64 }
     requires raw { All IsRawTask tasks.now }
-    requires no_call { kernel.old.calls.next_number ≡ 1 }
-    ensures { OnOk result (kernel.new ≡ with_tasks kernel.old tasks.now) }
+    requires no_event { kernel.old.events ≡ 0 }
+    ensures state { OnOk result (kernel.new ≡ with_tasks kernel.old tasks.now) }
+    ensures no_event { kernel.new.events ≡ 0 }
 {
     for task in tasks {
         let _ = kernel.add_task(task.limit)?;
@@ -166,8 +181,10 @@ fn add_tasks(kernel: &mut Kernel, tasks: &[TaskPlan]) -> Result<(), NoMemory>
 }
 
 fn add_wires(kernel: &mut Kernel, wires: &[Wire])
-    requires { AreOpen kernel.old wires.now }
-    ensures { kernel.new ≡ with_wires kernel.old wires.now }
+    requires free { AreOpen kernel.old wires.now }
+    requires no_event { kernel.old.events ≡ 0 }
+    ensures state { kernel.new ≡ with_wires kernel.old wires.now }
+    ensures no_event { kernel.new.events ≡ 0 }
 {
     for wire in wires {
         kernel.wire(wire.from, wire.phone, wire.to);
@@ -195,6 +212,10 @@ fn ops_of(bodies: &[Body]) -> &[Op]
 }
 
 /// The text of the run of a script under events.
+///
+/// # Errors
+///
+/// `NoMemory` where no memory was found.
 pub fn run_text(alloc: Global, script: &Script, events: &[Event]) -> Result<Vec<u8>, NoMemory>
     requires few { length events.now ≤ 65536 }
     ensures { IfOk result (λ text. text.items ≡ text_of (run script.now events.now)) }

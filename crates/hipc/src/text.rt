@@ -223,6 +223,10 @@ impl fmt::Display for Line {
 }
 
 /// Adds the line of an entry to a text.
+///
+/// # Errors
+///
+/// `NoMemory` where no memory was found.
 pub fn entry_text(alloc: Global, entry: &Entry, into: &mut Vec<u8>) -> Result<(), NoMemory>
     ensures ok { OnOk result (into.new.items ≡ into.old.items ++ text_of_entry entry.now) }
     ensures err { OnErr result (into.new.items ≡ into.old.items) }
@@ -233,7 +237,11 @@ pub fn entry_text(alloc: Global, entry: &Entry, into: &mut Vec<u8>) -> Result<()
     Ok(())
 }
 
-/// The text of entries.
+/// The lines of entries.
+///
+/// # Errors
+///
+/// `NoMemory` where no memory was found.
 pub fn entries_text(alloc: Global, entries: &[Entry]) -> Result<Vec<u8>, NoMemory>
     ensures { IfOk result (λ text. text.items ≡ text_of entries.now) }
 {

@@ -97,6 +97,7 @@ impl Kernel {
         ensures state { OnOk result (self.new ≡ (serve self.old who request.now).state) }
         ensures outcome { IfOk result (λ outcome. outcome ≡ (serve self.old who request.now).outcome) }
         ensures entries { OnOk result (out.new.entries ≡ out.old.entries ++ (serve self.old who request.now).entries) }
+        ensures events { OnOk result (self.new.events ≡ self.old.events + 1) }
         ensures unchanged { OnErr result (self.new ≡ self.old) }
         ensures trace_unchanged { OnErr result (out.new.entries ≡ out.old.entries) }
     {

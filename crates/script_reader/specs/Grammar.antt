@@ -9,15 +9,18 @@ use Rattle.script_reader.specs.Text.{lines}
 -- each line adds its part to what the lines before it made
 abbrev pub Makes : {A : Type 0} → (A → List ℕ → Result A Reason) → A → List (List ℕ) → A → Type 0
 Makes after before [] made = made ≡ before
-Makes {A} after before (line ∷ others) made = (next : A) × (after before line ≡ Ok next) × Makes after next others made
+Makes {A} after before (line ∷ others) made =
+    (next : A) × (after before line ≡ Ok next) × Makes after next others made
 
 -- the text spells this: no line is at fault, and the lines make it of nothing
-pub record Spells {A : Type 0} (after : A → List ℕ → Result A Reason) (nothing : A) (text : List ℕ) (made : A) : Type 0 where
+pub record Spells {A : Type 0} (after : A → List ℕ → Result A Reason) (nothing : A) (text : List ℕ)
+    (made : A) : Type 0 where
   pub short : length text ≤ most_bytes
   pub lines_make : Makes after nothing (lines text) made
 
--- the lines before this one are not at fault, and this one is, for this reason, after what they make
-pub record FaultAt {A : Type 0} (after : A → List ℕ → Result A Reason) (nothing : A) (all : List (List ℕ)) (number : ℕ) (reason : Reason) : Type 0 where
+-- the lines before this one are not at fault, and this one is, for this reason, after what those make
+pub record FaultAt {A : Type 0} (after : A → List ℕ → Result A Reason) (nothing : A) (all : List (List ℕ))
+    (number : ℕ) (reason : Reason) : Type 0 where
   pub before : List (List ℕ)
   pub line : List ℕ
   pub behind : List (List ℕ)
@@ -30,4 +33,5 @@ pub record FaultAt {A : Type 0} (after : A → List ℕ → Result A Reason) (no
 -- the first fault of a text: that it is too long, which is line 0, or that of its first line at fault
 abbrev pub IsFirstFault : {A : Type 0} → (A → List ℕ → Result A Reason) → A → List ℕ → ℕ → Reason → Type 0
 IsFirstFault after nothing text number reason =
-    ((most_bytes < length text) × (number ≡ 0) × (reason ≡ Fault)) ⊎ ((length text ≤ most_bytes) × FaultAt after nothing (lines text) number reason)
+    ((most_bytes < length text) × (number ≡ 0) × (reason ≡ Fault))
+    ⊎ ((length text ≤ most_bytes) × FaultAt after nothing (lines text) number reason)

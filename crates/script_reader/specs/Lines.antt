@@ -24,7 +24,8 @@ kind_of word = look_up kinds word
 
 -- a number from 1 to 64
 unfoldable pub limit_of : List ℕ → Option ℕ
-limit_of word = option_and_then (λ n. if nat_le 1 n && nat_le n most_phones then Some n else None) (number word)
+limit_of word =
+    option_and_then (λ n. if nat_le 1 n && nat_le n most_phones then Some n else None) (number word)
 
 unfoldable pub task_with : List ℕ → List ℕ → Option ℕ → Result (List ℕ × Kind × ℕ) Reason
 task_with name kind limit = do

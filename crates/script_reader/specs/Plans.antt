@@ -53,7 +53,14 @@ unfoldable pub with_task : Plan → List ℕ → Kind → ℕ → Result Plan Re
 with_task plan name kind limit =
     if is_ns name || is_some (place_of (task_names plan.tasks) name) then Err Fault
     else (if nat_le most_tasks (length plan.tasks) then Err Fault
-    else Ok (record plan { tasks = plan.tasks ++ record { name = name; kind = kind; limit = limit; bodies = one_body [] } ∷ [] }))
+    else Ok (record plan {
+      tasks = plan.tasks ++ record { name = name; kind = kind; limit = limit; bodies = one_body [] } ∷ [];
+    }))
+
+-- the wire between the tasks at two places
+abbrev pub wire_between : ℕ → ℕ → ℕ → Wire
+wire_between from phone to =
+    record { from = record { 0 = from + 1 }; phone = record { 0 = phone }; to = record { 0 = to + 1 } }
 
 -- one more wire, between the tasks of two names
 unfoldable pub with_wire : Plan → List ℕ → ℕ → List ℕ → Result Plan Reason
@@ -61,7 +68,7 @@ with_wire plan from phone to = do
   from ← ok_or (place_of (task_names plan.tasks) from) Fault
   to ← ok_or (place_of (task_names plan.tasks) to) Fault
   if nat_le (limit_at plan.tasks from) phone || is_wired plan.wires (from + 1) phone then Err Fault
-      else Ok (record plan { wires = plan.wires ++ record { from = record { 0 = from + 1 }; phone = record { 0 = phone }; to = record { 0 = to + 1 } } ∷ [] })
+      else Ok (record plan { wires = plan.wires ++ wire_between from phone to ∷ [] })
 
 -- a change of the last of a list
 abbrev pub on_last : {A : Type 0} → (A → Result A Reason) → List A → Result (List A) Reason
@@ -70,10 +77,12 @@ on_last change (x ∷ []) = change x >>= λ y. Ok (y ∷ [])
 on_last change (x ∷ next ∷ others) = on_last change (next ∷ others) >>= λ changed. Ok (x ∷ changed)
 
 abbrev pub body_with_op : Op → Body → Result Body Reason
-body_with_op op body = if nat_le most_operations (length body.ops) then Err Fault else Ok (record body { ops = body.ops ++ op ∷ [] })
+body_with_op op body =
+    if nat_le most_operations (length body.ops) then Err Fault else Ok (record body { ops = body.ops ++ op ∷ [] })
 
 abbrev pub task_with_op : Op → TaskPlan → Result TaskPlan Reason
-task_with_op op task = on_last (body_with_op op) task.bodies >>= λ bodies. Ok (record task { bodies = bodies })
+task_with_op op task =
+    on_last (body_with_op op) task.bodies >>= λ bodies. Ok (record task { bodies = bodies })
 
 -- one more operation of the last body of the last task
 unfoldable pub with_op : Plan → Op → Result Plan Reason

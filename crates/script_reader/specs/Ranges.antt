@@ -16,7 +16,8 @@ KeepsRanges (Call phone method args) = IsInRange phone × IsInRange method × Al
 KeepsRanges Receive = ⊤
 KeepsRanges (Answer call code args) = IsInRange call × IsInRange code × All IsInRange args
 KeepsRanges (Forward call phone mode) = IsInRange call × IsInRange phone
-KeepsRanges (ForwardWith call phone mode method args) = IsInRange call × IsInRange phone × IsInRange method × All IsInRange args
+KeepsRanges (ForwardWith call phone mode method args) =
+    IsInRange call × IsInRange phone × IsInRange method × All IsInRange args
 KeepsRanges (Hangup phone) = IsInRange phone
 KeepsRanges (Set register value) = (register < 32) × IsInRange value
 KeepsRanges (Jump to) = to < 65536

@@ -23,11 +23,13 @@ at_line n (Err reason) others = Err (n, reason)
 -- lines numbered from n on, of x
 abbrev pub lines_from : {A : Type 0} → (A → List ℕ → Result A Reason) → ℕ → A → List (List ℕ) → Result A (ℕ × Reason)
 lines_from after n x [] = Ok x
-lines_from after n x (line ∷ others) = at_line n (after x line) (λ next. lines_from after (n + 1) next others)
+lines_from after n x (line ∷ others) =
+    at_line n (after x line) (λ next. lines_from after (n + 1) next others)
 
 -- what a text spells, or its first fault
 unfoldable pub reading : {A : Type 0} → (A → List ℕ → Result A Reason) → A → List ℕ → Result A (ℕ × Reason)
-reading after nothing text = if nat_lt most_bytes (length text) then Err (0, Fault) else lines_from after 1 nothing (lines text)
+reading after nothing text =
+    if nat_lt most_bytes (length text) then Err (0, Fault) else lines_from after 1 nothing (lines text)
 
 -- the script that bytes spell, or their first fault
 abbrev pub script_of : List ℕ → Result Plan (ℕ × Reason)

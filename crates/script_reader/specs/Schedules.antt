@@ -25,7 +25,10 @@ event_verb_of word = look_up event_verbs word
 
 -- x N, where N is from 1 to 65,536
 unfoldable pub count_of : List ℕ → List ℕ → Option ℕ
-count_of times word = option_and_then (λ n. if bytes_eq times (codes "x") && nat_le 1 n && nat_le n most_events then Some n else None) (number word)
+count_of times word =
+    option_and_then
+    (λ n. if bytes_eq times (codes "x") && nat_le 1 n && nat_le n most_events then Some n else None)
+    (number word)
 
 -- so many steps of the task of a name
 unfoldable pub step_with : List (List ℕ) → List ℕ → Option ℕ → Result (Event × ℕ) Reason
@@ -52,7 +55,8 @@ hangup_of names _ = Err Fault
 
 -- an event so many times more, if there is room for it
 unfoldable pub with_events : List Event → Event → ℕ → Result (List Event) Reason
-with_events before event count = if nat_lt most_events (length before + count) then Err Fault else Ok (before ++ replicate count event)
+with_events before event count =
+    if nat_lt most_events (length before + count) then Err Fault else Ok (before ++ replicate count event)
 
 -- what a first word gives, and how often
 abbrev pub events_of : List (List ℕ) → Option EventVerb → List (List ℕ) → Result (Event × ℕ) Reason
@@ -63,10 +67,12 @@ events_of names (Some Hangup) words = hangup_of names words
 -- a line without words is passed over
 abbrev pub after_event_words : List (List ℕ) → List Event → List (List ℕ) → Result (List Event) Reason
 after_event_words names before [] = Ok before
-after_event_words names before (first ∷ others) = events_of names (event_verb_of first) others >>= λ (event, count). with_events before event count
+after_event_words names before (first ∷ others) =
+    events_of names (event_verb_of first) others >>= λ (event, count). with_events before event count
 
 unfoldable pub after_event_line : List (List ℕ) → List Event → List ℕ → Result (List Event) Reason
-after_event_line names before line = if list_all is_allowed line then after_event_words names before (words line) else Err Fault
+after_event_line names before line =
+    if list_all is_allowed line then after_event_words names before (words line) else Err Fault
 
 -- the names are those of the script's tasks
 abbrev pub after_event : Plan → List Event → List ℕ → Result (List Event) Reason

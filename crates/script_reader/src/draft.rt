@@ -1,6 +1,6 @@
 //! A script that is still read: its last task may get more operations.
 ghost use Rattle.std.specs.Prelude.{◌≡◌, ◌≤◌, ◌++◌, None, IfOk, OnOk};
-ghost use Rattle.script_reader.specs.Drafts.{last_plan, last_plans, plan_of, IsWhole};
+ghost use Rattle.script_reader.specs.Drafts.{last_plan, last_plans, plan_of, IsStep, IsWhole};
 ghost use Rattle.script_reader.specs.Plans.{nothing, is_ns, is_wired, limit_at, one_body, with_task, with_wire, with_op, task_with_op, Follows};
 ghost use Rattle.script_reader.specs.Ranges.{KeepsRanges};
 ghost use Rattle.script_reader.specs.Sound.{IsRawTask};
@@ -121,7 +121,7 @@ impl Draft {
         requires some_phones { 1 ≤ limit }
         requires few_phones { limit ≤ 64 }
         requires whole { IsWhole self.old }
-        ensures value { Follows result (plan_of self.new) (with_task (plan_of self.old) name kind limit) }
+        ensures value { IsStep result self.old self.new (λ plan. with_task plan name kind limit) }
         ensures whole { OnOk result (IsWhole self.new) }
     {
         if is_ns(name.as_slice()) || self.names.place_of(name.as_slice()).is_some() {
@@ -158,7 +158,7 @@ impl Draft {
     #[tactic(auto, unfolding(crate::specs::Plans::with_wire))]
     pub fn add_wire(&mut self, from: &[u8], phone: u64, to: &[u8]) -> Result<(), LineFault>
         requires whole { IsWhole self.old }
-        ensures value { Follows result (plan_of self.new) (with_wire (plan_of self.old) from.now phone to.now) }
+        ensures value { IsStep result self.old self.new (λ p. with_wire p from.now phone to.now) }
         ensures whole { OnOk result (IsWhole self.new) }
     {
         let from = self.names.place_of(from).ok_or(Reason::Fault)?;
@@ -181,7 +181,7 @@ impl Draft {
     pub fn add_op(&mut self, op: Op) -> Result<(), LineFault>
         requires ranges { KeepsRanges op }
         requires whole { IsWhole self.old }
-        ensures value { Follows result (plan_of self.new) (with_op (plan_of self.old) op) }
+        ensures value { IsStep result self.old self.new (λ plan. with_op plan op) }
         ensures whole { OnOk result (IsWhole self.new) }
     {
         match &mut self.last {

@@ -3,8 +3,7 @@ ghost use Rattle.std.specs.Prelude.{◌≡◌, ◌≤◌, IfSome, IfOk, OnOk};
 ghost use Rattle.std.specs.Option.{ForSome};
 ghost use Rattle.script_reader.specs.Text.{texts};
 ghost use Rattle.script_reader.specs.Lines.{kind_of, limit_of, task_with, task_of, wire_of, task, wire, operation, after_words, after_line};
-ghost use Rattle.script_reader.specs.Plans.{Follows};
-ghost use Rattle.script_reader.specs.Drafts.{plan_of, IsWhole};
+ghost use Rattle.script_reader.specs.Drafts.{IsStep, IsWhole};
 
 use crate::draft::Draft;
 use crate::fault::{LineFault, Reason};
@@ -83,7 +82,7 @@ fn wire_of(words: &[&[u8]]) -> Result<(Name, u64, Name), Reason>
 #[tactic(auto, unfolding(crate::specs::Lines::task))]
 fn add_task(draft: &mut Draft, alloc: Global, words: &[&[u8]]) -> Result<(), LineFault>
     requires { IsWhole draft.old }
-    ensures value { Follows result (plan_of draft.new) (task (plan_of draft.old) (texts words.now)) }
+    ensures value { IsStep result draft.old draft.new (λ plan. task plan (texts words.now)) }
     ensures whole { OnOk result (IsWhole draft.new) }
 {
     let (name, kind, limit) = task_of(words)?;
@@ -93,7 +92,7 @@ fn add_task(draft: &mut Draft, alloc: Global, words: &[&[u8]]) -> Result<(), Lin
 #[tactic(auto, unfolding(crate::specs::Lines::wire))]
 fn add_wire(draft: &mut Draft, words: &[&[u8]]) -> Result<(), LineFault>
     requires { IsWhole draft.old }
-    ensures value { Follows result (plan_of draft.new) (wire (plan_of draft.old) (texts words.now)) }
+    ensures value { IsStep result draft.old draft.new (λ plan. wire plan (texts words.now)) }
     ensures whole { OnOk result (IsWhole draft.new) }
 {
     let (from, phone, to) = wire_of(words)?;
@@ -103,7 +102,7 @@ fn add_wire(draft: &mut Draft, words: &[&[u8]]) -> Result<(), LineFault>
 #[tactic(auto, unfolding(crate::specs::Lines::operation))]
 fn add_operation(draft: &mut Draft, verb: OpVerb, words: &[&[u8]]) -> Result<(), LineFault>
     requires { IsWhole draft.old }
-    ensures value { Follows result (plan_of draft.new) (operation (plan_of draft.old) verb (texts words.now)) }
+    ensures value { IsStep result draft.old draft.new (λ p. operation p verb (texts words.now)) }
     ensures whole { OnOk result (IsWhole draft.new) }
 {
     let op = op_of(verb, words)?;
@@ -112,7 +111,7 @@ fn add_operation(draft: &mut Draft, verb: OpVerb, words: &[&[u8]]) -> Result<(),
 
 fn add_words(draft: &mut Draft, alloc: Global, words: &[&[u8]]) -> Result<(), LineFault>
     requires { IsWhole draft.old }
-    ensures value { Follows result (plan_of draft.new) (after_words (plan_of draft.old) (texts words.now)) }
+    ensures value { IsStep result draft.old draft.new (λ plan. after_words plan (texts words.now)) }
     ensures whole { OnOk result (IsWhole draft.new) }
 {
     let [first, others @ ..] = words else {
@@ -130,7 +129,7 @@ fn add_words(draft: &mut Draft, alloc: Global, words: &[&[u8]]) -> Result<(), Li
 #[tactic(auto, unfolding(crate::specs::Lines::after_line))]
 pub fn add_line(draft: &mut Draft, alloc: Global, line: &[u8]) -> Result<(), LineFault>
     requires { IsWhole draft.old }
-    ensures value { Follows result (plan_of draft.new) (after_line (plan_of draft.old) line.now) }
+    ensures value { IsStep result draft.old draft.new (λ plan. after_line plan line.now) }
     ensures whole { OnOk result (IsWhole draft.new) }
 {
     if !all_allowed(line) {

@@ -64,13 +64,16 @@ fn read(alloc: Global, bytes: &[u8]) -> Result<Script, ScriptFault>
 /// come for any bytes.
 pub fn read_script(alloc: Global, bytes: &[u8]) -> Result<Script, ScriptFault>
     ensures value { Agrees fault_in_script result (script_of bytes.now) }
-    ensures read { (script : Plan) → result ≡ Ok script → Spells after_line nothing bytes.now script }
-    ensures spelled { (script : Plan) → Spells after_line nothing bytes.now script
-        → result ≢ Err ScriptFault.NoMemory → result ≡ Ok script }
-    ensures fault { (line : ℕ) (reason : Reason) → result ≡ Err (ScriptFault.Bad line reason)
+    ensures read { (plan : Plan) → result ≡ Ok plan → Spells after_line nothing bytes.now plan }
+    ensures spelled { (plan : Plan) → Spells after_line nothing bytes.now plan
+        → result ≢ Err ScriptFault.NoMemory → result ≡ Ok plan }
+    ensures fault { (line : ℕ) (reason : Reason)
+        → result ≡ Err (ScriptFault.Bad line reason)
         → IsFirstFault after_line nothing bytes.now line reason }
-    ensures at_fault { (line : ℕ) (reason : Reason) → IsFirstFault after_line nothing bytes.now line reason
-        → result ≢ Err ScriptFault.NoMemory → result ≡ Err (ScriptFault.Bad line reason) }
+    ensures at_fault { (line : ℕ) (reason : Reason)
+        → IsFirstFault after_line nothing bytes.now line reason
+        → result ≢ Err ScriptFault.NoMemory
+        → result ≡ Err (ScriptFault.Bad line reason) }
 {
     read(alloc, bytes)
 }

@@ -219,10 +219,11 @@ pub fn read_schedule(
 ) -> Result<Vec<Event>, ScheduleFault>
     ensures value { Agrees fault_in_schedule (events_in result) (schedule_of script.now bytes.now) }
     ensures few { IfOk result (λ events. length events.items ≤ 65536) }
-    ensures read { IfOk result (λ events. Spells (after_event script.now) [] bytes.now events.items) }
+    ensures read { IfOk result (λ got. Spells (after_event script.now) [] bytes.now got.items) }
     ensures spelled { (events : List Event) → Spells (after_event script.now) [] bytes.now events
-        → result ≢ Err ScheduleFault.NoMemory → IsOkAnd result (λ read. read.items ≡ events) }
-    ensures fault { (line : ℕ) (reason : Reason) → result ≡ Err (ScheduleFault.Bad line reason)
+        → result ≢ Err ScheduleFault.NoMemory → IsOkAnd result (λ got. got.items ≡ events) }
+    ensures fault { (line : ℕ) (reason : Reason)
+        → result ≡ Err (ScheduleFault.Bad line reason)
         → IsFirstFault (after_event script.now) [] bytes.now line reason }
     ensures at_fault { (line : ℕ) (reason : Reason)
         → IsFirstFault (after_event script.now) [] bytes.now line reason

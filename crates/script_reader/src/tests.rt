@@ -259,14 +259,19 @@ fn events_are_read(rt: HostRuntime) {
     assert_eq!(rt; events.as_slice(), wanted.as_slice());
 }
 
+fn spaces(rt: &HostRuntime, count: usize) -> Result<Vec<u8>, Fail> {
+    Ok(vec![in rt.alloc(); b' '; count]?)
+}
+
 #[test]
 fn the_longest_file_is_read(rt: HostRuntime) -> Result<(), Fail> {
-    let spaces = vec![in rt.alloc(); b' '; 1_048_577]?;
-    let script = read_script(rt.alloc(), &spaces[..1_048_576]).expect(&rt, "a script");
+    let longest = spaces(&rt, 1_048_576)?;
+    let script = read_script(rt.alloc(), longest.as_slice()).expect(&rt, "a script");
     assert_eq!(rt; script.tasks.as_slice().len(), 0);
-    let events = read_schedule(rt.alloc(), &spaces[..1_048_576], &script);
+    let events = read_schedule(rt.alloc(), longest.as_slice(), &script);
     assert_eq!(rt; events.expect(&rt, "a schedule").len(), 0);
-    assert_eq!(rt; fault_of_script(&rt, spaces.as_slice()), Some(0));
-    assert_eq!(rt; fault_of_schedule(&rt, spaces.as_slice(), &script), Some(0));
+    let longer = spaces(&rt, 1_048_577)?;
+    assert_eq!(rt; fault_of_script(&rt, longer.as_slice()), Some(0));
+    assert_eq!(rt; fault_of_schedule(&rt, longer.as_slice(), &script), Some(0));
     Ok(())
 }

@@ -6,5 +6,5 @@ abbrev pub invariant-loop-task : goal.invariant-loop-task
 invariant-loop-task l = record {
   state : with_tasks l.kernel (drop l.task-index l.tasks) ≡ with_tasks l.fn.kernel l.tasks;
   few : length l.kernel.tasks.alive + length (drop l.task-index l.tasks) ≤ 64;
-  no_call : l.kernel.calls.next_number ≡ 1;
+  no_event : l.kernel.events ≡ 0;
 }

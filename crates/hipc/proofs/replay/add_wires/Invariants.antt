@@ -7,4 +7,5 @@ abbrev pub invariant-loop-wire : goal.invariant-loop-wire
 invariant-loop-wire l = record {
   state : with_wires l.kernel (drop l.wire-index l.wires) ≡ with_wires l.fn.kernel l.wires;
   free : AreOpen l.kernel (drop l.wire-index l.wires);
+  no_event : l.kernel.events ≡ 0;
 }

@@ -1,5 +1,6 @@
+use Rattle.std.proofs.Common.{arith}
 use Rattle.ipc_ids.specs.declared.message.Event.TheVariants.{Step}
-use Rattle.hipc.proofs.Texts.{one_more, fewer, no_more}
+use Rattle.hipc.proofs.Texts.{one_more, no_more}
 use Rattle.hipc.proofs.replay.run_text.Goals as goal
 
 pub loop-event-preserved : goal.loop-event-preserved
@@ -8,10 +9,7 @@ loop-event-preserved c = record {
       rw
       (c.in_ok-add_entries.ensures, c.entries.ensures, c.in_ok-step.ensures.entries, c.in_ok-step.ensures.state, c.clear.ensures.entries)
       (one_more c.loop-event.replay c.args.events.now c.loop-event.event-index (Step (record { 0 = 0 })) _ _ c.loop-event-test.true c.loop-event.invariant.text);
-  few =
-      rw
-      c.in_ok-step.ensures.state
-      (fewer c.loop-event.replay c.args.events.now c.loop-event.event-index (Step (record { 0 = 0 })) c.loop-event-test.true c.loop-event.invariant.few);
+  few = omega (arith, c.in_ok-step.ensures.events, c.loop-event.invariant.few);
 }
 
 pub returns : goal.returns

@@ -1,4 +1,4 @@
-use Rattle.std.proofs.Common.{◌≡◌, ◌+◌, ◌≤◌, ◌++◌, drop, length}
+use Rattle.std.proofs.Common.{◌≡◌, ◌≤◌, ◌++◌, drop}
 use Rattle.hipc.specs.Run.{run, run_from}
 use Rattle.hipc.specs.Text.{text_of}
 use Rattle.hipc.proofs.replay.run_text.Given as goal
@@ -7,5 +7,5 @@ use Rattle.hipc.proofs.replay.run_text.Given as goal
 abbrev pub invariant-loop-event : goal.invariant-loop-event
 invariant-loop-event l = record {
   text : l.text.items ++ text_of (run_from l.replay (drop l.event-index l.events)) ≡ text_of (run l.fn.script l.events);
-  few : l.replay.kernel.events + length (drop l.event-index l.events) ≤ 65536;
+  few : l.replay.kernel.events ≤ l.event-index;
 }

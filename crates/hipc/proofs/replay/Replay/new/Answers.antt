@@ -1,8 +1,8 @@
 use Rattle.hipc.proofs.Starting.{wires_are_open}
 use Rattle.hipc.proofs.replay.Replay.new.Goals as goal
 
-pub add_wires-requires : goal.add_wires-requires
-add_wires-requires c =
+pub add_wires-requires-clause-free : goal.add_wires-requires-clause-free
+add_wires-requires-clause-free c =
     rw
-    (c.as_slice.ensures, c.in_ok-add_tasks.ensures, c.as_slice-tasks.ensures, c.new-kernel.ensures)
+    (c.as_slice.ensures, c.in_ok-add_tasks.ensures.state, c.as_slice-tasks.ensures, c.new-kernel.ensures)
     (wires_are_open (record { tasks = c.script.inside.tasks; wires = c.script.inside.wires }) c.script.invariant)
