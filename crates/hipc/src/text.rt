@@ -175,6 +175,7 @@ impl fmt::Display for Line {
                 let asked = Asked(request);
                 write!(f, "{task} {asked}\n")
             }
+            Entry::Kill(task) => write!(f, "kill {task}\n"),
             Entry::Gone(task) => write!(f, "{task} ended\n"),
             Entry::Accepted {
                 call,
@@ -202,6 +203,10 @@ impl fmt::Display for Line {
                 let (on, answerer) = (OnCall(call), Answerer(by));
                 write!(f, "{on} answered {reply}{answerer}\n")
             }
+            Entry::Vanished(call) => {
+                let on = OnCall(call);
+                write!(f, "{on} vanished\n")
+            }
             Entry::Delivered { call, to } => {
                 let on = OnCall(call);
                 write!(f, "{on} delivered {to}\n")
@@ -209,6 +214,10 @@ impl fmt::Display for Line {
             Entry::Dropped { call, at } => {
                 let on = OnCall(call);
                 write!(f, "{on} dropped {at}\n")
+            }
+            Entry::Forgotten(call) => {
+                let on = OnCall(call);
+                write!(f, "{on} forgotten\n")
             }
             Entry::PhoneIs { phone, state } => {
                 let lead = Lead(state);

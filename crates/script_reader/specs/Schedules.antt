@@ -9,7 +9,7 @@ use Rattle.ipc_ids.specs.declared.message.Event.TheVariants as events
 use Rattle.script_reader.specs.declared.fault.Reason.{Reason}
 use Rattle.script_reader.specs.declared.fault.Reason.TheVariants.{Fault}
 use Rattle.script_reader.specs.declared.schedule.EventVerb.{EventVerb}
-use Rattle.script_reader.specs.declared.schedule.EventVerb.TheVariants.{Step, Hangup}
+use Rattle.script_reader.specs.declared.schedule.EventVerb.TheVariants.{Step, Kill, Hangup}
 use Rattle.script_reader.specs.Text.{is_allowed, words}
 use Rattle.script_reader.specs.Words.{look_up, number, name_of}
 use Rattle.script_reader.specs.Operations.{◌>>=◌, needed}
@@ -18,7 +18,7 @@ use Rattle.script_reader.specs.Plans.{task_names, task_named}
 
 -- the first words of a schedule's lines
 abbrev pub event_verbs : List (List ℕ × EventVerb)
-event_verbs = (codes "step", Step) ∷ (codes "hangup", Hangup) ∷ []
+event_verbs = (codes "step", Step) ∷ (codes "kill", Kill) ∷ (codes "hangup", Hangup) ∷ []
 
 unfoldable pub event_verb_of : List ℕ → Option EventVerb
 event_verb_of word = look_up event_verbs word
@@ -44,6 +44,14 @@ step_of names (name ∷ []) = step_with names name (Some 1)
 step_of names (name ∷ times ∷ count ∷ []) = step_with names name (count_of times count)
 step_of names _ = Err Fault
 
+-- NAME
+unfoldable pub kill_of : List (List ℕ) → List (List ℕ) → Result (Event × ℕ) Reason
+kill_of names (name ∷ []) = do
+  name ← needed (name_of name)
+  task ← ok_or (task_named names name) Fault
+  Ok (events.Kill task, 1)
+kill_of names _ = Err Fault
+
 -- NAME N
 unfoldable pub hangup_of : List (List ℕ) → List (List ℕ) → Result (Event × ℕ) Reason
 hangup_of names (name ∷ phone ∷ []) = do
@@ -62,6 +70,7 @@ with_events before event count =
 abbrev pub events_of : List (List ℕ) → Option EventVerb → List (List ℕ) → Result (Event × ℕ) Reason
 events_of names None words = Err Fault
 events_of names (Some Step) words = step_of names words
+events_of names (Some Kill) words = kill_of names words
 events_of names (Some Hangup) words = hangup_of names words
 
 -- a line without words is passed over

@@ -4,7 +4,7 @@ ghost use Rattle.ipc_ids.specs.declared.message.Event.{Event};
 ghost use Rattle.script_reader.specs.declared.fault.Reason.{Reason};
 ghost use Rattle.script_reader.specs.Text.{texts};
 ghost use Rattle.script_reader.specs.Plans.{task_names, Follows};
-ghost use Rattle.script_reader.specs.Schedules.{event_verb_of, count_of, with_events, step_with, step_of, hangup_of, events_of, after_event_words, after_event_line, after_event};
+ghost use Rattle.script_reader.specs.Schedules.{event_verb_of, count_of, with_events, step_with, step_of, kill_of, hangup_of, events_of, after_event_words, after_event_line, after_event};
 ghost use Rattle.script_reader.specs.Grammar.{Spells, IsFirstFault};
 ghost use Rattle.script_reader.specs.Reading.{lines_from, reading, schedule_of, events_in, fault_in_schedule, Reads, Agrees};
 
@@ -23,10 +23,15 @@ const MOST_EVENTS: u64 = 65_536;
 #[derive(Clone, Copy, Debug, PartialEq, Eq)]
 pub enum EventVerb {
     Step,
+    Kill,
     Hangup,
 }
 
-const VERBS: [(&[u8], EventVerb); 2] = [(b"step", EventVerb::Step), (b"hangup", EventVerb::Hangup)];
+const VERBS: [(&[u8], EventVerb); 3] = [
+    (b"step", EventVerb::Step),
+    (b"kill", EventVerb::Kill),
+    (b"hangup", EventVerb::Hangup),
+];
 
 fn event_verb_of(word: &[u8]) -> Option<EventVerb>
     ensures { result ≡ event_verb_of word.now }
@@ -90,6 +95,21 @@ fn step_of(names: &Names, words: &[&[u8]]) -> Result<(Event, u64), Reason>
     }
 }
 
+/// `NAME`
+#[tactic(auto, unfolding(crate::specs::Schedules::kill_of))]
+fn kill_of(names: &Names, words: &[&[u8]]) -> Result<(Event, u64), Reason>
+    ensures { result ≡ kill_of names.now (texts words.now) }
+{
+    match words {
+        [name] => {
+            let name = Name::from_slice(*name).ok_or(Reason::Fault)?;
+            let task = names.task_named(name.as_slice()).ok_or(Reason::Fault)?;
+            Ok((Event::Kill(task), 1))
+        }
+        _ => Err(Reason::Fault),
+    }
+}
+
 /// `NAME N`
 #[tactic(auto, unfolding(crate::specs::Schedules::hangup_of))]
 fn hangup_of(names: &Names, words: &[&[u8]]) -> Result<(Event, u64), Reason>
@@ -117,6 +137,7 @@ fn events_of(
     match verb {
         None => Err(Reason::Fault),
         Some(EventVerb::Step) => step_of(names, words),
+        Some(EventVerb::Kill) => kill_of(names, words),
         Some(EventVerb::Hangup) => hangup_of(names, words),
     }
 }

@@ -24,7 +24,7 @@ jump 65535
 jumpeq r1 R 0
 jumpne r1 W 0x2";
 
-const SCHEDULE: &[u8] = b"step client#once\n\nstep s_9 x 2\n\thangup s_9 18446744073709551615 \n";
+const SCHEDULE: &[u8] = b"step client#once\n\nstep s_9 x 2\nkill s_9\n\thangup s_9 18446744073709551615 \n";
 
 /// What a consumer of a script relies on: what a task does is there and in range.
 fn operations(script: &Script, index: usize) -> &[Op]
@@ -225,7 +225,7 @@ fn the_first_faulty_line_of_a_schedule_is_named(rt: HostRuntime) {
     let script = read_script(rt.alloc(), b"task a raw").expect(&rt, "a script");
     let faults: [(&[u8], u64); 11] = [
         (b"step a\nstep b", 2),
-        (b"kill a", 1),
+        (b"kill", 1),
         (b"step", 1),
         (b"step a 2", 1),
         (b"step a y 2", 1),
@@ -254,6 +254,7 @@ fn events_are_read(rt: HostRuntime) {
         Event::Step(TaskNo(1)),
         Event::Step(TaskNo(2)),
         Event::Step(TaskNo(2)),
+        Event::Kill(TaskNo(2)),
         Event::Hangup(TaskNo(2), u64::MAX),
     ];
     assert_eq!(rt; events.as_slice(), wanted.as_slice());
