@@ -7,6 +7,7 @@
 
 mod buffer;
 mod entry;
+mod laws;
 mod message;
 mod numbers;
 mod op;
@@ -14,6 +15,7 @@ mod trace;
 
 pub use buffer::Buffer;
 pub use entry::Entry;
+pub use laws::lawful_lists_keep_the_laws;
 pub use message::{Event, Mode, Msg, Outcome, PhoneState, Reply, Request};
 pub use numbers::{CallNo, Code, Label, PhoneNo, TaskNo};
 pub use op::{Bodies, Body, Op, Ops, Value};
