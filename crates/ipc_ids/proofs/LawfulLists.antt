@@ -8,7 +8,7 @@ use Rattle.ipc_ids.specs.declared.entry.Entry.TheVariants as entry
 use Rattle.ipc_ids.specs.Tales.{Event, Step, Kill, Gone, Ask, Receive, Answer, Forward, Tale, Head, On, Other, Note, Accepted, Received, Forwarded, Answered, Vanished, Forgotten, Delivered, Dropped, Author, Kernel, Task, Way, To, At_once, tale, tales, onto, past}
 use Rattle.ipc_ids.specs.Life.{Life, Nowhere, Back, Incoming, Dispatched, Answers, Over, life, event, is_killed, is_kill_of, task_of, caller_of, Allowed, after}
 use Rattle.ipc_ids.specs.Lawful.{Lawful, Fits, IsRound, Follows, IsCleared, StandsAt}
-use Rattle.ipc_ids.specs.Laws.{IsAllowed, AllAllowed, LivesAreLawful, end_of, ends, AnsweredAtMostOnce, HasNoHead, BeginsAnEvent, Has, IsHeldBy, end_in_kill, IsKill, KillEndsHeldCalls}
+use Rattle.ipc_ids.specs.Laws.{IsAllowed, AllAllowed, LivesAreLawful, end_of, ends, AnsweredAtMostOnce, HasNoHead, BeginsAnEvent, Has, IsHeldBy, end_in_kill, IsLawfulKill, KillEndsHeldCalls}
 use Rattle.ipc_ids.proofs.Pasts.{event_is_killed, onto-append, tales-append, past-append}
 
 -- what was lawful stays so as entries are taken off
@@ -162,7 +162,7 @@ module _ (t : ℕ) (q es : List Tale) (heads : HasNoHead es) (l : Lawful (onto e
       let before : Lawful (onto one p) = lawful_before two (onto one p) (rw (← onto-append one two p, ← e) l') in
       never_again t n one p (begins-part one two (rw e at next)) before dead (away n) s
 
-  pub kill_of : (later : List Tale) → BeginsAnEvent later → Lawful (onto later (onto es (Head (Kill t) ∷ q))) → IsKill t q es later
+  pub kill_of : (later : List Tale) → BeginsAnEvent later → Lawful (onto later (onto es (Head (Kill t) ∷ q))) → IsLawfulKill t q es later
   kill_of later next l' =
       record {
         held = held_end;

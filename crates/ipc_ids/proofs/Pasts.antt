@@ -12,9 +12,13 @@ pub above : (p : List Tale) → Lawful p → (n : ℕ) → last_number p < n →
 above [] l n h = refl
 above (e ∷ p) l n h = grind (arith, eq-eqb, ne_eqb, above p l.0 n)
 
--- any entry may follow a past that is round
-pub follows : (p : List Tale) (e : Tale) → IsRound p → Follows p e
-follows p e r = grind arith
+-- a head may follow a past that is round
+pub head_follows : (p : List Tale) (e : Event) → IsRound p → Follows p (Head e)
+head_follows p e r = grind arith
+
+-- so may any entry in an event
+pub follows : (p : List Tale) (now : Event) (e : Tale) → IsRound p → event p ≡ Some now → Follows p e
+follows p now e r h = grind arith
 
 -- a task that is being killed was killed
 pub event_is_killed : (t : ℕ) (p : List Tale) → event p ≡ Some (Kill t) → is_killed t p ≡ true

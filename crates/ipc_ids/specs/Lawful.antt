@@ -8,8 +8,14 @@ abbrev pub IsKernelsAnswer : ℕ → Tale → Type 0
 IsKernelsAnswer n (On m (Answered code Kernel)) = m ≡ n
 IsKernelsAnswer n _ = ⊥
 
--- after a call that goes back comes its answer by the kernel, and else anything
+abbrev pub IsHead : Tale → Type 0
+IsHead (Head e) = ⊤
+IsHead (On n w) = ⊥
+IsHead Other = ⊥
+
+-- the first entry is a head; after a call that goes back comes its answer by the kernel
 abbrev pub Follows : List Tale → Tale → Type 0
+Follows [] e = IsHead e
 Follows (On n (Accepted u phone method At_once) ∷ p) e = IsKernelsAnswer n e
 Follows _ e = ⊤
 

@@ -6,7 +6,7 @@ use Rattle.ipc_ids.specs.declared.entry.Entry.TheVariants as entry
 use Rattle.ipc_ids.specs.Codes.{ehangup}
 use Rattle.ipc_ids.specs.Tales.{Event, Kill, Way, To, Author, Kernel, Note, Accepted, Answered, Vanished, Dropped, Tale, Head, On, Other, tales, onto, past}
 use Rattle.ipc_ids.specs.Life.{Life, Incoming, Dispatched, Answers, caller_of, life, is_killed, Allowed}
-use Rattle.ipc_ids.specs.Lawful.{Follows, IsRound, StandsAt}
+use Rattle.ipc_ids.specs.Lawful.{IsHead, Follows, IsRound, StandsAt}
 
 -- after the past p this entry is allowed by the life of its call
 abbrev pub IsAllowed : List Tale → Tale → Type 0
@@ -18,7 +18,8 @@ abbrev pub AllAllowed : List Tale → List Tale → Type 0
 AllAllowed p [] = IsRound p
 AllAllowed p (e ∷ es) = Follows p e × IsAllowed p e × AllAllowed (e ∷ p) es
 
--- the law of a call's life: every entry on a call is allowed by its life
+-- the law of a call's life: the list is empty or begins with a head, and every entry on a call is
+-- allowed by its life
 abbrev pub LivesAreLawful : List Entry → Type 0
 LivesAreLawful h = AllAllowed [] (tales h)
 
@@ -48,8 +49,7 @@ HasNoHead (Other ∷ es) = HasNoHead es
 -- it is empty, or begins with a head
 abbrev pub BeginsAnEvent : List Tale → Type 0
 BeginsAnEvent [] = ⊤
-BeginsAnEvent (Head e ∷ es) = ⊤
-BeginsAnEvent _ = ⊥
+BeginsAnEvent (e ∷ es) = IsHead e
 
 abbrev pub Has : Tale → List Tale → Type 0
 Has e [] = ⊥
@@ -66,8 +66,8 @@ IsHeldBy t _ = ⊥
 abbrev pub end_in_kill : Bool → List Note
 end_in_kill caller_is_killed = if caller_is_killed then Vanished ∷ [] else Answered ehangup.0 Kernel ∷ []
 
--- how task t is killed after the past p: the other entries of the event, and what comes later
-pub record IsKill (t : ℕ) (p event later : List Tale) : Type 0 where
+-- what a kill of task t after the past p does: the other entries of its event, and what comes later
+pub record IsLawfulKill (t : ℕ) (p event later : List Tale) : Type 0 where
   -- each call that t holds as the event begins ends in it, once
   pub held : (n : ℕ) → IsHeldBy t (life n p) →
     ends n event ≡ end_in_kill (is_killed (caller_of (life n p)) (Head (Kill t) ∷ p))
@@ -86,4 +86,4 @@ abbrev pub KillEndsHeldCalls : List Entry → Type 0
 KillEndsHeldCalls h = (before event later : List Entry) (t : TaskNo) →
     h ≡ before ++ (entry.Kill t ∷ (event ++ later)) →
     HasNoHead (tales event) → BeginsAnEvent (tales later) →
-    IsKill t.0 (past before) (tales event) (tales later)
+    IsLawfulKill t.0 (past before) (tales event) (tales later)
