@@ -1,4 +1,9 @@
 pub mod Codes
+pub mod Lawful
+pub mod Laws
+pub mod Life
+pub mod Origins
 pub mod Tables
+pub mod Tales
 pub mod Text
 pub mod Trace

@@ -1,5 +1,6 @@
 //! The words that all crates share: numbers of tasks, phones and calls, messages and replies,
-//! what a task asks and is told, what a script says, and the entries of a trace.
+//! what a task asks and is told, what a script says, and the entries of a trace. The laws of calls
+//! stand here too, over a list of entries alone.
 //!
 //! Contracts see every type as the record or enum that it is, but for the lists `Ops`, `Bodies` and
 //! `Buffer`, which they see as lists, and `Trace`, a list of entries with room for more.
@@ -7,6 +8,7 @@
 
 mod buffer;
 mod entry;
+mod laws;
 mod message;
 mod numbers;
 mod op;
@@ -14,6 +16,7 @@ mod trace;
 
 pub use buffer::Buffer;
 pub use entry::Entry;
+pub use laws::lawful_lists_keep_the_laws;
 pub use message::{Event, Mode, Msg, Outcome, PhoneState, Reply, Request};
 pub use numbers::{CallNo, Code, Label, PhoneNo, TaskNo};
 pub use op::{Bodies, Body, Op, Ops, Value};
