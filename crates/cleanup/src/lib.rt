@@ -2,5 +2,7 @@
 #![tactic(auto)]
 
 mod counts;
+mod ending;
 
 pub use counts::{count_out, count_up, label};
+pub use ending::end_task;

@@ -1,5 +1,5 @@
 -- What the kernel's code keeps beside a sound state: a count of active calls at each phone.
-use Rattle.std.specs.Prelude.{◌≡◌, ℕ, ◌+◌, ◌<◌, ◌≤◌, List, IsSome}
+use Rattle.std.specs.Prelude.{◌≡◌, ℕ, ◌+◌, ◌*◌, ◌^◌, ◌<◌, ◌≤◌, List, IsSome}
 use Rattle.std.specs.FinMap.{len}
 use Rattle.phone_table.specs.Phones.{state_at, count_at}
 use Rattle.cleanup.specs.State.{KernelState}
@@ -18,8 +18,9 @@ pub record HasPlaces (tasks places added : ℕ) : Type 0 where
   pub same : added ≡ places
   pub enough : tasks ≤ places
   pub no_more : places ≤ tasks + 1
+  pub few : tasks ≤ 64
 
--- each event gives at most one number and one stamp
+-- each event gives few numbers and stamps: a kill a number for each phone of the task, and a stamp for each call at it
 pub record HasFewCalls (k : KernelState) : Type 0 where
-  pub numbers : k.calls.next_number ≤ k.events + 1
-  pub stamps : k.calls.next_stamp ≤ k.events + 1
+  pub numbers : k.calls.next_number ≤ 64 * k.events + 1
+  pub stamps : k.calls.next_stamp ≤ 2 ^ 32 * k.events + 1

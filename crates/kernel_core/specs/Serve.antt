@@ -1,10 +1,11 @@
--- One system call of task t: an event.
+-- The events: a system call of task t, and a kill of it.
 use Rattle.std.specs.Prelude.{[]}
 use Rattle.ipc_ids.specs.declared.numbers.TaskNo.{TaskNo}
 use Rattle.ipc_ids.specs.declared.message.Request.{Request}
 use Rattle.ipc_ids.specs.declared.message.Request.TheVariants.{Call, Receive, Answer, Forward, Hangup, Nothing}
 use Rattle.ipc_ids.specs.declared.message.Outcome.TheVariants.{Done}
-use Rattle.cleanup.specs.State.{KernelState, with_event}
+use Rattle.cleanup.specs.State.{KernelState, Transition, with_event}
+use Rattle.cleanup.specs.Kill.{kill}
 use Rattle.kernel_core.specs.Served.{Served}
 use Rattle.kernel_core.specs.Calling.{call}
 use Rattle.kernel_core.specs.Receiving.{receive}
@@ -27,3 +28,7 @@ and_event served = record { state = with_event served.state; outcome = served.ou
 
 abbrev pub serve : KernelState → TaskNo → Request → Served
 serve k t request = and_event (serve_request k t request)
+
+-- a task that is alive is killed
+abbrev pub kill_event : KernelState → TaskNo → Transition
+kill_event k t = record { state = with_event (kill k t).state; entries = (kill k t).entries }

@@ -1,7 +1,7 @@
 //! The kernel.
 ghost use Rattle.std.specs.Prelude.{◌≡◌, ◌+◌, ◌^◌, ◌<◌, ◌≤◌, ◌++◌, true, Some, IfOk, OnOk, OnErr, length};
 ghost use Rattle.cleanup.specs.State.{start, is_alive, phone_at, with_task, with_phone};
-ghost use Rattle.kernel_core.specs.Serve.{serve};
+ghost use Rattle.kernel_core.specs.Serve.{serve, kill_event};
 
 use crate::machine::Machine;
 use ipc_ids::{NoMemory, Outcome, PhoneNo, PhoneState, Request, TaskNo, Trace};
@@ -107,5 +107,24 @@ impl Kernel {
         let outcome = self.machine.serve_request(who, request, out);
         self.machine.count_event();
         Ok(outcome)
+    }
+
+    /// Kills the task: an event.
+    ///
+    /// # Errors
+    ///
+    /// `NoMemory` where no memory was found.
+    pub fn kill(&mut self, who: TaskNo, out: &mut Trace) -> Result<(), NoMemory>
+        requires alive { is_alive self.old who ≡ true }
+        requires few_events { self.old.events < 2 ^ 24 }
+        ensures state { OnOk result (self.new ≡ (kill_event self.old who).state) }
+        ensures entries { OnOk result (out.new.entries ≡ out.old.entries ++ (kill_event self.old who).entries) }
+        ensures events { OnOk result (self.new.events ≡ self.old.events + 1) }
+        ensures unchanged { OnErr result (self.new ≡ self.old) }
+        ensures trace_unchanged { OnErr result (out.new.entries ≡ out.old.entries) }
+    {
+        self.machine.kill(who, out)?;
+        self.machine.count_event();
+        Ok(())
     }
 }

@@ -1,11 +1,12 @@
 //! The tasks, their phones and their calls, with room for more calls.
-ghost use Rattle.std.specs.Prelude.{◌≡◌, ℕ, ◌+◌, ◌-◌, ◌^◌, ◌<◌, ◌≤◌, ◌==◌, true, Some, None, IsSome, IfSome, IfNone, IfOk, OnOk, OnErr, length};
+ghost use Rattle.std.specs.Prelude.{◌≡◌, ℕ, ◌+◌, ◌-◌, ◌^◌, ◌<◌, ◌≤◌, ◌==◌, ◌++◌, true, Some, None, IsSome, IfSome, IfNone, IfOk, OnOk, OnErr, length};
 ghost use Rattle.std.specs.Option.{option_copied};
 ghost use Rattle.answerbox.specs.Calls.{call_at, active_calls, is_caller, enqueue, without_call, with_place, front};
 ghost use Rattle.phone_table.specs.Phones.{state_at, count_at, hangup_answer};
 ghost use Rattle.forwarding.specs.Routes.{forward_answer, table_after};
 ghost use Rattle.cleanup.specs.State.{start, is_alive as is_alive_in, phone_at, with_task, with_phone, with_calls, with_event, label_of as the_label};
 ghost use Rattle.cleanup.specs.HangingUp.{new_call as the_call};
+ghost use Rattle.cleanup.specs.Kill.{kill as kill_of};
 ghost use Rattle.cleanup.specs.Sound.{IsPlaced, IsSoundCall};
 ghost use Rattle.kernel_core.specs.Kept.{HasPlaces};
 ghost use Rattle.kernel_core.specs.Steps.{with_answer, IsCallOf, owner, IsAliveCaller, LeadsToTask, SeesLabel, TellsTask, with_hangup};
@@ -13,10 +14,10 @@ ghost use Rattle.call_slab.specs.declared.call.Place.TheVariants.{Dispatched};
 
 use answerbox::Boxes;
 use call_slab::{Call, Place};
-use cleanup::{count_out, count_up};
+use cleanup::{count_out, count_up, end_task};
 use forwarding::{ForwardFault, Forwarded, route};
 use ipc_ids::{
-    Buffer, CallNo, Code, Label, Mode, Msg, NoMemory, PhoneNo, PhoneState, Reply, TaskNo,
+    Buffer, CallNo, Code, Label, Mode, Msg, NoMemory, PhoneNo, PhoneState, Reply, TaskNo, Trace,
 };
 use phone_table::{Hung, PhoneRows, Phones};
 use std::alloc::Global;
@@ -285,6 +286,28 @@ impl Machine {
         ensures spare { self.new.spare ≡ self.old.spare }
     {
         self.phones.row_mut(t).hangup(phone)
+    }
+
+    /// Brings the task to its end.
+    pub fn kill(&mut self, who: TaskNo, out: &mut Trace) -> Result<(), NoMemory>
+        requires alive { is_alive_in self.old.k who ≡ true }
+        requires few_calls { self.old.k.calls.next_number < 2 ^ 31 - 64 }
+        requires few_stamps { self.old.k.calls.next_stamp < 2 ^ 61 }
+        ensures k { OnOk result (self.new.k ≡ (kill_of self.old.k who).state) }
+        ensures entries { OnOk result (out.new.entries ≡ out.old.entries ++ (kill_of self.old.k who).entries) }
+        ensures numbers { OnOk result (self.new.k.calls.next_number ≤ self.old.k.calls.next_number + 64) }
+        ensures stamps { OnOk result (self.new.k.calls.next_stamp ≤ self.old.k.calls.next_stamp + 2 ^ 32) }
+        ensures events { self.new.k.events ≡ self.old.k.events }
+        ensures unchanged { OnErr result (self.new.k ≡ self.old.k) }
+        ensures entries_unchanged { OnErr result (out.new.entries ≡ out.old.entries) }
+    {
+        let mark = who.0 as usize - 1;
+        self.alive[mark] = false;
+        let ended = end_task(who, &mut self.boxes, &mut self.phones, out);
+        if ended.is_err() {
+            self.alive[mark] = true;
+        }
+        ended
     }
 
     /// A free phone leads to that task from now on.
