@@ -1,14 +1,16 @@
 //! The tasks, their phones and their calls, with room for more calls.
-ghost use Rattle.std.specs.Prelude.{◌≡◌, ℕ, ◌+◌, ◌-◌, ◌^◌, ◌<◌, ◌≤◌, ◌==◌, ◌++◌, true, Some, None, IsSome, IfSome, IfNone, IfOk, OnOk, OnErr, length};
+ghost use Rattle.std.specs.Prelude.{◌≡◌, ℕ, ◌+◌, ◌-◌, ◌^◌, ◌<◌, ◌≤◌, ◌==◌, ◌++◌, List, Bool, true, false, Some, None, IsSome, IfSome, IfNone, IfOk, OnOk, OnErr, length, slice_set};
 ghost use Rattle.std.specs.Option.{option_copied};
+ghost use Rattle.std.specs.FinMap.{len};
 ghost use Rattle.answerbox.specs.Calls.{call_at, active_calls, is_caller, enqueue, without_call, with_place, front};
 ghost use Rattle.phone_table.specs.Phones.{state_at, count_at, hangup_answer};
 ghost use Rattle.forwarding.specs.Routes.{forward_answer, table_after};
-ghost use Rattle.cleanup.specs.State.{start, is_alive as is_alive_in, phone_at, with_task, with_phone, with_calls, with_event, label_of as the_label};
+ghost use Rattle.cleanup.specs.State.{state_from, alive_in, start, is_alive as is_alive_in, phone_at, with_task, with_phone, with_calls, with_event, label_of as the_label};
+ghost use Rattle.cleanup.specs.Counts.{IsCounted};
 ghost use Rattle.cleanup.specs.HangingUp.{new_call as the_call};
-ghost use Rattle.cleanup.specs.Kill.{kill as kill_of};
+ghost use Rattle.cleanup.specs.Kill.{kill as kill_of, end_parts};
 ghost use Rattle.cleanup.specs.Sound.{IsPlaced, IsSoundCall};
-ghost use Rattle.kernel_core.specs.Kept.{HasPlaces};
+ghost use Rattle.kernel_core.specs.Kept.{IsKept, HasPlaces};
 ghost use Rattle.kernel_core.specs.Steps.{with_answer, IsCallOf, owner, IsAliveCaller, LeadsToTask, SeesLabel, TellsTask, with_hangup};
 ghost use Rattle.call_slab.specs.declared.call.Place.TheVariants.{Dispatched};
 
@@ -301,13 +303,7 @@ impl Machine {
         ensures unchanged { OnErr result (self.new.k ≡ self.old.k) }
         ensures entries_unchanged { OnErr result (out.new.entries ≡ out.old.entries) }
     {
-        let mark = who.0 as usize - 1;
-        self.alive[mark] = false;
-        let ended = end_task(who, &mut self.boxes, &mut self.phones, out);
-        if ended.is_err() {
-            self.alive[mark] = true;
-        }
-        ended
+        end_alive(who, &mut self.alive, &mut self.boxes, &mut self.phones, out)
     }
 
     /// A free phone leads to that task from now on.
@@ -339,4 +335,44 @@ fn add_place(boxes: &mut Boxes, places: &mut u64, tasks: u64) -> Result<(), NoMe
         }
         Err(NoMemory) => Err(NoMemory),
     }
+}
+
+/// Marks the task as ended, and brings it to its end.
+fn end_alive(
+    who: TaskNo,
+    alive: &mut Vec<bool>,
+    boxes: &mut Boxes,
+    phones: &mut PhoneRows,
+    out: &mut Trace,
+) -> Result<(), NoMemory>
+    ghost marks: { List Bool }
+    requires marks { marks ≡ slice_set alive.old.items (who.0 - 1) false }
+    requires alive { alive_in alive.old.items who.0 ≡ true }
+    requires kept { IsKept (state_from alive.old.items phones.old.states boxes.old.calls 0) phones.old.counts }
+    requires places { length alive.old.items ≤ boxes.old.tasks }
+    requires few_tasks { length alive.old.items ≤ 64 }
+    requires few_calls { boxes.old.calls.next_number < 2 ^ 31 - 64 }
+    requires few_stamps { boxes.old.calls.next_stamp < 2 ^ 61 }
+    ensures alive { OnOk result (alive.new.items ≡ marks) }
+    ensures calls { OnOk result (boxes.new.calls ≡ (end_parts who (state_from marks phones.old.states boxes.old.calls 0)).state.calls) }
+    ensures phones { OnOk result (phones.new.states ≡ (end_parts who (state_from marks phones.old.states boxes.old.calls 0)).state.tasks.phones) }
+    ensures entries { OnOk result (out.new.entries ≡ out.old.entries ++ (end_parts who (state_from marks phones.old.states boxes.old.calls 0)).entries) }
+    ensures shaped { OnOk result ((t p : ℕ) → IsSome (state_at phones.new.states t p) → IsSome (count_at phones.new.counts t p)) }
+    ensures counted { OnOk result (IsCounted phones.new.counts boxes.new.calls) }
+    ensures few { OnOk result (len boxes.new.calls.records < boxes.new.calls.next_number) }
+    ensures tasks { boxes.new.tasks ≡ boxes.old.tasks }
+    ensures numbers { OnOk result (boxes.new.calls.next_number ≤ boxes.old.calls.next_number + 64) }
+    ensures stamps { OnOk result (boxes.new.calls.next_stamp ≤ boxes.old.calls.next_stamp + 2 ^ 32) }
+    ensures alive_unchanged { OnErr result (alive.new.items ≡ alive.old.items) }
+    ensures calls_unchanged { OnErr result (boxes.new.calls ≡ boxes.old.calls) }
+    ensures phones_unchanged { OnErr result (phones.new ≡ phones.old) }
+    ensures entries_unchanged { OnErr result (out.new.entries ≡ out.old.entries) }
+{
+    let mark = who.0 as usize - 1;
+    alive[mark] = false;
+    let ended = end_task(who, boxes, phones, out);
+    if ended.is_err() {
+        alive[mark] = true;
+    }
+    ended
 }

@@ -12,4 +12,4 @@ invariant_of-self-in-Ok-add c =
     let items = ap length c.reserve.ensures.items in
     let reserved = c.reserve.new.self.ok.0 in
     rw (c.push_reserved.ensures.items, c.reserve.ensures.items, c.in-Ok-add.ensures.ok, c.new.ensures, c.add_place.ensures.calls)
-    (kept_addition (inner i) i.phones.counts c.args.limit c.self.invariant.0 c.tasks.ensures.counts (rw (← c.self.view_is) at c.requires.no_call), record { same = places.same; enough = rw length-append (omega (arith, more, had, items, reserved)); no_more = rw length-append (omega (arith, places.no_more, had, items, reserved)) })
+    (kept_addition (inner i) i.phones.counts c.args.limit c.self.invariant.0 c.tasks.ensures.counts (rw (← c.self.view_is) at c.requires.no_call), record { same = places.same; enough = rw length-append (omega (arith, more, had, items, reserved)); no_more = rw length-append (omega (arith, places.no_more, had, items, reserved)); few = rw length-append (omega (arith, had, items, reserved, rw (← c.self.view_is) at c.requires.few_tasks)) })
