@@ -4,3 +4,6 @@ pub mod Loops
 pub mod Soundness
 pub mod Counting
 pub mod Recounting
+pub mod Repeats
+pub mod Absence
+pub mod Silence
