@@ -7,3 +7,4 @@ pub mod Recounting
 pub mod Repeats
 pub mod Absence
 pub mod Silence
+pub mod Queues
