@@ -8,3 +8,4 @@ pub mod Repeats
 pub mod Absence
 pub mod Silence
 pub mod Queues
+pub mod Killing
