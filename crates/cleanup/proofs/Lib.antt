@@ -9,3 +9,4 @@ pub mod Absence
 pub mod Silence
 pub mod Queues
 pub mod Killing
+pub mod Numbering
