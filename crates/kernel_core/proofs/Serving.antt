@@ -43,14 +43,10 @@ use Rattle.kernel_core.specs.Serve.{serve, serve_request}
 use Rattle.kernel_core.proofs.Reading.{leads_of}
 use Rattle.kernel_core.proofs.Passing.{passes}
 
--- the state is sound, with fewer calls than numbers given
-pub record IsFit (k : KernelState) : Type 0 where
-  pub sound : IsSound k
-  pub few : len k.calls.records < k.calls.next_number
-
--- a state to which a request may lead: fit, with the same tasks alive, the same memory, and one number and stamp more at most
+-- a state to which a request may lead: sound, with the same tasks alive, the same memory, one number and stamp more at most, and no more new calls than new numbers
 pub record MayFollow (k j : KernelState) : Type 0 where
-  pub fit : IsFit j
+  pub sound : IsSound j
+  pub calls : len j.calls.records + k.calls.next_number ≤ len k.calls.records + j.calls.next_number
   pub alive : j.tasks.alive ≡ k.tasks.alive
   pub memory : j.memory ≡ k.memory
   pub events : j.events ≡ k.events
@@ -60,16 +56,15 @@ pub record MayFollow (k j : KernelState) : Type 0 where
 
 -- the steps
 
-unchanged : (k : KernelState) → IsFit k → MayFollow k k
-unchanged k h = record { fit = h; alive = refl; memory = refl; events = refl; number = omega arith; no_less = omega arith; stamp = omega arith }
+unchanged : (k : KernelState) → IsSound k → MayFollow k k
+unchanged k h = record { sound = h; calls = omega arith; alive = refl; memory = refl; events = refl; number = omega arith; no_less = omega arith; stamp = omega arith }
 
-enqueued : (k : KernelState) (c : Call) → IsFit k → c.number.0 ≡ k.calls.next_number → IsPlaced k.tasks c.caller c.place → IsCaller k.tasks c.from c.caller → IsSome (state_at k.tasks.phones c.from.task.0 c.from.phone.0) → c.discard ≡ (c.request.method == 0) → MayFollow k (with_calls k (enqueue k.calls c))
+enqueued : (k : KernelState) (c : Call) → IsSound k → c.number.0 ≡ k.calls.next_number → IsPlaced k.tasks c.caller c.place → IsCaller k.tasks c.from c.caller → IsSome (state_at k.tasks.phones c.from.task.0 c.from.phone.0) → c.discard ≡ (c.request.method == 0) → MayFollow k (with_calls k (enqueue k.calls c))
 enqueued k c h number place caller phone discard =
-    let free : call_at k.calls c.number.0 ≡ None = ap (call_at k.calls) number ∙ next_free k.tasks k.calls h.sound.calls in
+    let free : call_at k.calls c.number.0 ≡ None = ap (call_at k.calls) number ∙ next_free k.tasks k.calls h.calls in
     let m = more_calls k.calls c free in
-    let f = h.few in
     record {
-      fit = record { sound = kept_calls k (enqueue k.calls c) h.sound (sound_enqueue k.tasks k.calls c h.sound.calls number place caller phone discard); few = omega arith };
+      sound = kept_calls k (enqueue k.calls c) h (sound_enqueue k.tasks k.calls c h.calls number place caller phone discard); calls = omega arith;
       alive = refl;
       memory = refl;
       events = refl;
@@ -82,15 +77,14 @@ enqueued k c h number place caller phone discard =
 abbrev IsLive : KernelState → Call → Type 0
 IsLive k c = call_at k.calls c.number.0 ≡ Some c
 
-own : (k : KernelState) (n : ℕ) (c : Call) → IsFit k → call_at k.calls n ≡ Some c → IsLive k c
-own k n c h is = ap (call_at k.calls) (h.sound.calls.each n c is).number ∙ is
+own : (k : KernelState) (n : ℕ) (c : Call) → IsSound k → call_at k.calls n ≡ Some c → IsLive k c
+own k n c h is = ap (call_at k.calls) (h.calls.each n c is).number ∙ is
 
-over : (k : KernelState) (c : Call) → IsFit k → IsLive k c → MayFollow k (with_calls k (without_call k.calls c.number.0))
+over : (k : KernelState) (c : Call) → IsSound k → IsLive k c → MayFollow k (with_calls k (without_call k.calls c.number.0))
 over k c h is =
     let l = fewer_calls k.calls c.number.0 c is in
-    let f = h.few in
     record {
-      fit = record { sound = kept_calls k (without_call k.calls c.number.0) h.sound (sound_without k.tasks k.calls c.number.0 h.sound.calls); few = omega arith };
+      sound = kept_calls k (without_call k.calls c.number.0) h (sound_without k.tasks k.calls c.number.0 h.calls); calls = omega arith;
       alive = refl;
       memory = refl;
       events = refl;
@@ -99,13 +93,12 @@ over k c h is =
       stamp = omega arith;
     }
 
-moved : (k : KernelState) (c d : Call) (place : Place) → IsFit k → IsLive k c → d.number ≡ c.number → d.caller ≡ c.caller → d.from ≡ c.from → d.request ≡ c.request → d.discard ≡ c.discard → IsPlaced k.tasks d.caller place → MayFollow k (with_calls k (put_at k.calls d place))
+moved : (k : KernelState) (c d : Call) (place : Place) → IsSound k → IsLive k c → d.number ≡ c.number → d.caller ≡ c.caller → d.from ≡ c.from → d.request ≡ c.request → d.discard ≡ c.discard → IsPlaced k.tasks d.caller place → MayFollow k (with_calls k (put_at k.calls d place))
 moved k c d place h is number caller from request discard placed =
     let live : call_at k.calls d.number.0 ≡ Some c = ap (λ (x : Rattle.ipc_ids.specs.declared.numbers.CallNo.CallNo). call_at k.calls x.0) number ∙ is in
     let l = as_many_calls k.calls d.number.0 c (record d { place = place; stamp = k.calls.next_stamp }) live in
-    let f = h.few in
     record {
-      fit = record { sound = kept_calls k (put_at k.calls d place) h.sound (sound_put k.tasks k.calls c.number.0 c d place h.sound.calls is number caller from request discard placed); few = omega arith };
+      sound = kept_calls k (put_at k.calls d place) h (sound_put k.tasks k.calls c.number.0 c d place h.calls is number caller from request discard placed); calls = omega arith;
       alive = refl;
       memory = refl;
       events = refl;
@@ -114,14 +107,14 @@ moved k c d place h is number caller from request discard placed =
       stamp = omega arith;
     }
 
-settled : (k : KernelState) (c : Call) (reply : Reply) (by : Option TaskNo) → IsFit k → IsLive k c → MayFollow k (settle k c reply by).state
+settled : (k : KernelState) (c : Call) (reply : Reply) (by : Option TaskNo) → IsSound k → IsLive k c → MayFollow k (settle k c reply by).state
 settled k c reply by h is = by_caller c.caller (lives k c.caller) refl where
   by_caller : (o : Option TaskNo) (b : Bool) → c.caller ≡ o → MayFollow k (settle_for k c reply by o b).state
   by_caller None b from = over k c h is
   by_caller (Some u) false from = over k c h is
   by_caller (Some u) true from = moved k c (record c { reply = reply }) (Answers u) h is refl refl refl refl refl from
 
-front_at : (k : KernelState) (place : Place) (c : Call) → IsFit k → front k.calls place ≡ Some c → IsLive k c
+front_at : (k : KernelState) (place : Place) (c : Call) → IsSound k → front k.calls place ≡ Some c → IsLive k c
 front_at k place c h is = let f = front_live k.calls place c is in own k f.0 c h f.1
 
 is_some : {A : Type 0} (o : Option A) (x : A) → o ≡ Some x → IsSome o
@@ -132,14 +125,14 @@ is_some o x e = rw e refl
 user_method : (m : ℕ) → nat_lt m first_user_method ≡ false → false ≡ (m == 0)
 user_method m h = sym (ne_eqb m 0 (λ e. grind (arith, nat_tests)))
 
-module _ (t : TaskNo) (k : KernelState) (alive : is_alive k t ≡ true) (h : IsFit k) where
+module _ (t : TaskNo) (k : KernelState) (alive : is_alive k t ≡ true) (h : IsSound k) where
   abbrev Follows : Served → Type 0
   Follows s = MayFollow k s.state
 
   through : (p : ℕ) (msg : Msg) (s : PhoneState) → phone_at k t p ≡ Some s → nat_lt msg.method first_user_method ≡ false → Follows (call_through k t p msg s)
   through p msg Free is user = unchanged k h
   through p msg Connecting is user = unchanged k h
-  through p msg (Connected u) is user = enqueued k (new_call k t p msg (Incoming u)) h refl (h.sound.tasks.leads t.0 p u is) (refl, alive) (is_some (phone_at k t p) (Connected u) is) (user_method msg.method user)
+  through p msg (Connected u) is user = enqueued k (new_call k t p msg (Incoming u)) h refl (h.tasks.leads t.0 p u is) (refl, alive) (is_some (phone_at k t p) (Connected u) is) (user_method msg.method user)
   through p msg HungUp is user = enqueued k (record (new_call k t p msg (Answers t)) { reply = bare_reply ehangup }) h refl refl (refl, alive) (is_some (phone_at k t p) HungUp is) (user_method msg.method user)
   through p msg Slammed is user = enqueued k (record (new_call k t p msg (Answers t)) { reply = bare_reply enoent }) h refl refl (refl, alive) (is_some (phone_at k t p) Slammed is) (user_method msg.method user)
 
@@ -174,7 +167,7 @@ module _ (t : TaskNo) (k : KernelState) (alive : is_alive k t ≡ true) (h : IsF
   forwarded n p mode change (Ok f) is = by_call (call_at k.calls n) where
     passed : MayFollow k (with_calls k (table_after k.calls t p mode change (Ok f)))
     passed =
-        let g = passes k t (phone_at k t p) n change f (leads_of k t.0 p (phone_at k t p) h.sound.tasks refl) is in
+        let g = passes k t (phone_at k t p) n change f (leads_of k t.0 p (phone_at k t p) h.tasks refl) is in
         let here : call_at k.calls f.call.0 ≡ Some g.call = ap (call_at k.calls) g.number ∙ g.live in
         rw here (moved k g.call (call_after t p mode change g.call) (Incoming f.to) h (own k f.call.0 g.call h here) refl refl refl refl refl g.alive)
 
@@ -187,11 +180,10 @@ module _ (t : TaskNo) (k : KernelState) (alive : is_alive k t ≡ true) (h : IsF
   hung_up p (Some Free) is = unchanged k h
   hung_up p (Some Connecting) is = unchanged k h
   hung_up p (Some HungUp) is = unchanged k h
-  hung_up p (Some Slammed) is = record { fit = record { sound = sound_hang_up k t p (Some Slammed) is h.sound alive; few = h.few }; alive = refl; memory = refl; events = refl; number = omega arith; no_less = omega arith; stamp = omega arith }
+  hung_up p (Some Slammed) is = record { sound = sound_hang_up k t p (Some Slammed) is h alive; calls = omega arith; alive = refl; memory = refl; events = refl; number = omega arith; no_less = omega arith; stamp = omega arith }
   hung_up p (Some (Connected u)) is =
-      let m = more_calls k.calls (hangup_call k t p u) (next_free k.tasks k.calls h.sound.calls) in
-      let f = h.few in
-      record { fit = record { sound = sound_hang_up k t p (Some (Connected u)) is h.sound alive; few = omega arith }; alive = refl; memory = refl; events = refl; number = omega arith; no_less = omega arith; stamp = omega arith }
+      let m = more_calls k.calls (hangup_call k t p u) (next_free k.tasks k.calls h.calls) in
+        record { sound = sound_hang_up k t p (Some (Connected u)) is h alive; calls = omega arith; alive = refl; memory = refl; events = refl; number = omega arith; no_less = omega arith; stamp = omega arith }
 
   hanging : (p : ℕ) (o : Option PhoneState) → phone_at k t p ≡ o → Follows (hangup_over k t p o)
   hanging p None is = unchanged k h
@@ -203,7 +195,8 @@ module _ (t : TaskNo) (k : KernelState) (alive : is_alive k t ≡ true) (h : IsF
 
 -- what stays while answers that nobody waits for are dropped
 record IsLess (k j : KernelState) : Type 0 where
-  pub fit : IsFit j
+  pub sound : IsSound j
+  pub calls : len j.calls.records ≤ len k.calls.records
   pub alive : j.tasks.alive ≡ k.tasks.alive
   pub memory : j.memory ≡ k.memory
   pub events : j.events ≡ k.events
@@ -219,11 +212,13 @@ unawaited_front (Some d) c e = by_discard d.discard e where
 
 drop_less : (t : TaskNo) (k j : KernelState) (c : Call) → IsLess k j → next_unawaited t j ≡ Some c → IsLess k (drop_answer t j c).state
 drop_less t k j c s is =
-    let o = over j c s.fit (front_at j (Answers t) c s.fit (unawaited_front (front j.calls (Answers t)) c is)) in
-    record { fit = o.fit; alive = s.alive; memory = s.memory; events = s.events; number = s.number; stamp = s.stamp }
+    let o = over j c s.sound (front_at j (Answers t) c s.sound (unawaited_front (front j.calls (Answers t)) c is)) in
+    let less = o.calls in
+    let was = s.calls in
+    record { sound = o.sound; calls = omega arith; alive = s.alive; memory = s.memory; events = s.events; number = s.number; stamp = s.stamp }
 
-drops_less : (t : TaskNo) (k : KernelState) → IsFit k → IsLess k (drop_unawaited t k).state
-drops_less t k h = drain_keeps (next_unawaited t) (drop_answer t) (IsLess k) (λ j c s is. drop_less t k j c s is) k.calls.next_number k (record { fit = h; alive = refl; memory = refl; events = refl; number = refl; stamp = refl })
+drops_less : (t : TaskNo) (k : KernelState) → IsSound k → IsLess k (drop_unawaited t k).state
+drops_less t k h = drain_keeps (next_unawaited t) (drop_answer t) (IsLess k) (λ j c s is. drop_less t k j c s is) k.calls.next_number k (record { sound = h; calls = omega arith; alive = refl; memory = refl; events = refl; number = refl; stamp = refl })
 
 after_less : (k j i : KernelState) → IsLess k j → MayFollow j i → MayFollow k i
 after_less k j i s m =
@@ -232,34 +227,34 @@ after_less k j i s m =
     let x = m.number in
     let y = m.no_less in
     let z = m.stamp in
-    record { fit = m.fit; alive = m.alive ∙ s.alive; memory = m.memory ∙ s.memory; events = m.events ∙ s.events; number = omega arith; no_less = omega arith; stamp = omega arith }
+    let u = s.calls in
+    let v = m.calls in
+    record { sound = m.sound; calls = omega arith; alive = m.alive ∙ s.alive; memory = m.memory ∙ s.memory; events = m.events ∙ s.events; number = omega arith; no_less = omega arith; stamp = omega arith }
 
-serves : (k : KernelState) (t : TaskNo) (request : Request) → IsFit k → is_alive k t ≡ true → MayFollow k (serve_request k t request).state
+serves : (k : KernelState) (t : TaskNo) (request : Request) → IsSound k → is_alive k t ≡ true → MayFollow k (serve_request k t request).state
 serves k t (R.Call p msg) h alive = called t k alive h p msg (phone_at k t p) refl
 serves k t R.Receive h alive =
     let d : KernelState = (drop_unawaited t k).state in
     let less = drops_less t k h in
     let lives : is_alive d t ≡ true = ap (λ (marks : List Bool). Rattle.cleanup.specs.State.alive_in marks t.0) less.alive ∙ alive in
-    after_less k d (receive_now t d).state less (received t d lives less.fit (front d.calls (Answers t)) (front d.calls (Incoming t)) refl refl)
+    after_less k d (receive_now t d).state less (received t d lives less.sound (front d.calls (Answers t)) (front d.calls (Incoming t)) refl refl)
 serves k t (R.Answer n reply) h alive = answered t k alive h n reply (call_at k.calls n) refl
 serves k t (R.Forward n p mode change) h alive = forwarded t k alive h n p mode change (forward_answer k.calls t (phone_at k t p) n change) refl
 serves k t (R.Hangup p) h alive = hanging t k alive h p (phone_at k t p) refl
 serves k t R.Nothing h alive = unchanged k h
 
 -- a request keeps soundness
-pub sound_serve : (k : KernelState) (t : TaskNo) (request : Request) → IsSound k → is_alive k t ≡ true → len k.calls.records < k.calls.next_number → IsSound (serve k t request).state
-sound_serve k t request s alive few =
-    let m = serves k t request (record { sound = s; few = few }) alive in
-    record { calls = m.fit.sound.calls; tasks = m.fit.sound.tasks }
+pub sound_serve : (k : KernelState) (t : TaskNo) (request : Request) → IsSound k → is_alive k t ≡ true → IsSound (serve k t request).state
+sound_serve k t request s alive = let m = serves k t request s alive in record { calls = m.sound.calls; tasks = m.sound.tasks }
 
 -- and leaves fewer calls than numbers given
 pub serve_few : (k : KernelState) (t : TaskNo) (request : Request) → IsSound k → is_alive k t ≡ true → len k.calls.records < k.calls.next_number → len (serve k t request).state.calls.records < (serve k t request).state.calls.next_number
-serve_few k t request s alive few = (serves k t request (record { sound = s; few = few }) alive).fit.few
+serve_few k t request s alive few = let more = (serves k t request s alive).calls in omega arith
 
 -- the same tasks are alive, with the same memory, and one event more
-pub serve_steady : (k : KernelState) (t : TaskNo) (request : Request) → IsSound k → is_alive k t ≡ true → len k.calls.records < k.calls.next_number → ((serve k t request).state.tasks.alive ≡ k.tasks.alive) × ((serve k t request).state.memory ≡ k.memory) × ((serve k t request).state.events ≡ k.events + 1)
-serve_steady k t request s alive few = let m = serves k t request (record { sound = s; few = few }) alive in (m.alive, m.memory, ap (λ n. n + 1) m.events)
+pub serve_steady : (k : KernelState) (t : TaskNo) (request : Request) → IsSound k → is_alive k t ≡ true → ((serve k t request).state.tasks.alive ≡ k.tasks.alive) × ((serve k t request).state.memory ≡ k.memory) × ((serve k t request).state.events ≡ k.events + 1)
+serve_steady k t request s alive = let m = serves k t request s alive in (m.alive, m.memory, ap (λ n. n + 1) m.events)
 
 -- one number and one stamp more at most
-pub serve_rises : (k : KernelState) (t : TaskNo) (request : Request) → IsSound k → is_alive k t ≡ true → len k.calls.records < k.calls.next_number → ((serve k t request).state.calls.next_number ≤ k.calls.next_number + 1) × (k.calls.next_number ≤ (serve k t request).state.calls.next_number) × ((serve k t request).state.calls.next_stamp ≤ k.calls.next_stamp + 1)
-serve_rises k t request s alive few = let m = serves k t request (record { sound = s; few = few }) alive in (m.number, m.no_less, m.stamp)
+pub serve_rises : (k : KernelState) (t : TaskNo) (request : Request) → IsSound k → is_alive k t ≡ true → ((serve k t request).state.calls.next_number ≤ k.calls.next_number + 1) × (k.calls.next_number ≤ (serve k t request).state.calls.next_number) × ((serve k t request).state.calls.next_stamp ≤ k.calls.next_stamp + 1)
+serve_rises k t request s alive = let m = serves k t request s alive in (m.number, m.no_less, m.stamp)
