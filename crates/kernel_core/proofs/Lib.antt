@@ -2,3 +2,4 @@ pub mod Keeping
 pub mod Reading
 pub mod Inner
 pub mod Passing
+pub mod Serving
