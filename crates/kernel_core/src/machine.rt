@@ -303,7 +303,8 @@ impl Machine {
         ensures unchanged { OnErr result (self.new.k ≡ self.old.k) }
         ensures entries_unchanged { OnErr result (out.new.entries ≡ out.old.entries) }
     {
-        end_alive(who, &mut self.alive, &mut self.boxes, &mut self.phones, out)
+        end_alive(who, &mut self.alive, &mut self.boxes, &mut self.phones, out)?;
+        Ok(())
     }
 
     /// A free phone leads to that task from now on.
