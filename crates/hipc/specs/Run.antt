@@ -5,7 +5,7 @@ use Rattle.ipc_ids.specs.declared.numbers.TaskNo.{TaskNo}
 use Rattle.ipc_ids.specs.declared.message.Request.{Request}
 use Rattle.ipc_ids.specs.declared.message.Request.TheVariants as ask
 use Rattle.ipc_ids.specs.declared.message.Event.{Event}
-use Rattle.ipc_ids.specs.declared.message.Event.TheVariants.{Step, Hangup}
+use Rattle.ipc_ids.specs.declared.message.Event.TheVariants.{Step, Kill, Hangup}
 use Rattle.ipc_ids.specs.declared.entry.Entry.{Entry}
 use Rattle.ipc_ids.specs.declared.entry.Entry.TheVariants as entry
 use Rattle.ipc_ids.specs.Trace.{TraceState}
@@ -14,10 +14,10 @@ use Rattle.ipc_ids.specs.declared.op.Body.{Body}
 use Rattle.script_reader.specs.declared.plan.TaskPlan.{TaskPlan}
 use Rattle.script_reader.specs.declared.plan.Wire.{Wire}
 use Rattle.script_reader.specs.Plan.{Plan}
-use Rattle.cleanup.specs.State.{KernelState, is_alive, with_task}
+use Rattle.cleanup.specs.State.{KernelState, Transition, is_alive, with_task}
 use Rattle.kernel_core.specs.Served.{Served}
 use Rattle.cleanup.specs.State as kernel
-use Rattle.kernel_core.specs.Serve.{serve}
+use Rattle.kernel_core.specs.Serve.{serve, kill_event}
 use Rattle.hipc.specs.Wiring.{with_wire}
 use Rattle.hipc.specs.Raw.{RawState, started, wanted, after}
 
@@ -109,9 +109,22 @@ request now task asked =
 abbrev pub hangup : RunState → TaskNo → ℕ → RunTransition
 hangup now task phone = request now task (ask.Hangup phone)
 
+-- the kernel brings the task to its end, of which no program is told
+abbrev pub killed : RunState → TaskNo → Transition → RunTransition
+killed now task done =
+    record {
+      state = record { kernel = done.state; programs = now.programs };
+      entries = entry.Kill task ∷ done.entries;
+    }
+
+-- a kill
+abbrev pub kill : RunState → TaskNo → RunTransition
+kill now task = if is_alive now.kernel task then killed now task (kill_event now.kernel task) else gone now task
+
 -- what an event makes of the state
 abbrev pub turn : RunState → Event → RunTransition
 turn now (Step task) = step now task
+turn now (Kill task) = kill now task
 turn now (Hangup task phone) = hangup now task phone
 
 -- the entries of events, each on the state that the one before left

@@ -38,7 +38,7 @@ impl Model for Replay {
 }
 
 impl Replay {
-    ghost use Rattle.hipc.specs.Run.{start, program_at, turn, step, hangup};
+    ghost use Rattle.hipc.specs.Run.{start, program_at, turn, step, kill, hangup};
 
     /// The tasks of a script before the first event.
     ///
@@ -70,6 +70,7 @@ impl Replay {
     {
         match event {
             Event::Step(task) => self.step_task(*task, out),
+            Event::Kill(task) => self.kill(*task, out),
             Event::Hangup(task, phone) => self.hang_up(*task, *phone, out),
         }
     }
@@ -119,6 +120,20 @@ impl Replay {
             }
             Err(NoMemory) => Err(NoMemory),
         }
+    }
+
+    fn kill(&mut self, task: TaskNo, out: &mut Trace) -> Result<(), NoMemory>
+        requires few_events { self.old.kernel.events < 2 ^ 24 }
+        ensures state { OnOk result (self.new ≡ (kill self.old task).state) }
+        ensures entries { OnOk result (Tells out.old out.new (kill self.old task).entries) }
+        ensures events { OnOk result (self.new.kernel.events ≤ self.old.kernel.events + 1) }
+    {
+        if !self.kernel.alive(task) {
+            return tell_gone(task, out);
+        }
+        out.reserve(1)?;
+        out.push(Entry::Kill(task));
+        self.kernel.kill(task, out)
     }
 
     fn hang_up(&mut self, task: TaskNo, phone: u64, out: &mut Trace) -> Result<(), NoMemory>
