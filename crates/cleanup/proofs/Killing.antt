@@ -1,5 +1,5 @@
 -- A kill keeps a sound state sound, and leaves nothing of the task.
-use Rattle.std.proofs.Common.{◌≡◌, ℕ, zero, suc, ◌+◌, ◌-◌, ◌<◌, ◌≤◌, Bool, true, false, ◌⊎◌, inl, inr, Option, None, Some, List, [], ◌∷◌, length, refl, ap, sym, subst, ◌∙◌, arith, set}
+use Rattle.std.proofs.Common.{◌≡◌, ℕ, zero, suc, ◌-◌, ◌<◌, Bool, true, false, inl, inr, Option, None, Some, List, [], ◌∷◌, refl, ap, sym, subst, ◌∙◌, arith, set}
 use Rattle.std.proofs.Math.ListN.{length-set}
 use Rattle.std.specs.Prelude.{◌==◌, if◌then◌else◌, slice_get, unwrap_or}
 use Rattle.std.proofs.lemmas.Bool.{cases_eq, eq-eqb, ne_eqb, false≢true}
@@ -12,16 +12,16 @@ use Rattle.ipc_ids.specs.declared.message.PhoneState.TheVariants.{Free, Connecti
 use Rattle.call_slab.specs.declared.call.Call.{Call}
 use Rattle.call_slab.specs.declared.call.Place.{Place}
 use Rattle.call_slab.specs.declared.call.Place.TheVariants.{Incoming, Dispatched, Answers}
-use Rattle.answerbox.specs.Calls.{CallTable, call_at, same_place, is_caller, without_caller, with_record}
+use Rattle.answerbox.specs.Calls.{call_at, same_place, is_caller}
 use Rattle.phone_table.specs.Phones.{state_at}
-use Rattle.cleanup.specs.State.{Tasks, KernelState, Transition, Memory, nothing, alive_in, is_alive, each, drain, phone_at, with_phone, with_calls}
-use Rattle.cleanup.specs.Sound.{IsPlaced, IsCaller, IsSoundCall, AreSoundCalls, IsQuiet, AreSoundTasks, IsSound}
+use Rattle.cleanup.specs.State.{KernelState, Transition, alive_in, is_alive, phone_at}
+use Rattle.cleanup.specs.Sound.{IsPlaced, IsCaller, IsQuiet, IsSound}
 use Rattle.cleanup.specs.Settling.{bare_reply, settle_for, lives, drop_answer, forget_call}
 use Rattle.cleanup.specs.HangingUp.{hang_up}
-use Rattle.cleanup.specs.Kill.{width, mark_ended, hang_up_at, hang_up_own_phones, slam, slam_at, slam_phones_to, first_at, first_call_of, settle_call, settle_calls_at, settle_incoming, settle_dispatched, drop_answers, forget_calls_elsewhere, kill}
-use Rattle.cleanup.proofs.Repeats.{NoneIs, by_test, each_keeps, each_rises, drain_keeps}
-use Rattle.cleanup.proofs.Silence.{with_marks, IsEnding, IsSilent, IsAlone, NobodyLeads, own_phones_hung_up, phones_slammed, slams_keep}
-use Rattle.cleanup.proofs.Queues.{IsUncalled, IsIdle, IsUnanswered, IsForgotten, stands_at, is_call_of, incoming_settled, dispatched_settled, answers_dropped, calls_forgotten}
+use Rattle.cleanup.specs.Kill.{width, mark_ended, hang_up_at, hang_up_own_phones, slam, slam_phones_to, first_at, first_call_of, settle_call, settle_calls_at, settle_incoming, settle_dispatched, drop_answers, forget_calls_elsewhere, kill}
+use Rattle.cleanup.proofs.Repeats.{by_test, each_keeps, drain_keeps}
+use Rattle.cleanup.proofs.Silence.{with_marks, IsEnding, own_phones_hung_up, phones_slammed, slams_keep}
+use Rattle.cleanup.proofs.Queues.{IsForgotten, incoming_settled, dispatched_settled, answers_dropped, calls_forgotten}
 
 -- the states between the parts of a kill
 abbrev pub after_hangups : TaskNo → KernelState → KernelState

@@ -1,8 +1,7 @@
 -- The call parts of a kill: no call waits at the task, is held by it or answers it, and none is its own.
-use Rattle.std.proofs.Common.{◌≡◌, ℕ, zero, suc, ◌+◌, ◌<◌, ◌≤◌, Bool, true, false, cond, ◌⊎◌, inl, inr, Option, None, Some, List, refl, ap, sym, subst, ◌∙◌, arith}
-use Rattle.std.specs.Prelude.{◌==◌, if◌then◌else◌, IsSome}
-use Rattle.std.proofs.lemmas.Bool.{eqb-true, eq-eqb, false≢true}
-use Rattle.std.specs.Ordering.{nat_cmp}
+use Rattle.std.proofs.Common.{◌≡◌, ℕ, suc, ◌+◌, ◌<◌, ◌≤◌, Bool, true, false, ◌⊎◌, inl, inr, Option, None, Some, List, refl, ap, sym, subst, ◌∙◌, arith}
+use Rattle.std.specs.Prelude.{◌==◌}
+use Rattle.std.proofs.lemmas.Bool.{false≢true}
 use Rattle.std.specs.Cmp.{nat_cmp_total}
 use Rattle.std.specs.FinMap.{len, len-insert, get, insert, remove, get-remove, entries}
 use Rattle.ipc_ids.specs.declared.numbers.TaskNo.{TaskNo}
@@ -11,20 +10,20 @@ use Rattle.ipc_ids.specs.Codes.{ehangup}
 use Rattle.call_slab.specs.declared.call.Call.{Call}
 use Rattle.call_slab.specs.declared.call.Place.{Place}
 use Rattle.call_slab.specs.declared.call.Place.TheVariants.{Incoming, Dispatched, Answers}
-use Rattle.answerbox.specs.Calls.{CallTable, call_at, front, calls_of, same_place, is_caller, put_at, without_call, with_record, without_caller, count_of}
+use Rattle.answerbox.specs.Calls.{CallTable, call_at, front, calls_of, same_place, is_caller, put_at, without_call, with_record, count_of}
 use Rattle.answerbox.proofs.Counts.{insert-remove, ties, count-len, count-without_call, count-replace}
 use Rattle.answerbox.proofs.Fronts.{front_live}
 use Rattle.answerbox.proofs.Steps.{with_change-record}
 use Rattle.answerbox.proofs.Callers.{calls_of_live, calls_of_none}
-use Rattle.cleanup.specs.State.{Tasks, KernelState, Transition, nothing, drain, with_calls, alive_in}
-use Rattle.cleanup.specs.Sound.{IsPlaced, IsCaller, IsSoundCall, AreSoundCalls, IsSound}
-use Rattle.cleanup.specs.Settling.{bare_reply, settle, settle_for, lives, vanishing, answer_to, drop_answer, forget_call}
-use Rattle.cleanup.specs.Kill.{first_at, first_call_of, settle_call, settle_calls_at, settle_incoming, settle_dispatched, drop_answers, forget_calls_elsewhere}
+use Rattle.cleanup.specs.State.{Tasks, KernelState, with_calls}
+use Rattle.cleanup.specs.Sound.{IsPlaced, IsSoundCall, AreSoundCalls, IsSound}
+use Rattle.cleanup.specs.Settling.{bare_reply, settle, settle_for, lives, drop_answer, forget_call}
+use Rattle.cleanup.specs.Kill.{first_at, first_call_of, settle_call, settle_incoming, settle_dispatched, drop_answers, forget_calls_elsewhere}
 use Rattle.cleanup.proofs.Lookups.{at_insert, at_remove, chosen, same_call}
 use Rattle.cleanup.proofs.Soundness.{sound_put, sound_without, kept_calls}
 use Rattle.cleanup.proofs.Repeats.{NoneIs, drain_keeps, drain_empties}
 use Rattle.cleanup.proofs.Absence.{split, front_none}
-use Rattle.cleanup.proofs.Silence.{with_marks, IsEnding, IsSilent, IsAlone}
+use Rattle.cleanup.proofs.Silence.{with_marks, IsEnding, IsAlone}
 
 -- how many calls are live
 
@@ -207,8 +206,8 @@ pub incoming_settled : (marks : List Bool) (t : TaskNo) (k : KernelState) → Is
 incoming_settled marks t k h = record {
   alone = drain_keeps (first_at (Incoming t)) settle_call (IsAlone marks t) (incoming_alone marks t) k.calls.next_number k h;
   incoming = drain_empties (first_at (Incoming t)) settle_call (IsAlone marks t) (incoming_alone marks t) (stands_at (Incoming t)) (λ j e. front_none j.calls (Incoming t) e)
-    (λ j c i is. let f = front_at marks j (Incoming t) c i.silent.ending is in settle_less (stands_at (Incoming t)) j c f.0 f.1 (λ u. refl))
-    k.calls.next_number k h (fuel marks k (stands_at (Incoming t)) h.silent.ending);
+      (λ j c i is. let f = front_at marks j (Incoming t) c i.silent.ending is in settle_less (stands_at (Incoming t)) j c f.0 f.1 (λ u. refl))
+      k.calls.next_number k h (fuel marks k (stands_at (Incoming t)) h.silent.ending);
 }
 
 -- no call is held by t
@@ -226,8 +225,8 @@ pub dispatched_settled : (marks : List Bool) (t : TaskNo) (k : KernelState) → 
 dispatched_settled marks t k h = record {
   uncalled = drain_keeps (first_at (Dispatched t)) settle_call (IsUncalled marks t) (dispatched_uncalled marks t) k.calls.next_number k h;
   dispatched = drain_empties (first_at (Dispatched t)) settle_call (IsUncalled marks t) (dispatched_uncalled marks t) (stands_at (Dispatched t)) (λ j e. front_none j.calls (Dispatched t) e)
-    (λ j c i is. let f = front_at marks j (Dispatched t) c i.alone.silent.ending is in settle_less (stands_at (Dispatched t)) j c f.0 f.1 (λ u. refl))
-    k.calls.next_number k h (fuel marks k (stands_at (Dispatched t)) h.alone.silent.ending);
+      (λ j c i is. let f = front_at marks j (Dispatched t) c i.alone.silent.ending is in settle_less (stands_at (Dispatched t)) j c f.0 f.1 (λ u. refl))
+      k.calls.next_number k h (fuel marks k (stands_at (Dispatched t)) h.alone.silent.ending);
 }
 
 -- no answer stands at t
@@ -248,8 +247,8 @@ pub answers_dropped : (marks : List Bool) (t : TaskNo) (k : KernelState) → IsI
 answers_dropped marks t k h = record {
   idle = drain_keeps (first_at (Answers t)) (drop_answer t) (IsIdle marks t) (drop_idle marks t) k.calls.next_number k h;
   answers = drain_empties (first_at (Answers t)) (drop_answer t) (IsIdle marks t) (drop_idle marks t) (stands_at (Answers t)) (λ j e. front_none j.calls (Answers t) e)
-    (λ j c i is. let f = front_at marks j (Answers t) c i.uncalled.alone.silent.ending is in over_less (stands_at (Answers t)) j c f.0 f.1)
-    k.calls.next_number k h (fuel marks k (stands_at (Answers t)) h.uncalled.alone.silent.ending);
+      (λ j c i is. let f = front_at marks j (Answers t) c i.uncalled.alone.silent.ending is in over_less (stands_at (Answers t)) j c f.0 f.1)
+      k.calls.next_number k h (fuel marks k (stands_at (Answers t)) h.uncalled.alone.silent.ending);
 }
 
 -- no call is one of t
@@ -279,6 +278,6 @@ pub calls_forgotten : (marks : List Bool) (t : TaskNo) (k : KernelState) → IsU
 calls_forgotten marks t k h = record {
   unanswered = drain_keeps (first_call_of t) forget_call (IsUnanswered marks t) (forget_unanswered marks t) k.calls.next_number k h;
   callers = drain_empties (first_call_of t) forget_call (IsUnanswered marks t) (forget_unanswered marks t) (is_call_of t) (λ j e n c is. calls_of_none j.calls t n c e is)
-    (λ j c i is. let f = call_from marks t j c i.idle.uncalled.alone.silent.ending is in forget_less (is_call_of t) j c f.0 f.1 refl)
-    k.calls.next_number k h (fuel marks k (is_call_of t) h.idle.uncalled.alone.silent.ending);
+      (λ j c i is. let f = call_from marks t j c i.idle.uncalled.alone.silent.ending is in forget_less (is_call_of t) j c f.0 f.1 refl)
+      k.calls.next_number k h (fuel marks k (is_call_of t) h.idle.uncalled.alone.silent.ending);
 }
