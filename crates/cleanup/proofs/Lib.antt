@@ -10,3 +10,4 @@ pub mod Silence
 pub mod Queues
 pub mod Killing
 pub mod Numbering
+pub mod KilledPhones

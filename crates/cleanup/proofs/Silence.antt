@@ -146,7 +146,7 @@ leader_alive k t p u s is = by_mark (is_alive k t) refl where
   by_mark true e = refl
   by_mark false e = absurd (s.tasks.quiet t.0 p (Connected u) is e)
 
-slam_silent : (marks : List Bool) (t u : TaskNo) (n : ℕ) (k : KernelState) (o : Option PhoneState) → phone_at k u n ≡ o → IsSilent marks t k → IsSilent marks t (slam t u k n o).state
+pub slam_silent : (marks : List Bool) (t u : TaskNo) (n : ℕ) (k : KernelState) (o : Option PhoneState) → phone_at k u n ≡ o → IsSilent marks t k → IsSilent marks t (slam t u k n o).state
 slam_silent marks t u n k None is h = h
 slam_silent marks t u n k (Some Free) is h = h
 slam_silent marks t u n k (Some Connecting) is h = h
