@@ -87,7 +87,7 @@ pub record IsSteady (k j : KernelState) : Type 0 where
   pub memory : j.memory ≡ k.memory
   pub events : j.events ≡ k.events
 
-hang_up_steady : (k : KernelState) (t : TaskNo) (j : KernelState) (p : ℕ) (o : Option PhoneState) → IsSteady k j → IsSteady k (hang_up j t p o).state
+pub hang_up_steady : (k : KernelState) (t : TaskNo) (j : KernelState) (p : ℕ) (o : Option PhoneState) → IsSteady k j → IsSteady k (hang_up j t p o).state
 hang_up_steady k t j p None h = h
 hang_up_steady k t j p (Some Free) h = h
 hang_up_steady k t j p (Some Connecting) h = h
@@ -95,7 +95,7 @@ hang_up_steady k t j p (Some HungUp) h = h
 hang_up_steady k t j p (Some Slammed) h = record { alive = h.alive; memory = h.memory; events = h.events }
 hang_up_steady k t j p (Some (Connected u)) h = record { alive = h.alive; memory = h.memory; events = h.events }
 
-slam_steady : (k : KernelState) (t u : TaskNo) (j : KernelState) (p : ℕ) (o : Option PhoneState) → IsSteady k j → IsSteady k (slam t u j p o).state
+pub slam_steady : (k : KernelState) (t u : TaskNo) (j : KernelState) (p : ℕ) (o : Option PhoneState) → IsSteady k j → IsSteady k (slam t u j p o).state
 slam_steady k t u j p None h = h
 slam_steady k t u j p (Some Free) h = h
 slam_steady k t u j p (Some Connecting) h = h
@@ -103,7 +103,7 @@ slam_steady k t u j p (Some HungUp) h = h
 slam_steady k t u j p (Some Slammed) h = h
 slam_steady k t u j p (Some (Connected v)) h = by_test (λ (s : Transition). IsSteady k s.state) (v.0 == t.0) _ _ (λ _. record { alive = h.alive; memory = h.memory; events = h.events }) (λ _. h)
 
-settle_steady : (k j : KernelState) (c : Call) (reply : Reply) (o : Option TaskNo) (b : Bool) → IsSteady k j → IsSteady k (settle_for j c reply None o b).state
+pub settle_steady : (k j : KernelState) (c : Call) (reply : Reply) (o : Option TaskNo) (b : Bool) → IsSteady k j → IsSteady k (settle_for j c reply None o b).state
 settle_steady k j c reply None b h = record { alive = h.alive; memory = h.memory; events = h.events }
 settle_steady k j c reply (Some u) false h = record { alive = h.alive; memory = h.memory; events = h.events }
 settle_steady k j c reply (Some u) true h = record { alive = h.alive; memory = h.memory; events = h.events }

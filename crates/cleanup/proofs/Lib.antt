@@ -11,3 +11,4 @@ pub mod Queues
 pub mod Killing
 pub mod Numbering
 pub mod KilledPhones
+pub mod KilledCalls

@@ -95,7 +95,7 @@ abbrev pub is_call_of : TaskNo → Call → Bool
 is_call_of t c = is_caller t c.caller
 
 -- the front of a place is live, and stands there
-front_at : (marks : List Bool) (k : KernelState) (place : Place) (c : Call) → IsEnding marks k → front k.calls place ≡ Some c → IsLive k c × (stands_at place c ≡ true)
+pub front_at : (marks : List Bool) (k : KernelState) (place : Place) (c : Call) → IsEnding marks k → front k.calls place ≡ Some c → IsLive k c × (stands_at place c ≡ true)
 front_at marks k place c h is = let f = front_live k.calls place c is in (own marks k f.0 c h f.1, f.2)
 
 -- the calls change, and the phones stay
@@ -131,7 +131,7 @@ forgotten_place tasks t o (Incoming s) h made none = h
 forgotten_place tasks t o (Dispatched s) h made none = h
 forgotten_place tasks t o (Answers s) h made none = absurd (false≢true (sym none ∙ sym (ap (is_caller t) h) ∙ made))
 
-forget_step : (k : KernelState) (c : Call) → IsLive k c → (forget_call k c).state ≡ with_calls k (with_record k.calls (forgotten c))
+pub forget_step : (k : KernelState) (c : Call) → IsLive k c → (forget_call k c).state ≡ with_calls k (with_record k.calls (forgotten c))
 forget_step k c is = ap (with_calls k) (with_change-record k.calls c.number.0 c forgotten is)
 
 forget_alone : (marks : List Bool) (t : TaskNo) (k : KernelState) (c : Call) → IsAlone marks t k → IsLive k c → is_call_of t c ≡ true → stands_at (Answers t) c ≡ false → IsAlone marks t (forget_call k c).state
@@ -199,7 +199,7 @@ pub record IsUncalled (marks : List Bool) (t : TaskNo) (k : KernelState) : Type 
   pub alone : IsAlone marks t k
   pub incoming : NoneIs (stands_at (Incoming t)) k
 
-incoming_alone : (marks : List Bool) (t : TaskNo) (k : KernelState) (c : Call) → IsAlone marks t k → front k.calls (Incoming t) ≡ Some c → IsAlone marks t (settle_call k c).state
+pub incoming_alone : (marks : List Bool) (t : TaskNo) (k : KernelState) (c : Call) → IsAlone marks t k → front k.calls (Incoming t) ≡ Some c → IsAlone marks t (settle_call k c).state
 incoming_alone marks t k c h is = settle_alone marks t k c h (front_at marks k (Incoming t) c h.silent.ending is).0
 
 pub incoming_settled : (marks : List Bool) (t : TaskNo) (k : KernelState) → IsAlone marks t k → IsUncalled marks t (settle_incoming t k).state
@@ -215,7 +215,7 @@ pub record IsIdle (marks : List Bool) (t : TaskNo) (k : KernelState) : Type 0 wh
   pub uncalled : IsUncalled marks t k
   pub dispatched : NoneIs (stands_at (Dispatched t)) k
 
-dispatched_uncalled : (marks : List Bool) (t : TaskNo) (k : KernelState) (c : Call) → IsUncalled marks t k → front k.calls (Dispatched t) ≡ Some c → IsUncalled marks t (settle_call k c).state
+pub dispatched_uncalled : (marks : List Bool) (t : TaskNo) (k : KernelState) (c : Call) → IsUncalled marks t k → front k.calls (Dispatched t) ≡ Some c → IsUncalled marks t (settle_call k c).state
 dispatched_uncalled marks t k c h is = record {
   alone = settle_alone marks t k c h.alone (front_at marks k (Dispatched t) c h.alone.silent.ending is).0;
   incoming = settle_none (stands_at (Incoming t)) k c h.incoming (λ u. refl);
@@ -234,7 +234,7 @@ pub record IsUnanswered (marks : List Bool) (t : TaskNo) (k : KernelState) : Typ
   pub idle : IsIdle marks t k
   pub answers : NoneIs (stands_at (Answers t)) k
 
-drop_idle : (marks : List Bool) (t : TaskNo) (k : KernelState) (c : Call) → IsIdle marks t k → front k.calls (Answers t) ≡ Some c → IsIdle marks t (drop_answer t k c).state
+pub drop_idle : (marks : List Bool) (t : TaskNo) (k : KernelState) (c : Call) → IsIdle marks t k → front k.calls (Answers t) ≡ Some c → IsIdle marks t (drop_answer t k c).state
 drop_idle marks t k c h is = record {
   uncalled = record {
     alone = over_alone marks t k c h.uncalled.alone (front_at marks k (Answers t) c h.uncalled.alone.silent.ending is).0;
@@ -257,10 +257,10 @@ pub record IsForgotten (marks : List Bool) (t : TaskNo) (k : KernelState) : Type
   pub callers : NoneIs (is_call_of t) k
 
 -- the first call of t is live, and is one of t
-call_from : (marks : List Bool) (t : TaskNo) (k : KernelState) (c : Call) → IsEnding marks k → calls_of k.calls t ≡ Some c → IsLive k c × (is_call_of t c ≡ true)
+pub call_from : (marks : List Bool) (t : TaskNo) (k : KernelState) (c : Call) → IsEnding marks k → calls_of k.calls t ≡ Some c → IsLive k c × (is_call_of t c ≡ true)
 call_from marks t k c h is = let f = calls_of_live k.calls t c is in (own marks k f.number c h f.is, f.made)
 
-forget_unanswered : (marks : List Bool) (t : TaskNo) (k : KernelState) (c : Call) → IsUnanswered marks t k → calls_of k.calls t ≡ Some c → IsUnanswered marks t (forget_call k c).state
+pub forget_unanswered : (marks : List Bool) (t : TaskNo) (k : KernelState) (c : Call) → IsUnanswered marks t k → calls_of k.calls t ≡ Some c → IsUnanswered marks t (forget_call k c).state
 forget_unanswered marks t k c h is =
     let f = call_from marks t k c h.idle.uncalled.alone.silent.ending is in
     record {
