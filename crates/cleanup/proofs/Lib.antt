@@ -12,3 +12,5 @@ pub mod Killing
 pub mod Numbering
 pub mod KilledPhones
 pub mod KilledCalls
+pub mod Histories
+pub mod KillExample
