@@ -1,19 +1,18 @@
 -- A kill of a task whose phone was slammed, and to which the phone of another leads.
-use Rattle.std.proofs.Common.{◌≡◌, ℕ, Bool, true, false, Option, None, Some, List, [], ◌∷◌, refl, ap, ◌∙◌}
+use Rattle.std.proofs.Common.{◌≡◌, true, false, Option, None, Some, [], ◌∷◌, refl}
 use Rattle.std.specs.Ordering.{nat_cmp}
 use Rattle.std.specs.FinMap.{get-empty}
 use Rattle.ipc_ids.specs.declared.numbers.TaskNo.{TaskNo}
-use Rattle.ipc_ids.specs.declared.numbers.Label.{Label}
 use Rattle.ipc_ids.specs.declared.message.PhoneState.TheVariants.{Free, Connected, HungUp, Slammed}
 use Rattle.ipc_ids.specs.declared.entry.Entry.TheVariants.{PhoneIs}
 use Rattle.call_slab.specs.declared.call.Call.{Call}
 use Rattle.call_slab.specs.declared.call.Place.{Place}
 use Rattle.call_slab.specs.declared.call.Place.TheVariants.{Incoming, Dispatched, Answers}
-use Rattle.answerbox.specs.Calls.{no_calls, call_at, front, calls_of, is_caller}
+use Rattle.answerbox.specs.Calls.{no_calls, front, calls_of}
 use Rattle.answerbox.proofs.Fronts.{front_is_none}
-use Rattle.answerbox.proofs.Callers.{IsCallFrom, calls_of_live}
-use Rattle.cleanup.specs.State.{KernelState, state_from, drain, nothing}
-use Rattle.cleanup.specs.Kill.{kill, slam_phones_to, hang_up_own_phones, mark_ended, end_parts}
+use Rattle.answerbox.proofs.Callers.{calls_of_live}
+use Rattle.cleanup.specs.State.{KernelState, state_from}
+use Rattle.cleanup.specs.Kill.{kill}
 
 abbrev first : TaskNo
 first = record { 0 = 1 }

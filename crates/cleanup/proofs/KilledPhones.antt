@@ -1,5 +1,5 @@
 -- Each phone after a kill: those of the task are hung up, and those that led to it are slammed.
-use Rattle.std.proofs.Common.{◌≡◌, ℕ, ◌+◌, ◌<◌, Bool, true, false, ◌⊎◌, inl, inr, Option, None, Some, List, refl, ap, sym, subst, ◌∙◌, arith}
+use Rattle.std.proofs.Common.{◌≡◌, ℕ, ◌<◌, Bool, true, false, ◌⊎◌, inl, inr, Option, None, Some, List, refl, ap, sym, subst, ◌∙◌}
 use Rattle.std.specs.Prelude.{◌==◌, if◌then◌else◌, IsSome, option_map}
 use Rattle.std.proofs.lemmas.Bool.{cases_eq, eqb-true, eq-eqb, ne_eqb, false≢true}
 use Rattle.std.specs.FinMap.{len}
@@ -16,7 +16,7 @@ use Rattle.cleanup.specs.State.{KernelState, Transition, is_alive, phone_at, wit
 use Rattle.cleanup.specs.Sound.{IsQuiet, IsSound}
 use Rattle.cleanup.specs.Settling.{bare_reply, settle_for, lives, drop_answer, forget_call}
 use Rattle.cleanup.specs.HangingUp.{hang_up}
-use Rattle.cleanup.specs.Kill.{width, mark_ended, hang_up_at, slam, slam_at, first_at, first_call_of, settle_call, settle_calls_at, kill}
+use Rattle.cleanup.specs.Kill.{width, mark_ended, hang_up_at, slam, first_at, first_call_of, settle_call, settle_calls_at, kill}
 use Rattle.cleanup.proofs.Rows.{state_changed_at}
 use Rattle.cleanup.proofs.Soundness.{phone_kept, value_of}
 use Rattle.cleanup.proofs.Repeats.{by_test, each_keeps, drain_keeps}
@@ -222,9 +222,9 @@ module _ (k : KernelState) (t : TaskNo) (sound : IsSound k) (alive : is_alive k 
       let o : Option PhoneState = phone_at k t q in
       let h1 : IsEither hung o (phone_at (after_hangups t k) t q) = each_keeps (hang_up_at t) (λ j. IsEither hung o (phone_at j t q)) (λ j n h. hang_up_own t q o j n h) (width k.tasks.phones t.0) 0 (mark_ended k t) (inl refl) in
       let h2 : AndSilent k.tasks.alive t (λ j. IsEither hung o (phone_at j t q)) (after_slams t k) =
-            slams_keep t (AndSilent k.tasks.alive t (λ j. IsEither hung o (phone_at j t q)))
-            (λ u n j h. record { silent = slam_silent k.tasks.alive t u n j (phone_at j u n) refl h.silent; fact = slam_own k.tasks.alive t u n q o j (phone_at j u n) refl h.silent h.fact })
-            (after_hangups t k) (record { silent = silent_first; fact = h1 }) in
+      slams_keep t (AndSilent k.tasks.alive t (λ j. IsEither hung o (phone_at j t q)))
+      (λ u n j h. record { silent = slam_silent k.tasks.alive t u n j (phone_at j u n) refl h.silent; fact = slam_own k.tasks.alive t u n q o j (phone_at j u n) refl h.silent h.fact })
+      (after_hangups t k) (record { silent = silent_first; fact = h1 }) in
       settled_own o (phone_at (kill k t).state t q) (subst (λ (rows : List (List PhoneState)). IsEither hung o (state_at rows t.0 q)) (sym (phones_after k t)) h2.fact) (nothing_left.quiet q)
 
   -- a phone of another task
