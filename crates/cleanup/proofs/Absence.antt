@@ -32,11 +32,13 @@ nobody : (place : Place) (es : List (ℕ × Call)) (o : Option Call) → fold (p
 nobody place [] o h = (h, λ k d f. absurd (cc f))
 nobody place (e ∷ es) o h =
     let rest = nobody place es (pick place o e.1) h in
-    let this = pick_none place o e.1 rest.0 in
-    (this.0, λ k d f. elim (split (is_eq (nat_cmp k e.0)) (Some e.1) (find nat_cmp k es) d f) [
-      | inl g ↦ let same : e.1 ≡ d = cc in ap (λ (x : Call). same_place x.place place) (sym same) ∙ this.1
-      | inr g ↦ rest.1 k d g
-    ])
+    let this = pick_none place o e.1 rest.0 in (
+      this.0,
+      λ k d f. elim (split (is_eq (nat_cmp k e.0)) (Some e.1) (find nat_cmp k es) d f) [
+        | inl g ↦ let same : e.1 ≡ d = cc in ap (λ (x : Call). same_place x.place place) (sym same) ∙ this.1
+        | inr g ↦ rest.1 k d g
+      ],
+    )
 
 -- no live call stands at a place without a front
 pub front_none : (q : CallTable) (place : Place) → front q place ≡ None → (n : ℕ) (c : Call) → call_at q n ≡ Some c → same_place c.place place ≡ false

@@ -1,5 +1,5 @@
 -- A kill keeps a sound state sound, and leaves nothing of the task.
-use Rattle.std.proofs.Common.{◌≡◌, ℕ, zero, suc, ◌+◌, ◌-◌, ◌<◌, ◌≤◌, Bool, true, false, ◌⊎◌, inl, inr, Option, None, Some, List, [], ◌∷◌, length, refl, ap, sym, subst, ◌∙◌, arith, set}
+use Rattle.std.proofs.Common.{◌≡◌, ℕ, zero, suc, ◌-◌, ◌<◌, Bool, true, false, inl, inr, Option, None, Some, List, [], ◌∷◌, refl, ap, sym, subst, ◌∙◌, arith, set}
 use Rattle.std.proofs.Math.ListN.{length-set}
 use Rattle.std.specs.Prelude.{◌==◌, if◌then◌else◌, slice_get, unwrap_or}
 use Rattle.std.proofs.lemmas.Bool.{cases_eq, eq-eqb, ne_eqb, false≢true}
@@ -12,16 +12,16 @@ use Rattle.ipc_ids.specs.declared.message.PhoneState.TheVariants.{Free, Connecti
 use Rattle.call_slab.specs.declared.call.Call.{Call}
 use Rattle.call_slab.specs.declared.call.Place.{Place}
 use Rattle.call_slab.specs.declared.call.Place.TheVariants.{Incoming, Dispatched, Answers}
-use Rattle.answerbox.specs.Calls.{CallTable, call_at, same_place, is_caller, without_caller, with_record}
+use Rattle.answerbox.specs.Calls.{call_at, same_place, is_caller}
 use Rattle.phone_table.specs.Phones.{state_at}
-use Rattle.cleanup.specs.State.{Tasks, KernelState, Transition, Memory, nothing, alive_in, is_alive, each, drain, phone_at, with_phone, with_calls}
-use Rattle.cleanup.specs.Sound.{IsPlaced, IsCaller, IsSoundCall, AreSoundCalls, IsQuiet, AreSoundTasks, IsSound}
+use Rattle.cleanup.specs.State.{KernelState, Transition, alive_in, is_alive, phone_at}
+use Rattle.cleanup.specs.Sound.{IsPlaced, IsCaller, IsQuiet, IsSound}
 use Rattle.cleanup.specs.Settling.{bare_reply, settle_for, lives, drop_answer, forget_call}
 use Rattle.cleanup.specs.HangingUp.{hang_up}
-use Rattle.cleanup.specs.Kill.{width, mark_ended, hang_up_at, hang_up_own_phones, slam, slam_at, slam_phones_to, first_at, first_call_of, settle_call, settle_calls_at, settle_incoming, settle_dispatched, drop_answers, forget_calls_elsewhere, kill}
-use Rattle.cleanup.proofs.Repeats.{NoneIs, by_test, each_keeps, each_rises, drain_keeps}
-use Rattle.cleanup.proofs.Silence.{with_marks, IsEnding, IsSilent, IsAlone, NobodyLeads, own_phones_hung_up, phones_slammed, slams_keep}
-use Rattle.cleanup.proofs.Queues.{IsUncalled, IsIdle, IsUnanswered, IsForgotten, stands_at, is_call_of, incoming_settled, dispatched_settled, answers_dropped, calls_forgotten}
+use Rattle.cleanup.specs.Kill.{width, mark_ended, hang_up_at, hang_up_own_phones, slam, slam_phones_to, first_at, first_call_of, settle_call, settle_calls_at, settle_incoming, settle_dispatched, drop_answers, forget_calls_elsewhere, kill}
+use Rattle.cleanup.proofs.Repeats.{by_test, each_keeps, drain_keeps}
+use Rattle.cleanup.proofs.Silence.{with_marks, IsEnding, own_phones_hung_up, phones_slammed, slams_keep}
+use Rattle.cleanup.proofs.Queues.{IsForgotten, incoming_settled, dispatched_settled, answers_dropped, calls_forgotten}
 
 -- the states between the parts of a kill
 abbrev pub after_hangups : TaskNo → KernelState → KernelState
@@ -87,7 +87,7 @@ pub record IsSteady (k j : KernelState) : Type 0 where
   pub memory : j.memory ≡ k.memory
   pub events : j.events ≡ k.events
 
-hang_up_steady : (k : KernelState) (t : TaskNo) (j : KernelState) (p : ℕ) (o : Option PhoneState) → IsSteady k j → IsSteady k (hang_up j t p o).state
+pub hang_up_steady : (k : KernelState) (t : TaskNo) (j : KernelState) (p : ℕ) (o : Option PhoneState) → IsSteady k j → IsSteady k (hang_up j t p o).state
 hang_up_steady k t j p None h = h
 hang_up_steady k t j p (Some Free) h = h
 hang_up_steady k t j p (Some Connecting) h = h
@@ -95,7 +95,7 @@ hang_up_steady k t j p (Some HungUp) h = h
 hang_up_steady k t j p (Some Slammed) h = record { alive = h.alive; memory = h.memory; events = h.events }
 hang_up_steady k t j p (Some (Connected u)) h = record { alive = h.alive; memory = h.memory; events = h.events }
 
-slam_steady : (k : KernelState) (t u : TaskNo) (j : KernelState) (p : ℕ) (o : Option PhoneState) → IsSteady k j → IsSteady k (slam t u j p o).state
+pub slam_steady : (k : KernelState) (t u : TaskNo) (j : KernelState) (p : ℕ) (o : Option PhoneState) → IsSteady k j → IsSteady k (slam t u j p o).state
 slam_steady k t u j p None h = h
 slam_steady k t u j p (Some Free) h = h
 slam_steady k t u j p (Some Connecting) h = h
@@ -103,7 +103,7 @@ slam_steady k t u j p (Some HungUp) h = h
 slam_steady k t u j p (Some Slammed) h = h
 slam_steady k t u j p (Some (Connected v)) h = by_test (λ (s : Transition). IsSteady k s.state) (v.0 == t.0) _ _ (λ _. record { alive = h.alive; memory = h.memory; events = h.events }) (λ _. h)
 
-settle_steady : (k j : KernelState) (c : Call) (reply : Reply) (o : Option TaskNo) (b : Bool) → IsSteady k j → IsSteady k (settle_for j c reply None o b).state
+pub settle_steady : (k j : KernelState) (c : Call) (reply : Reply) (o : Option TaskNo) (b : Bool) → IsSteady k j → IsSteady k (settle_for j c reply None o b).state
 settle_steady k j c reply None b h = record { alive = h.alive; memory = h.memory; events = h.events }
 settle_steady k j c reply (Some u) false h = record { alive = h.alive; memory = h.memory; events = h.events }
 settle_steady k j c reply (Some u) true h = record { alive = h.alive; memory = h.memory; events = h.events }

@@ -11,3 +11,7 @@ pub mod Silence
 pub mod Queues
 pub mod Killing
 pub mod Numbering
+pub mod KilledPhones
+pub mod KilledCalls
+pub mod Histories
+pub mod KillExample

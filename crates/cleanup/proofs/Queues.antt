@@ -1,8 +1,7 @@
 -- The call parts of a kill: no call waits at the task, is held by it or answers it, and none is its own.
-use Rattle.std.proofs.Common.{◌≡◌, ℕ, zero, suc, ◌+◌, ◌<◌, ◌≤◌, Bool, true, false, cond, ◌⊎◌, inl, inr, Option, None, Some, List, refl, ap, sym, subst, ◌∙◌, arith}
-use Rattle.std.specs.Prelude.{◌==◌, if◌then◌else◌, IsSome}
-use Rattle.std.proofs.lemmas.Bool.{eqb-true, eq-eqb, false≢true}
-use Rattle.std.specs.Ordering.{nat_cmp}
+use Rattle.std.proofs.Common.{◌≡◌, ℕ, suc, ◌+◌, ◌<◌, ◌≤◌, Bool, true, false, ◌⊎◌, inl, inr, Option, None, Some, List, refl, ap, sym, subst, ◌∙◌, arith}
+use Rattle.std.specs.Prelude.{◌==◌}
+use Rattle.std.proofs.lemmas.Bool.{false≢true}
 use Rattle.std.specs.Cmp.{nat_cmp_total}
 use Rattle.std.specs.FinMap.{len, len-insert, get, insert, remove, get-remove, entries}
 use Rattle.ipc_ids.specs.declared.numbers.TaskNo.{TaskNo}
@@ -11,20 +10,20 @@ use Rattle.ipc_ids.specs.Codes.{ehangup}
 use Rattle.call_slab.specs.declared.call.Call.{Call}
 use Rattle.call_slab.specs.declared.call.Place.{Place}
 use Rattle.call_slab.specs.declared.call.Place.TheVariants.{Incoming, Dispatched, Answers}
-use Rattle.answerbox.specs.Calls.{CallTable, call_at, front, calls_of, same_place, is_caller, put_at, without_call, with_record, without_caller, count_of}
+use Rattle.answerbox.specs.Calls.{CallTable, call_at, front, calls_of, same_place, is_caller, put_at, without_call, with_record, count_of}
 use Rattle.answerbox.proofs.Counts.{insert-remove, ties, count-len, count-without_call, count-replace}
 use Rattle.answerbox.proofs.Fronts.{front_live}
 use Rattle.answerbox.proofs.Steps.{with_change-record}
 use Rattle.answerbox.proofs.Callers.{calls_of_live, calls_of_none}
-use Rattle.cleanup.specs.State.{Tasks, KernelState, Transition, nothing, drain, with_calls, alive_in}
-use Rattle.cleanup.specs.Sound.{IsPlaced, IsCaller, IsSoundCall, AreSoundCalls, IsSound}
-use Rattle.cleanup.specs.Settling.{bare_reply, settle, settle_for, lives, vanishing, answer_to, drop_answer, forget_call}
-use Rattle.cleanup.specs.Kill.{first_at, first_call_of, settle_call, settle_calls_at, settle_incoming, settle_dispatched, drop_answers, forget_calls_elsewhere}
+use Rattle.cleanup.specs.State.{Tasks, KernelState, with_calls}
+use Rattle.cleanup.specs.Sound.{IsPlaced, IsSoundCall, AreSoundCalls, IsSound}
+use Rattle.cleanup.specs.Settling.{bare_reply, settle, settle_for, lives, drop_answer, forget_call}
+use Rattle.cleanup.specs.Kill.{first_at, first_call_of, settle_call, settle_incoming, settle_dispatched, drop_answers, forget_calls_elsewhere}
 use Rattle.cleanup.proofs.Lookups.{at_insert, at_remove, chosen, same_call}
 use Rattle.cleanup.proofs.Soundness.{sound_put, sound_without, kept_calls}
 use Rattle.cleanup.proofs.Repeats.{NoneIs, drain_keeps, drain_empties}
 use Rattle.cleanup.proofs.Absence.{split, front_none}
-use Rattle.cleanup.proofs.Silence.{with_marks, IsEnding, IsSilent, IsAlone}
+use Rattle.cleanup.proofs.Silence.{with_marks, IsEnding, IsAlone}
 
 -- how many calls are live
 
@@ -96,7 +95,7 @@ abbrev pub is_call_of : TaskNo → Call → Bool
 is_call_of t c = is_caller t c.caller
 
 -- the front of a place is live, and stands there
-front_at : (marks : List Bool) (k : KernelState) (place : Place) (c : Call) → IsEnding marks k → front k.calls place ≡ Some c → IsLive k c × (stands_at place c ≡ true)
+pub front_at : (marks : List Bool) (k : KernelState) (place : Place) (c : Call) → IsEnding marks k → front k.calls place ≡ Some c → IsLive k c × (stands_at place c ≡ true)
 front_at marks k place c h is = let f = front_live k.calls place c is in (own marks k f.0 c h f.1, f.2)
 
 -- the calls change, and the phones stay
@@ -132,7 +131,7 @@ forgotten_place tasks t o (Incoming s) h made none = h
 forgotten_place tasks t o (Dispatched s) h made none = h
 forgotten_place tasks t o (Answers s) h made none = absurd (false≢true (sym none ∙ sym (ap (is_caller t) h) ∙ made))
 
-forget_step : (k : KernelState) (c : Call) → IsLive k c → (forget_call k c).state ≡ with_calls k (with_record k.calls (forgotten c))
+pub forget_step : (k : KernelState) (c : Call) → IsLive k c → (forget_call k c).state ≡ with_calls k (with_record k.calls (forgotten c))
 forget_step k c is = ap (with_calls k) (with_change-record k.calls c.number.0 c forgotten is)
 
 forget_alone : (marks : List Bool) (t : TaskNo) (k : KernelState) (c : Call) → IsAlone marks t k → IsLive k c → is_call_of t c ≡ true → stands_at (Answers t) c ≡ false → IsAlone marks t (forget_call k c).state
@@ -200,15 +199,15 @@ pub record IsUncalled (marks : List Bool) (t : TaskNo) (k : KernelState) : Type 
   pub alone : IsAlone marks t k
   pub incoming : NoneIs (stands_at (Incoming t)) k
 
-incoming_alone : (marks : List Bool) (t : TaskNo) (k : KernelState) (c : Call) → IsAlone marks t k → front k.calls (Incoming t) ≡ Some c → IsAlone marks t (settle_call k c).state
+pub incoming_alone : (marks : List Bool) (t : TaskNo) (k : KernelState) (c : Call) → IsAlone marks t k → front k.calls (Incoming t) ≡ Some c → IsAlone marks t (settle_call k c).state
 incoming_alone marks t k c h is = settle_alone marks t k c h (front_at marks k (Incoming t) c h.silent.ending is).0
 
 pub incoming_settled : (marks : List Bool) (t : TaskNo) (k : KernelState) → IsAlone marks t k → IsUncalled marks t (settle_incoming t k).state
 incoming_settled marks t k h = record {
   alone = drain_keeps (first_at (Incoming t)) settle_call (IsAlone marks t) (incoming_alone marks t) k.calls.next_number k h;
   incoming = drain_empties (first_at (Incoming t)) settle_call (IsAlone marks t) (incoming_alone marks t) (stands_at (Incoming t)) (λ j e. front_none j.calls (Incoming t) e)
-    (λ j c i is. let f = front_at marks j (Incoming t) c i.silent.ending is in settle_less (stands_at (Incoming t)) j c f.0 f.1 (λ u. refl))
-    k.calls.next_number k h (fuel marks k (stands_at (Incoming t)) h.silent.ending);
+      (λ j c i is. let f = front_at marks j (Incoming t) c i.silent.ending is in settle_less (stands_at (Incoming t)) j c f.0 f.1 (λ u. refl))
+      k.calls.next_number k h (fuel marks k (stands_at (Incoming t)) h.silent.ending);
 }
 
 -- no call is held by t
@@ -216,7 +215,7 @@ pub record IsIdle (marks : List Bool) (t : TaskNo) (k : KernelState) : Type 0 wh
   pub uncalled : IsUncalled marks t k
   pub dispatched : NoneIs (stands_at (Dispatched t)) k
 
-dispatched_uncalled : (marks : List Bool) (t : TaskNo) (k : KernelState) (c : Call) → IsUncalled marks t k → front k.calls (Dispatched t) ≡ Some c → IsUncalled marks t (settle_call k c).state
+pub dispatched_uncalled : (marks : List Bool) (t : TaskNo) (k : KernelState) (c : Call) → IsUncalled marks t k → front k.calls (Dispatched t) ≡ Some c → IsUncalled marks t (settle_call k c).state
 dispatched_uncalled marks t k c h is = record {
   alone = settle_alone marks t k c h.alone (front_at marks k (Dispatched t) c h.alone.silent.ending is).0;
   incoming = settle_none (stands_at (Incoming t)) k c h.incoming (λ u. refl);
@@ -226,8 +225,8 @@ pub dispatched_settled : (marks : List Bool) (t : TaskNo) (k : KernelState) → 
 dispatched_settled marks t k h = record {
   uncalled = drain_keeps (first_at (Dispatched t)) settle_call (IsUncalled marks t) (dispatched_uncalled marks t) k.calls.next_number k h;
   dispatched = drain_empties (first_at (Dispatched t)) settle_call (IsUncalled marks t) (dispatched_uncalled marks t) (stands_at (Dispatched t)) (λ j e. front_none j.calls (Dispatched t) e)
-    (λ j c i is. let f = front_at marks j (Dispatched t) c i.alone.silent.ending is in settle_less (stands_at (Dispatched t)) j c f.0 f.1 (λ u. refl))
-    k.calls.next_number k h (fuel marks k (stands_at (Dispatched t)) h.alone.silent.ending);
+      (λ j c i is. let f = front_at marks j (Dispatched t) c i.alone.silent.ending is in settle_less (stands_at (Dispatched t)) j c f.0 f.1 (λ u. refl))
+      k.calls.next_number k h (fuel marks k (stands_at (Dispatched t)) h.alone.silent.ending);
 }
 
 -- no answer stands at t
@@ -235,7 +234,7 @@ pub record IsUnanswered (marks : List Bool) (t : TaskNo) (k : KernelState) : Typ
   pub idle : IsIdle marks t k
   pub answers : NoneIs (stands_at (Answers t)) k
 
-drop_idle : (marks : List Bool) (t : TaskNo) (k : KernelState) (c : Call) → IsIdle marks t k → front k.calls (Answers t) ≡ Some c → IsIdle marks t (drop_answer t k c).state
+pub drop_idle : (marks : List Bool) (t : TaskNo) (k : KernelState) (c : Call) → IsIdle marks t k → front k.calls (Answers t) ≡ Some c → IsIdle marks t (drop_answer t k c).state
 drop_idle marks t k c h is = record {
   uncalled = record {
     alone = over_alone marks t k c h.uncalled.alone (front_at marks k (Answers t) c h.uncalled.alone.silent.ending is).0;
@@ -248,8 +247,8 @@ pub answers_dropped : (marks : List Bool) (t : TaskNo) (k : KernelState) → IsI
 answers_dropped marks t k h = record {
   idle = drain_keeps (first_at (Answers t)) (drop_answer t) (IsIdle marks t) (drop_idle marks t) k.calls.next_number k h;
   answers = drain_empties (first_at (Answers t)) (drop_answer t) (IsIdle marks t) (drop_idle marks t) (stands_at (Answers t)) (λ j e. front_none j.calls (Answers t) e)
-    (λ j c i is. let f = front_at marks j (Answers t) c i.uncalled.alone.silent.ending is in over_less (stands_at (Answers t)) j c f.0 f.1)
-    k.calls.next_number k h (fuel marks k (stands_at (Answers t)) h.uncalled.alone.silent.ending);
+      (λ j c i is. let f = front_at marks j (Answers t) c i.uncalled.alone.silent.ending is in over_less (stands_at (Answers t)) j c f.0 f.1)
+      k.calls.next_number k h (fuel marks k (stands_at (Answers t)) h.uncalled.alone.silent.ending);
 }
 
 -- no call is one of t
@@ -258,10 +257,10 @@ pub record IsForgotten (marks : List Bool) (t : TaskNo) (k : KernelState) : Type
   pub callers : NoneIs (is_call_of t) k
 
 -- the first call of t is live, and is one of t
-call_from : (marks : List Bool) (t : TaskNo) (k : KernelState) (c : Call) → IsEnding marks k → calls_of k.calls t ≡ Some c → IsLive k c × (is_call_of t c ≡ true)
+pub call_from : (marks : List Bool) (t : TaskNo) (k : KernelState) (c : Call) → IsEnding marks k → calls_of k.calls t ≡ Some c → IsLive k c × (is_call_of t c ≡ true)
 call_from marks t k c h is = let f = calls_of_live k.calls t c is in (own marks k f.number c h f.is, f.made)
 
-forget_unanswered : (marks : List Bool) (t : TaskNo) (k : KernelState) (c : Call) → IsUnanswered marks t k → calls_of k.calls t ≡ Some c → IsUnanswered marks t (forget_call k c).state
+pub forget_unanswered : (marks : List Bool) (t : TaskNo) (k : KernelState) (c : Call) → IsUnanswered marks t k → calls_of k.calls t ≡ Some c → IsUnanswered marks t (forget_call k c).state
 forget_unanswered marks t k c h is =
     let f = call_from marks t k c h.idle.uncalled.alone.silent.ending is in
     record {
@@ -279,6 +278,6 @@ pub calls_forgotten : (marks : List Bool) (t : TaskNo) (k : KernelState) → IsU
 calls_forgotten marks t k h = record {
   unanswered = drain_keeps (first_call_of t) forget_call (IsUnanswered marks t) (forget_unanswered marks t) k.calls.next_number k h;
   callers = drain_empties (first_call_of t) forget_call (IsUnanswered marks t) (forget_unanswered marks t) (is_call_of t) (λ j e n c is. calls_of_none j.calls t n c e is)
-    (λ j c i is. let f = call_from marks t j c i.idle.uncalled.alone.silent.ending is in forget_less (is_call_of t) j c f.0 f.1 refl)
-    k.calls.next_number k h (fuel marks k (is_call_of t) h.idle.uncalled.alone.silent.ending);
+      (λ j c i is. let f = call_from marks t j c i.idle.uncalled.alone.silent.ending is in forget_less (is_call_of t) j c f.0 f.1 refl)
+      k.calls.next_number k h (fuel marks k (is_call_of t) h.idle.uncalled.alone.silent.ending);
 }

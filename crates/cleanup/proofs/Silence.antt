@@ -1,11 +1,10 @@
 -- The phone parts of a kill: the phones of the task fall silent, and no phone leads to it any more.
-use Rattle.std.proofs.Common.{◌≡◌, ℕ, zero, suc, ◌+◌, ◌-◌, ◌<◌, ◌≤◌, Bool, true, false, ◌⊎◌, inl, inr, Option, None, Some, List, length, refl, ap, sym, subst, ◌∙◌, arith, set}
+use Rattle.std.proofs.Common.{◌≡◌, ℕ, ◌+◌, ◌-◌, ◌<◌, ◌≤◌, Bool, true, false, ◌⊎◌, inl, inr, Option, None, Some, List, length, refl, ap, sym, subst, ◌∙◌, arith, set}
 use Rattle.std.proofs.Math.ListN.{length-set}
-use Rattle.std.specs.Prelude.{◌==◌, if◌then◌else◌, IsSome}
+use Rattle.std.specs.Prelude.{◌==◌, IsSome}
 use Rattle.std.specs.Option.{option_map_or}
 use Rattle.std.proofs.lemmas.Option.{slice_get_past}
 use Rattle.std.proofs.lemmas.Bool.{cases_eq, cases_lt, eqb-true, eq-eqb, ne_eqb, false≢true}
-use Rattle.std.specs.Ordering.{nat_cmp}
 use Rattle.std.specs.Cmp.{nat_cmp_total}
 use Rattle.std.specs.FinMap.{len, len-insert}
 use Rattle.ipc_ids.specs.declared.numbers.TaskNo.{TaskNo}
@@ -14,8 +13,8 @@ use Rattle.ipc_ids.specs.declared.message.PhoneState.TheVariants.{Free, Connecti
 use Rattle.call_slab.specs.declared.call.Call.{Call}
 use Rattle.answerbox.specs.Calls.{CallTable, call_at, enqueue}
 use Rattle.phone_table.specs.Phones.{row_at, state_at}
-use Rattle.cleanup.specs.State.{Tasks, KernelState, Transition, nothing, alive_in, is_alive, each, phone_at, with_state_at, with_phone, with_calls}
-use Rattle.cleanup.specs.Sound.{AreSoundCalls, IsQuiet, AreSoundTasks, IsSound}
+use Rattle.cleanup.specs.State.{Tasks, KernelState, Transition, alive_in, is_alive, phone_at, with_state_at, with_phone, with_calls}
+use Rattle.cleanup.specs.Sound.{AreSoundCalls, IsQuiet, IsSound}
 use Rattle.cleanup.specs.HangingUp.{hangup_call, hang_up}
 use Rattle.cleanup.specs.Kill.{task_no, width, hang_up_at, hang_up_own_phones, slam, slam_at, slam_phones_of, slam_other, slam_phones_to}
 use Rattle.cleanup.proofs.Rows.{state_changed_at}
@@ -116,7 +115,7 @@ pub own_phones_hung_up : (marks : List Bool) (t : TaskNo) (k : KernelState) → 
 own_phones_hung_up marks t k alive h = record {
   ending = each_keeps (hang_up_at t) (IsEnding marks) (λ j i s. hang_up_ends marks t j i alive s) (width k.tasks.phones t.0) 0 k h;
   still = λ q. each_does (hang_up_at t) (IsStill t) (hang_up_stills t) (width k.tasks.phones t.0) 0 k q
-    (elim (cases_lt q (width k.tasks.phones t.0)) [ inl l ↦ inl (omega arith, omega arith) | inr l ↦ inr (λ x is. absurd (none_some (phone_at k t q) x (past_width k.tasks.phones t.0 q l) is)) ]);
+      (elim (cases_lt q (width k.tasks.phones t.0)) [ inl l ↦ inl (omega arith, omega arith) | inr l ↦ inr (λ x is. absurd (none_some (phone_at k t q) x (past_width k.tasks.phones t.0 q l) is)) ]);
 }
 
 -- a change of a phone leaves as many rows
@@ -147,7 +146,7 @@ leader_alive k t p u s is = by_mark (is_alive k t) refl where
   by_mark true e = refl
   by_mark false e = absurd (s.tasks.quiet t.0 p (Connected u) is e)
 
-slam_silent : (marks : List Bool) (t u : TaskNo) (n : ℕ) (k : KernelState) (o : Option PhoneState) → phone_at k u n ≡ o → IsSilent marks t k → IsSilent marks t (slam t u k n o).state
+pub slam_silent : (marks : List Bool) (t u : TaskNo) (n : ℕ) (k : KernelState) (o : Option PhoneState) → phone_at k u n ≡ o → IsSilent marks t k → IsSilent marks t (slam t u k n o).state
 slam_silent marks t u n k None is h = h
 slam_silent marks t u n k (Some Free) is h = h
 slam_silent marks t u n k (Some Connecting) is h = h
@@ -210,8 +209,8 @@ slam_does t u k n m g = by_state (phone_at k u n) refl where
   by_state (Some HungUp) h = same (Some HungUp) h (λ v x. cc)
   by_state (Some Slammed) h = same (Some Slammed) h (λ v x. cc)
   by_state (Some (Connected w)) h = by_test (λ (d : Transition). IsAway t u d.state m) (w.0 == t.0) _ _
-    (λ _ v x. let old = still_connected u n k u.0 m v x in elim g [ inl e ↦ absurd (old.0 (refl, e)) | inr away ↦ away v old.1 ])
-    (λ ne. same (Some (Connected w)) h (λ v x e. let is : w ≡ v = cc in false≢true (sym ne ∙ eq-eqb w.0 t.0 (ap (λ (y : TaskNo). y.0) is ∙ e))))
+      (λ _ v x. let old = still_connected u n k u.0 m v x in elim g [ inl e ↦ absurd (old.0 (refl, e)) | inr away ↦ away v old.1 ])
+      (λ ne. same (Some (Connected w)) h (λ v x e. let is : w ≡ v = cc in false≢true (sym ne ∙ eq-eqb w.0 t.0 (ap (λ (y : TaskNo). y.0) is ∙ e))))
 
 row_does : (t u : TaskNo) (k : KernelState) → LeadsAway t u.0 (slam_phones_of t u k).state
 row_does t u k q = each_does (slam_at t u) (IsAway t u) (slam_does t u) (width k.tasks.phones u.0) 0 k q

@@ -1,5 +1,5 @@
 -- Each request keeps a sound state sound, by the definitions alone.
-use Rattle.std.proofs.Common.{◌≡◌, ℕ, zero, suc, ◌+◌, ◌<◌, ◌≤◌, Bool, true, false, ◌⊎◌, inl, inr, Option, None, Some, Result, Ok, Err, List, refl, ap, sym, subst, ◌∙◌, arith, nat_lt, nat_le}
+use Rattle.std.proofs.Common.{◌≡◌, ℕ, ◌+◌, ◌<◌, ◌≤◌, Bool, true, false, Option, None, Some, Result, Ok, Err, List, refl, ap, sym, ◌∙◌, arith, nat_lt, nat_le}
 use Rattle.std.specs.Prelude.{◌==◌, if◌then◌else◌, IsSome}
 use Rattle.std.proofs.lemmas.Bool.{ne_eqb}
 use Rattle.std.proofs.lemmas.Bool.Decides.{nat_tests}
@@ -18,7 +18,7 @@ use Rattle.ipc_ids.specs.Tables.{first_user_method, most_active}
 use Rattle.call_slab.specs.declared.call.Call.{Call}
 use Rattle.call_slab.specs.declared.call.Place.{Place}
 use Rattle.call_slab.specs.declared.call.Place.TheVariants.{Incoming, Dispatched, Answers}
-use Rattle.answerbox.specs.Calls.{CallTable, call_at, front, enqueue, put_at, without_call, same_place, active_calls}
+use Rattle.answerbox.specs.Calls.{call_at, front, enqueue, put_at, without_call, same_place, active_calls}
 use Rattle.answerbox.proofs.Fronts.{front_live}
 use Rattle.phone_table.specs.Phones.{state_at}
 use Rattle.forwarding.specs.declared.passing.Forwarded.{Forwarded}
@@ -27,15 +27,15 @@ use Rattle.forwarding.specs.declared.passing.ForwardFault.TheVariants.{NotHeld, 
 use Rattle.forwarding.specs.Routes.{forward_answer, call_after, table_after}
 use Rattle.cleanup.specs.State.{KernelState, Transition, is_alive, phone_at, with_calls, with_phone, with_event, label_of}
 use Rattle.cleanup.specs.Sound.{IsPlaced, IsCaller, IsSound}
-use Rattle.cleanup.specs.Settling.{bare_reply, settle, settle_for, lives, settle_live, drop_answer}
+use Rattle.cleanup.specs.Settling.{bare_reply, settle, settle_for, lives, drop_answer}
 use Rattle.cleanup.specs.HangingUp.{new_call, hangup_call, hang_up}
 use Rattle.cleanup.proofs.Soundness.{sound_enqueue, sound_put, sound_without, kept_calls}
 use Rattle.cleanup.proofs.Repeats.{by_test, drain_keeps}
 use Rattle.cleanup.proofs.Silence.{next_free, more_calls, sound_hang_up}
 use Rattle.cleanup.proofs.Queues.{fewer_calls, as_many_calls}
-use Rattle.kernel_core.specs.Served.{Served, then_serve, telling}
-use Rattle.kernel_core.specs.Calling.{refusal, acceptance, answer_at_once, call_through, call_tested, call_over}
-use Rattle.kernel_core.specs.Receiving.{delivery, reception, receive_first, receive_now, unawaited, next_unawaited, drop_unawaited}
+use Rattle.kernel_core.specs.Served.{Served}
+use Rattle.kernel_core.specs.Calling.{call_through, call_tested, call_over}
+use Rattle.kernel_core.specs.Receiving.{receive_first, receive_now, unawaited, next_unawaited, drop_unawaited}
 use Rattle.kernel_core.specs.Answering.{held_by, answer_held}
 use Rattle.kernel_core.specs.Forwarding.{failed_forward, passing_on, forward_told}
 use Rattle.kernel_core.specs.HangingUp.{hangup_over}
@@ -64,7 +64,8 @@ enqueued k c h number place caller phone discard =
     let free : call_at k.calls c.number.0 ≡ None = ap (call_at k.calls) number ∙ next_free k.tasks k.calls h.calls in
     let m = more_calls k.calls c free in
     record {
-      sound = kept_calls k (enqueue k.calls c) h (sound_enqueue k.tasks k.calls c h.calls number place caller phone discard); calls = omega arith;
+      sound = kept_calls k (enqueue k.calls c) h (sound_enqueue k.tasks k.calls c h.calls number place caller phone discard);
+      calls = omega arith;
       alive = refl;
       memory = refl;
       events = refl;
@@ -84,7 +85,8 @@ over : (k : KernelState) (c : Call) → IsSound k → IsLive k c → MayFollow k
 over k c h is =
     let l = fewer_calls k.calls c.number.0 c is in
     record {
-      sound = kept_calls k (without_call k.calls c.number.0) h (sound_without k.tasks k.calls c.number.0 h.calls); calls = omega arith;
+      sound = kept_calls k (without_call k.calls c.number.0) h (sound_without k.tasks k.calls c.number.0 h.calls);
+      calls = omega arith;
       alive = refl;
       memory = refl;
       events = refl;
@@ -98,7 +100,8 @@ moved k c d place h is number caller from request discard placed =
     let live : call_at k.calls d.number.0 ≡ Some c = ap (λ (x : Rattle.ipc_ids.specs.declared.numbers.CallNo.CallNo). call_at k.calls x.0) number ∙ is in
     let l = as_many_calls k.calls d.number.0 c (record d { place = place; stamp = k.calls.next_stamp }) live in
     record {
-      sound = kept_calls k (put_at k.calls d place) h (sound_put k.tasks k.calls c.number.0 c d place h.calls is number caller from request discard placed); calls = omega arith;
+      sound = kept_calls k (put_at k.calls d place) h (sound_put k.tasks k.calls c.number.0 c d place h.calls is number caller from request discard placed);
+      calls = omega arith;
       alive = refl;
       memory = refl;
       events = refl;
@@ -183,7 +186,7 @@ module _ (t : TaskNo) (k : KernelState) (alive : is_alive k t ≡ true) (h : IsS
   hung_up p (Some Slammed) is = record { sound = sound_hang_up k t p (Some Slammed) is h alive; calls = omega arith; alive = refl; memory = refl; events = refl; number = omega arith; no_less = omega arith; stamp = omega arith }
   hung_up p (Some (Connected u)) is =
       let m = more_calls k.calls (hangup_call k t p u) (next_free k.tasks k.calls h.calls) in
-        record { sound = sound_hang_up k t p (Some (Connected u)) is h alive; calls = omega arith; alive = refl; memory = refl; events = refl; number = omega arith; no_less = omega arith; stamp = omega arith }
+      record { sound = sound_hang_up k t p (Some (Connected u)) is h alive; calls = omega arith; alive = refl; memory = refl; events = refl; number = omega arith; no_less = omega arith; stamp = omega arith }
 
   hanging : (p : ℕ) (o : Option PhoneState) → phone_at k t p ≡ o → Follows (hangup_over k t p o)
   hanging p None is = unchanged k h
