@@ -4,3 +4,4 @@ pub mod Loops
 pub mod Soundness
 pub mod Counting
 pub mod Recounting
+pub mod Keeping

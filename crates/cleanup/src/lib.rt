@@ -2,5 +2,9 @@
 #![tactic(auto)]
 
 mod counts;
+mod end;
+mod parts;
+mod steps;
 
 pub use counts::{count_out, count_up, label};
+pub use end::end_task;
