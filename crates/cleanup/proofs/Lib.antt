@@ -5,3 +5,4 @@ pub mod Soundness
 pub mod Counting
 pub mod Recounting
 pub mod Keeping
+pub mod Endings

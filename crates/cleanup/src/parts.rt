@@ -1,6 +1,6 @@
 //! The parts of the end of a task. There is room for all that they make.
 ghost use Rattle.std.specs.Prelude.{◌≡◌, ℕ, ◌+◌, ◌^◌, ◌<◌, ◌≤◌, ◌++◌, ◌*◌, ◌∷◌, [], Bool, List, Some, None, IsSome, length};
-ghost use Rattle.answerbox.specs.Calls.{call_at, task_of};
+ghost use Rattle.answerbox.specs.Calls.{call_at, task_of, without_caller};
 ghost use Rattle.cleanup.specs.State.{state_from};
 ghost use Rattle.cleanup.specs.HangingUp.{hangup_call as call_of_hangup};
 ghost use Rattle.cleanup.specs.Settling.{drop_answer as answer_drop, forget_call as call_loss};
@@ -339,6 +339,8 @@ fn forget_call(number: CallNo, boxes: &mut Boxes, phones: &mut PhoneRows, out: &
     requires line { 0 < out.old.spare }
     ensures state { state_from alive phones.new.states boxes.new.calls 0 ≡ (on_live (state_from alive phones.old.states boxes.old.calls 0) call_loss (call_at boxes.old.calls number.0)).state }
     ensures entries { out.new.entries ≡ out.old.entries ++ (on_live (state_from alive phones.old.states boxes.old.calls 0) call_loss (call_at boxes.old.calls number.0)).entries }
+    ensures calls { boxes.new.calls ≡ without_caller boxes.old.calls number.0 }
+    ensures states { phones.new.states ≡ phones.old.states }
     ensures counts { HasCounts phones.new.states phones.new.counts boxes.new.calls }
     ensures tasks { boxes.new.tasks ≡ boxes.old.tasks }
     ensures numbers { boxes.new.calls.next_number ≡ boxes.old.calls.next_number }
