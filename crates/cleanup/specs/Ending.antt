@@ -7,7 +7,8 @@ use Rattle.ipc_ids.specs.declared.message.PhoneState.TheVariants.{Connected}
 use Rattle.call_slab.specs.declared.call.Call.{Call}
 use Rattle.answerbox.specs.Calls.{CallTable, call_at}
 use Rattle.phone_table.specs.Phones.{state_at}
-use Rattle.cleanup.specs.State.{alive_in}
+use Rattle.cleanup.specs.State.{KernelState, Transition, then_do, alive_in}
+use Rattle.cleanup.specs.Kill.{slam_phones_to, settle_incoming, settle_dispatched, drop_answers, forget_calls_elsewhere}
 use Rattle.cleanup.specs.Steps.{HasCounts}
 
 -- a task that is alive, or the one that comes to its end
@@ -34,3 +35,7 @@ pub record Rest : Type 0 where
   pub alive : List Bool
   pub calls : CallTable
   pub tasks : ℕ
+
+-- all parts but the first in their order
+abbrev pub later_parts : TaskNo → KernelState → Transition
+later_parts t k = then_do (then_do (then_do (then_do (slam_phones_to t k) (settle_incoming t)) (settle_dispatched t)) (drop_answers t)) (forget_calls_elsewhere t)

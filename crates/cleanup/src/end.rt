@@ -6,7 +6,7 @@ ghost use Rattle.cleanup.specs.State.{state_from, alive_in};
 ghost use Rattle.cleanup.specs.Sound.{IsSound};
 ghost use Rattle.cleanup.specs.Counts.{IsCounted};
 ghost use Rattle.cleanup.specs.Kill.{end_parts};
-ghost use Rattle.cleanup.specs.Ending.{IsEnding};
+ghost use Rattle.cleanup.specs.Ending.{IsEnding, Rest, later_parts};
 
 use crate::parts::{
     drop_answers, forget_calls_elsewhere, hang_up_own_phones, settle_calls_at, slam_phones_to,
@@ -90,6 +90,26 @@ fn do_parts(
     ensures stamps { boxes.new.calls.next_stamp ≤ boxes.old.calls.next_stamp + 2 * boxes.old.calls.next_number + 192 }
 {
     hang_up_own_phones(who, alloc, boxes, phones, out);
+    do_later_parts(who, boxes, phones, out);
+}
+
+/// All parts but the first in their order. There is room for them.
+fn do_later_parts(who: TaskNo, boxes: &mut Boxes, phones: &mut PhoneRows, out: &mut Trace)
+    ghost rest: { Rest }
+    requires calls { rest.calls ≡ boxes.old.calls }
+    requires tasks { rest.tasks ≡ boxes.old.tasks }
+    requires ending { IsEnding rest.alive who phones.old.states phones.old.counts boxes.old.calls boxes.old.tasks }
+    requires few_tasks { length rest.alive ≤ 64 }
+    requires lines { 4096 + 4 * boxes.old.calls.next_number ≤ out.old.spare }
+    requires few_calls { boxes.old.calls.next_number ≤ 2 ^ 31 }
+    requires few_stamps { boxes.old.calls.next_stamp < 2 ^ 62 }
+    ensures state { state_from rest.alive phones.new.states boxes.new.calls 0 ≡ (later_parts who (state_from rest.alive phones.old.states boxes.old.calls 0)).state }
+    ensures entries { out.new.entries ≡ out.old.entries ++ (later_parts who (state_from rest.alive phones.old.states boxes.old.calls 0)).entries }
+    ensures ending { IsEnding rest.alive who phones.new.states phones.new.counts boxes.new.calls boxes.new.tasks }
+    ensures tasks { boxes.new.tasks ≡ boxes.old.tasks }
+    ensures numbers { boxes.new.calls.next_number ≡ boxes.old.calls.next_number }
+    ensures stamps { boxes.new.calls.next_stamp ≤ boxes.old.calls.next_stamp + 2 * boxes.old.calls.next_number }
+{
     slam_phones_to(who, phones, out);
     settle_calls_at(who, Place::Incoming(who), boxes, phones, out);
     settle_calls_at(who, Place::Dispatched(who), boxes, phones, out);

@@ -118,6 +118,7 @@ fn hangup_call(from: Label, to: TaskNo, alloc: Global, boxes: &Boxes) -> Call
 pub(crate) fn slam_phones_to(who: TaskNo, phones: &mut PhoneRows, out: &mut Trace)
     ghost rest: { Rest }
     requires ending { IsEnding rest.alive who phones.old.states phones.old.counts rest.calls rest.tasks }
+    requires few_tasks { length phones.old.states ≤ 64 }
     requires lines { 64 * length phones.old.states ≤ out.old.spare }
     ensures state { state_from rest.alive phones.new.states rest.calls 0 ≡ (slams who (state_from rest.alive phones.old.states rest.calls 0)).state }
     ensures entries { out.new.entries ≡ out.old.entries ++ (slams who (state_from rest.alive phones.old.states rest.calls 0)).entries }
@@ -134,6 +135,7 @@ fn slam_other(who: TaskNo, i: u64, phones: &mut PhoneRows, out: &mut Trace)
     ghost rest: { Rest }
     requires ending { IsEnding rest.alive who phones.old.states phones.old.counts rest.calls rest.tasks }
     requires task { i < length phones.old.states }
+    requires few { i < 64 }
     requires lines { 64 ≤ out.old.spare }
     ensures state { state_from rest.alive phones.new.states rest.calls 0 ≡ (slams_at who (state_from rest.alive phones.old.states rest.calls 0) i).state }
     ensures entries { out.new.entries ≡ out.old.entries ++ (slams_at who (state_from rest.alive phones.old.states rest.calls 0) i).entries }
