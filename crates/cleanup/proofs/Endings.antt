@@ -1,10 +1,12 @@
 -- Each step on a call or a phone keeps what stays true while a task is brought to its end.
-use Rattle.std.proofs.Common.{◌≡◌, ℕ, ◌+◌, ◌-◌, ◌≤◌, Bool, true, false, inl, inr, Option, None, Some, Result, Ok, Err, List, length, refl, ap, sym, subst, ◌∙◌, arith, set}
+use Rattle.std.proofs.Common.{◌≡◌, ℕ, ◌+◌, ◌-◌, ◌≤◌, ◌<◌, ◌⊎◌, Bool, true, false, inl, inr, Option, None, Some, Result, Ok, Err, List, length, refl, ap, sym, subst, ◌∙◌, arith, set}
 use Rattle.std.proofs.Math.ListN.{length-set}
 use Rattle.std.specs.Prelude.{IsSome, slice_get, unwrap_or, ◌==◌}
 use Rattle.std.specs.Option.{option_map_or}
 use Rattle.std.proofs.lemmas.Bool.{cases_eq, cases_lt, eq-eqb, ne_eqb}
 use Rattle.std.proofs.lemmas.Option.{slice_get_past}
+use Rattle.std.specs.FinMap.{len}
+use Rattle.phone_table.proofs.Lookups.{get_set}
 use Rattle.ipc_ids.specs.declared.numbers.TaskNo.{TaskNo}
 use Rattle.ipc_ids.specs.declared.numbers.Label.{Label}
 use Rattle.ipc_ids.specs.declared.message.Reply.{Reply}
@@ -13,10 +15,12 @@ use Rattle.ipc_ids.specs.declared.message.PhoneState.TheVariants.{Free, Connecti
 use Rattle.call_slab.specs.declared.call.Call.{Call}
 use Rattle.call_slab.specs.declared.call.Place.TheVariants.{Answers}
 use Rattle.answerbox.specs.Calls.{CallTable, call_at, enqueue, put_at, without_call, without_caller, with_record}
-use Rattle.phone_table.specs.Phones.{row_at, state_at, hangup_answer}
+use Rattle.phone_table.specs.Phones.{row_at, state_at, count_at, hangup_answer}
 use Rattle.phone_table.specs.declared.hung.Hung.{Hung}
 use Rattle.phone_table.specs.declared.hung.Hung.TheVariants.{Sent, Silent}
-use Rattle.cleanup.specs.State.{alive_in, with_state_at}
+use Rattle.cleanup.specs.State.{alive_in, with_state_at, state_from}
+use Rattle.cleanup.specs.Sound.{IsCaller, IsSound}
+use Rattle.cleanup.specs.Counts.{IsCounted}
 use Rattle.cleanup.specs.Steps.{HasCounts, with_answer, IsCallOf, hung_rows}
 use Rattle.cleanup.specs.Ending.{IsAliveOr, IsCallerOr, IsEnding}
 use Rattle.cleanup.proofs.Lookups.{at_insert, record_of}
@@ -118,3 +122,34 @@ slammed_states rows t p row s is = rw is refl
 
 pub ending_slammed : {alive : List Bool} {who : TaskNo} {phones : List (List PhoneState)} {counts : List (List ℕ)} {calls : CallTable} {tasks : ℕ} (t p : ℕ) → IsEnding alive who phones counts calls tasks → IsSome (state_at phones t p) → IsEnding alive who (with_state_at phones t p Slammed) counts calls tasks
 ending_slammed t p s there = ending_phone t p Slammed s there (λ u e. absurd (cc e))
+
+-- before its mark was set, no other task had another mark
+alive_but : (alive : List Bool) (w u : ℕ) → 1 ≤ w → w ≤ length alive → alive_in (set alive (w - 1) true) u ≡ true → (u ≡ w) ⊎ (alive_in alive u ≡ true)
+alive_but alive w u some within h = elim (cases_eq u 0) [
+  | inl e ↦ absurd (let g = rw (eq-eqb u 0 e) at h in cc)
+  | inr nu ↦
+      let g = rw (ne_eqb u 0 nu, get_set alive (w - 1) (u - 1) true (omega arith)) at h in
+      elim (cases_eq (u - 1) (w - 1)) [ inl e ↦ inl (omega arith) | inr ne ↦ inr (rw (ne_eqb u 0 nu) (rw (ne_eqb (u - 1) (w - 1) ne) at g)) ]
+]
+
+-- what a sound state leaves when the task was marked
+pub ending_start : (alive : List Bool) (who : TaskNo) (phones : List (List PhoneState)) (counts : List (List ℕ)) (calls : CallTable) (tasks : ℕ) → alive_in alive who.0 ≡ false → 1 ≤ who.0 → who.0 ≤ length alive → length alive ≤ tasks → IsSound (state_from (set alive (who.0 - 1) true) phones calls 0) → IsCounted counts calls → ((t p : ℕ) → IsSome (state_at phones t p) → IsSome (count_at counts t p)) → len calls.records < calls.next_number → IsEnding alive who phones counts calls tasks
+ending_start alive who phones counts calls tasks marked some within places sound counted shaped few = record {
+  marked = marked;
+  from_one = some;
+  task = within;
+  places = places;
+  paired = sound.tasks.paired ∙ length-set alive (who.0 - 1) true;
+  leads = λ t p u is. alive_but alive who.0 u.0 some within (sound.tasks.leads t p u is);
+  callers = λ n c is. caller_or c.from c.caller (sound.calls.each n c is).caller;
+  has_counts = record {
+    numbered = λ n c is. (sound.calls.each n c is).number;
+    over_phone = λ n c is. (sound.calls.each n c is).phone;
+    shaped = shaped;
+    counted = counted;
+    few = few;
+  };
+} where
+  caller_or : (from : Label) (caller : Option TaskNo) → IsCaller (record { alive = set alive (who.0 - 1) true; phones = phones }) from caller → IsCallerOr alive who from caller
+  caller_or from None h = tt
+  caller_or from (Some u) h = (h.0, alive_but alive who.0 u.0 some within h.1)
