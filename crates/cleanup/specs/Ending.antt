@@ -5,9 +5,9 @@ use Rattle.ipc_ids.specs.declared.numbers.Label.{Label}
 use Rattle.ipc_ids.specs.declared.message.PhoneState.{PhoneState}
 use Rattle.ipc_ids.specs.declared.message.PhoneState.TheVariants.{Connected}
 use Rattle.call_slab.specs.declared.call.Call.{Call}
-use Rattle.answerbox.specs.Calls.{CallTable, call_at}
-use Rattle.phone_table.specs.Phones.{state_at}
-use Rattle.cleanup.specs.State.{KernelState, Transition, then_do, alive_in}
+use Rattle.answerbox.specs.Calls.{CallTable, BoxesState, call_at}
+use Rattle.phone_table.specs.Phones.{Rows, state_at}
+use Rattle.cleanup.specs.State.{KernelState, Transition, then_do, alive_in, state_from}
 use Rattle.cleanup.specs.Kill.{slam_phones_to, settle_incoming, settle_dispatched, drop_answers, forget_calls_elsewhere}
 use Rattle.cleanup.specs.Steps.{HasCounts}
 
@@ -30,11 +30,18 @@ pub record IsEnding (alive : List Bool) (who : TaskNo) (phones : List (List Phon
   pub callers : (n : ℕ) (c : Call) → call_at calls n ≡ Some c → IsCallerOr alive who c.from c.caller
   pub has_counts : HasCounts phones counts calls
 
--- what the slamming of phones leaves alone: the marks, the calls, and how many tasks have places
+-- the same of the phones and calls as the code has them
+abbrev pub IsHalfEnded : List Bool → TaskNo → Rows → BoxesState → Type 0
+IsHalfEnded alive who phones boxes = IsEnding alive who phones.states phones.counts boxes.calls boxes.tasks
+
+-- the kernel's state with these marks, phones and calls
+abbrev pub state_with : List Bool → Rows → BoxesState → KernelState
+state_with alive phones boxes = state_from alive phones.states boxes.calls 0
+
+-- what the slamming of phones leaves alone
 pub record Rest : Type 0 where
   pub alive : List Bool
-  pub calls : CallTable
-  pub tasks : ℕ
+  pub boxes : BoxesState
 
 -- all parts but the first in their order
 abbrev pub later_parts : TaskNo → KernelState → Transition

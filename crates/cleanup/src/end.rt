@@ -6,7 +6,7 @@ ghost use Rattle.cleanup.specs.State.{state_from, alive_in};
 ghost use Rattle.cleanup.specs.Sound.{IsSound};
 ghost use Rattle.cleanup.specs.Counts.{IsCounted};
 ghost use Rattle.cleanup.specs.Kill.{end_parts};
-ghost use Rattle.cleanup.specs.Ending.{IsEnding, Rest, later_parts};
+ghost use Rattle.cleanup.specs.Ending.{IsHalfEnded, Rest, state_with, later_parts};
 
 use crate::parts::{
     drop_answers, forget_calls_elsewhere, hang_up_own_phones, settle_calls_at, slam_phones_to,
@@ -47,9 +47,9 @@ pub fn end_task(
     requires few_tasks { length alive ≤ 64 }
     requires few_calls { boxes.old.calls.next_number + 64 ≤ 2 ^ 31 }
     requires few_stamps { boxes.old.calls.next_stamp < 2 ^ 61 }
-    ensures calls { OnOk result (boxes.new.calls ≡ (end_parts who (state_from alive phones.old.states boxes.old.calls 0)).state.calls) }
-    ensures phones { OnOk result (phones.new.states ≡ (end_parts who (state_from alive phones.old.states boxes.old.calls 0)).state.tasks.phones) }
-    ensures entries { OnOk result (out.new.entries ≡ out.old.entries ++ (end_parts who (state_from alive phones.old.states boxes.old.calls 0)).entries) }
+    ensures calls { OnOk result (boxes.new.calls ≡ (end_parts who (state_with alive phones.old boxes.old)).state.calls) }
+    ensures phones { OnOk result (phones.new.states ≡ (end_parts who (state_with alive phones.old boxes.old)).state.tasks.phones) }
+    ensures entries { OnOk result (out.new.entries ≡ out.old.entries ++ (end_parts who (state_with alive phones.old boxes.old)).entries) }
     ensures counted { OnOk result (IsCounted phones.new.counts boxes.new.calls) }
     ensures shaped { OnOk result ((t p : ℕ) → IsSome (state_at phones.new.states t p) → IsSome (count_at phones.new.counts t p)) }
     ensures few { OnOk result (len boxes.new.calls.records < boxes.new.calls.next_number) }
@@ -76,15 +76,15 @@ fn do_parts(
     out: &mut Trace,
 )
     ghost alive: { List Bool }
-    requires ending { IsEnding alive who phones.old.states phones.old.counts boxes.old.calls boxes.old.tasks }
+    requires ending { IsHalfEnded alive who phones.old boxes.old }
     requires few_tasks { length alive ≤ 64 }
     requires room { 64 ≤ boxes.old.spare }
     requires lines { 4224 + 4 * (boxes.old.calls.next_number + 64) ≤ out.old.spare }
     requires few_calls { boxes.old.calls.next_number + 64 ≤ 2 ^ 31 }
     requires few_stamps { boxes.old.calls.next_stamp < 2 ^ 61 }
-    ensures state { state_from alive phones.new.states boxes.new.calls 0 ≡ (end_parts who (state_from alive phones.old.states boxes.old.calls 0)).state }
-    ensures entries { out.new.entries ≡ out.old.entries ++ (end_parts who (state_from alive phones.old.states boxes.old.calls 0)).entries }
-    ensures ending { IsEnding alive who phones.new.states phones.new.counts boxes.new.calls boxes.new.tasks }
+    ensures state { state_with alive phones.new boxes.new ≡ (end_parts who (state_with alive phones.old boxes.old)).state }
+    ensures entries { out.new.entries ≡ out.old.entries ++ (end_parts who (state_with alive phones.old boxes.old)).entries }
+    ensures ending { IsHalfEnded alive who phones.new boxes.new }
     ensures tasks { boxes.new.tasks ≡ boxes.old.tasks }
     ensures numbers { boxes.new.calls.next_number ≤ boxes.old.calls.next_number + 64 }
     ensures stamps { boxes.new.calls.next_stamp ≤ boxes.old.calls.next_stamp + 2 * boxes.old.calls.next_number + 192 }
@@ -96,16 +96,15 @@ fn do_parts(
 /// All parts but the first in their order. There is room for them.
 fn do_later_parts(who: TaskNo, boxes: &mut Boxes, phones: &mut PhoneRows, out: &mut Trace)
     ghost rest: { Rest }
-    requires calls { rest.calls ≡ boxes.old.calls }
-    requires tasks { rest.tasks ≡ boxes.old.tasks }
-    requires ending { IsEnding rest.alive who phones.old.states phones.old.counts boxes.old.calls boxes.old.tasks }
+    requires boxes { rest.boxes ≡ boxes.old }
+    requires ending { IsHalfEnded rest.alive who phones.old boxes.old }
     requires few_tasks { length rest.alive ≤ 64 }
     requires lines { 4096 + 4 * boxes.old.calls.next_number ≤ out.old.spare }
     requires few_calls { boxes.old.calls.next_number ≤ 2 ^ 31 }
     requires few_stamps { boxes.old.calls.next_stamp < 2 ^ 62 }
-    ensures state { state_from rest.alive phones.new.states boxes.new.calls 0 ≡ (later_parts who (state_from rest.alive phones.old.states boxes.old.calls 0)).state }
-    ensures entries { out.new.entries ≡ out.old.entries ++ (later_parts who (state_from rest.alive phones.old.states boxes.old.calls 0)).entries }
-    ensures ending { IsEnding rest.alive who phones.new.states phones.new.counts boxes.new.calls boxes.new.tasks }
+    ensures state { state_with rest.alive phones.new boxes.new ≡ (later_parts who (state_with rest.alive phones.old boxes.old)).state }
+    ensures entries { out.new.entries ≡ out.old.entries ++ (later_parts who (state_with rest.alive phones.old boxes.old)).entries }
+    ensures ending { IsHalfEnded rest.alive who phones.new boxes.new }
     ensures tasks { boxes.new.tasks ≡ boxes.old.tasks }
     ensures numbers { boxes.new.calls.next_number ≡ boxes.old.calls.next_number }
     ensures stamps { boxes.new.calls.next_stamp ≤ boxes.old.calls.next_stamp + 2 * boxes.old.calls.next_number }

@@ -6,7 +6,7 @@ ghost use Rattle.cleanup.specs.HangingUp.{hangup_call as call_of_hangup};
 ghost use Rattle.cleanup.specs.Settling.{drop_answer as answer_drop, forget_call as call_loss};
 ghost use Rattle.cleanup.specs.Kill.{hang_up_at, hang_up_own_phones as hangups, slam_at, slam_phones_of as slams_of, slam_other as slams_at, slam_phones_to as slams, settle_call as call_end, settle_calls_at as call_ends, drop_answers as answer_drops, forget_calls_elsewhere as call_losses};
 ghost use Rattle.cleanup.specs.Steps.{HasCounts, on_live};
-ghost use Rattle.cleanup.specs.Ending.{IsEnding, Rest};
+ghost use Rattle.cleanup.specs.Ending.{IsHalfEnded, Rest, state_with};
 
 use crate::counts::label;
 use crate::steps::{answer_to, enqueue, forget, hang_phone, leave, width};
@@ -28,14 +28,14 @@ pub(crate) fn hang_up_own_phones(
     out: &mut Trace,
 )
     ghost alive: { List Bool }
-    requires ending { IsEnding alive who phones.old.states phones.old.counts boxes.old.calls boxes.old.tasks }
+    requires ending { IsHalfEnded alive who phones.old boxes.old }
     requires room { 64 ≤ boxes.old.spare }
     requires lines { 128 ≤ out.old.spare }
     requires few_calls { boxes.old.calls.next_number + 64 ≤ 2 ^ 31 }
     requires few_stamps { boxes.old.calls.next_stamp < 2 ^ 62 }
-    ensures state { state_from alive phones.new.states boxes.new.calls 0 ≡ (hangups who (state_from alive phones.old.states boxes.old.calls 0)).state }
-    ensures entries { out.new.entries ≡ out.old.entries ++ (hangups who (state_from alive phones.old.states boxes.old.calls 0)).entries }
-    ensures ending { IsEnding alive who phones.new.states phones.new.counts boxes.new.calls boxes.new.tasks }
+    ensures state { state_with alive phones.new boxes.new ≡ (hangups who (state_with alive phones.old boxes.old)).state }
+    ensures entries { out.new.entries ≡ out.old.entries ++ (hangups who (state_with alive phones.old boxes.old)).entries }
+    ensures ending { IsHalfEnded alive who phones.new boxes.new }
     ensures tasks { boxes.new.tasks ≡ boxes.old.tasks }
     ensures numbers { boxes.new.calls.next_number ≤ boxes.old.calls.next_number + 64 }
     ensures stamps { boxes.new.calls.next_stamp ≤ boxes.old.calls.next_stamp + 64 }
@@ -56,14 +56,14 @@ fn hang_up(
     out: &mut Trace,
 )
     ghost alive: { List Bool }
-    requires ending { IsEnding alive who phones.old.states phones.old.counts boxes.old.calls boxes.old.tasks }
+    requires ending { IsHalfEnded alive who phones.old boxes.old }
     requires room { 0 < boxes.old.spare }
     requires lines { 2 ≤ out.old.spare }
     requires few_calls { boxes.old.calls.next_number < 2 ^ 31 }
     requires few_stamps { boxes.old.calls.next_stamp < 2 ^ 63 }
-    ensures state { state_from alive phones.new.states boxes.new.calls 0 ≡ (hang_up_at who (state_from alive phones.old.states boxes.old.calls 0) phone).state }
-    ensures entries { out.new.entries ≡ out.old.entries ++ (hang_up_at who (state_from alive phones.old.states boxes.old.calls 0) phone).entries }
-    ensures ending { IsEnding alive who phones.new.states phones.new.counts boxes.new.calls boxes.new.tasks }
+    ensures state { state_with alive phones.new boxes.new ≡ (hang_up_at who (state_with alive phones.old boxes.old) phone).state }
+    ensures entries { out.new.entries ≡ out.old.entries ++ (hang_up_at who (state_with alive phones.old boxes.old) phone).entries }
+    ensures ending { IsHalfEnded alive who phones.new boxes.new }
     ensures tasks { boxes.new.tasks ≡ boxes.old.tasks }
     ensures numbers { boxes.new.calls.next_number ≤ boxes.old.calls.next_number + 1 }
     ensures stamps { boxes.new.calls.next_stamp ≤ boxes.old.calls.next_stamp + 1 }
@@ -117,12 +117,12 @@ fn hangup_call(from: Label, to: TaskNo, alloc: Global, boxes: &Boxes) -> Call
 /// Each phone of another task that leads to the task is slammed.
 pub(crate) fn slam_phones_to(who: TaskNo, phones: &mut PhoneRows, out: &mut Trace)
     ghost rest: { Rest }
-    requires ending { IsEnding rest.alive who phones.old.states phones.old.counts rest.calls rest.tasks }
+    requires ending { IsHalfEnded rest.alive who phones.old rest.boxes }
     requires few_tasks { length phones.old.states ≤ 64 }
     requires lines { 64 * length phones.old.states ≤ out.old.spare }
-    ensures state { state_from rest.alive phones.new.states rest.calls 0 ≡ (slams who (state_from rest.alive phones.old.states rest.calls 0)).state }
-    ensures entries { out.new.entries ≡ out.old.entries ++ (slams who (state_from rest.alive phones.old.states rest.calls 0)).entries }
-    ensures ending { IsEnding rest.alive who phones.new.states phones.new.counts rest.calls rest.tasks }
+    ensures state { state_with rest.alive phones.new rest.boxes ≡ (slams who (state_with rest.alive phones.old rest.boxes)).state }
+    ensures entries { out.new.entries ≡ out.old.entries ++ (slams who (state_with rest.alive phones.old rest.boxes)).entries }
+    ensures ending { IsHalfEnded rest.alive who phones.new rest.boxes }
     ensures lines { out.old.spare ≤ out.new.spare + 64 * length phones.old.states }
 {
     for i in 0..phones.tasks() {
@@ -133,13 +133,13 @@ pub(crate) fn slam_phones_to(who: TaskNo, phones: &mut PhoneRows, out: &mut Trac
 /// The phones of the task numbered `i + 1` that lead to the task are slammed, unless they are its own.
 fn slam_other(who: TaskNo, i: u64, phones: &mut PhoneRows, out: &mut Trace)
     ghost rest: { Rest }
-    requires ending { IsEnding rest.alive who phones.old.states phones.old.counts rest.calls rest.tasks }
+    requires ending { IsHalfEnded rest.alive who phones.old rest.boxes }
     requires task { i < length phones.old.states }
     requires few { i < 64 }
     requires lines { 64 ≤ out.old.spare }
-    ensures state { state_from rest.alive phones.new.states rest.calls 0 ≡ (slams_at who (state_from rest.alive phones.old.states rest.calls 0) i).state }
-    ensures entries { out.new.entries ≡ out.old.entries ++ (slams_at who (state_from rest.alive phones.old.states rest.calls 0) i).entries }
-    ensures ending { IsEnding rest.alive who phones.new.states phones.new.counts rest.calls rest.tasks }
+    ensures state { state_with rest.alive phones.new rest.boxes ≡ (slams_at who (state_with rest.alive phones.old rest.boxes) i).state }
+    ensures entries { out.new.entries ≡ out.old.entries ++ (slams_at who (state_with rest.alive phones.old rest.boxes) i).entries }
+    ensures ending { IsHalfEnded rest.alive who phones.new rest.boxes }
     ensures lines { out.old.spare ≤ out.new.spare + 64 }
 {
     if i + 1 != who.0 {
@@ -150,13 +150,13 @@ fn slam_other(who: TaskNo, i: u64, phones: &mut PhoneRows, out: &mut Trace)
 /// Each phone of one task that leads to the task is slammed.
 fn slam_phones_of(who: TaskNo, other: TaskNo, phones: &mut PhoneRows, out: &mut Trace)
     ghost rest: { Rest }
-    requires ending { IsEnding rest.alive who phones.old.states phones.old.counts rest.calls rest.tasks }
+    requires ending { IsHalfEnded rest.alive who phones.old rest.boxes }
     requires from_one { 1 ≤ other.0 }
     requires task { other.0 ≤ length phones.old.states }
     requires lines { 64 ≤ out.old.spare }
-    ensures state { state_from rest.alive phones.new.states rest.calls 0 ≡ (slams_of who other (state_from rest.alive phones.old.states rest.calls 0)).state }
-    ensures entries { out.new.entries ≡ out.old.entries ++ (slams_of who other (state_from rest.alive phones.old.states rest.calls 0)).entries }
-    ensures ending { IsEnding rest.alive who phones.new.states phones.new.counts rest.calls rest.tasks }
+    ensures state { state_with rest.alive phones.new rest.boxes ≡ (slams_of who other (state_with rest.alive phones.old rest.boxes)).state }
+    ensures entries { out.new.entries ≡ out.old.entries ++ (slams_of who other (state_with rest.alive phones.old rest.boxes)).entries }
+    ensures ending { IsHalfEnded rest.alive who phones.new rest.boxes }
     ensures lines { out.old.spare ≤ out.new.spare + 64 }
 {
     for phone in 0..width(other, phones) {
@@ -167,13 +167,13 @@ fn slam_phones_of(who: TaskNo, other: TaskNo, phones: &mut PhoneRows, out: &mut 
 /// The phone is slammed, where it leads to the task.
 fn slam(who: TaskNo, other: TaskNo, phone: u64, phones: &mut PhoneRows, out: &mut Trace)
     ghost rest: { Rest }
-    requires ending { IsEnding rest.alive who phones.old.states phones.old.counts rest.calls rest.tasks }
+    requires ending { IsHalfEnded rest.alive who phones.old rest.boxes }
     requires from_one { 1 ≤ other.0 }
     requires task { other.0 ≤ length phones.old.states }
     requires line { 0 < out.old.spare }
-    ensures state { state_from rest.alive phones.new.states rest.calls 0 ≡ (slam_at who other (state_from rest.alive phones.old.states rest.calls 0) phone).state }
-    ensures entries { out.new.entries ≡ out.old.entries ++ (slam_at who other (state_from rest.alive phones.old.states rest.calls 0) phone).entries }
-    ensures ending { IsEnding rest.alive who phones.new.states phones.new.counts rest.calls rest.tasks }
+    ensures state { state_with rest.alive phones.new rest.boxes ≡ (slam_at who other (state_with rest.alive phones.old rest.boxes) phone).state }
+    ensures entries { out.new.entries ≡ out.old.entries ++ (slam_at who other (state_with rest.alive phones.old rest.boxes) phone).entries }
+    ensures ending { IsHalfEnded rest.alive who phones.new rest.boxes }
     ensures line { out.old.spare ≤ out.new.spare + 1 }
 {
     match phones.row(other).state(phone) {
@@ -197,13 +197,13 @@ pub(crate) fn settle_calls_at(
     out: &mut Trace,
 )
     ghost alive: { List Bool }
-    requires ending { IsEnding alive who phones.old.states phones.old.counts boxes.old.calls boxes.old.tasks }
+    requires ending { IsHalfEnded alive who phones.old boxes.old }
     requires place { task_of place ≤ boxes.old.tasks }
     requires lines { boxes.old.calls.next_number ≤ out.old.spare }
     requires few_stamps { boxes.old.calls.next_stamp + boxes.old.calls.next_number < 2 ^ 63 }
-    ensures state { state_from alive phones.new.states boxes.new.calls 0 ≡ (call_ends place (state_from alive phones.old.states boxes.old.calls 0)).state }
-    ensures entries { out.new.entries ≡ out.old.entries ++ (call_ends place (state_from alive phones.old.states boxes.old.calls 0)).entries }
-    ensures ending { IsEnding alive who phones.new.states phones.new.counts boxes.new.calls boxes.new.tasks }
+    ensures state { state_with alive phones.new boxes.new ≡ (call_ends place (state_with alive phones.old boxes.old)).state }
+    ensures entries { out.new.entries ≡ out.old.entries ++ (call_ends place (state_with alive phones.old boxes.old)).entries }
+    ensures ending { IsHalfEnded alive who phones.new boxes.new }
     ensures tasks { boxes.new.tasks ≡ boxes.old.tasks }
     ensures numbers { boxes.new.calls.next_number ≡ boxes.old.calls.next_number }
     ensures stamps { boxes.new.calls.next_stamp ≤ boxes.old.calls.next_stamp + boxes.old.calls.next_number }
@@ -226,13 +226,13 @@ fn settle_call(
     out: &mut Trace,
 )
     ghost alive: { List Bool }
-    requires ending { IsEnding alive who phones.old.states phones.old.counts boxes.old.calls boxes.old.tasks }
+    requires ending { IsHalfEnded alive who phones.old boxes.old }
     requires live { IsSome (call_at boxes.old.calls number.0) }
     requires line { 0 < out.old.spare }
     requires few_stamps { boxes.old.calls.next_stamp < 2 ^ 63 }
-    ensures state { state_from alive phones.new.states boxes.new.calls 0 ≡ (on_live (state_from alive phones.old.states boxes.old.calls 0) call_end (call_at boxes.old.calls number.0)).state }
-    ensures entries { out.new.entries ≡ out.old.entries ++ (on_live (state_from alive phones.old.states boxes.old.calls 0) call_end (call_at boxes.old.calls number.0)).entries }
-    ensures ending { IsEnding alive who phones.new.states phones.new.counts boxes.new.calls boxes.new.tasks }
+    ensures state { state_with alive phones.new boxes.new ≡ (on_live (state_with alive phones.old boxes.old) call_end (call_at boxes.old.calls number.0)).state }
+    ensures entries { out.new.entries ≡ out.old.entries ++ (on_live (state_with alive phones.old boxes.old) call_end (call_at boxes.old.calls number.0)).entries }
+    ensures ending { IsHalfEnded alive who phones.new boxes.new }
     ensures tasks { boxes.new.tasks ≡ boxes.old.tasks }
     ensures numbers { boxes.new.calls.next_number ≡ boxes.old.calls.next_number }
     ensures stamps { boxes.new.calls.next_stamp ≤ boxes.old.calls.next_stamp + 1 }
@@ -263,11 +263,11 @@ pub(crate) fn drop_answers(
     out: &mut Trace,
 )
     ghost alive: { List Bool }
-    requires ending { IsEnding alive who phones.old.states phones.old.counts boxes.old.calls boxes.old.tasks }
+    requires ending { IsHalfEnded alive who phones.old boxes.old }
     requires lines { boxes.old.calls.next_number ≤ out.old.spare }
-    ensures state { state_from alive phones.new.states boxes.new.calls 0 ≡ (answer_drops who (state_from alive phones.old.states boxes.old.calls 0)).state }
-    ensures entries { out.new.entries ≡ out.old.entries ++ (answer_drops who (state_from alive phones.old.states boxes.old.calls 0)).entries }
-    ensures ending { IsEnding alive who phones.new.states phones.new.counts boxes.new.calls boxes.new.tasks }
+    ensures state { state_with alive phones.new boxes.new ≡ (answer_drops who (state_with alive phones.old boxes.old)).state }
+    ensures entries { out.new.entries ≡ out.old.entries ++ (answer_drops who (state_with alive phones.old boxes.old)).entries }
+    ensures ending { IsHalfEnded alive who phones.new boxes.new }
     ensures tasks { boxes.new.tasks ≡ boxes.old.tasks }
     ensures numbers { boxes.new.calls.next_number ≡ boxes.old.calls.next_number }
     ensures stamps { boxes.new.calls.next_stamp ≡ boxes.old.calls.next_stamp }
@@ -290,12 +290,12 @@ fn drop_answer(
     out: &mut Trace,
 )
     ghost alive: { List Bool }
-    requires ending { IsEnding alive who phones.old.states phones.old.counts boxes.old.calls boxes.old.tasks }
+    requires ending { IsHalfEnded alive who phones.old boxes.old }
     requires live { IsSome (call_at boxes.old.calls number.0) }
     requires line { 0 < out.old.spare }
-    ensures state { state_from alive phones.new.states boxes.new.calls 0 ≡ (on_live (state_from alive phones.old.states boxes.old.calls 0) (answer_drop who) (call_at boxes.old.calls number.0)).state }
-    ensures entries { out.new.entries ≡ out.old.entries ++ (on_live (state_from alive phones.old.states boxes.old.calls 0) (answer_drop who) (call_at boxes.old.calls number.0)).entries }
-    ensures ending { IsEnding alive who phones.new.states phones.new.counts boxes.new.calls boxes.new.tasks }
+    ensures state { state_with alive phones.new boxes.new ≡ (on_live (state_with alive phones.old boxes.old) (answer_drop who) (call_at boxes.old.calls number.0)).state }
+    ensures entries { out.new.entries ≡ out.old.entries ++ (on_live (state_with alive phones.old boxes.old) (answer_drop who) (call_at boxes.old.calls number.0)).entries }
+    ensures ending { IsHalfEnded alive who phones.new boxes.new }
     ensures tasks { boxes.new.tasks ≡ boxes.old.tasks }
     ensures numbers { boxes.new.calls.next_number ≡ boxes.old.calls.next_number }
     ensures stamps { boxes.new.calls.next_stamp ≡ boxes.old.calls.next_stamp }
@@ -316,11 +316,11 @@ pub(crate) fn forget_calls_elsewhere(
     out: &mut Trace,
 )
     ghost alive: { List Bool }
-    requires ending { IsEnding alive who phones.old.states phones.old.counts boxes.old.calls boxes.old.tasks }
+    requires ending { IsHalfEnded alive who phones.old boxes.old }
     requires lines { boxes.old.calls.next_number ≤ out.old.spare }
-    ensures state { state_from alive phones.new.states boxes.new.calls 0 ≡ (call_losses who (state_from alive phones.old.states boxes.old.calls 0)).state }
-    ensures entries { out.new.entries ≡ out.old.entries ++ (call_losses who (state_from alive phones.old.states boxes.old.calls 0)).entries }
-    ensures ending { IsEnding alive who phones.new.states phones.new.counts boxes.new.calls boxes.new.tasks }
+    ensures state { state_with alive phones.new boxes.new ≡ (call_losses who (state_with alive phones.old boxes.old)).state }
+    ensures entries { out.new.entries ≡ out.old.entries ++ (call_losses who (state_with alive phones.old boxes.old)).entries }
+    ensures ending { IsHalfEnded alive who phones.new boxes.new }
     ensures tasks { boxes.new.tasks ≡ boxes.old.tasks }
     ensures numbers { boxes.new.calls.next_number ≡ boxes.old.calls.next_number }
     ensures stamps { boxes.new.calls.next_stamp ≡ boxes.old.calls.next_stamp }
@@ -339,8 +339,8 @@ fn forget_call(number: CallNo, boxes: &mut Boxes, phones: &mut PhoneRows, out: &
     requires counts { HasCounts phones.old.states phones.old.counts boxes.old.calls }
     requires live { IsSome (call_at boxes.old.calls number.0) }
     requires line { 0 < out.old.spare }
-    ensures state { state_from alive phones.new.states boxes.new.calls 0 ≡ (on_live (state_from alive phones.old.states boxes.old.calls 0) call_loss (call_at boxes.old.calls number.0)).state }
-    ensures entries { out.new.entries ≡ out.old.entries ++ (on_live (state_from alive phones.old.states boxes.old.calls 0) call_loss (call_at boxes.old.calls number.0)).entries }
+    ensures state { state_with alive phones.new boxes.new ≡ (on_live (state_with alive phones.old boxes.old) call_loss (call_at boxes.old.calls number.0)).state }
+    ensures entries { out.new.entries ≡ out.old.entries ++ (on_live (state_with alive phones.old boxes.old) call_loss (call_at boxes.old.calls number.0)).entries }
     ensures calls { boxes.new.calls ≡ without_caller boxes.old.calls number.0 }
     ensures states { phones.new.states ≡ phones.old.states }
     ensures counts { HasCounts phones.new.states phones.new.counts boxes.new.calls }

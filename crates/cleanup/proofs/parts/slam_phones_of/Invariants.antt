@@ -11,11 +11,11 @@ ghost-slam g a = g.rest
 abbrev pub invariant-loop-phone : goal.invariant-loop-phone
 invariant-loop-phone g l =
     let most = width l.fn.phones.states l.other.0 in
-    let k = state_from g.rest.alive l.phones.states g.rest.calls 0 in
-    let old = state_from g.rest.alive l.fn.phones.states g.rest.calls 0 in
+    let k = state_from g.rest.alive l.phones.states g.rest.boxes.calls 0 in
+    let old = state_from g.rest.alive l.fn.phones.states g.rest.boxes.calls 0 in
     record {
       state : (each (slam_at l.who l.other) (most - l.phone) l.phone k).state ≡ (slam_phones_of l.who l.other old).state;
       entries : l.out.entries ++ (each (slam_at l.who l.other) (most - l.phone) l.phone k).entries ≡ l.fn.out.entries ++ (slam_phones_of l.who l.other old).entries;
-      ending : IsEnding g.rest.alive l.who l.phones.states l.phones.counts g.rest.calls g.rest.tasks;
+      ending : IsEnding g.rest.alive l.who l.phones.states l.phones.counts g.rest.boxes.calls g.rest.boxes.tasks;
       lines : l.fn.out.spare ≤ l.out.spare + l.phone;
     }
