@@ -37,7 +37,10 @@ abbrev pub hung_rows : List (List PhoneState) → ℕ → ℕ → Result Hung Co
 hung_rows rows t p (Ok _) = with_state_at rows t p HungUp
 hung_rows rows t p (Err _) = rows
 
--- a step on a live call, where there is one
-abbrev pub on_live : KernelState → (KernelState → Call → Transition) → Option Call → Transition
-on_live k step None = nothing k
-on_live k step (Some c) = step k c
+-- a step on the live call with this number, where there is one
+abbrev pub on_live : (KernelState → Call → Transition) → KernelState → Option Call → Transition
+on_live step k None = nothing k
+on_live step k (Some c) = step k c
+
+abbrev pub on_call : (KernelState → Call → Transition) → KernelState → ℕ → Transition
+on_call step k n = on_live step k (call_at k.calls n)

@@ -23,7 +23,8 @@ const MOST_PHONES: usize = 64;
 /// At most so many phones of all tasks are slammed.
 const MOST_SLAMS: usize = 64 * 64;
 
-/// Ends the task, which was just marked as ended: its phones and calls, and those of others that lead to it.
+/// Brings the task, which was just marked as ended, to its end: its phones, those of others that
+/// lead to it, and its calls.
 ///
 /// # Errors
 ///
@@ -39,23 +40,30 @@ pub fn end_task(
     requires marked { alive_in alive who.0 ≡ false }
     requires from_one { 1 ≤ who.0 }
     requires task { who.0 ≤ length alive }
-    requires sound { IsSound (state_from (slice_set alive (who.0 - 1) true) phones.old.states boxes.old.calls 0) }
+    requires sound { IsSound
+        (state_from (slice_set alive (who.0 - 1) true) phones.old.states boxes.old.calls 0) }
     requires counted { IsCounted phones.old.counts boxes.old.calls }
-    requires shaped { (t p : ℕ) → IsSome (state_at phones.old.states t p) → IsSome (count_at phones.old.counts t p) }
+    requires shaped { (t p : ℕ) → IsSome (state_at phones.old.states t p)
+        → IsSome (count_at phones.old.counts t p) }
     requires few { len boxes.old.calls.records < boxes.old.calls.next_number }
     requires places { length alive ≤ boxes.old.tasks }
     requires few_tasks { length alive ≤ 64 }
     requires few_calls { boxes.old.calls.next_number + 64 ≤ 2 ^ 31 }
     requires few_stamps { boxes.old.calls.next_stamp < 2 ^ 61 }
-    ensures calls { OnOk result (boxes.new.calls ≡ (end_parts who (state_with alive phones.old boxes.old)).state.calls) }
-    ensures phones { OnOk result (phones.new.states ≡ (end_parts who (state_with alive phones.old boxes.old)).state.tasks.phones) }
-    ensures entries { OnOk result (out.new.entries ≡ out.old.entries ++ (end_parts who (state_with alive phones.old boxes.old)).entries) }
+    ensures calls { OnOk result (boxes.new.calls
+        ≡ (end_parts who (state_with alive phones.old boxes.old)).state.calls) }
+    ensures phones { OnOk result (phones.new.states
+        ≡ (end_parts who (state_with alive phones.old boxes.old)).state.tasks.phones) }
+    ensures entries { OnOk result (out.new.entries ≡ out.old.entries
+        ++ (end_parts who (state_with alive phones.old boxes.old)).entries) }
     ensures counted { OnOk result (IsCounted phones.new.counts boxes.new.calls) }
-    ensures shaped { OnOk result ((t p : ℕ) → IsSome (state_at phones.new.states t p) → IsSome (count_at phones.new.counts t p)) }
+    ensures shaped { OnOk result ((t p : ℕ) → IsSome (state_at phones.new.states t p)
+        → IsSome (count_at phones.new.counts t p)) }
     ensures few { OnOk result (len boxes.new.calls.records < boxes.new.calls.next_number) }
     ensures tasks { boxes.new.tasks ≡ boxes.old.tasks }
     ensures numbers { boxes.new.calls.next_number ≤ boxes.old.calls.next_number + 64 }
-    ensures stamps { boxes.new.calls.next_stamp ≤ boxes.old.calls.next_stamp + 2 * boxes.old.calls.next_number + 192 }
+    ensures stamps { boxes.new.calls.next_stamp
+        ≤ boxes.old.calls.next_stamp + 2 * boxes.old.calls.next_number + 192 }
     ensures calls_unchanged { OnErr result (boxes.new.calls ≡ boxes.old.calls) }
     ensures phones_unchanged { OnErr result (phones.new ≡ phones.old) }
     ensures trace_unchanged { OnErr result (out.new.entries ≡ out.old.entries) }
@@ -68,13 +76,7 @@ pub fn end_task(
 }
 
 /// The parts in their order. There is room for them.
-fn do_parts(
-    who: TaskNo,
-    alloc: Global,
-    boxes: &mut Boxes,
-    phones: &mut PhoneRows,
-    out: &mut Trace,
-)
+fn do_parts(who: TaskNo, alloc: Global, boxes: &mut Boxes, phones: &mut PhoneRows, out: &mut Trace)
     ghost alive: { List Bool }
     requires ending { IsHalfEnded alive who phones.old boxes.old }
     requires few_tasks { length alive ≤ 64 }
@@ -82,12 +84,15 @@ fn do_parts(
     requires lines { 4224 + 4 * (boxes.old.calls.next_number + 64) ≤ out.old.spare }
     requires few_calls { boxes.old.calls.next_number + 64 ≤ 2 ^ 31 }
     requires few_stamps { boxes.old.calls.next_stamp < 2 ^ 61 }
-    ensures state { state_with alive phones.new boxes.new ≡ (end_parts who (state_with alive phones.old boxes.old)).state }
-    ensures entries { out.new.entries ≡ out.old.entries ++ (end_parts who (state_with alive phones.old boxes.old)).entries }
+    ensures state { state_with alive phones.new boxes.new
+        ≡ (end_parts who (state_with alive phones.old boxes.old)).state }
+    ensures entries { out.new.entries ≡ out.old.entries
+        ++ (end_parts who (state_with alive phones.old boxes.old)).entries }
     ensures ending { IsHalfEnded alive who phones.new boxes.new }
     ensures tasks { boxes.new.tasks ≡ boxes.old.tasks }
     ensures numbers { boxes.new.calls.next_number ≤ boxes.old.calls.next_number + 64 }
-    ensures stamps { boxes.new.calls.next_stamp ≤ boxes.old.calls.next_stamp + 2 * boxes.old.calls.next_number + 192 }
+    ensures stamps { boxes.new.calls.next_stamp
+        ≤ boxes.old.calls.next_stamp + 2 * boxes.old.calls.next_number + 192 }
 {
     hang_up_own_phones(who, alloc, boxes, phones, out);
     do_later_parts(who, boxes, phones, out);
@@ -102,12 +107,15 @@ fn do_later_parts(who: TaskNo, boxes: &mut Boxes, phones: &mut PhoneRows, out: &
     requires lines { 4096 + 4 * boxes.old.calls.next_number ≤ out.old.spare }
     requires few_calls { boxes.old.calls.next_number ≤ 2 ^ 31 }
     requires few_stamps { boxes.old.calls.next_stamp < 2 ^ 62 }
-    ensures state { state_with rest.alive phones.new boxes.new ≡ (later_parts who (state_with rest.alive phones.old boxes.old)).state }
-    ensures entries { out.new.entries ≡ out.old.entries ++ (later_parts who (state_with rest.alive phones.old boxes.old)).entries }
+    ensures state { state_with rest.alive phones.new boxes.new
+        ≡ (later_parts who (state_with rest.alive phones.old boxes.old)).state }
+    ensures entries { out.new.entries ≡ out.old.entries
+        ++ (later_parts who (state_with rest.alive phones.old boxes.old)).entries }
     ensures ending { IsHalfEnded rest.alive who phones.new boxes.new }
     ensures tasks { boxes.new.tasks ≡ boxes.old.tasks }
     ensures numbers { boxes.new.calls.next_number ≡ boxes.old.calls.next_number }
-    ensures stamps { boxes.new.calls.next_stamp ≤ boxes.old.calls.next_stamp + 2 * boxes.old.calls.next_number }
+    ensures stamps { boxes.new.calls.next_stamp
+        ≤ boxes.old.calls.next_stamp + 2 * boxes.old.calls.next_number }
 {
     slam_phones_to(who, phones, out);
     settle_calls_at(who, Place::Incoming(who), boxes, phones, out);

@@ -5,7 +5,7 @@ ghost use Rattle.cleanup.specs.State.{state_from};
 ghost use Rattle.cleanup.specs.HangingUp.{hangup_call as call_of_hangup};
 ghost use Rattle.cleanup.specs.Settling.{drop_answer as answer_drop, forget_call as call_loss};
 ghost use Rattle.cleanup.specs.Kill.{hang_up_at, hang_up_own_phones as hangups, slam_at, slam_phones_of as slams_of, slam_other as slams_at, slam_phones_to as slams, settle_call as call_end, settle_calls_at as call_ends, drop_answers as answer_drops, forget_calls_elsewhere as call_losses};
-ghost use Rattle.cleanup.specs.Steps.{HasCounts, on_live};
+ghost use Rattle.cleanup.specs.Steps.{HasCounts, on_call};
 ghost use Rattle.cleanup.specs.Ending.{IsHalfEnded, Rest, state_with};
 
 use crate::counts::label;
@@ -33,8 +33,10 @@ pub(crate) fn hang_up_own_phones(
     requires lines { 128 ≤ out.old.spare }
     requires few_calls { boxes.old.calls.next_number + 64 ≤ 2 ^ 31 }
     requires few_stamps { boxes.old.calls.next_stamp < 2 ^ 62 }
-    ensures state { state_with alive phones.new boxes.new ≡ (hangups who (state_with alive phones.old boxes.old)).state }
-    ensures entries { out.new.entries ≡ out.old.entries ++ (hangups who (state_with alive phones.old boxes.old)).entries }
+    ensures state { state_with alive phones.new boxes.new
+        ≡ (hangups who (state_with alive phones.old boxes.old)).state }
+    ensures entries { out.new.entries ≡ out.old.entries
+        ++ (hangups who (state_with alive phones.old boxes.old)).entries }
     ensures ending { IsHalfEnded alive who phones.new boxes.new }
     ensures tasks { boxes.new.tasks ≡ boxes.old.tasks }
     ensures numbers { boxes.new.calls.next_number ≤ boxes.old.calls.next_number + 64 }
@@ -61,8 +63,10 @@ fn hang_up(
     requires lines { 2 ≤ out.old.spare }
     requires few_calls { boxes.old.calls.next_number < 2 ^ 31 }
     requires few_stamps { boxes.old.calls.next_stamp < 2 ^ 63 }
-    ensures state { state_with alive phones.new boxes.new ≡ (hang_up_at who (state_with alive phones.old boxes.old) phone).state }
-    ensures entries { out.new.entries ≡ out.old.entries ++ (hang_up_at who (state_with alive phones.old boxes.old) phone).entries }
+    ensures state { state_with alive phones.new boxes.new
+        ≡ (hang_up_at who (state_with alive phones.old boxes.old) phone).state }
+    ensures entries { out.new.entries ≡ out.old.entries
+        ++ (hang_up_at who (state_with alive phones.old boxes.old) phone).entries }
     ensures ending { IsHalfEnded alive who phones.new boxes.new }
     ensures tasks { boxes.new.tasks ≡ boxes.old.tasks }
     ensures numbers { boxes.new.calls.next_number ≤ boxes.old.calls.next_number + 1 }
@@ -96,7 +100,8 @@ fn hang_up(
 
 /// The call that tells a task of the hangup, whose answer nobody waits for.
 fn hangup_call(from: Label, to: TaskNo, alloc: Global, boxes: &Boxes) -> Call
-    ensures { result ≡ call_of_hangup (state_from [] [] boxes.now.calls 0) from.task from.phone.0 to }
+    ensures { result ≡ call_of_hangup
+        (state_from [] [] boxes.now.calls 0) from.task from.phone.0 to }
 {
     Call {
         number: boxes.next_number(),
@@ -120,8 +125,10 @@ pub(crate) fn slam_phones_to(who: TaskNo, phones: &mut PhoneRows, out: &mut Trac
     requires ending { IsHalfEnded rest.alive who phones.old rest.boxes }
     requires few_tasks { length phones.old.states ≤ 64 }
     requires lines { 64 * length phones.old.states ≤ out.old.spare }
-    ensures state { state_with rest.alive phones.new rest.boxes ≡ (slams who (state_with rest.alive phones.old rest.boxes)).state }
-    ensures entries { out.new.entries ≡ out.old.entries ++ (slams who (state_with rest.alive phones.old rest.boxes)).entries }
+    ensures state { state_with rest.alive phones.new rest.boxes
+        ≡ (slams who (state_with rest.alive phones.old rest.boxes)).state }
+    ensures entries { out.new.entries ≡ out.old.entries
+        ++ (slams who (state_with rest.alive phones.old rest.boxes)).entries }
     ensures ending { IsHalfEnded rest.alive who phones.new rest.boxes }
     ensures lines { out.old.spare ≤ out.new.spare + 64 * length phones.old.states }
 {
@@ -130,15 +137,18 @@ pub(crate) fn slam_phones_to(who: TaskNo, phones: &mut PhoneRows, out: &mut Trac
     }
 }
 
-/// The phones of the task numbered `i + 1` that lead to the task are slammed, unless they are its own.
+/// The phones of the task numbered `i + 1` that lead to the task are slammed, unless it is itself
+/// that task.
 fn slam_other(who: TaskNo, i: u64, phones: &mut PhoneRows, out: &mut Trace)
     ghost rest: { Rest }
     requires ending { IsHalfEnded rest.alive who phones.old rest.boxes }
     requires task { i < length phones.old.states }
     requires few { i < 64 }
     requires lines { 64 ≤ out.old.spare }
-    ensures state { state_with rest.alive phones.new rest.boxes ≡ (slams_at who (state_with rest.alive phones.old rest.boxes) i).state }
-    ensures entries { out.new.entries ≡ out.old.entries ++ (slams_at who (state_with rest.alive phones.old rest.boxes) i).entries }
+    ensures state { state_with rest.alive phones.new rest.boxes
+        ≡ (slams_at who (state_with rest.alive phones.old rest.boxes) i).state }
+    ensures entries { out.new.entries ≡ out.old.entries
+        ++ (slams_at who (state_with rest.alive phones.old rest.boxes) i).entries }
     ensures ending { IsHalfEnded rest.alive who phones.new rest.boxes }
     ensures lines { out.old.spare ≤ out.new.spare + 64 }
 {
@@ -154,8 +164,10 @@ fn slam_phones_of(who: TaskNo, other: TaskNo, phones: &mut PhoneRows, out: &mut 
     requires from_one { 1 ≤ other.0 }
     requires task { other.0 ≤ length phones.old.states }
     requires lines { 64 ≤ out.old.spare }
-    ensures state { state_with rest.alive phones.new rest.boxes ≡ (slams_of who other (state_with rest.alive phones.old rest.boxes)).state }
-    ensures entries { out.new.entries ≡ out.old.entries ++ (slams_of who other (state_with rest.alive phones.old rest.boxes)).entries }
+    ensures state { state_with rest.alive phones.new rest.boxes
+        ≡ (slams_of who other (state_with rest.alive phones.old rest.boxes)).state }
+    ensures entries { out.new.entries ≡ out.old.entries
+        ++ (slams_of who other (state_with rest.alive phones.old rest.boxes)).entries }
     ensures ending { IsHalfEnded rest.alive who phones.new rest.boxes }
     ensures lines { out.old.spare ≤ out.new.spare + 64 }
 {
@@ -171,8 +183,10 @@ fn slam(who: TaskNo, other: TaskNo, phone: u64, phones: &mut PhoneRows, out: &mu
     requires from_one { 1 ≤ other.0 }
     requires task { other.0 ≤ length phones.old.states }
     requires line { 0 < out.old.spare }
-    ensures state { state_with rest.alive phones.new rest.boxes ≡ (slam_at who other (state_with rest.alive phones.old rest.boxes) phone).state }
-    ensures entries { out.new.entries ≡ out.old.entries ++ (slam_at who other (state_with rest.alive phones.old rest.boxes) phone).entries }
+    ensures state { state_with rest.alive phones.new rest.boxes
+        ≡ (slam_at who other (state_with rest.alive phones.old rest.boxes) phone).state }
+    ensures entries { out.new.entries ≡ out.old.entries
+        ++ (slam_at who other (state_with rest.alive phones.old rest.boxes) phone).entries }
     ensures ending { IsHalfEnded rest.alive who phones.new rest.boxes }
     ensures line { out.old.spare ≤ out.new.spare + 1 }
 {
@@ -201,12 +215,15 @@ pub(crate) fn settle_calls_at(
     requires place { task_of place ≤ boxes.old.tasks }
     requires lines { boxes.old.calls.next_number ≤ out.old.spare }
     requires few_stamps { boxes.old.calls.next_stamp + boxes.old.calls.next_number < 2 ^ 63 }
-    ensures state { state_with alive phones.new boxes.new ≡ (call_ends place (state_with alive phones.old boxes.old)).state }
-    ensures entries { out.new.entries ≡ out.old.entries ++ (call_ends place (state_with alive phones.old boxes.old)).entries }
+    ensures state { state_with alive phones.new boxes.new
+        ≡ (call_ends place (state_with alive phones.old boxes.old)).state }
+    ensures entries { out.new.entries ≡ out.old.entries
+        ++ (call_ends place (state_with alive phones.old boxes.old)).entries }
     ensures ending { IsHalfEnded alive who phones.new boxes.new }
     ensures tasks { boxes.new.tasks ≡ boxes.old.tasks }
     ensures numbers { boxes.new.calls.next_number ≡ boxes.old.calls.next_number }
-    ensures stamps { boxes.new.calls.next_stamp ≤ boxes.old.calls.next_stamp + boxes.old.calls.next_number }
+    ensures stamps { boxes.new.calls.next_stamp
+        ≤ boxes.old.calls.next_stamp + boxes.old.calls.next_number }
     ensures lines { out.old.spare ≤ out.new.spare + boxes.old.calls.next_number }
 {
     for _ in 0..boxes.next_number().0 {
@@ -230,8 +247,10 @@ fn settle_call(
     requires live { IsSome (call_at boxes.old.calls number.0) }
     requires line { 0 < out.old.spare }
     requires few_stamps { boxes.old.calls.next_stamp < 2 ^ 63 }
-    ensures state { state_with alive phones.new boxes.new ≡ (on_live (state_with alive phones.old boxes.old) call_end (call_at boxes.old.calls number.0)).state }
-    ensures entries { out.new.entries ≡ out.old.entries ++ (on_live (state_with alive phones.old boxes.old) call_end (call_at boxes.old.calls number.0)).entries }
+    ensures state { state_with alive phones.new boxes.new
+        ≡ (on_call call_end (state_with alive phones.old boxes.old) number.0).state }
+    ensures entries { out.new.entries ≡ out.old.entries
+        ++ (on_call call_end (state_with alive phones.old boxes.old) number.0).entries }
     ensures ending { IsHalfEnded alive who phones.new boxes.new }
     ensures tasks { boxes.new.tasks ≡ boxes.old.tasks }
     ensures numbers { boxes.new.calls.next_number ≡ boxes.old.calls.next_number }
@@ -256,17 +275,14 @@ fn settle_call(
 }
 
 /// Each answer at the task is dropped.
-pub(crate) fn drop_answers(
-    who: TaskNo,
-    boxes: &mut Boxes,
-    phones: &mut PhoneRows,
-    out: &mut Trace,
-)
+pub(crate) fn drop_answers(who: TaskNo, boxes: &mut Boxes, phones: &mut PhoneRows, out: &mut Trace)
     ghost alive: { List Bool }
     requires ending { IsHalfEnded alive who phones.old boxes.old }
     requires lines { boxes.old.calls.next_number ≤ out.old.spare }
-    ensures state { state_with alive phones.new boxes.new ≡ (answer_drops who (state_with alive phones.old boxes.old)).state }
-    ensures entries { out.new.entries ≡ out.old.entries ++ (answer_drops who (state_with alive phones.old boxes.old)).entries }
+    ensures state { state_with alive phones.new boxes.new
+        ≡ (answer_drops who (state_with alive phones.old boxes.old)).state }
+    ensures entries { out.new.entries ≡ out.old.entries
+        ++ (answer_drops who (state_with alive phones.old boxes.old)).entries }
     ensures ending { IsHalfEnded alive who phones.new boxes.new }
     ensures tasks { boxes.new.tasks ≡ boxes.old.tasks }
     ensures numbers { boxes.new.calls.next_number ≡ boxes.old.calls.next_number }
@@ -293,8 +309,10 @@ fn drop_answer(
     requires ending { IsHalfEnded alive who phones.old boxes.old }
     requires live { IsSome (call_at boxes.old.calls number.0) }
     requires line { 0 < out.old.spare }
-    ensures state { state_with alive phones.new boxes.new ≡ (on_live (state_with alive phones.old boxes.old) (answer_drop who) (call_at boxes.old.calls number.0)).state }
-    ensures entries { out.new.entries ≡ out.old.entries ++ (on_live (state_with alive phones.old boxes.old) (answer_drop who) (call_at boxes.old.calls number.0)).entries }
+    ensures state { state_with alive phones.new boxes.new
+        ≡ (on_call (answer_drop who) (state_with alive phones.old boxes.old) number.0).state }
+    ensures entries { out.new.entries ≡ out.old.entries
+        ++ (on_call (answer_drop who) (state_with alive phones.old boxes.old) number.0).entries }
     ensures ending { IsHalfEnded alive who phones.new boxes.new }
     ensures tasks { boxes.new.tasks ≡ boxes.old.tasks }
     ensures numbers { boxes.new.calls.next_number ≡ boxes.old.calls.next_number }
@@ -318,8 +336,10 @@ pub(crate) fn forget_calls_elsewhere(
     ghost alive: { List Bool }
     requires ending { IsHalfEnded alive who phones.old boxes.old }
     requires lines { boxes.old.calls.next_number ≤ out.old.spare }
-    ensures state { state_with alive phones.new boxes.new ≡ (call_losses who (state_with alive phones.old boxes.old)).state }
-    ensures entries { out.new.entries ≡ out.old.entries ++ (call_losses who (state_with alive phones.old boxes.old)).entries }
+    ensures state { state_with alive phones.new boxes.new
+        ≡ (call_losses who (state_with alive phones.old boxes.old)).state }
+    ensures entries { out.new.entries ≡ out.old.entries
+        ++ (call_losses who (state_with alive phones.old boxes.old)).entries }
     ensures ending { IsHalfEnded alive who phones.new boxes.new }
     ensures tasks { boxes.new.tasks ≡ boxes.old.tasks }
     ensures numbers { boxes.new.calls.next_number ≡ boxes.old.calls.next_number }
@@ -339,8 +359,10 @@ fn forget_call(number: CallNo, boxes: &mut Boxes, phones: &mut PhoneRows, out: &
     requires counts { HasCounts phones.old.states phones.old.counts boxes.old.calls }
     requires live { IsSome (call_at boxes.old.calls number.0) }
     requires line { 0 < out.old.spare }
-    ensures state { state_with alive phones.new boxes.new ≡ (on_live (state_with alive phones.old boxes.old) call_loss (call_at boxes.old.calls number.0)).state }
-    ensures entries { out.new.entries ≡ out.old.entries ++ (on_live (state_with alive phones.old boxes.old) call_loss (call_at boxes.old.calls number.0)).entries }
+    ensures state { state_with alive phones.new boxes.new
+        ≡ (on_call call_loss (state_with alive phones.old boxes.old) number.0).state }
+    ensures entries { out.new.entries ≡ out.old.entries
+        ++ (on_call call_loss (state_with alive phones.old boxes.old) number.0).entries }
     ensures calls { boxes.new.calls ≡ without_caller boxes.old.calls number.0 }
     ensures states { phones.new.states ≡ phones.old.states }
     ensures counts { HasCounts phones.new.states phones.new.counts boxes.new.calls }

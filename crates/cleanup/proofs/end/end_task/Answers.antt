@@ -10,6 +10,8 @@ do_parts-requires g c =
     let stamps = ap (λ (q : CallTable). q.next_stamp) c.reserve.ensures.calls in
     let places = c.in_ok-reserve.ensures.room in
     let lines = c.in_ok-reserve-2.ensures.room in
-    let number = c.next_number.ensures.number in
-    (rw (c.reserve.ensures.calls, c.reserve.ensures.tasks)
-     (ending_start g.alive c.args.who c.args.phones.now.states c.args.phones.now.counts c.args.boxes.now.calls c.args.boxes.now.tasks r.0 r.1.0 r.1.1.0 r.1.1.1.1.1.1.1.0 r.1.1.1.0 r.1.1.1.1.0 r.1.1.1.1.1.0 r.1.1.1.1.1.1.0), (r.1.1.1.1.1.1.1.1.0, (places, (omega arith, (omega arith, omega arith)))))
+    let number = c.next_number.ensures.number in (
+      rw (c.reserve.ensures.calls, c.reserve.ensures.tasks)
+          (ending_start g.alive c.args.who c.args.phones.now.states c.args.phones.now.counts c.args.boxes.now.calls c.args.boxes.now.tasks r.0 r.1.0 r.1.1.0 r.1.1.1.1.1.1.1.0 r.1.1.1.0 r.1.1.1.1.0 r.1.1.1.1.1.0 r.1.1.1.1.1.1.0),
+      (r.1.1.1.1.1.1.1.1.0, (places, (omega arith, (omega arith, omega arith)))),
+    )
