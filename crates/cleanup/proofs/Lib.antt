@@ -15,3 +15,5 @@ pub mod KilledPhones
 pub mod KilledCalls
 pub mod Histories
 pub mod KillExample
+pub mod Keeping
+pub mod Endings

@@ -4,3 +4,5 @@ pub mod Counts
 pub mod Settling
 pub mod HangingUp
 pub mod Kill
+pub mod Steps
+pub mod Ending

@@ -2,7 +2,9 @@
 #![tactic(auto)]
 
 mod counts;
-mod ending;
+mod end;
+mod parts;
+mod steps;
 
 pub use counts::{count_out, count_up, label};
-pub use ending::end_task;
+pub use end::end_task;
