@@ -4,3 +4,4 @@ pub mod Inner
 pub mod Passing
 pub mod InEvent
 pub mod InEventLoops
+pub mod ServedHistories
