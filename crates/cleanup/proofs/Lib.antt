@@ -5,3 +5,13 @@ pub mod Loops
 pub mod Soundness
 pub mod Counting
 pub mod Recounting
+pub mod Repeats
+pub mod Absence
+pub mod Silence
+pub mod Queues
+pub mod Killing
+pub mod Numbering
+pub mod KilledPhones
+pub mod KilledCalls
+pub mod Histories
+pub mod KillExample

@@ -51,7 +51,6 @@ pub record IsRecord (alive : List Bool) (l : Life) (o : Option Origin) (lost : B
   pub home : IsHome c.from.task.0 c.place
   pub origin : o ≡ Some (record { phone = c.from.phone.0; method = c.request.method })
   pub forgotten : lost ≡ is_none c.caller
-  pub discard : c.discard ≡ (c.request.method == 0)
 
 abbrev pub Agrees : List Bool → Life → Option Origin → Bool → ℕ → Option Call → Type 0
 Agrees alive l o lost n None = IsGone l
@@ -65,19 +64,14 @@ pub record Core (p : List Tale) (alive : List Bool) (table : CallTable) : Type 0
   pub ended : (u : ℕ) → is_killed u p ≡ is_ended alive u
   pub calls : (n : ℕ) → Agrees alive (life n p) (origin n p) (is_forgotten n p) n (call_at table n)
 
--- holds inside event e; a phone may lead to a task that has ended only where `reach` holds of the task
-pub record InEvent (e : Event) (reach : ℕ → Type 0) (p : List Tale) (k : KernelState) : Type 0 where
+-- holds inside event e: only of the task that is killed in it may anything be left
+pub record InEvent (e : Event) (p : List Tale) (k : KernelState) : Type 0 where
   pub core : Core p k.tasks.alive k.calls
   pub now : event p ≡ Some e
   pub task : IsTask k.tasks.alive (task_of e)
   pub acts : is_ended k.tasks.alive (task_of e) ≡ true → e ≡ Kill (task_of e)
   pub stands : (u n : ℕ) → StandsAt u (life n p) → is_ended k.tasks.alive u ≡ true → e ≡ Kill u
-  pub leads : (s q : ℕ) (u : TaskNo) → state_at k.tasks.phones s q ≡ Some (phone.Connected u) → is_ended k.tasks.alive u.0 ≡ true → reach u.0
-  pub callers : (n : ℕ) (c : Call) (u : TaskNo) → call_at k.calls n ≡ Some c → c.caller ≡ Some u → is_ended k.tasks.alive u.0 ≡ true → e ≡ Kill u.0
-
--- no phone leads to a task that has ended
-abbrev pub Nobody : ℕ → Type 0
-Nobody u = ⊥
+  pub leads : (s q : ℕ) (u : TaskNo) → state_at k.tasks.phones s q ≡ Some (phone.Connected u) → is_ended k.tasks.alive u.0 ≡ true → e ≡ Kill u.0
 
 pub and_then-append : (xs ys : List Entry) (p : List Tale) → and_then (xs ++ ys) p ≡ and_then ys (and_then xs p)
 and_then-append xs ys p = ap (λ l. onto l p) (tales-append xs ys) ∙ onto-append (tales xs) (tales ys) p
@@ -105,10 +99,10 @@ pub by_test : {A : Type 0} (P : A → Type 0) (b : Bool) (x y : A) → (b ≡ tr
 by_test P true x y here there = here refl
 by_test P false x y here there = there refl
 
-module _ (e : Event) (reach : ℕ → Type 0) (p : List Tale) (k : KernelState) (inside : InEvent e reach p k) where
+module _ (e : Event) (p : List Tale) (k : KernelState) (inside : InEvent e p k) where
   -- one note, which leaves the call with record c
-  pub noted : (n : ℕ) (w : Note) (l : Life) (q : CallTable) (c : Option Call) → life n p ≡ l → Allowed p n w l → ((u : ℕ) → StandsAt u (after w l) → is_ended k.tasks.alive u ≡ true → e ≡ Kill u) → IsRound (On n w ∷ p) → suc (number_after n w (last_number p)) ≡ q.next_number → ((m : ℕ) → call_at q m ≡ (if n == m then c else call_at k.calls m)) → ((d : Call) (u : TaskNo) → c ≡ Some d → d.caller ≡ Some u → is_ended k.tasks.alive u.0 ≡ true → e ≡ Kill u.0) → Agrees k.tasks.alive (after w l) (origin_after w (origin n p)) (forgotten_after w (is_forgotten n p)) n c → InEvent e reach (On n w ∷ p) (with_calls k q)
-  noted n w l q c at allowed places round number there callers agrees =
+  pub noted : (n : ℕ) (w : Note) (l : Life) (q : CallTable) (c : Option Call) → life n p ≡ l → Allowed p n w l → ((u : ℕ) → StandsAt u (after w l) → is_ended k.tasks.alive u ≡ true → e ≡ Kill u) → IsRound (On n w ∷ p) → suc (number_after n w (last_number p)) ≡ q.next_number → ((m : ℕ) → call_at q m ≡ (if n == m then c else call_at k.calls m)) → Agrees k.tasks.alive (after w l) (origin_after w (origin n p)) (forgotten_after w (is_forgotten n p)) n c → InEvent e (On n w ∷ p) (with_calls k q)
+  noted n w l q c at allowed places round number there agrees =
     let places' : (u : ℕ) → StandsAt u (after w (life n p)) → is_ended k.tasks.alive u ≡ true → e ≡ Kill u = rw at places in
     let agrees' : Agrees k.tasks.alive (after w (life n p)) (origin_after w (origin n p)) (forgotten_after w (is_forgotten n p)) n c = rw at agrees in
     record {
@@ -131,18 +125,7 @@ module _ (e : Event) (reach : ℕ → Type 0) (p : List Tale) (k : KernelState) 
             | inr ne ↦ rw (ne_eqb n m ne) (inside.stands u m)
           ];
       leads = inside.leads;
-      callers = λ m d u is. elim (cases_eq n m) [
-            | inl i ↦ callers d u (rw (eq-eqb n m i) at (sym (there m) ∙ is))
-            | inr ne ↦ inside.callers m d u (rw (ne_eqb n m ne) at (sym (there m) ∙ is))
-          ];
     }
-
-  -- a record with the caller that the call had
-  pub same_caller : (n : ℕ) (c : Call) → call_at k.calls n ≡ Some c → (f d : Call) (u : TaskNo) → f.caller ≡ c.caller → Some f ≡ Some d → d.caller ≡ Some u → is_ended k.tasks.alive u.0 ≡ true → e ≡ Kill u.0
-  same_caller n c h f d u same is caller = let one : f ≡ d = cc in inside.callers n c u h (sym same ∙ ap (λ (x : Call). x.caller) one ∙ caller)
-
-  pub no_call : (d : Call) (u : TaskNo) → ◌≡◌ {A = Option Call} None (Some d) → d.caller ≡ Some u → is_ended k.tasks.alive u.0 ≡ true → e ≡ Kill u.0
-  no_call d u h = absurd (cc h)
 
   pub is_told : (n : ℕ) (c : Call) → call_at k.calls n ≡ Some c → IsRecord k.tasks.alive (life n p) (origin n p) (is_forgotten n p) n c
   is_told n c h = subst (Agrees k.tasks.alive (life n p) (origin n p) (is_forgotten n p) n) h (inside.core.calls n)
@@ -156,7 +139,7 @@ module _ (e : Event) (reach : ℕ → Type 0) (p : List Tale) (k : KernelState) 
   front_at place c is = let f = front_live k.calls place c is in (own f.0 c f.1, same_place-true c.place place f.2)
 
   -- a phone changes, to lead nowhere
-  pub phone_told : (t : TaskNo) (q : ℕ) (s : PhoneState) → ((v : TaskNo) → s ≡ phone.Connected v → ⊥) → InEvent e reach (Other ∷ p) (with_phone k t q s)
+  pub phone_told : (t : TaskNo) (q : ℕ) (s : PhoneState) → ((v : TaskNo) → s ≡ phone.Connected v → ⊥) → InEvent e (Other ∷ p) (with_phone k t q s)
   phone_told t q s loose = record {
     core = record {
         lawful = (inside.core.lawful, follows p e Other inside.core.round inside.now, tt);
@@ -170,38 +153,27 @@ module _ (e : Event) (reach : ℕ → Type 0) (p : List Tale) (k : KernelState) 
     acts = inside.acts;
     stands = inside.stands;
     leads = λ x y v h d. elim (state_changed_at k.tasks.phones t.0 q x y s (phone.Connected v) h) [ inl i ↦ absurd (loose v i.2) | inr old ↦ inside.leads x y v old.1 d ];
-    callers = inside.callers;
   }
 
-  -- phones may lead where they lead
-  pub reached : (reach' : ℕ → Type 0) → ((s q : ℕ) (u : TaskNo) → state_at k.tasks.phones s q ≡ Some (phone.Connected u) → is_ended k.tasks.alive u.0 ≡ true → reach' u.0) → InEvent e reach' p k
-  reached reach' leads = record { core = inside.core; now = inside.now; task = inside.task; acts = inside.acts; stands = inside.stands; leads = leads; callers = inside.callers }
-
   -- a call is accepted to a task
-  pub accepted : (c : Call) (v : TaskNo) → c.number.0 ≡ k.calls.next_number → c.place ≡ place.Incoming v → c.caller ≡ Some c.from.task → c.discard ≡ (c.request.method == 0) → task_of e ≡ c.from.task.0 → (is_ended k.tasks.alive v.0 ≡ true → e ≡ Kill v.0) → InEvent e reach (On c.number.0 (Accepted c.from.task.0 c.from.phone.0 c.request.method (To v.0)) ∷ p) (with_calls k (enqueue k.calls c))
-  accepted c v number place caller discard actor there =
+  pub accepted : (c : Call) (v : TaskNo) → c.number.0 ≡ k.calls.next_number → c.place ≡ place.Incoming v → c.caller ≡ Some c.from.task → task_of e ≡ c.from.task.0 → (is_ended k.tasks.alive v.0 ≡ true → e ≡ Kill v.0) → InEvent e (On c.number.0 (Accepted c.from.task.0 c.from.phone.0 c.request.method (To v.0)) ∷ p) (with_calls k (enqueue k.calls c))
+  accepted c v number place caller actor there =
     let last = inside.core.number in
     noted c.number.0 (Accepted c.from.task.0 c.from.phone.0 c.request.method (To v.0)) Nowhere (enqueue k.calls c)
       (Some (record c { stamp = k.calls.next_stamp }))
       (above p inside.core.lawful c.number.0 (omega arith)) (omega arith, subst (IsOf c.from.task.0) (sym inside.now) actor) (λ u s. rw s at there) tt (omega arith)
       (λ m. at_insert k.calls.records c.number.0 m (record c { stamp = k.calls.next_stamp }))
-      (λ d u is has dead.
-        let one : record c { stamp = k.calls.next_stamp } ≡ d = cc in
-        let who : Some c.from.task ≡ Some u = sym caller ∙ ap (λ (x : Call). x.caller) one ∙ has in
-        let same : c.from.task ≡ u = cc in
-        let task : task_of e ≡ u.0 = actor ∙ ap (λ (x : TaskNo). x.0) same in
-        subst (λ x. e ≡ Kill x) task (inside.acts (ap (is_ended k.tasks.alive) task ∙ dead)))
-      (record { number = refl; place = rw place; caller = rw caller (refl, rw actor at inside.task); home = rw place tt; origin = refl; forgotten = rw caller; discard = discard })
+      (record { number = refl; place = rw place; caller = rw caller (refl, rw actor at inside.task); home = rw place tt; origin = refl; forgotten = rw caller })
 
-  vanished : (c : Call) (l : Life) → call_at k.calls c.number.0 ≡ Some c → life_at c.from.task.0 c.place ≡ l → Allowed p c.number.0 Vanished l → InEvent e reach (On c.number.0 Vanished ∷ p) (with_calls k (without_call k.calls c.number.0))
+  vanished : (c : Call) (l : Life) → call_at k.calls c.number.0 ≡ Some c → life_at c.from.task.0 c.place ≡ l → Allowed p c.number.0 Vanished l → InEvent e (On c.number.0 Vanished ∷ p) (with_calls k (without_call k.calls c.number.0))
   vanished c l h at allowed =
     let it = is_told c.number.0 c h in
-    noted c.number.0 Vanished l (without_call k.calls c.number.0) None (it.place ∙ at) allowed (λ u s. absurd s) tt inside.core.number (λ m. at_remove k.calls.records c.number.0 m) no_call tt
+    noted c.number.0 Vanished l (without_call k.calls c.number.0) None (it.place ∙ at) allowed (λ u s. absurd s) tt inside.core.number (λ m. at_remove k.calls.records c.number.0 m) tt
 
   -- an answer, or the end of the call, where the table allows both
-  pub settled : (c : Call) (reply : Reply) (by : Option TaskNo) (l : Life) → call_at k.calls c.number.0 ≡ Some c → life_at c.from.task.0 c.place ≡ l → caller_of l ≡ c.from.task.0 → (is_killed c.from.task.0 p ≡ true → Allowed p c.number.0 Vanished l) → (is_killed c.from.task.0 p ≡ false → Allowed p c.number.0 (Answered reply.code.0 (author by)) l) → InEvent e reach (and_then (settle k c reply by).entries p) (settle k c reply by).state
+  pub settled : (c : Call) (reply : Reply) (by : Option TaskNo) (l : Life) → call_at k.calls c.number.0 ≡ Some c → life_at c.from.task.0 c.place ≡ l → caller_of l ≡ c.from.task.0 → (is_killed c.from.task.0 p ≡ true → Allowed p c.number.0 Vanished l) → (is_killed c.from.task.0 p ≡ false → Allowed p c.number.0 (Answered reply.code.0 (author by)) l) → InEvent e (and_then (settle k c reply by).entries p) (settle k c reply by).state
   settled c reply by l h at mine vanish answer = by_caller c.caller (lives k c.caller) refl refl where
-    by_caller : (o : Option TaskNo) (b : Bool) → c.caller ≡ o → lives k o ≡ b → InEvent e reach (and_then (settle_for k c reply by o b).entries p) (settle_for k c reply by o b).state
+    by_caller : (o : Option TaskNo) (b : Bool) → c.caller ≡ o → lives k o ≡ b → InEvent e (and_then (settle_for k c reply by o b).entries p) (settle_for k c reply by o b).state
     by_caller None b is lives' =
       let it = is_told c.number.0 c h in
       let dead : is_ended k.tasks.alive c.from.task.0 ≡ true = subst (CallerFits k.tasks.alive c.from.task) is it.caller in
@@ -218,14 +190,13 @@ module _ (e : Event) (reach : ℕ → Type 0) (p : List Tale) (k : KernelState) 
       noted c.number.0 (Answered reply.code.0 (author by)) l (put_at k.calls (record c { reply = reply }) (place.Answers u)) (Some (record c { reply = reply; place = place.Answers u; stamp = k.calls.next_stamp }))
         (it.place ∙ at) (answer (inside.core.ended c.from.task.0 ∙ alive)) (λ x s d. absurd (false≢true (sym alive ∙ rw (← s, mine) at d))) tt inside.core.number
         (λ m. at_insert k.calls.records c.number.0 m (record c { reply = reply; place = place.Answers u; stamp = k.calls.next_stamp }))
-        (λ d x is. same_caller c.number.0 c h (record c { reply = reply; place = place.Answers u; stamp = k.calls.next_stamp }) d x refl is)
-        (record { number = refl; place = ap Answers mine; caller = it.caller; home = fits.0; origin = it.origin; forgotten = it.forgotten; discard = it.discard })
+        (record { number = refl; place = ap Answers mine; caller = it.caller; home = fits.0; origin = it.origin; forgotten = it.forgotten })
 
   -- an answer is dropped
-  pub dropped : (t : TaskNo) (c : Call) → (e ≡ Step t.0 Receive) ⊎ (e ≡ Kill t.0) → call_at k.calls c.number.0 ≡ Some c → c.place ≡ place.Answers t → InEvent e reach (and_then (drop_answer t k c).entries p) (drop_answer t k c).state
+  pub dropped : (t : TaskNo) (c : Call) → (e ≡ Step t.0 Receive) ⊎ (e ≡ Kill t.0) → call_at k.calls c.number.0 ≡ Some c → c.place ≡ place.Answers t → InEvent e (and_then (drop_answer t k c).entries p) (drop_answer t k c).state
   dropped t c why h at =
     let it = is_told c.number.0 c h in
     let home : t.0 ≡ c.from.task.0 = subst (IsHome c.from.task.0) at it.home in
     noted c.number.0 (Dropped t.0) (Answers c.from.task.0) (without_call k.calls c.number.0) None (it.place ∙ ap (life_at c.from.task.0) at)
       (home, elim why [ inl y ↦ inl (rw (← home) (inside.now ∙ ap Some y)) | inr y ↦ inr (rw (← home) (inside.now ∙ ap Some y)) ])
-      (λ u s. absurd s) tt inside.core.number (λ m. at_remove k.calls.records c.number.0 m) no_call tt
+      (λ u s. absurd s) tt inside.core.number (λ m. at_remove k.calls.records c.number.0 m) tt

@@ -37,6 +37,7 @@ use Rattle.cleanup.specs.Settling.{bare_reply, settle, drop_answer}
 use Rattle.cleanup.specs.HangingUp.{new_call, hangup_call, hang_up}
 use Rattle.cleanup.specs.Sound.{IsSound, IsPlaced, IsCaller}
 use Rattle.cleanup.proofs.Lookups.{at_insert, at_remove}
+use Rattle.cleanup.proofs.Histories.{drain_tells}
 use Rattle.kernel_core.specs.Served.{Served}
 use Rattle.kernel_core.specs.Calling.{answer_at_once, call_through, call_tested, call_over}
 use Rattle.kernel_core.specs.Receiving.{receive_first, receive_now, unawaited, next_unawaited, drop_unawaited}
@@ -45,34 +46,27 @@ use Rattle.kernel_core.specs.HangingUp.{hangup_over}
 use Rattle.kernel_core.specs.Forwarding.{failed_forward, forward_told}
 use Rattle.kernel_core.specs.Serve.{serve_request, serve}
 use Rattle.kernel_core.specs.History.{is_ended, life_at, IsGone, IsTold, TellsOf, PastFits, HistoryFits, served_entries}
-use Rattle.kernel_core.proofs.InEvent.{and_then, and_then-append, IsTask, CallerFits, IsHome, IsRecord, Agrees, Core, InEvent, Nobody, by_test, same_place-true, split_if, noted, same_caller, no_call, is_told, own, front_at, phone_told}
+use Rattle.kernel_core.proofs.InEvent.{and_then, and_then-append, IsTask, CallerFits, IsHome, IsRecord, Agrees, Core, InEvent,, by_test, same_place-true, noted, is_told, own, front_at, phone_told}
 use Rattle.kernel_core.proofs.InEvent as one
-use Rattle.kernel_core.proofs.InEventLoops.{drain_keeps}
-
-abbrev IsUsers : Msg → Type 0
-IsUsers msg = nat_lt msg.method first_user_method ≡ false
-
-not_hangup : (m : ℕ) → nat_lt m 512 ≡ false → false ≡ (m == 0)
-not_hangup m h = grind (arith, nat_tests, eq-eqb, ne_eqb, cases_eq m 0)
 
 pub step_kill : (t u : ℕ) (r : Ask) → Step t r ≡ Kill u → ⊥
 step_kill t u r e = cc
 
-module _ (e : Event) (reach : ℕ → Type 0) (p : List Tale) (k : KernelState) (inside : InEvent e reach p k) where
+module _ (e : Event) (p : List Tale) (k : KernelState) (inside : InEvent e p k) where
   -- a phone is hung up
-  pub hang_up_told : (t : TaskNo) (q : ℕ) (s : Option PhoneState) → phone_at k t q ≡ s → ((u : ℕ) → reach u → e ≡ Kill u) → task_of e ≡ t.0 → InEvent e reach (and_then (hang_up k t q s).entries p) (hang_up k t q s).state
-  hang_up_told t q None h to actor = inside
-  hang_up_told t q (Some phone.Free) h to actor = inside
-  hang_up_told t q (Some phone.Connecting) h to actor = inside
-  hang_up_told t q (Some phone.HungUp) h to actor = inside
-  hang_up_told t q (Some phone.Slammed) h to actor = phone_told e reach p k inside t q phone.HungUp (λ v x. cc)
-  hang_up_told t q (Some (phone.Connected u)) h to actor =
-      let first = one.accepted e reach p k inside (hangup_call k t q u) u refl refl refl refl actor (λ d. to u.0 (inside.leads t.0 q u h d)) in
-      phone_told e reach _ _ first t q phone.HungUp (λ v x. cc)
+  pub hang_up_told : (t : TaskNo) (q : ℕ) (s : Option PhoneState) → phone_at k t q ≡ s → task_of e ≡ t.0 → InEvent e (and_then (hang_up k t q s).entries p) (hang_up k t q s).state
+  hang_up_told t q None h actor = inside
+  hang_up_told t q (Some phone.Free) h actor = inside
+  hang_up_told t q (Some phone.Connecting) h actor = inside
+  hang_up_told t q (Some phone.HungUp) h actor = inside
+  hang_up_told t q (Some phone.Slammed) h actor = phone_told e p k inside t q phone.HungUp (λ v x. cc)
+  hang_up_told t q (Some (phone.Connected u)) h actor =
+      let first = one.accepted e p k inside (hangup_call k t q u) u refl refl refl actor (inside.leads t.0 q u h) in
+      phone_told e _ _ first t q phone.HungUp (λ v x. cc)
 
   -- a call that goes back with its answer
-  back_told : (t : TaskNo) (q : ℕ) (msg : Msg) (code : Code) → IsUsers msg → task_of e ≡ t.0 → InEvent e reach (and_then (answer_at_once k (new_call k t q msg (place.Answers t)) code).entries p) (answer_at_once k (new_call k t q msg (place.Answers t)) code).state
-  back_told t q msg code user actor =
+  back_told : (t : TaskNo) (q : ℕ) (msg : Msg) (code : Code) → task_of e ≡ t.0 → InEvent e (and_then (answer_at_once k (new_call k t q msg (place.Answers t)) code).entries p) (answer_at_once k (new_call k t q msg (place.Answers t)) code).state
+  back_told t q msg code actor =
     let alive : is_ended k.tasks.alive t.0 ≡ true → e ≡ Kill t.0 = rw actor at inside.acts in
     let last = inside.core.number in
     let n : ℕ = k.calls.next_number in
@@ -91,7 +85,7 @@ module _ (e : Event) (reach : ℕ → Type 0) (p : List Tale) (k : KernelState) 
         ended = inside.core.ended;
         calls = λ m. subst (λ (o : Option Call). Agrees k.tasks.alive (life m (On n (Answered code.0 Kernel) ∷ note ∷ p)) (origin m (On n (Answered code.0 Kernel) ∷ note ∷ p)) (is_forgotten m (On n (Answered code.0 Kernel) ∷ note ∷ p)) m o) (sym (at_insert k.calls.records n m d))
           (elim (cases_eq n m) [
-            | inl i ↦ rw (eq-eqb n m i) (record { number = i; place = refl; caller = (refl, rw actor at inside.task); home = refl; origin = refl; forgotten = refl; discard = not_hangup msg.method user })
+            | inl i ↦ rw (eq-eqb n m i) (record { number = i; place = refl; caller = (refl, rw actor at inside.task); home = refl; origin = refl; forgotten = refl })
             | inr ne ↦ rw (ne_eqb n m ne) (inside.core.calls m)
           ]);
       };
@@ -103,26 +97,22 @@ module _ (e : Event) (reach : ℕ → Type 0) (p : List Tale) (k : KernelState) 
             | inr ne ↦ rw (ne_eqb n m ne) (inside.stands u m)
           ];
       leads = inside.leads;
-      callers = λ m x u is has dead. elim (split_if (n == m) (Some d) (call_at k.calls m) x (sym (at_insert k.calls.records n m d) ∙ is)) [
-            | inl i ↦ let one : d ≡ x = cc in let who : Some t ≡ Some u = ap (λ (y : Call). y.caller) one ∙ has in let same : t ≡ u = cc in subst (λ (y : TaskNo). e ≡ Kill y.0) same (alive (ap (λ (y : TaskNo). is_ended k.tasks.alive y.0) same ∙ dead))
-            | inr i ↦ inside.callers m x u i has dead
-          ];
     }
 
 -- the requests
-module _ (t : TaskNo) (r : Ask) (p : List Tale) (k : KernelState) (inside : InEvent (Step t.0 r) Nobody p k) where
+module _ (t : TaskNo) (r : Ask) (p : List Tale) (k : KernelState) (inside : InEvent (Step t.0 r) p k) where
   abbrev Is : Served → Type 0
-  Is s = InEvent (Step t.0 r) Nobody (and_then s.entries p) s.state
+  Is s = InEvent (Step t.0 r) (and_then s.entries p) s.state
 
-  through : (q : ℕ) (msg : Msg) (s : PhoneState) → phone_at k t q ≡ Some s → IsUsers msg → Is (call_through k t q msg s)
-  through q msg phone.Free h user = inside
-  through q msg phone.Connecting h user = inside
-  through q msg phone.HungUp h user = back_told (Step t.0 r) Nobody p k inside t q msg ehangup user refl
-  through q msg phone.Slammed h user = back_told (Step t.0 r) Nobody p k inside t q msg enoent user refl
-  through q msg (phone.Connected u) h user = one.accepted (Step t.0 r) Nobody p k inside (new_call k t q msg (place.Incoming u)) u refl refl refl (not_hangup msg.method user) refl (λ d. absurd (inside.leads t.0 q u h d))
+  through : (q : ℕ) (msg : Msg) (s : PhoneState) → phone_at k t q ≡ Some s → Is (call_through k t q msg s)
+  through q msg phone.Free h = inside
+  through q msg phone.Connecting h = inside
+  through q msg phone.HungUp h = back_told (Step t.0 r) p k inside t q msg ehangup refl
+  through q msg phone.Slammed h = back_told (Step t.0 r) p k inside t q msg enoent refl
+  through q msg (phone.Connected u) h = one.accepted (Step t.0 r) p k inside (new_call k t q msg (place.Incoming u)) u refl refl refl refl (inside.leads t.0 q u h)
 
   tested : (q : ℕ) (msg : Msg) (s : PhoneState) → phone_at k t q ≡ Some s → Is (call_tested k t q msg s)
-  tested q msg s h = by_test Is (nat_lt msg.method first_user_method) _ _ (λ _. inside) (λ user. by_test Is (nat_le most_active (active_calls k.calls (label_of t q))) _ _ (λ _. inside) (λ _. through q msg s h user))
+  tested q msg s h = by_test Is (nat_lt msg.method first_user_method) _ _ (λ _. inside) (λ _. by_test Is (nat_le most_active (active_calls k.calls (label_of t q))) _ _ (λ _. inside) (λ _. through q msg s h))
 
   call_told : (q : ℕ) (msg : Msg) (s : Option PhoneState) → phone_at k t q ≡ s → Is (call_over k t q msg s)
   call_told q msg None h = inside
@@ -137,8 +127,8 @@ module _ (t : TaskNo) (r : Ask) (p : List Tale) (k : KernelState) (inside : InEv
   hangup_told q (Some phone.Free) h = inside
   hangup_told q (Some phone.Connecting) h = inside
   hangup_told q (Some phone.HungUp) h = inside
-  hangup_told q (Some phone.Slammed) h = hang_up_told (Step t.0 r) Nobody p k inside t q (Some phone.Slammed) h (λ u x. absurd x) refl
-  hangup_told q (Some (phone.Connected u)) h = hang_up_told (Step t.0 r) Nobody p k inside t q (Some (phone.Connected u)) h (λ u x. absurd x) refl
+  hangup_told q (Some phone.Slammed) h = hang_up_told (Step t.0 r) p k inside t q (Some phone.Slammed) h refl
+  hangup_told q (Some (phone.Connected u)) h = hang_up_told (Step t.0 r) p k inside t q (Some (phone.Connected u)) h refl
 
   -- a held call is live and stands at t
   held : (o : Option Call) (c : Call) → held_by t o ≡ Some c → (o ≡ Some c) × (c.place ≡ place.Dispatched t)
@@ -152,28 +142,27 @@ module _ (t : TaskNo) (r : Ask) (p : List Tale) (k : KernelState) (inside : InEv
   answer_told n reply None is h = inside
   answer_told n reply (Some c) is h =
     let f = held (call_at k.calls n) c h in
-    let number : n ≡ c.number.0 = sym (is_told (Step t.0 r) Nobody p k inside n c f.0).number in
-    one.settled (Step t.0 r) Nobody p k inside c reply (Some t) (Dispatched c.from.task.0 t.0) (own (Step t.0 r) Nobody p k inside n c f.0) (ap (life_at c.from.task.0) f.1) refl
+    let number : n ≡ c.number.0 = sym (is_told (Step t.0 r) p k inside n c f.0).number in
+    one.settled (Step t.0 r) p k inside c reply (Some t) (Dispatched c.from.task.0 t.0) (own (Step t.0 r) p k inside n c f.0) (ap (life_at c.from.task.0) f.1) refl
         (λ dead. (dead, inr (inl (rw (← number, ← is) inside.now))))
         (λ live. (refl, rw (← number, ← is) inside.now, live))
 
   stopped : (n : ℕ) (code : Code) (c : Call) → r ≡ Forward n → call_at k.calls n ≡ Some c → c.place ≡ place.Dispatched t → Is (failed_forward k (Some c) code)
   stopped n code c is h at =
-    let number : n ≡ c.number.0 = sym (is_told (Step t.0 r) Nobody p k inside n c h).number in
-    one.settled (Step t.0 r) Nobody p k inside c (bare_reply eforward) None (Dispatched c.from.task.0 t.0) (own (Step t.0 r) Nobody p k inside n c h) (ap (life_at c.from.task.0) at) refl
+    let number : n ≡ c.number.0 = sym (is_told (Step t.0 r) p k inside n c h).number in
+    one.settled (Step t.0 r) p k inside c (bare_reply eforward) None (Dispatched c.from.task.0 t.0) (own (Step t.0 r) p k inside n c h) (ap (life_at c.from.task.0) at) refl
         (λ dead. (dead, inr (inr (rw (← number, ← is) inside.now))))
         (λ live. inr (refl, rw (← number, ← is) inside.now, live))
 
   passed_told : (n q : ℕ) (mode : Mode) (change : Option Msg) (c : Call) → r ≡ Forward n → call_at k.calls n ≡ Some c → c.place ≡ place.Dispatched t → (s : Option PhoneState) → phone_at k t q ≡ s → Is (forward_told k t q mode change (Some c) (answer_of n (callee_of s)))
   passed_told n q mode change c is h at (Some (phone.Connected v)) l =
-    let it = is_told (Step t.0 r) Nobody p k inside n c h in
+    let it = is_told (Step t.0 r) p k inside n c h in
     let d : Call = record (call_after t q mode change c) { place = place.Incoming v; stamp = k.calls.next_stamp } in
     rw h
-    (noted (Step t.0 r) Nobody p k inside n (Forwarded t.0 v.0) (Dispatched c.from.task.0 t.0) (put_at k.calls (call_after t q mode change c) (place.Incoming v)) (Some d)
-      (it.place ∙ ap (life_at c.from.task.0) at) (refl, rw (← is) inside.now) (λ u s d. absurd (inside.leads t.0 q v l (rw (← s) at d))) tt inside.core.number
+    (noted (Step t.0 r) p k inside n (Forwarded t.0 v.0) (Dispatched c.from.task.0 t.0) (put_at k.calls (call_after t q mode change c) (place.Incoming v)) (Some d)
+      (it.place ∙ ap (life_at c.from.task.0) at) (refl, rw (← is) inside.now) (λ u s d. rw s at (inside.leads t.0 q v l (rw (← s) at d))) tt inside.core.number
       (λ m. at_insert k.calls.records c.number.0 m d ∙ ap (λ x. if x == m then Some d else call_at k.calls m) it.number)
-      (λ x u y. same_caller (Step t.0 r) Nobody p k inside n c h d x u refl y)
-      (record { number = it.number; place = refl; caller = it.caller; home = tt; origin = it.origin; forgotten = it.forgotten; discard = it.discard }))
+      (record { number = it.number; place = refl; caller = it.caller; home = tt; origin = it.origin; forgotten = it.forgotten }))
   passed_told n q mode change c is h at None l = stopped n enoent c is h at
   passed_told n q mode change c is h at (Some phone.Free) l = stopped n enoent c is h at
   passed_told n q mode change c is h at (Some phone.Connecting) l = stopped n enoent c is h at
@@ -190,23 +179,22 @@ module _ (t : TaskNo) (r : Ask) (p : List Tale) (k : KernelState) (inside : InEv
           (λ _. stopped n eperm c is h at))
       (λ _. inside)
 
-module _ (t : TaskNo) (p : List Tale) (k : KernelState) (inside : InEvent (Step t.0 Receive) Nobody p k) where
-  receive_told : (a i : Option Call) → front k.calls (place.Answers t) ≡ a → front k.calls (place.Incoming t) ≡ i → InEvent (Step t.0 Receive) Nobody (and_then (receive_first k t a i).entries p) (receive_first k t a i).state
+module _ (t : TaskNo) (p : List Tale) (k : KernelState) (inside : InEvent (Step t.0 Receive) p k) where
+  receive_told : (a i : Option Call) → front k.calls (place.Answers t) ≡ a → front k.calls (place.Incoming t) ≡ i → InEvent (Step t.0 Receive) (and_then (receive_first k t a i).entries p) (receive_first k t a i).state
   receive_told (Some c) i h g =
-    let f = front_at (Step t.0 Receive) Nobody p k inside (place.Answers t) c h in
-    let it = is_told (Step t.0 Receive) Nobody p k inside c.number.0 c f.0 in
+    let f = front_at (Step t.0 Receive) p k inside (place.Answers t) c h in
+    let it = is_told (Step t.0 Receive) p k inside c.number.0 c f.0 in
     let home : t.0 ≡ c.from.task.0 = subst (IsHome c.from.task.0) f.1 it.home in
-    noted (Step t.0 Receive) Nobody p k inside c.number.0 (Delivered t.0) (Answers c.from.task.0) (without_call k.calls c.number.0) None
-      (it.place ∙ ap (life_at c.from.task.0) f.1) (home, rw (← home) inside.now) (λ u s. absurd s) tt inside.core.number (λ m. at_remove k.calls.records c.number.0 m) (no_call (Step t.0 Receive) Nobody p k inside) tt
+    noted (Step t.0 Receive) p k inside c.number.0 (Delivered t.0) (Answers c.from.task.0) (without_call k.calls c.number.0) None
+      (it.place ∙ ap (life_at c.from.task.0) f.1) (home, rw (← home) inside.now) (λ u s. absurd s) tt inside.core.number (λ m. at_remove k.calls.records c.number.0 m) tt
   receive_told None (Some c) h g =
-    let f = front_at (Step t.0 Receive) Nobody p k inside (place.Incoming t) c g in
-    let it = is_told (Step t.0 Receive) Nobody p k inside c.number.0 c f.0 in
+    let f = front_at (Step t.0 Receive) p k inside (place.Incoming t) c g in
+    let it = is_told (Step t.0 Receive) p k inside c.number.0 c f.0 in
     let d : Call = record c { place = place.Dispatched t; stamp = k.calls.next_stamp } in
-    noted (Step t.0 Receive) Nobody p k inside c.number.0 (Received t.0) (Incoming c.from.task.0 t.0) (put_at k.calls c (place.Dispatched t)) (Some d)
+    noted (Step t.0 Receive) p k inside c.number.0 (Received t.0) (Incoming c.from.task.0 t.0) (put_at k.calls c (place.Dispatched t)) (Some d)
       (it.place ∙ ap (life_at c.from.task.0) f.1) (refl, inside.now) (λ u s d. absurd (step_kill t.0 t.0 Receive (inside.acts (rw (← s) at d)))) tt inside.core.number
       (λ m. at_insert k.calls.records c.number.0 m d)
-      (λ x u y. same_caller (Step t.0 Receive) Nobody p k inside c.number.0 c f.0 d x u refl y)
-      (record { number = refl; place = refl; caller = it.caller; home = tt; origin = it.origin; forgotten = it.forgotten; discard = it.discard })
+      (record { number = refl; place = refl; caller = it.caller; home = tt; origin = it.origin; forgotten = it.forgotten })
   receive_told None None h g = inside
 
 unawaited_is : (o : Option Call) (c : Call) → unawaited o ≡ Some c → o ≡ Some c
@@ -216,13 +204,13 @@ unawaited_is (Some d) c h = here d.discard h where
   here true g = g
   here false g = absurd (cc g)
 
-unawaited_told : (t : TaskNo) (p : List Tale) (k : KernelState) → InEvent (Step t.0 Receive) Nobody p k → InEvent (Step t.0 Receive) Nobody (and_then (drop_unawaited t k).entries p) (drop_unawaited t k).state
+unawaited_told : (t : TaskNo) (p : List Tale) (k : KernelState) → InEvent (Step t.0 Receive) p k → InEvent (Step t.0 Receive) (and_then (drop_unawaited t k).entries p) (drop_unawaited t k).state
 unawaited_told t p k inside =
-    drain_keeps (next_unawaited t) (drop_answer t) (InEvent (Step t.0 Receive) Nobody)
-      (λ q j c i is. let f = front_at (Step t.0 Receive) Nobody q j i (place.Answers t) c (unawaited_is (front j.calls (place.Answers t)) c is) in one.dropped (Step t.0 Receive) Nobody q j i t c (inl refl) f.0 f.1)
+    drain_tells (List Tale) and_then (λ _. refl) and_then-append (next_unawaited t) (drop_answer t) (InEvent (Step t.0 Receive))
+      (λ q j c i is. let f = front_at (Step t.0 Receive) q j i (place.Answers t) c (unawaited_is (front j.calls (place.Answers t)) c is) in one.dropped (Step t.0 Receive) q j i t c (inl refl) f.0 f.1)
       k.calls.next_number p k inside
 
-served_inside : (t : TaskNo) (asked : Request) (p : List Tale) (k : KernelState) → InEvent (Step t.0 (ask asked)) Nobody p k → InEvent (Step t.0 (ask asked)) Nobody (and_then (serve_request k t asked).entries p) (serve_request k t asked).state
+served_inside : (t : TaskNo) (asked : Request) (p : List Tale) (k : KernelState) → InEvent (Step t.0 (ask asked)) p k → InEvent (Step t.0 (ask asked)) (and_then (serve_request k t asked).entries p) (serve_request k t asked).state
 served_inside t (request.Call q msg) p k inside = call_told t Other_request p k inside q msg (phone_at k t q) refl
 served_inside t request.Receive p k inside =
     let d : Transition = drop_unawaited t k in
@@ -265,7 +253,6 @@ module _ (p : List Tale) (k : KernelState) (fits : PastFits p k) (sound : IsSoun
         home = home c c.caller s.caller c.place s.place;
         origin = told.origin;
         forgotten = told.forgotten;
-        discard = s.discard;
       }
 
   pub core_of : Core p k.tasks.alive k.calls
@@ -275,13 +262,7 @@ module _ (p : List Tale) (k : KernelState) (fits : PastFits p k) (sound : IsSoun
   pub leads_to_alive : (u : TaskNo) (s q : ℕ) → phone_at k (record { 0 = s }) q ≡ Some (phone.Connected u) → is_ended k.tasks.alive u.0 ≡ true → ⊥
   leads_to_alive u s q is dead = false≢true (sym (alive_is k.tasks.alive u.0 (sound.tasks.leads s q u is)).1 ∙ dead)
 
-  -- a caller has not ended
-  pub caller_is_alive : (n : ℕ) (c : Call) (u : TaskNo) → call_at k.calls n ≡ Some c → c.caller ≡ Some u → is_ended k.tasks.alive u.0 ≡ true → ⊥
-  caller_is_alive n c u is has dead =
-      let s : (u ≡ c.from.task) × (alive_in k.tasks.alive u.0 ≡ true) = subst (IsCaller k.tasks c.from) has (sound.calls.each n c is).caller in
-      false≢true (sym (alive_is k.tasks.alive u.0 s.1).1 ∙ dead)
-
-  step_begun : (t : TaskNo) (r : Ask) → is_alive k t ≡ true → InEvent (Step t.0 r) Nobody (Head (Step t.0 r) ∷ p) k
+  step_begun : (t : TaskNo) (r : Ask) → is_alive k t ≡ true → InEvent (Step t.0 r) (Head (Step t.0 r) ∷ p) k
   step_begun t r alive =
     let a = alive_is k.tasks.alive t.0 alive in
     record {
@@ -296,8 +277,7 @@ module _ (p : List Tale) (k : KernelState) (fits : PastFits p k) (sound : IsSoun
       task = a.0;
       acts = λ d. absurd (false≢true (sym a.1 ∙ d));
       stands = λ u n s d. absurd (fits.cleared u n (fits.ended u ∙ d) s);
-      leads = λ s q u is d. leads_to_alive u s q is d;
-      callers = λ n c u h i d. absurd (caller_is_alive n c u h i d);
+      leads = λ s q u is d. absurd (leads_to_alive u s q is d);
     }
 
 told_of : (p : List Tale) (alive : List Bool) → ((u : ℕ) → is_killed u p ≡ is_ended alive u) → (n : ℕ) (o : Option Call) → Agrees alive (life n p) (origin n p) (is_forgotten n p) n o → TellsOf p n o
@@ -320,7 +300,7 @@ fits_of p k core cleared = record {
     calls = λ n. told_of p k.tasks.alive core.ended n (call_at k.calls n) (core.calls n);
   }
 
-step_finished : (t : TaskNo) (r : Ask) (p : List Tale) (k : KernelState) → InEvent (Step t.0 r) Nobody p k → PastFits (Other ∷ p) k
+step_finished : (t : TaskNo) (r : Ask) (p : List Tale) (k : KernelState) → InEvent (Step t.0 r) p k → PastFits (Other ∷ p) k
 step_finished t r p k inside =
     fits_of (Other ∷ p) k
       (record {

@@ -1,0 +1,236 @@
+-- Each phone after a kill: those of the task are hung up, and those that led to it are slammed.
+use Rattle.std.proofs.Common.{◌≡◌, ℕ, ◌+◌, ◌<◌, Bool, true, false, ◌⊎◌, inl, inr, Option, None, Some, List, refl, ap, sym, subst, ◌∙◌, arith}
+use Rattle.std.specs.Prelude.{◌==◌, if◌then◌else◌, IsSome, option_map}
+use Rattle.std.proofs.lemmas.Bool.{cases_eq, eqb-true, eq-eqb, ne_eqb, false≢true}
+use Rattle.std.specs.FinMap.{len}
+use Rattle.ipc_ids.specs.declared.numbers.TaskNo.{TaskNo}
+use Rattle.ipc_ids.specs.declared.message.PhoneState.{PhoneState}
+use Rattle.ipc_ids.specs.declared.message.PhoneState.TheVariants.{Free, Connecting, Connected, HungUp, Slammed}
+use Rattle.ipc_ids.specs.declared.message.Reply.{Reply}
+use Rattle.ipc_ids.specs.Codes.{ehangup}
+use Rattle.call_slab.specs.declared.call.Call.{Call}
+use Rattle.call_slab.specs.declared.call.Place.{Place}
+use Rattle.call_slab.specs.declared.call.Place.TheVariants.{Incoming, Dispatched, Answers}
+use Rattle.phone_table.specs.Phones.{state_at}
+use Rattle.cleanup.specs.State.{KernelState, Transition, is_alive, phone_at, with_state_at, with_phone}
+use Rattle.cleanup.specs.Sound.{IsQuiet, IsSound}
+use Rattle.cleanup.specs.Settling.{bare_reply, settle_for, lives, drop_answer, forget_call}
+use Rattle.cleanup.specs.HangingUp.{hang_up}
+use Rattle.cleanup.specs.Kill.{width, mark_ended, hang_up_at, slam, slam_at, first_at, first_call_of, settle_call, settle_calls_at, kill}
+use Rattle.cleanup.proofs.Rows.{state_changed_at}
+use Rattle.cleanup.proofs.Soundness.{phone_kept, value_of}
+use Rattle.cleanup.proofs.Repeats.{by_test, each_keeps, drain_keeps}
+use Rattle.cleanup.proofs.Silence.{IsEnding, IsSilent, own_phones_hung_up, slam_silent, slams_keep}
+use Rattle.cleanup.proofs.Killing.{HasNothingOf, kill_leaves_nothing, after_hangups, after_slams, after_incoming, after_dispatched, after_answers}
+
+-- what a hangup makes of a phone
+abbrev pub hung : PhoneState → PhoneState
+hung Free = Free
+hung Connecting = Connecting
+hung (Connected _) = HungUp
+hung HungUp = HungUp
+hung Slammed = HungUp
+
+-- what the end of task t makes of a phone of another
+abbrev pub slammed : TaskNo → PhoneState → PhoneState
+slammed t Free = Free
+slammed t Connecting = Connecting
+slammed t (Connected v) = if v.0 == t.0 then Slammed else Connected v
+slammed t HungUp = HungUp
+slammed t Slammed = Slammed
+
+-- the rows after a write
+
+written_here : (rows : List (List PhoneState)) (a b : ℕ) (s : PhoneState) → IsSome (state_at rows a b) → state_at (with_state_at rows a b s) a b ≡ Some s
+written_here rows a b s h =
+    let now = value_of (state_at (with_state_at rows a b s) a b) (phone_kept rows a b a b s h) in
+    elim (state_changed_at rows a b a b s now.0 now.1) [ inl e ↦ now.1 ∙ ap Some (sym e.2) | inr e ↦ absurd (e.0 (refl, refl)) ]
+
+none_is : {A : Type 0} (o : Option A) → IsSome o → o ≡ None → ⊥
+none_is o h e = let g = rw e at h in cc
+
+is_some : {A : Type 0} (o : Option A) (x : A) → o ≡ Some x → IsSome o
+is_some o x e = rw e refl
+
+written_elsewhere : (rows : List (List PhoneState)) (a b t p : ℕ) (s : PhoneState) → ((t ≡ a) × (p ≡ b) → ⊥) → state_at (with_state_at rows a b s) t p ≡ state_at rows t p
+written_elsewhere rows a b t p s ne = by_state (state_at rows t p) (state_at (with_state_at rows a b s) t p) refl refl where
+  by_state : (old new : Option PhoneState) → state_at rows t p ≡ old → state_at (with_state_at rows a b s) t p ≡ new → new ≡ old
+  by_state None None is now = refl
+  by_state (Some y) None is now = absurd (none_is (state_at (with_state_at rows a b s) t p) (phone_kept rows a b t p s (is_some (state_at rows t p) y is)) now)
+  by_state old (Some x) is now = elim (state_changed_at rows a b t p s x now) [ inl e ↦ absurd (ne (e.0, e.1)) | inr e ↦ sym e.1 ∙ is ]
+
+-- a phone is as it was, or as it will be
+abbrev IsEither : (PhoneState → PhoneState) → Option PhoneState → Option PhoneState → Type 0
+IsEither change before now = (now ≡ before) ⊎ (now ≡ option_map change before)
+
+-- the phones of the task
+
+hung_quiet : (x : PhoneState) → IsQuiet x → hung x ≡ x
+hung_quiet Free h = refl
+hung_quiet Connecting h = refl
+hung_quiet (Connected v) h = absurd h
+hung_quiet HungUp h = refl
+hung_quiet Slammed h = absurd h
+
+settled_own : (o now : Option PhoneState) → IsEither hung o now → ((x : PhoneState) → now ≡ Some x → IsQuiet x) → now ≡ option_map hung o
+settled_own o now (inr e) quiet = e
+settled_own None now (inl e) quiet = e
+settled_own (Some x) now (inl e) quiet = e ∙ ap Some (sym (hung_quiet x (quiet x e)))
+
+hang_up_own : (t : TaskNo) (q : ℕ) (o : Option PhoneState) (k : KernelState) (n : ℕ) → IsEither hung o (phone_at k t q) → IsEither hung o (phone_at (hang_up_at t k n).state t q)
+hang_up_own t q o k n h = by_state (phone_at k t n) refl where
+  open_phone : (s : PhoneState) → phone_at k t n ≡ Some s → hung s ≡ HungUp → IsEither hung o (phone_at (with_phone k t n HungUp) t q)
+  open_phone s is falls = elim (cases_eq q n) [
+    | inl e ↦
+        let there : phone_at k t q ≡ Some s = ap (phone_at k t) e ∙ is in
+        let now : phone_at (with_phone k t n HungUp) t q ≡ Some HungUp = ap (phone_at (with_phone k t n HungUp) t) e ∙ written_here k.tasks.phones t.0 n HungUp (is_some (phone_at k t n) s is) in
+        elim h [
+          | inl was ↦ inr (now ∙ ap Some (sym falls) ∙ ap (option_map hung) (sym there ∙ was))
+          | inr was ↦ inr (now ∙ ap Some (sym falls) ∙ twice o s (sym was ∙ there) ∙ sym was ∙ was)
+        ]
+    | inr ne ↦ subst (IsEither hung o) (sym (written_elsewhere k.tasks.phones t.0 n t.0 q HungUp (λ z. ne z.1))) h
+  ] where
+    again : (x : PhoneState) → hung (hung x) ≡ hung x
+    again Free = refl
+    again Connecting = refl
+    again (Connected v) = refl
+    again HungUp = refl
+    again Slammed = refl
+
+    twice : (o : Option PhoneState) (s : PhoneState) → option_map hung o ≡ Some s → Some (hung s) ≡ option_map hung o
+    twice None s e = absurd (cc e)
+    twice (Some x) s e = let same : hung x ≡ s = cc in ap Some (ap hung (sym same) ∙ again x)
+
+  by_state : (s : Option PhoneState) → phone_at k t n ≡ s → IsEither hung o (phone_at (hang_up k t n s).state t q)
+  by_state None is = h
+  by_state (Some Free) is = h
+  by_state (Some Connecting) is = h
+  by_state (Some HungUp) is = h
+  by_state (Some Slammed) is = open_phone Slammed is refl
+  by_state (Some (Connected u)) is = open_phone (Connected u) is refl
+
+-- the slams leave them
+slam_own : (marks : List Bool) (t u : TaskNo) (n q : ℕ) (o : Option PhoneState) (k : KernelState) (s : Option PhoneState) → phone_at k u n ≡ s → IsSilent marks t k → IsEither hung o (phone_at k t q) → IsEither hung o (phone_at (slam t u k n s).state t q)
+slam_own marks t u n q o k None is silent h = h
+slam_own marks t u n q o k (Some Free) is silent h = h
+slam_own marks t u n q o k (Some Connecting) is silent h = h
+slam_own marks t u n q o k (Some HungUp) is silent h = h
+slam_own marks t u n q o k (Some Slammed) is silent h = h
+slam_own marks t u n q o k (Some (Connected v)) is silent h =
+    by_test (λ (d : Transition). IsEither hung o (phone_at d.state t q)) (v.0 == t.0) _ _
+    (λ _. subst (IsEither hung o) (sym (written_elsewhere k.tasks.phones u.0 n t.0 q Slammed (λ z. silent.still q (Connected v) (ap (λ a. state_at k.tasks.phones a q) z.0 ∙ ap (state_at k.tasks.phones u.0) z.1 ∙ is)))) h)
+    (λ _. h)
+
+-- the phones of others
+
+hang_up_other : (t u : TaskNo) (q : ℕ) (o : Option PhoneState) (k : KernelState) (n : ℕ) → (u.0 ≡ t.0 → ⊥) → phone_at k u q ≡ o → phone_at (hang_up_at t k n).state u q ≡ o
+hang_up_other t u q o k n ne h = by_state (phone_at k t n) where
+  off : phone_at (with_phone k t n HungUp) u q ≡ o
+  off = written_elsewhere k.tasks.phones t.0 n u.0 q HungUp (λ z. ne z.0) ∙ h
+
+  by_state : (s : Option PhoneState) → phone_at (hang_up k t n s).state u q ≡ o
+  by_state None = h
+  by_state (Some Free) = h
+  by_state (Some Connecting) = h
+  by_state (Some HungUp) = h
+  by_state (Some Slammed) = off
+  by_state (Some (Connected v)) = off
+
+leads_on : (t v : TaskNo) (x : PhoneState) → slammed t x ≡ Connected v → v.0 ≡ t.0 → ⊥
+leads_on t v Free e same = cc
+leads_on t v Connecting e same = cc
+leads_on t v (Connected w) e same = by_target (w.0 == t.0) refl e where
+  by_target : (b : Bool) → (w.0 == t.0) ≡ b → (if b then Slammed else Connected w) ≡ Connected v → ⊥
+  by_target true is g = cc
+  by_target false is g = let one : w ≡ v = cc in false≢true (sym is ∙ eq-eqb w.0 t.0 (ap (λ (x : TaskNo). x.0) one ∙ same))
+leads_on t v HungUp e same = cc
+leads_on t v Slammed e same = cc
+
+not_led : (t v : TaskNo) (o : Option PhoneState) → option_map (slammed t) o ≡ Some (Connected v) → v.0 ≡ t.0 → ⊥
+not_led t v None e same = cc
+not_led t v (Some x) e same = let one : slammed t x ≡ Connected v = cc in leads_on t v x one same
+
+slam_either : (t u w : TaskNo) (n q : ℕ) (o : Option PhoneState) (k : KernelState) (s : Option PhoneState) → phone_at k w n ≡ s → IsEither (slammed t) o (phone_at k u q) → IsEither (slammed t) o (phone_at (slam t w k n s).state u q)
+slam_either t u w n q o k None is h = h
+slam_either t u w n q o k (Some Free) is h = h
+slam_either t u w n q o k (Some Connecting) is h = h
+slam_either t u w n q o k (Some HungUp) is h = h
+slam_either t u w n q o k (Some Slammed) is h = h
+slam_either t u w n q o k (Some (Connected v)) is h =
+    by_test (λ (d : Transition). IsEither (slammed t) o (phone_at d.state u q)) (v.0 == t.0) _ _ (λ e. slam_it e (cases_eq u.0 w.0) (cases_eq q n)) (λ _. h)
+  where
+    away : ((u.0 ≡ w.0) × (q ≡ n) → ⊥) → IsEither (slammed t) o (phone_at (with_phone k w n Slammed) u q)
+    away ne = subst (IsEither (slammed t) o) (sym (written_elsewhere k.tasks.phones w.0 n u.0 q Slammed ne)) h
+
+    slam_it : (v.0 == t.0) ≡ true → (u.0 ≡ w.0) ⊎ (u.0 ≡ w.0 → ⊥) → (q ≡ n) ⊎ (q ≡ n → ⊥) → IsEither (slammed t) o (phone_at (with_phone k w n Slammed) u q)
+    slam_it e (inr ne) b = away (λ z. ne z.0)
+    slam_it e (inl a) (inr ne) = away (λ z. ne z.1)
+    slam_it e (inl a) (inl b) =
+        let there : phone_at k u q ≡ Some (Connected v) = ap (λ i. state_at k.tasks.phones i q) a ∙ ap (state_at k.tasks.phones w.0) b ∙ is in
+        let now : phone_at (with_phone k w n Slammed) u q ≡ Some Slammed = ap (λ i. state_at (with_phone k w n Slammed).tasks.phones i q) a ∙ ap (state_at (with_phone k w n Slammed).tasks.phones w.0) b ∙ written_here k.tasks.phones w.0 n Slammed (is_some (phone_at k w n) (Connected v) is) in
+        let falls : slammed t (Connected v) ≡ Slammed = rw e refl in
+        elim h [
+          | inl was ↦ inr (now ∙ ap Some (sym falls) ∙ ap (option_map (slammed t)) (sym there ∙ was))
+          | inr was ↦ absurd (not_led t v o (sym was ∙ there) (eqb-true v.0 t.0 e))
+        ]
+
+slammed_away : (t : TaskNo) (x : PhoneState) → ((v : TaskNo) → x ≡ Connected v → v.0 ≡ t.0 → ⊥) → slammed t x ≡ x
+slammed_away t Free h = refl
+slammed_away t Connecting h = refl
+slammed_away t (Connected v) h = rw (ne_eqb v.0 t.0 (h v refl)) refl
+slammed_away t HungUp h = refl
+slammed_away t Slammed h = refl
+
+settled_other : (t : TaskNo) (o now : Option PhoneState) → IsEither (slammed t) o now → ((v : TaskNo) → now ≡ Some (Connected v) → v.0 ≡ t.0 → ⊥) → now ≡ option_map (slammed t) o
+settled_other t o now (inr e) unled = e
+settled_other t None now (inl e) unled = e
+settled_other t (Some x) now (inl e) unled = e ∙ ap Some (sym (slammed_away t x (λ v is. unled v (e ∙ ap Some is))))
+
+-- the parts on calls leave the phones
+
+settle_phones : (rows : List (List PhoneState)) (j : KernelState) (c : Call) (reply : Reply) (o : Option TaskNo) (b : Bool) → j.tasks.phones ≡ rows → (settle_for j c reply None o b).state.tasks.phones ≡ rows
+settle_phones rows j c reply None b h = h
+settle_phones rows j c reply (Some u) false h = h
+settle_phones rows j c reply (Some u) true h = h
+
+settles_phones : (place : Place) (rows : List (List PhoneState)) (j : KernelState) → j.tasks.phones ≡ rows → (settle_calls_at place j).state.tasks.phones ≡ rows
+settles_phones place rows j h = drain_keeps (first_at place) settle_call (λ i. i.tasks.phones ≡ rows) (λ i c s is. settle_phones rows i c (bare_reply ehangup) c.caller (lives i c.caller) s) j.calls.next_number j h
+
+pub phones_after : (k : KernelState) (t : TaskNo) → (kill k t).state.tasks.phones ≡ (after_slams t k).tasks.phones
+phones_after k t =
+    let rows : List (List PhoneState) = (after_slams t k).tasks.phones in
+    let h3 : (after_incoming t k).tasks.phones ≡ rows = settles_phones (Incoming t) rows (after_slams t k) refl in
+    let h4 : (after_dispatched t k).tasks.phones ≡ rows = settles_phones (Dispatched t) rows (after_incoming t k) h3 in
+    let h5 : (after_answers t k).tasks.phones ≡ rows = drain_keeps (first_at (Answers t)) (drop_answer t) (λ j. j.tasks.phones ≡ rows) (λ j c s is. s) (after_dispatched t k).calls.next_number (after_dispatched t k) h4 in
+    drain_keeps (first_call_of t) forget_call (λ j. j.tasks.phones ≡ rows) (λ j c s is. s) (after_answers t k).calls.next_number (after_answers t k) h5
+
+-- a fact on the phones that a slam keeps, and the silence that it keeps
+record AndSilent (marks : List Bool) (t : TaskNo) (I : KernelState → Type 0) (k : KernelState) : Type 0 where
+  pub silent : IsSilent marks t k
+  pub fact : I k
+
+module _ (k : KernelState) (t : TaskNo) (sound : IsSound k) (alive : is_alive k t ≡ true) (few : len k.calls.records < k.calls.next_number) where
+  nothing_left : HasNothingOf t (kill k t).state
+  nothing_left = kill_leaves_nothing k t sound alive few
+
+  silent_first : IsSilent k.tasks.alive t (after_hangups t k)
+  silent_first = let h0 : IsEnding k.tasks.alive (mark_ended k t) = record { sound = sound; few = few } in own_phones_hung_up k.tasks.alive t (mark_ended k t) alive h0
+
+  -- a phone of the task
+  pub kill_own_phone : (q : ℕ) → phone_at (kill k t).state t q ≡ option_map hung (phone_at k t q)
+  kill_own_phone q =
+      let o : Option PhoneState = phone_at k t q in
+      let h1 : IsEither hung o (phone_at (after_hangups t k) t q) = each_keeps (hang_up_at t) (λ j. IsEither hung o (phone_at j t q)) (λ j n h. hang_up_own t q o j n h) (width k.tasks.phones t.0) 0 (mark_ended k t) (inl refl) in
+      let h2 : AndSilent k.tasks.alive t (λ j. IsEither hung o (phone_at j t q)) (after_slams t k) =
+            slams_keep t (AndSilent k.tasks.alive t (λ j. IsEither hung o (phone_at j t q)))
+            (λ u n j h. record { silent = slam_silent k.tasks.alive t u n j (phone_at j u n) refl h.silent; fact = slam_own k.tasks.alive t u n q o j (phone_at j u n) refl h.silent h.fact })
+            (after_hangups t k) (record { silent = silent_first; fact = h1 }) in
+      settled_own o (phone_at (kill k t).state t q) (subst (λ (rows : List (List PhoneState)). IsEither hung o (state_at rows t.0 q)) (sym (phones_after k t)) h2.fact) (nothing_left.quiet q)
+
+  -- a phone of another task
+  pub kill_other_phone : (u : TaskNo) (q : ℕ) → (u.0 ≡ t.0 → ⊥) → phone_at (kill k t).state u q ≡ option_map (slammed t) (phone_at k u q)
+  kill_other_phone u q ne =
+      let o : Option PhoneState = phone_at k u q in
+      let h1 : phone_at (after_hangups t k) u q ≡ o = each_keeps (hang_up_at t) (λ j. phone_at j u q ≡ o) (λ j n h. hang_up_other t u q o j n ne h) (width k.tasks.phones t.0) 0 (mark_ended k t) refl in
+      let h2 : IsEither (slammed t) o (phone_at (after_slams t k) u q) = slams_keep t (λ j. IsEither (slammed t) o (phone_at j u q)) (λ w n j h. slam_either t u w n q o j (phone_at j w n) refl h) (after_hangups t k) (inl h1) in
+      settled_other t o (phone_at (kill k t).state u q) (subst (λ (rows : List (List PhoneState)). IsEither (slammed t) o (state_at rows u.0 q)) (sym (phones_after k t)) h2) (λ v is. nothing_left.unled u.0 q v is)
