@@ -46,7 +46,7 @@ use Rattle.kernel_core.specs.HangingUp.{hangup_over}
 use Rattle.kernel_core.specs.Forwarding.{failed_forward, forward_told}
 use Rattle.kernel_core.specs.Serve.{serve_request, serve}
 use Rattle.kernel_core.specs.History.{is_ended, life_at, IsGone, IsTold, TellsOf, PastFits, HistoryFits, served_entries}
-use Rattle.kernel_core.proofs.InEvent.{and_then, and_then-append, IsTask, CallerFits, IsHome, IsRecord, Agrees, Core, InEvent,, by_test, same_place-true, noted, is_told, own, front_at, phone_told}
+use Rattle.kernel_core.proofs.InEvent.{and_then, and_then-append, IsTask, CallerFits, IsHome, IsRecord, Agrees, Core, InEvent, by_test, same_place-true, noted, is_told, own, front_at, phone_told}
 use Rattle.kernel_core.proofs.InEvent as one
 
 pub step_kill : (t u : ℕ) (r : Ask) → Step t r ≡ Kill u → ⊥
