@@ -5,3 +5,5 @@ pub mod Passing
 pub mod Serving
 pub mod InEvent
 pub mod ServedHistories
+pub mod KilledHistories
+pub mod WholeHistories

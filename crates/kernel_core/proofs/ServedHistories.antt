@@ -1,9 +1,8 @@
 -- Each request keeps what the history tells of the state.
-use Rattle.std.proofs.Common.{ℕ, suc, zero, ◌≡◌, ◌<◌, ◌≤◌, ◌+◌, ◌⊎◌, Bool, true, false, not, cond, Option, Some, None, List, [], ◌∷◌, ◌++◌, Result, Ok, Err, refl, sym, ◌∙◌, ap, subst, inl, inr, arith, nat_lt, nat_le}
-use Rattle.std.specs.Prelude.{◌==◌, ◌-◌, if◌then◌else◌, ⊤, is_none, slice_get, unwrap_or}
+use Rattle.std.proofs.Common.{ℕ, ◌≡◌, ◌+◌, Bool, true, false, not, Option, Some, None, List, [], ◌∷◌, ◌++◌, Result, Err, refl, sym, ◌∙◌, ap, subst, inl, inr, arith, nat_lt, nat_le}
+use Rattle.std.specs.Prelude.{◌==◌, ◌-◌, if◌then◌else◌, slice_get, unwrap_or}
 use Rattle.std.specs.Option.{option_map_or}
-use Rattle.std.proofs.lemmas.Bool.{eqb-true, cases_eq, eq-eqb, ne_eqb, false≢true}
-use Rattle.std.proofs.lemmas.Bool.Decides.{nat_tests}
+use Rattle.std.proofs.lemmas.Bool.{cases_eq, eq-eqb, ne_eqb, false≢true}
 use Rattle.ipc_ids.specs.declared.numbers.TaskNo.{TaskNo}
 use Rattle.ipc_ids.specs.declared.numbers.Code.{Code}
 use Rattle.ipc_ids.specs.declared.message.Msg.{Msg}
@@ -11,29 +10,27 @@ use Rattle.ipc_ids.specs.declared.message.Mode.{Mode}
 use Rattle.ipc_ids.specs.declared.message.Reply.{Reply}
 use Rattle.ipc_ids.specs.declared.message.Request.{Request}
 use Rattle.ipc_ids.specs.declared.message.Request.TheVariants as request
-use Rattle.ipc_ids.specs.declared.message.Outcome.{Outcome}
 use Rattle.ipc_ids.specs.declared.entry.Entry.{Entry}
 use Rattle.ipc_ids.specs.declared.entry.Entry.TheVariants as entry
 use Rattle.ipc_ids.specs.declared.message.PhoneState.{PhoneState}
 use Rattle.ipc_ids.specs.declared.message.PhoneState.TheVariants as phone
-use Rattle.ipc_ids.specs.Codes.{eok, enoent, eperm, ehangup, eforward}
+use Rattle.ipc_ids.specs.Codes.{enoent, eperm, ehangup, eforward}
 use Rattle.ipc_ids.specs.Tables.{first_user_method, most_active}
-use Rattle.ipc_ids.specs.Tales.{Ask, Receive, Answer, Forward, Other_request, Event, Step, Kill, Note, Accepted, Received, Forwarded, Answered, Vanished, Forgotten, Delivered, Dropped, Author, Kernel, Task, Way, To, At_once, ask, author, Tale, Head, On, Other, tale, tales, onto, past}
-use Rattle.ipc_ids.specs.Life.{Life, Nowhere, Back, Incoming, Dispatched, Answers, Over, caller_of, life, is_killed, last_number, event, task_of, IsOf, Allowed, after}
-use Rattle.ipc_ids.specs.Lawful.{Lawful, IsRound, IsCleared, Follows, StandsAt}
-use Rattle.ipc_ids.specs.Origins.{Origin, origin, origin_after, is_forgotten, forgotten_after}
+use Rattle.ipc_ids.specs.Tales.{Ask, Receive, Answer, Forward, Other_request, Event, Step, Kill, Accepted, Received, Forwarded, Answered, Delivered, Kernel, At_once, ask, Tale, Head, On, Other, past}
+use Rattle.ipc_ids.specs.Life.{Nowhere, Back, Incoming, Dispatched, Answers, life, is_killed, event, task_of, IsOf, Allowed}
+use Rattle.ipc_ids.specs.Lawful.{IsCleared}
+use Rattle.ipc_ids.specs.Origins.{origin, is_forgotten}
 use Rattle.ipc_ids.proofs.Pasts.{above, follows, head_follows, past-append}
 use Rattle.call_slab.specs.declared.call.Call.{Call}
 use Rattle.call_slab.specs.declared.call.Place.{Place}
 use Rattle.call_slab.specs.declared.call.Place.TheVariants as place
-use Rattle.answerbox.specs.Calls.{CallTable, call_at, same_place, enqueue, put_at, without_call, front, active_calls}
-use Rattle.forwarding.specs.declared.passing.Forwarded.{Forwarded as Way_on}
+use Rattle.answerbox.specs.Calls.{call_at, same_place, put_at, without_call, front, active_calls}
 use Rattle.forwarding.specs.declared.passing.ForwardFault.{ForwardFault}
-use Rattle.forwarding.specs.declared.passing.ForwardFault.TheVariants.{NotHeld, NotForwardable, NotConnected}
-use Rattle.forwarding.specs.Forwarding.{is_held, is_forwardable, label_after}
-use Rattle.forwarding.specs.Routes.{callee_of, receiver_of, answer_of, forward_answer, table_after, call_after}
-use Rattle.cleanup.specs.State.{KernelState, Transition, with_calls, with_phone, with_event, phone_at, label_of, alive_in, is_alive, drain}
-use Rattle.cleanup.specs.Settling.{bare_reply, settle, drop_answer}
+use Rattle.forwarding.specs.declared.passing.ForwardFault.TheVariants.{NotHeld}
+use Rattle.forwarding.specs.Forwarding.{is_held, is_forwardable}
+use Rattle.forwarding.specs.Routes.{callee_of, receiver_of, answer_of, call_after}
+use Rattle.cleanup.specs.State.{KernelState, Transition, with_event, phone_at, label_of, alive_in, is_alive}
+use Rattle.cleanup.specs.Settling.{bare_reply, drop_answer}
 use Rattle.cleanup.specs.HangingUp.{new_call, hangup_call, hang_up}
 use Rattle.cleanup.specs.Sound.{IsSound, IsPlaced, IsCaller}
 use Rattle.cleanup.proofs.Lookups.{at_insert, at_remove}
@@ -45,8 +42,8 @@ use Rattle.kernel_core.specs.Answering.{held_by, answer_held}
 use Rattle.kernel_core.specs.HangingUp.{hangup_over}
 use Rattle.kernel_core.specs.Forwarding.{failed_forward, forward_told}
 use Rattle.kernel_core.specs.Serve.{serve_request, serve}
-use Rattle.kernel_core.specs.History.{is_ended, life_at, IsGone, IsTold, TellsOf, PastFits, HistoryFits, served_entries}
-use Rattle.kernel_core.proofs.InEvent.{and_then, and_then-append, IsTask, CallerFits, IsHome, IsRecord, Agrees, Core, InEvent, by_test, same_place-true, noted, is_told, own, front_at, phone_told}
+use Rattle.kernel_core.specs.History.{is_ended, life_at, IsTold, TellsOf, PastFits, HistoryFits, served_entries}
+use Rattle.kernel_core.proofs.InEvent.{and_then, and_then-append, IsTask, CallerFits, IsHome, Agrees, Core, InEvent, by_test, same_place-true, noted, is_told, own, front_at, phone_told}
 use Rattle.kernel_core.proofs.InEvent as one
 
 pub step_kill : (t u : ℕ) (r : Ask) → Step t r ≡ Kill u → ⊥
@@ -67,37 +64,37 @@ module _ (e : Event) (p : List Tale) (k : KernelState) (inside : InEvent e p k) 
   -- a call that goes back with its answer
   back_told : (t : TaskNo) (q : ℕ) (msg : Msg) (code : Code) → task_of e ≡ t.0 → InEvent e (and_then (answer_at_once k (new_call k t q msg (place.Answers t)) code).entries p) (answer_at_once k (new_call k t q msg (place.Answers t)) code).state
   back_told t q msg code actor =
-    let alive : is_ended k.tasks.alive t.0 ≡ true → e ≡ Kill t.0 = rw actor at inside.acts in
-    let last = inside.core.number in
-    let n : ℕ = k.calls.next_number in
-    let note : Tale = On n (Accepted t.0 q msg.method At_once) in
-    let none : life n p ≡ Nowhere = above p inside.core.lawful n (omega arith) in
-    let going : life n (note ∷ p) ≡ Back t.0 = rw (eq-eqb n n refl) in
-    let first : Allowed p n (Accepted t.0 q msg.method At_once) (life n p) = rw none (sym last, subst (IsOf t.0) (sym inside.now) actor) in
-    let second : Allowed (note ∷ p) n (Answered code.0 Kernel) (life n (note ∷ p)) = rw going (refl, refl) in
-    let places : (u : ℕ) → t.0 ≡ u → is_killed u p ≡ true → event p ≡ Some (Kill u) = λ u s d. inside.now ∙ ap Some (rw s at (alive (rw (← s) at (sym (inside.core.ended u) ∙ d)))) in
-    let d : Call = record (new_call k t q msg (place.Answers t)) { reply = bare_reply code; stamp = k.calls.next_stamp } in
-    record {
-      core = record {
-        lawful = ((inside.core.lawful, follows p e note inside.core.round inside.now, (first, λ u s. absurd s)), refl, (second, rw going places));
-        round = tt;
-        number = omega arith;
-        ended = inside.core.ended;
-        calls = λ m. subst (λ (o : Option Call). Agrees k.tasks.alive (life m (On n (Answered code.0 Kernel) ∷ note ∷ p)) (origin m (On n (Answered code.0 Kernel) ∷ note ∷ p)) (is_forgotten m (On n (Answered code.0 Kernel) ∷ note ∷ p)) m o) (sym (at_insert k.calls.records n m d))
-          (elim (cases_eq n m) [
-            | inl i ↦ rw (eq-eqb n m i) (record { number = i; place = refl; caller = (refl, rw actor at inside.task); home = refl; origin = refl; forgotten = refl })
-            | inr ne ↦ rw (ne_eqb n m ne) (inside.core.calls m)
-          ]);
-      };
-      now = inside.now;
-      task = inside.task;
-      acts = inside.acts;
-      stands = λ u m. elim (cases_eq n m) [
-            | inl i ↦ rw (eq-eqb n m i) (λ s d. rw s at (alive (rw (← s) at d)))
-            | inr ne ↦ rw (ne_eqb n m ne) (inside.stands u m)
-          ];
-      leads = inside.leads;
-    }
+      let alive : is_ended k.tasks.alive t.0 ≡ true → e ≡ Kill t.0 = rw actor at inside.acts in
+      let last = inside.core.number in
+      let n : ℕ = k.calls.next_number in
+      let note : Tale = On n (Accepted t.0 q msg.method At_once) in
+      let none : life n p ≡ Nowhere = above p inside.core.lawful n (omega arith) in
+      let going : life n (note ∷ p) ≡ Back t.0 = rw (eq-eqb n n refl) in
+      let first : Allowed p n (Accepted t.0 q msg.method At_once) (life n p) = rw none (sym last, subst (IsOf t.0) (sym inside.now) actor) in
+      let second : Allowed (note ∷ p) n (Answered code.0 Kernel) (life n (note ∷ p)) = rw going (refl, refl) in
+      let places : (u : ℕ) → t.0 ≡ u → is_killed u p ≡ true → event p ≡ Some (Kill u) = λ u s d. inside.now ∙ ap Some (rw s at (alive (rw (← s) at (sym (inside.core.ended u) ∙ d)))) in
+      let d : Call = record (new_call k t q msg (place.Answers t)) { reply = bare_reply code; stamp = k.calls.next_stamp } in
+      record {
+        core = record {
+          lawful = ((inside.core.lawful, follows p e note inside.core.round inside.now, (first, λ u s. absurd s)), refl, (second, rw going places));
+          round = tt;
+          number = omega arith;
+          ended = inside.core.ended;
+          calls = λ m. subst (λ (o : Option Call). Agrees k.tasks.alive (life m (On n (Answered code.0 Kernel) ∷ note ∷ p)) (origin m (On n (Answered code.0 Kernel) ∷ note ∷ p)) (is_forgotten m (On n (Answered code.0 Kernel) ∷ note ∷ p)) m o) (sym (at_insert k.calls.records n m d))
+              (elim (cases_eq n m) [
+                | inl i ↦ rw (eq-eqb n m i) (record { number = i; place = refl; caller = (refl, rw actor at inside.task); home = refl; origin = refl; forgotten = refl })
+                | inr ne ↦ rw (ne_eqb n m ne) (inside.core.calls m)
+              ]);
+        };
+        now = inside.now;
+        task = inside.task;
+        acts = inside.acts;
+        stands = λ u m. elim (cases_eq n m) [
+          | inl i ↦ rw (eq-eqb n m i) (λ s d. rw s at (alive (rw (← s) at d)))
+          | inr ne ↦ rw (ne_eqb n m ne) (inside.stands u m)
+        ];
+        leads = inside.leads;
+      }
 
 -- the requests
 module _ (t : TaskNo) (r : Ask) (p : List Tale) (k : KernelState) (inside : InEvent (Step t.0 r) p k) where
@@ -141,25 +138,25 @@ module _ (t : TaskNo) (r : Ask) (p : List Tale) (k : KernelState) (inside : InEv
   answer_told : (n : ℕ) (reply : Reply) (o : Option Call) → r ≡ Answer n → held_by t (call_at k.calls n) ≡ o → Is (answer_held k t reply o)
   answer_told n reply None is h = inside
   answer_told n reply (Some c) is h =
-    let f = held (call_at k.calls n) c h in
-    let number : n ≡ c.number.0 = sym (is_told (Step t.0 r) p k inside n c f.0).number in
-    one.settled (Step t.0 r) p k inside c reply (Some t) (Dispatched c.from.task.0 t.0) (own (Step t.0 r) p k inside n c f.0) (ap (life_at c.from.task.0) f.1) refl
-        (λ dead. (dead, inr (inl (rw (← number, ← is) inside.now))))
-        (λ live. (refl, rw (← number, ← is) inside.now, live))
+      let f = held (call_at k.calls n) c h in
+      let number : n ≡ c.number.0 = sym (is_told (Step t.0 r) p k inside n c f.0).number in
+      one.settled (Step t.0 r) p k inside c reply (Some t) (Dispatched c.from.task.0 t.0) (own (Step t.0 r) p k inside n c f.0) (ap (life_at c.from.task.0) f.1) refl
+      (λ dead. (dead, inr (inl (rw (← number, ← is) inside.now))))
+      (λ live. (refl, rw (← number, ← is) inside.now, live))
 
   stopped : (n : ℕ) (code : Code) (c : Call) → r ≡ Forward n → call_at k.calls n ≡ Some c → c.place ≡ place.Dispatched t → Is (failed_forward k (Some c) code)
   stopped n code c is h at =
-    let number : n ≡ c.number.0 = sym (is_told (Step t.0 r) p k inside n c h).number in
-    one.settled (Step t.0 r) p k inside c (bare_reply eforward) None (Dispatched c.from.task.0 t.0) (own (Step t.0 r) p k inside n c h) (ap (life_at c.from.task.0) at) refl
-        (λ dead. (dead, inr (inr (rw (← number, ← is) inside.now))))
-        (λ live. inr (refl, rw (← number, ← is) inside.now, live))
+      let number : n ≡ c.number.0 = sym (is_told (Step t.0 r) p k inside n c h).number in
+      one.settled (Step t.0 r) p k inside c (bare_reply eforward) None (Dispatched c.from.task.0 t.0) (own (Step t.0 r) p k inside n c h) (ap (life_at c.from.task.0) at) refl
+      (λ dead. (dead, inr (inr (rw (← number, ← is) inside.now))))
+      (λ live. inr (refl, rw (← number, ← is) inside.now, live))
 
   passed_told : (n q : ℕ) (mode : Mode) (change : Option Msg) (c : Call) → r ≡ Forward n → call_at k.calls n ≡ Some c → c.place ≡ place.Dispatched t → (s : Option PhoneState) → phone_at k t q ≡ s → Is (forward_told k t q mode change (Some c) (answer_of n (callee_of s)))
   passed_told n q mode change c is h at (Some (phone.Connected v)) l =
-    let it = is_told (Step t.0 r) p k inside n c h in
-    let d : Call = record (call_after t q mode change c) { place = place.Incoming v; stamp = k.calls.next_stamp } in
-    rw h
-    (noted (Step t.0 r) p k inside n (Forwarded t.0 v.0) (Dispatched c.from.task.0 t.0) (put_at k.calls (call_after t q mode change c) (place.Incoming v)) (Some d)
+      let it = is_told (Step t.0 r) p k inside n c h in
+      let d : Call = record (call_after t q mode change c) { place = place.Incoming v; stamp = k.calls.next_stamp } in
+      rw h
+      (noted (Step t.0 r) p k inside n (Forwarded t.0 v.0) (Dispatched c.from.task.0 t.0) (put_at k.calls (call_after t q mode change c) (place.Incoming v)) (Some d)
       (it.place ∙ ap (life_at c.from.task.0) at) (refl, rw (← is) inside.now) (λ u s d. rw s at (inside.leads t.0 q v l (rw (← s) at d))) tt inside.core.number
       (λ m. at_insert k.calls.records c.number.0 m d ∙ ap (λ x. if x == m then Some d else call_at k.calls m) it.number)
       (record { number = it.number; place = refl; caller = it.caller; home = tt; origin = it.origin; forgotten = it.forgotten }))
@@ -172,26 +169,26 @@ module _ (t : TaskNo) (r : Ask) (p : List Tale) (k : KernelState) (inside : InEv
   forwarded_told : (n q : ℕ) (mode : Mode) (change : Option Msg) (o : Option Call) → r ≡ Forward n → call_at k.calls n ≡ o → Is (forward_told k t q mode change o (answer_of n (option_map_or (receiver_of t (phone_at k t q) change) o (Err NotHeld))))
   forwarded_told n q mode change None is h = inside
   forwarded_told n q mode change (Some c) is h =
-    by_test (λ (x : Result TaskNo ForwardFault). Is (forward_told k t q mode change (Some c) (answer_of n x))) (is_held t c) _ _
+      by_test (λ (x : Result TaskNo ForwardFault). Is (forward_told k t q mode change (Some c) (answer_of n x))) (is_held t c) _ _
       (λ mine. let at = same_place-true c.place (place.Dispatched t) mine in
-        by_test (λ (x : Result TaskNo ForwardFault). Is (forward_told k t q mode change (Some c) (answer_of n x))) (is_forwardable change c) _ _
-          (λ _. passed_told n q mode change c is h at (phone_at k t q) refl)
-          (λ _. stopped n eperm c is h at))
+      by_test (λ (x : Result TaskNo ForwardFault). Is (forward_told k t q mode change (Some c) (answer_of n x))) (is_forwardable change c) _ _
+      (λ _. passed_told n q mode change c is h at (phone_at k t q) refl)
+      (λ _. stopped n eperm c is h at))
       (λ _. inside)
 
 module _ (t : TaskNo) (p : List Tale) (k : KernelState) (inside : InEvent (Step t.0 Receive) p k) where
   receive_told : (a i : Option Call) → front k.calls (place.Answers t) ≡ a → front k.calls (place.Incoming t) ≡ i → InEvent (Step t.0 Receive) (and_then (receive_first k t a i).entries p) (receive_first k t a i).state
   receive_told (Some c) i h g =
-    let f = front_at (Step t.0 Receive) p k inside (place.Answers t) c h in
-    let it = is_told (Step t.0 Receive) p k inside c.number.0 c f.0 in
-    let home : t.0 ≡ c.from.task.0 = subst (IsHome c.from.task.0) f.1 it.home in
-    noted (Step t.0 Receive) p k inside c.number.0 (Delivered t.0) (Answers c.from.task.0) (without_call k.calls c.number.0) None
+      let f = front_at (Step t.0 Receive) p k inside (place.Answers t) c h in
+      let it = is_told (Step t.0 Receive) p k inside c.number.0 c f.0 in
+      let home : t.0 ≡ c.from.task.0 = subst (IsHome c.from.task.0) f.1 it.home in
+      noted (Step t.0 Receive) p k inside c.number.0 (Delivered t.0) (Answers c.from.task.0) (without_call k.calls c.number.0) None
       (it.place ∙ ap (life_at c.from.task.0) f.1) (home, rw (← home) inside.now) (λ u s. absurd s) tt inside.core.number (λ m. at_remove k.calls.records c.number.0 m) tt
   receive_told None (Some c) h g =
-    let f = front_at (Step t.0 Receive) p k inside (place.Incoming t) c g in
-    let it = is_told (Step t.0 Receive) p k inside c.number.0 c f.0 in
-    let d : Call = record c { place = place.Dispatched t; stamp = k.calls.next_stamp } in
-    noted (Step t.0 Receive) p k inside c.number.0 (Received t.0) (Incoming c.from.task.0 t.0) (put_at k.calls c (place.Dispatched t)) (Some d)
+      let f = front_at (Step t.0 Receive) p k inside (place.Incoming t) c g in
+      let it = is_told (Step t.0 Receive) p k inside c.number.0 c f.0 in
+      let d : Call = record c { place = place.Dispatched t; stamp = k.calls.next_stamp } in
+      noted (Step t.0 Receive) p k inside c.number.0 (Received t.0) (Incoming c.from.task.0 t.0) (put_at k.calls c (place.Dispatched t)) (Some d)
       (it.place ∙ ap (life_at c.from.task.0) f.1) (refl, inside.now) (λ u s d. absurd (step_kill t.0 t.0 Receive (inside.acts (rw (← s) at d)))) tt inside.core.number
       (λ m. at_insert k.calls.records c.number.0 m d)
       (record { number = refl; place = refl; caller = it.caller; home = tt; origin = it.origin; forgotten = it.forgotten })
@@ -207,8 +204,8 @@ unawaited_is (Some d) c h = here d.discard h where
 unawaited_told : (t : TaskNo) (p : List Tale) (k : KernelState) → InEvent (Step t.0 Receive) p k → InEvent (Step t.0 Receive) (and_then (drop_unawaited t k).entries p) (drop_unawaited t k).state
 unawaited_told t p k inside =
     drain_tells (List Tale) and_then (λ _. refl) and_then-append (next_unawaited t) (drop_answer t) (InEvent (Step t.0 Receive))
-      (λ q j c i is. let f = front_at (Step t.0 Receive) q j i (place.Answers t) c (unawaited_is (front j.calls (place.Answers t)) c is) in one.dropped (Step t.0 Receive) q j i t c (inl refl) f.0 f.1)
-      k.calls.next_number p k inside
+    (λ q j c i is. let f = front_at (Step t.0 Receive) q j i (place.Answers t) c (unawaited_is (front j.calls (place.Answers t)) c is) in one.dropped (Step t.0 Receive) q j i t c (inl refl) f.0 f.1)
+    k.calls.next_number p k inside
 
 served_inside : (t : TaskNo) (asked : Request) (p : List Tale) (k : KernelState) → InEvent (Step t.0 (ask asked)) p k → InEvent (Step t.0 (ask asked)) (and_then (serve_request k t asked).entries p) (serve_request k t asked).state
 served_inside t (request.Call q msg) p k inside = call_told t Other_request p k inside q msg (phone_at k t q) refl
@@ -264,53 +261,53 @@ module _ (p : List Tale) (k : KernelState) (fits : PastFits p k) (sound : IsSoun
 
   step_begun : (t : TaskNo) (r : Ask) → is_alive k t ≡ true → InEvent (Step t.0 r) (Head (Step t.0 r) ∷ p) k
   step_begun t r alive =
-    let a = alive_is k.tasks.alive t.0 alive in
-    record {
-      core = record {
-        lawful = (fits.lawful, head_follows p (Step t.0 r) fits.round, (fits.cleared, tt));
-        round = tt;
-        number = fits.number;
-        ended = fits.ended;
-        calls = core_of.calls;
-      };
-      now = refl;
-      task = a.0;
-      acts = λ d. absurd (false≢true (sym a.1 ∙ d));
-      stands = λ u n s d. absurd (fits.cleared u n (fits.ended u ∙ d) s);
-      leads = λ s q u is d. absurd (leads_to_alive u s q is d);
-    }
+      let a = alive_is k.tasks.alive t.0 alive in
+      record {
+        core = record {
+          lawful = (fits.lawful, head_follows p (Step t.0 r) fits.round, (fits.cleared, tt));
+          round = tt;
+          number = fits.number;
+          ended = fits.ended;
+          calls = core_of.calls;
+        };
+        now = refl;
+        task = a.0;
+        acts = λ d. absurd (false≢true (sym a.1 ∙ d));
+        stands = λ u n s d. absurd (fits.cleared u n (fits.ended u ∙ d) s);
+        leads = λ s q u is d. absurd (leads_to_alive u s q is d);
+      }
 
 told_of : (p : List Tale) (alive : List Bool) → ((u : ℕ) → is_killed u p ≡ is_ended alive u) → (n : ℕ) (o : Option Call) → Agrees alive (life n p) (origin n p) (is_forgotten n p) n o → TellsOf p n o
 told_of p alive ended n None h = h
 told_of p alive ended n (Some c) h = record {
-    place = h.place;
-    origin = h.origin;
-    forgotten = h.forgotten;
-    caller = λ none. ended c.from.task.0 ∙ subst (CallerFits alive c.from.task) none h.caller;
-  }
+  place = h.place;
+  origin = h.origin;
+  forgotten = h.forgotten;
+  caller = λ none. ended c.from.task.0 ∙ subst (CallerFits alive c.from.task) none h.caller;
+}
 
 -- what is told within an event, where no call stands at a task that was killed
 pub fits_of : (p : List Tale) (k : KernelState) → Core p k.tasks.alive k.calls → IsCleared p → PastFits p k
 fits_of p k core cleared = record {
-    lawful = core.lawful;
-    round = core.round;
-    cleared = cleared;
-    number = core.number;
-    ended = core.ended;
-    calls = λ n. told_of p k.tasks.alive core.ended n (call_at k.calls n) (core.calls n);
-  }
+  lawful = core.lawful;
+  round = core.round;
+  cleared = cleared;
+  number = core.number;
+  ended = core.ended;
+  calls = λ n. told_of p k.tasks.alive core.ended n (call_at k.calls n) (core.calls n);
+}
 
 step_finished : (t : TaskNo) (r : Ask) (p : List Tale) (k : KernelState) → InEvent (Step t.0 r) p k → PastFits (Other ∷ p) k
 step_finished t r p k inside =
     fits_of (Other ∷ p) k
-      (record {
-        lawful = (inside.core.lawful, follows p (Step t.0 r) Other inside.core.round inside.now, tt);
-        round = tt;
-        number = inside.core.number;
-        ended = inside.core.ended;
-        calls = inside.core.calls;
-      })
-      (λ u n d s. step_kill t.0 u r (inside.stands u n s (sym (inside.core.ended u) ∙ d)))
+    (record {
+      lawful = (inside.core.lawful, follows p (Step t.0 r) Other inside.core.round inside.now, tt);
+      round = tt;
+      number = inside.core.number;
+      ended = inside.core.ended;
+      calls = inside.core.calls;
+    })
+    (λ u n d s. step_kill t.0 u r (inside.stands u n s (sym (inside.core.ended u) ∙ d)))
 
 -- one event more is no matter of the history
 pub fits_later : (p : List Tale) (k : KernelState) → PastFits p k → PastFits p (with_event k)
@@ -321,7 +318,7 @@ past_serves p k fits sound t asked alive =
     let s : Served = serve_request k t asked in
     fits_later _ s.state
     (rw (and_then-append s.entries (entry.Outcome s.outcome ∷ []) (Head (Step t.0 (ask asked)) ∷ p))
-      (step_finished t (ask asked) _ s.state (served_inside t asked (Head (Step t.0 (ask asked)) ∷ p) k (step_begun p k fits sound t (ask asked) alive))))
+    (step_finished t (ask asked) _ s.state (served_inside t asked (Head (Step t.0 (ask asked)) ∷ p) k (step_begun p k fits sound t (ask asked) alive))))
 
 -- a request that is served keeps the history fitting
 pub serve_fits : (h : List Entry) (k : KernelState) (t : TaskNo) (asked : Request) → HistoryFits h k → IsSound k → is_alive k t ≡ true → HistoryFits (h ++ served_entries t asked (serve k t asked)) (serve k t asked).state

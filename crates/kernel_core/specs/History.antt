@@ -66,7 +66,7 @@ HistoryFits h k = PastFits (past h) k
 
 -- the entries of a request: its head, what it did, and its outcome
 abbrev pub served_entries : TaskNo → Request → Served → List Entry
-served_entries t request served = entry.Head t request ∷ (served.entries ++ (entry.Outcome served.outcome ∷ []))
+served_entries t request served = entry.Head t request ∷ served.entries ++ entry.Outcome served.outcome ∷ []
 
 -- the entries of a kill: its head, and what it did
 abbrev pub killed_entries : TaskNo → Transition → List Entry
