@@ -82,10 +82,6 @@ same_task t u e = ap (λ n. let r : TaskNo = record { 0 = n } in r) e
 pub same_place-true : (a b : Place) → same_place a b ≡ true → a ≡ b
 same_place-true a b h = grind (arith, eqb-true, same_task)
 
-pub split_if : (b : Bool) (x y : Option Call) (d : Call) → (if b then x else y) ≡ Some d → (x ≡ Some d) ⊎ (y ≡ Some d)
-split_if true x y d h = inl h
-split_if false x y d h = inr h
-
 not_false : (b : Bool) → true ≡ not b → b ≡ false
 not_false true h = cc
 not_false false h = refl
