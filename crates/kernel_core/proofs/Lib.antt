@@ -4,3 +4,7 @@ pub mod Ending
 pub mod Inner
 pub mod Passing
 pub mod Serving
+pub mod InEvent
+pub mod ServedHistories
+pub mod KilledHistories
+pub mod WholeHistories

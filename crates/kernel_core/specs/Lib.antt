@@ -7,3 +7,4 @@ pub mod Forwarding
 pub mod Serve
 pub mod Kept
 pub mod Steps
+pub mod History

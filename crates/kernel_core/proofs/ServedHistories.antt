@@ -1,0 +1,326 @@
+-- Each request keeps what the history tells of the state.
+use Rattle.std.proofs.Common.{ℕ, ◌≡◌, ◌+◌, Bool, true, false, not, Option, Some, None, List, [], ◌∷◌, ◌++◌, Result, Err, refl, sym, ◌∙◌, ap, subst, inl, inr, arith, nat_lt, nat_le}
+use Rattle.std.specs.Prelude.{◌==◌, ◌-◌, if◌then◌else◌, slice_get, unwrap_or}
+use Rattle.std.specs.Option.{option_map_or}
+use Rattle.std.proofs.lemmas.Bool.{cases_eq, eq-eqb, ne_eqb, false≢true}
+use Rattle.ipc_ids.specs.declared.numbers.TaskNo.{TaskNo}
+use Rattle.ipc_ids.specs.declared.numbers.Code.{Code}
+use Rattle.ipc_ids.specs.declared.message.Msg.{Msg}
+use Rattle.ipc_ids.specs.declared.message.Mode.{Mode}
+use Rattle.ipc_ids.specs.declared.message.Reply.{Reply}
+use Rattle.ipc_ids.specs.declared.message.Request.{Request}
+use Rattle.ipc_ids.specs.declared.message.Request.TheVariants as request
+use Rattle.ipc_ids.specs.declared.entry.Entry.{Entry}
+use Rattle.ipc_ids.specs.declared.entry.Entry.TheVariants as entry
+use Rattle.ipc_ids.specs.declared.message.PhoneState.{PhoneState}
+use Rattle.ipc_ids.specs.declared.message.PhoneState.TheVariants as phone
+use Rattle.ipc_ids.specs.Codes.{enoent, eperm, ehangup, eforward}
+use Rattle.ipc_ids.specs.Tables.{first_user_method, most_active}
+use Rattle.ipc_ids.specs.Tales.{Ask, Receive, Answer, Forward, Other_request, Event, Step, Kill, Accepted, Received, Forwarded, Answered, Delivered, Kernel, At_once, ask, Tale, Head, On, Other, past}
+use Rattle.ipc_ids.specs.Life.{Nowhere, Back, Incoming, Dispatched, Answers, life, is_killed, event, task_of, IsOf, Allowed}
+use Rattle.ipc_ids.specs.Lawful.{IsCleared}
+use Rattle.ipc_ids.specs.Origins.{origin, is_forgotten}
+use Rattle.ipc_ids.proofs.Pasts.{above, follows, head_follows, past-append}
+use Rattle.call_slab.specs.declared.call.Call.{Call}
+use Rattle.call_slab.specs.declared.call.Place.{Place}
+use Rattle.call_slab.specs.declared.call.Place.TheVariants as place
+use Rattle.answerbox.specs.Calls.{call_at, same_place, put_at, without_call, front, active_calls}
+use Rattle.forwarding.specs.declared.passing.ForwardFault.{ForwardFault}
+use Rattle.forwarding.specs.declared.passing.ForwardFault.TheVariants.{NotHeld}
+use Rattle.forwarding.specs.Forwarding.{is_held, is_forwardable}
+use Rattle.forwarding.specs.Routes.{callee_of, receiver_of, answer_of, call_after}
+use Rattle.cleanup.specs.State.{KernelState, Transition, with_event, phone_at, label_of, alive_in, is_alive}
+use Rattle.cleanup.specs.Settling.{bare_reply, drop_answer}
+use Rattle.cleanup.specs.HangingUp.{new_call, hangup_call, hang_up}
+use Rattle.cleanup.specs.Sound.{IsSound, IsPlaced, IsCaller}
+use Rattle.cleanup.proofs.Lookups.{at_insert, at_remove}
+use Rattle.cleanup.proofs.Histories.{drain_tells}
+use Rattle.kernel_core.specs.Served.{Served}
+use Rattle.kernel_core.specs.Calling.{answer_at_once, call_through, call_tested, call_over}
+use Rattle.kernel_core.specs.Receiving.{receive_first, receive_now, unawaited, next_unawaited, drop_unawaited}
+use Rattle.kernel_core.specs.Answering.{held_by, answer_held}
+use Rattle.kernel_core.specs.HangingUp.{hangup_over}
+use Rattle.kernel_core.specs.Forwarding.{failed_forward, forward_told}
+use Rattle.kernel_core.specs.Serve.{serve_request, serve}
+use Rattle.kernel_core.specs.History.{is_ended, life_at, IsTold, TellsOf, PastFits, HistoryFits, served_entries}
+use Rattle.kernel_core.proofs.InEvent.{and_then, and_then-append, IsTask, CallerFits, IsHome, Agrees, Core, InEvent, by_test, same_place-true, noted, is_told, own, front_at, phone_told}
+use Rattle.kernel_core.proofs.InEvent as one
+
+pub step_kill : (t u : ℕ) (r : Ask) → Step t r ≡ Kill u → ⊥
+step_kill t u r e = cc
+
+module _ (e : Event) (p : List Tale) (k : KernelState) (inside : InEvent e p k) where
+  -- a phone is hung up
+  pub hang_up_told : (t : TaskNo) (q : ℕ) (s : Option PhoneState) → phone_at k t q ≡ s → task_of e ≡ t.0 → InEvent e (and_then (hang_up k t q s).entries p) (hang_up k t q s).state
+  hang_up_told t q None h actor = inside
+  hang_up_told t q (Some phone.Free) h actor = inside
+  hang_up_told t q (Some phone.Connecting) h actor = inside
+  hang_up_told t q (Some phone.HungUp) h actor = inside
+  hang_up_told t q (Some phone.Slammed) h actor = phone_told e p k inside t q phone.HungUp (λ v x. cc)
+  hang_up_told t q (Some (phone.Connected u)) h actor =
+      let first = one.accepted e p k inside (hangup_call k t q u) u refl refl refl actor (inside.leads t.0 q u h) in
+      phone_told e _ _ first t q phone.HungUp (λ v x. cc)
+
+  -- a call that goes back with its answer
+  back_told : (t : TaskNo) (q : ℕ) (msg : Msg) (code : Code) → task_of e ≡ t.0 → InEvent e (and_then (answer_at_once k (new_call k t q msg (place.Answers t)) code).entries p) (answer_at_once k (new_call k t q msg (place.Answers t)) code).state
+  back_told t q msg code actor =
+      let alive : is_ended k.tasks.alive t.0 ≡ true → e ≡ Kill t.0 = rw actor at inside.acts in
+      let last = inside.core.number in
+      let n : ℕ = k.calls.next_number in
+      let note : Tale = On n (Accepted t.0 q msg.method At_once) in
+      let none : life n p ≡ Nowhere = above p inside.core.lawful n (omega arith) in
+      let going : life n (note ∷ p) ≡ Back t.0 = rw (eq-eqb n n refl) in
+      let first : Allowed p n (Accepted t.0 q msg.method At_once) (life n p) = rw none (sym last, subst (IsOf t.0) (sym inside.now) actor) in
+      let second : Allowed (note ∷ p) n (Answered code.0 Kernel) (life n (note ∷ p)) = rw going (refl, refl) in
+      let places : (u : ℕ) → t.0 ≡ u → is_killed u p ≡ true → event p ≡ Some (Kill u) = λ u s d. inside.now ∙ ap Some (rw s at (alive (rw (← s) at (sym (inside.core.ended u) ∙ d)))) in
+      let d : Call = record (new_call k t q msg (place.Answers t)) { reply = bare_reply code; stamp = k.calls.next_stamp } in
+      record {
+        core = record {
+          lawful = ((inside.core.lawful, follows p e note inside.core.round inside.now, (first, λ u s. absurd s)), refl, (second, rw going places));
+          round = tt;
+          number = omega arith;
+          ended = inside.core.ended;
+          calls = λ m. subst (λ (o : Option Call). Agrees k.tasks.alive (life m (On n (Answered code.0 Kernel) ∷ note ∷ p)) (origin m (On n (Answered code.0 Kernel) ∷ note ∷ p)) (is_forgotten m (On n (Answered code.0 Kernel) ∷ note ∷ p)) m o) (sym (at_insert k.calls.records n m d))
+              (elim (cases_eq n m) [
+                | inl i ↦ rw (eq-eqb n m i) (record { number = i; place = refl; caller = (refl, rw actor at inside.task); home = refl; origin = refl; forgotten = refl })
+                | inr ne ↦ rw (ne_eqb n m ne) (inside.core.calls m)
+              ]);
+        };
+        now = inside.now;
+        task = inside.task;
+        acts = inside.acts;
+        stands = λ u m. elim (cases_eq n m) [
+          | inl i ↦ rw (eq-eqb n m i) (λ s d. rw s at (alive (rw (← s) at d)))
+          | inr ne ↦ rw (ne_eqb n m ne) (inside.stands u m)
+        ];
+        leads = inside.leads;
+      }
+
+-- the requests
+module _ (t : TaskNo) (r : Ask) (p : List Tale) (k : KernelState) (inside : InEvent (Step t.0 r) p k) where
+  abbrev Is : Served → Type 0
+  Is s = InEvent (Step t.0 r) (and_then s.entries p) s.state
+
+  through : (q : ℕ) (msg : Msg) (s : PhoneState) → phone_at k t q ≡ Some s → Is (call_through k t q msg s)
+  through q msg phone.Free h = inside
+  through q msg phone.Connecting h = inside
+  through q msg phone.HungUp h = back_told (Step t.0 r) p k inside t q msg ehangup refl
+  through q msg phone.Slammed h = back_told (Step t.0 r) p k inside t q msg enoent refl
+  through q msg (phone.Connected u) h = one.accepted (Step t.0 r) p k inside (new_call k t q msg (place.Incoming u)) u refl refl refl refl (inside.leads t.0 q u h)
+
+  tested : (q : ℕ) (msg : Msg) (s : PhoneState) → phone_at k t q ≡ Some s → Is (call_tested k t q msg s)
+  tested q msg s h = by_test Is (nat_lt msg.method first_user_method) _ _ (λ _. inside) (λ _. by_test Is (nat_le most_active (active_calls k.calls (label_of t q))) _ _ (λ _. inside) (λ _. through q msg s h))
+
+  call_told : (q : ℕ) (msg : Msg) (s : Option PhoneState) → phone_at k t q ≡ s → Is (call_over k t q msg s)
+  call_told q msg None h = inside
+  call_told q msg (Some phone.Free) h = inside
+  call_told q msg (Some phone.Connecting) h = inside
+  call_told q msg (Some phone.HungUp) h = tested q msg phone.HungUp h
+  call_told q msg (Some phone.Slammed) h = tested q msg phone.Slammed h
+  call_told q msg (Some (phone.Connected u)) h = tested q msg (phone.Connected u) h
+
+  hangup_told : (q : ℕ) (s : Option PhoneState) → phone_at k t q ≡ s → Is (hangup_over k t q s)
+  hangup_told q None h = inside
+  hangup_told q (Some phone.Free) h = inside
+  hangup_told q (Some phone.Connecting) h = inside
+  hangup_told q (Some phone.HungUp) h = inside
+  hangup_told q (Some phone.Slammed) h = hang_up_told (Step t.0 r) p k inside t q (Some phone.Slammed) h refl
+  hangup_told q (Some (phone.Connected u)) h = hang_up_told (Step t.0 r) p k inside t q (Some (phone.Connected u)) h refl
+
+  -- a held call is live and stands at t
+  held : (o : Option Call) (c : Call) → held_by t o ≡ Some c → (o ≡ Some c) × (c.place ≡ place.Dispatched t)
+  held None c h = absurd (cc h)
+  held (Some d) c h = here (same_place d.place (place.Dispatched t)) refl h where
+    here : (b : Bool) → same_place d.place (place.Dispatched t) ≡ b → (if b then Some d else None) ≡ Some c → (Some d ≡ Some c) × (c.place ≡ place.Dispatched t)
+    here true e g = let same : d ≡ c = cc in (g, subst (λ (x : Call). x.place ≡ place.Dispatched t) same (same_place-true d.place (place.Dispatched t) e))
+    here false e g = absurd (cc g)
+
+  answer_told : (n : ℕ) (reply : Reply) (o : Option Call) → r ≡ Answer n → held_by t (call_at k.calls n) ≡ o → Is (answer_held k t reply o)
+  answer_told n reply None is h = inside
+  answer_told n reply (Some c) is h =
+      let f = held (call_at k.calls n) c h in
+      let number : n ≡ c.number.0 = sym (is_told (Step t.0 r) p k inside n c f.0).number in
+      one.settled (Step t.0 r) p k inside c reply (Some t) (Dispatched c.from.task.0 t.0) (own (Step t.0 r) p k inside n c f.0) (ap (life_at c.from.task.0) f.1) refl
+      (λ dead. (dead, inr (inl (rw (← number, ← is) inside.now))))
+      (λ live. (refl, rw (← number, ← is) inside.now, live))
+
+  stopped : (n : ℕ) (code : Code) (c : Call) → r ≡ Forward n → call_at k.calls n ≡ Some c → c.place ≡ place.Dispatched t → Is (failed_forward k (Some c) code)
+  stopped n code c is h at =
+      let number : n ≡ c.number.0 = sym (is_told (Step t.0 r) p k inside n c h).number in
+      one.settled (Step t.0 r) p k inside c (bare_reply eforward) None (Dispatched c.from.task.0 t.0) (own (Step t.0 r) p k inside n c h) (ap (life_at c.from.task.0) at) refl
+      (λ dead. (dead, inr (inr (rw (← number, ← is) inside.now))))
+      (λ live. inr (refl, rw (← number, ← is) inside.now, live))
+
+  passed_told : (n q : ℕ) (mode : Mode) (change : Option Msg) (c : Call) → r ≡ Forward n → call_at k.calls n ≡ Some c → c.place ≡ place.Dispatched t → (s : Option PhoneState) → phone_at k t q ≡ s → Is (forward_told k t q mode change (Some c) (answer_of n (callee_of s)))
+  passed_told n q mode change c is h at (Some (phone.Connected v)) l =
+      let it = is_told (Step t.0 r) p k inside n c h in
+      let d : Call = record (call_after t q mode change c) { place = place.Incoming v; stamp = k.calls.next_stamp } in
+      rw h
+      (noted (Step t.0 r) p k inside n (Forwarded t.0 v.0) (Dispatched c.from.task.0 t.0) (put_at k.calls (call_after t q mode change c) (place.Incoming v)) (Some d)
+      (it.place ∙ ap (life_at c.from.task.0) at) (refl, rw (← is) inside.now) (λ u s d. rw s at (inside.leads t.0 q v l (rw (← s) at d))) tt inside.core.number
+      (λ m. at_insert k.calls.records c.number.0 m d ∙ ap (λ x. if x == m then Some d else call_at k.calls m) it.number)
+      (record { number = it.number; place = refl; caller = it.caller; home = tt; origin = it.origin; forgotten = it.forgotten }))
+  passed_told n q mode change c is h at None l = stopped n enoent c is h at
+  passed_told n q mode change c is h at (Some phone.Free) l = stopped n enoent c is h at
+  passed_told n q mode change c is h at (Some phone.Connecting) l = stopped n enoent c is h at
+  passed_told n q mode change c is h at (Some phone.HungUp) l = stopped n enoent c is h at
+  passed_told n q mode change c is h at (Some phone.Slammed) l = stopped n enoent c is h at
+
+  forwarded_told : (n q : ℕ) (mode : Mode) (change : Option Msg) (o : Option Call) → r ≡ Forward n → call_at k.calls n ≡ o → Is (forward_told k t q mode change o (answer_of n (option_map_or (receiver_of t (phone_at k t q) change) o (Err NotHeld))))
+  forwarded_told n q mode change None is h = inside
+  forwarded_told n q mode change (Some c) is h =
+      by_test (λ (x : Result TaskNo ForwardFault). Is (forward_told k t q mode change (Some c) (answer_of n x))) (is_held t c) _ _
+      (λ mine. let at = same_place-true c.place (place.Dispatched t) mine in
+      by_test (λ (x : Result TaskNo ForwardFault). Is (forward_told k t q mode change (Some c) (answer_of n x))) (is_forwardable change c) _ _
+      (λ _. passed_told n q mode change c is h at (phone_at k t q) refl)
+      (λ _. stopped n eperm c is h at))
+      (λ _. inside)
+
+module _ (t : TaskNo) (p : List Tale) (k : KernelState) (inside : InEvent (Step t.0 Receive) p k) where
+  receive_told : (a i : Option Call) → front k.calls (place.Answers t) ≡ a → front k.calls (place.Incoming t) ≡ i → InEvent (Step t.0 Receive) (and_then (receive_first k t a i).entries p) (receive_first k t a i).state
+  receive_told (Some c) i h g =
+      let f = front_at (Step t.0 Receive) p k inside (place.Answers t) c h in
+      let it = is_told (Step t.0 Receive) p k inside c.number.0 c f.0 in
+      let home : t.0 ≡ c.from.task.0 = subst (IsHome c.from.task.0) f.1 it.home in
+      noted (Step t.0 Receive) p k inside c.number.0 (Delivered t.0) (Answers c.from.task.0) (without_call k.calls c.number.0) None
+      (it.place ∙ ap (life_at c.from.task.0) f.1) (home, rw (← home) inside.now) (λ u s. absurd s) tt inside.core.number (λ m. at_remove k.calls.records c.number.0 m) tt
+  receive_told None (Some c) h g =
+      let f = front_at (Step t.0 Receive) p k inside (place.Incoming t) c g in
+      let it = is_told (Step t.0 Receive) p k inside c.number.0 c f.0 in
+      let d : Call = record c { place = place.Dispatched t; stamp = k.calls.next_stamp } in
+      noted (Step t.0 Receive) p k inside c.number.0 (Received t.0) (Incoming c.from.task.0 t.0) (put_at k.calls c (place.Dispatched t)) (Some d)
+      (it.place ∙ ap (life_at c.from.task.0) f.1) (refl, inside.now) (λ u s d. absurd (step_kill t.0 t.0 Receive (inside.acts (rw (← s) at d)))) tt inside.core.number
+      (λ m. at_insert k.calls.records c.number.0 m d)
+      (record { number = refl; place = refl; caller = it.caller; home = tt; origin = it.origin; forgotten = it.forgotten })
+  receive_told None None h g = inside
+
+unawaited_is : (o : Option Call) (c : Call) → unawaited o ≡ Some c → o ≡ Some c
+unawaited_is None c h = absurd (cc h)
+unawaited_is (Some d) c h = here d.discard h where
+  here : (b : Bool) → (if b then Some d else None) ≡ Some c → Some d ≡ Some c
+  here true g = g
+  here false g = absurd (cc g)
+
+unawaited_told : (t : TaskNo) (p : List Tale) (k : KernelState) → InEvent (Step t.0 Receive) p k → InEvent (Step t.0 Receive) (and_then (drop_unawaited t k).entries p) (drop_unawaited t k).state
+unawaited_told t p k inside =
+    drain_tells (List Tale) and_then (λ _. refl) and_then-append (next_unawaited t) (drop_answer t) (InEvent (Step t.0 Receive))
+    (λ q j c i is. let f = front_at (Step t.0 Receive) q j i (place.Answers t) c (unawaited_is (front j.calls (place.Answers t)) c is) in one.dropped (Step t.0 Receive) q j i t c (inl refl) f.0 f.1)
+    k.calls.next_number p k inside
+
+served_inside : (t : TaskNo) (asked : Request) (p : List Tale) (k : KernelState) → InEvent (Step t.0 (ask asked)) p k → InEvent (Step t.0 (ask asked)) (and_then (serve_request k t asked).entries p) (serve_request k t asked).state
+served_inside t (request.Call q msg) p k inside = call_told t Other_request p k inside q msg (phone_at k t q) refl
+served_inside t request.Receive p k inside =
+    let d : Transition = drop_unawaited t k in
+    rw (and_then-append d.entries (receive_now t d.state).entries p) (receive_told t (and_then d.entries p) d.state (unawaited_told t p k inside) (front d.state.calls (place.Answers t)) (front d.state.calls (place.Incoming t)) refl refl)
+served_inside t (request.Answer n reply) p k inside = answer_told t (Answer n) p k inside n reply (held_by t (call_at k.calls n)) refl refl
+served_inside t (request.Forward n q mode change) p k inside = forwarded_told t (Forward n) p k inside n q mode change (call_at k.calls n) refl refl
+served_inside t (request.Hangup q) p k inside = hangup_told t Other_request p k inside q (phone_at k t q) refl
+served_inside t request.Nothing p k inside = inside
+
+-- who is alive has not ended, and there is such a task
+pub alive_is : (alive : List Bool) (u : ℕ) → alive_in alive u ≡ true → IsTask alive u × (is_ended alive u ≡ false)
+alive_is alive u h = by_look (u == 0) (slice_get alive (u - 1)) h where
+  by_look : (b : Bool) (o : Option Bool) → (if b then false else unwrap_or o false) ≡ true → ((if b then false else unwrap_or o false) ≡ not (if b then false else option_map_or not o false)) × ((if b then false else option_map_or not o false) ≡ false)
+  by_look true o h = absurd (cc h)
+  by_look false None h = absurd (cc h)
+  by_look false (Some true) h = (refl, refl)
+  by_look false (Some false) h = absurd (cc h)
+
+module _ (p : List Tale) (k : KernelState) (fits : PastFits p k) (sound : IsSound k) where
+  caller_fits : (n : ℕ) (c : Call) → IsTold p n c → (o : Option TaskNo) → c.caller ≡ o → IsCaller k.tasks c.from o → CallerFits k.tasks.alive c.from.task o
+  caller_fits n c told None is s = sym (fits.ended c.from.task.0) ∙ told.caller is
+  caller_fits n c told (Some u) is s =
+      let same : u.0 ≡ c.from.task.0 = ap (λ (x : TaskNo). x.0) s.0 in
+      (same, (alive_is k.tasks.alive c.from.task.0 (ap (alive_in k.tasks.alive) (sym same) ∙ s.1)).0)
+
+  home : (c : Call) (o : Option TaskNo) → IsCaller k.tasks c.from o → (place' : Place) → IsPlaced k.tasks o place' → IsHome c.from.task.0 place'
+  home c o s (place.Incoming t) at = tt
+  home c o s (place.Dispatched t) at = tt
+  home c None s (place.Answers t) at = absurd (cc at)
+  home c (Some u) s (place.Answers t) at = let same : u ≡ t = cc in ap (λ (x : TaskNo). x.0) (sym same ∙ s.0)
+
+  agrees : (n : ℕ) (o : Option Call) → call_at k.calls n ≡ o → TellsOf p n o → Agrees k.tasks.alive (life n p) (origin n p) (is_forgotten n p) n o
+  agrees n None is told = told
+  agrees n (Some c) is told =
+      let s = sound.calls.each n c is in
+      record {
+        number = s.number;
+        place = told.place;
+        caller = caller_fits n c told c.caller refl s.caller;
+        home = home c c.caller s.caller c.place s.place;
+        origin = told.origin;
+        forgotten = told.forgotten;
+      }
+
+  pub core_of : Core p k.tasks.alive k.calls
+  core_of = record { lawful = fits.lawful; round = fits.round; number = fits.number; ended = fits.ended; calls = λ n. agrees n (call_at k.calls n) refl (fits.calls n) }
+
+  -- a phone leads to a task that has not ended
+  pub leads_to_alive : (u : TaskNo) (s q : ℕ) → phone_at k (record { 0 = s }) q ≡ Some (phone.Connected u) → is_ended k.tasks.alive u.0 ≡ true → ⊥
+  leads_to_alive u s q is dead = false≢true (sym (alive_is k.tasks.alive u.0 (sound.tasks.leads s q u is)).1 ∙ dead)
+
+  step_begun : (t : TaskNo) (r : Ask) → is_alive k t ≡ true → InEvent (Step t.0 r) (Head (Step t.0 r) ∷ p) k
+  step_begun t r alive =
+      let a = alive_is k.tasks.alive t.0 alive in
+      record {
+        core = record {
+          lawful = (fits.lawful, head_follows p (Step t.0 r) fits.round, (fits.cleared, tt));
+          round = tt;
+          number = fits.number;
+          ended = fits.ended;
+          calls = core_of.calls;
+        };
+        now = refl;
+        task = a.0;
+        acts = λ d. absurd (false≢true (sym a.1 ∙ d));
+        stands = λ u n s d. absurd (fits.cleared u n (fits.ended u ∙ d) s);
+        leads = λ s q u is d. absurd (leads_to_alive u s q is d);
+      }
+
+told_of : (p : List Tale) (alive : List Bool) → ((u : ℕ) → is_killed u p ≡ is_ended alive u) → (n : ℕ) (o : Option Call) → Agrees alive (life n p) (origin n p) (is_forgotten n p) n o → TellsOf p n o
+told_of p alive ended n None h = h
+told_of p alive ended n (Some c) h = record {
+  place = h.place;
+  origin = h.origin;
+  forgotten = h.forgotten;
+  caller = λ none. ended c.from.task.0 ∙ subst (CallerFits alive c.from.task) none h.caller;
+}
+
+-- what is told within an event, where no call stands at a task that was killed
+pub fits_of : (p : List Tale) (k : KernelState) → Core p k.tasks.alive k.calls → IsCleared p → PastFits p k
+fits_of p k core cleared = record {
+  lawful = core.lawful;
+  round = core.round;
+  cleared = cleared;
+  number = core.number;
+  ended = core.ended;
+  calls = λ n. told_of p k.tasks.alive core.ended n (call_at k.calls n) (core.calls n);
+}
+
+step_finished : (t : TaskNo) (r : Ask) (p : List Tale) (k : KernelState) → InEvent (Step t.0 r) p k → PastFits (Other ∷ p) k
+step_finished t r p k inside =
+    fits_of (Other ∷ p) k
+    (record {
+      lawful = (inside.core.lawful, follows p (Step t.0 r) Other inside.core.round inside.now, tt);
+      round = tt;
+      number = inside.core.number;
+      ended = inside.core.ended;
+      calls = inside.core.calls;
+    })
+    (λ u n d s. step_kill t.0 u r (inside.stands u n s (sym (inside.core.ended u) ∙ d)))
+
+-- one event more is no matter of the history
+pub fits_later : (p : List Tale) (k : KernelState) → PastFits p k → PastFits p (with_event k)
+fits_later p k fits = record { lawful = fits.lawful; round = fits.round; cleared = fits.cleared; number = fits.number; ended = fits.ended; calls = fits.calls }
+
+past_serves : (p : List Tale) (k : KernelState) → PastFits p k → IsSound k → (t : TaskNo) (asked : Request) → is_alive k t ≡ true → PastFits (and_then (served_entries t asked (serve k t asked)) p) (serve k t asked).state
+past_serves p k fits sound t asked alive =
+    let s : Served = serve_request k t asked in
+    fits_later _ s.state
+    (rw (and_then-append s.entries (entry.Outcome s.outcome ∷ []) (Head (Step t.0 (ask asked)) ∷ p))
+    (step_finished t (ask asked) _ s.state (served_inside t asked (Head (Step t.0 (ask asked)) ∷ p) k (step_begun p k fits sound t (ask asked) alive))))
+
+-- a request that is served keeps the history fitting
+pub serve_fits : (h : List Entry) (k : KernelState) (t : TaskNo) (asked : Request) → HistoryFits h k → IsSound k → is_alive k t ≡ true → HistoryFits (h ++ served_entries t asked (serve k t asked)) (serve k t asked).state
+serve_fits h k t asked fits sound alive =
+    rw (past-append h (served_entries t asked (serve k t asked))) (past_serves (past h) k fits sound t asked alive)
