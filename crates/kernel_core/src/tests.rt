@@ -6,17 +6,19 @@ use ipc_ids::{
 };
 use std::test::Fail;
 
-/// Task 1 asks over its phone 0, and so does task 2 where it forwards.
+/// What the first task asks.
 const ASKED: Msg = Msg {
     method: 512,
     args: [7, 0, 0, 0, 0],
 };
 
+/// What the forwarder asks in its place.
 const CHANGED: Msg = Msg {
     method: 600,
     args: [9, 0, 0, 0, 0],
 };
 
+/// What the call is answered with.
 const GIVEN: Reply = Reply {
     code: Code::EOK,
     args: [8, 0, 0, 0, 0],
@@ -30,7 +32,7 @@ fn first_phone(task: u64) -> Label {
     }
 }
 
-/// One request of a task, and what the kernel must tell of it.
+/// What the kernel tells a task of its request.
 fn step(
     kernel: &mut Kernel,
     who: TaskNo,
