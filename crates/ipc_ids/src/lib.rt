@@ -10,6 +10,8 @@ mod entry;
 mod message;
 mod numbers;
 mod op;
+#[cfg(test)]
+mod tests;
 mod trace;
 
 pub use buffer::Buffer;

@@ -14,5 +14,7 @@ mod kernel;
 mod machine;
 mod receiving;
 mod request;
+#[cfg(test)]
+mod tests;
 
 pub use kernel::Kernel;
