@@ -8,7 +8,7 @@
 mod answering;
 mod calling;
 mod counts;
-mod forwarding;
+mod forward;
 mod hanging_up;
 mod kernel;
 mod machine;
