@@ -27,6 +27,46 @@ t1 receive\n\
 \x20 call 1 delivered t1\n\
 \x20 = answer 1 EOK 8 0 0 0 0\n";
 
+// Task b passes the call of a on to c, and hangs up.
+const PASSING_SCRIPT: &[u8] = b"task a raw\n\
+call 0 512 7\n\
+receive\n\
+task b raw\n\
+receive\n\
+forward r2 0 route 600 9\n\
+task c raw\n\
+receive\n\
+answer r2 EOK 5\n\
+wire a 0 b\n\
+wire b 0 c\n";
+
+const PASSING_SCHEDULE: &[u8] = b"step a\nstep b x 2\nstep c x 2\nstep a\nhangup b 0\nstep c\n";
+
+const PASSING_TEXT: &[u8] = b"t1 call 0 512 7 0 0 0 0\n\
+\x20 call 1 accepted t1.0 method 512 to t2\n\
+\x20 = call 1\n\
+t2 receive\n\
+\x20 call 1 received t2\n\
+\x20 = received 1 512 7 0 0 0 0 from t1.0\n\
+t2 forward 1 0 route 600 9 0 0 0 0\n\
+\x20 call 1 forwarded t2 to t3 label t2.0\n\
+\x20 = EOK\n\
+t3 receive\n\
+\x20 call 1 received t3\n\
+\x20 = received 1 600 9 0 0 0 0 from t2.0\n\
+t3 answer 1 EOK 5 0 0 0 0\n\
+\x20 call 1 answered EOK 5 0 0 0 0 by t3\n\
+\x20 = EOK\n\
+t1 receive\n\
+\x20 call 1 delivered t1\n\
+\x20 = answer 1 EOK 5 0 0 0 0\n\
+t2 hangup 0\n\
+\x20 call 2 accepted t2.0 method 0 to t3\n\
+\x20 phone t2.0 hungup\n\
+\x20 = EOK\n\
+t3 nothing\n\
+\x20 = EOK\n";
+
 const USAGE: &[u8] = b"usage: hipc replay SCRIPT SCHEDULE\n";
 
 fn words(alloc: Global, line: &[&str]) -> Result<Vec<String>, AllocError> {
@@ -55,6 +95,17 @@ fn a_run_is_written_whole(rt: HostRuntime) -> Result<(), Fail> {
         Status::Done
     );
     assert_eq!(rt; sink.written(), TEXT);
+    Ok(())
+}
+
+#[test]
+fn a_call_is_passed_on(rt: HostRuntime) -> Result<(), Fail> {
+    let mut sink = MemSink::new(rt.alloc(), 1000)?;
+    assert_eq!(rt;
+        replay_bytes(rt.alloc(), PASSING_SCRIPT, PASSING_SCHEDULE, &mut sink),
+        Status::Done
+    );
+    assert_eq!(rt; sink.written(), PASSING_TEXT);
     Ok(())
 }
 

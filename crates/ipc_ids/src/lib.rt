@@ -12,6 +12,8 @@ mod laws;
 mod message;
 mod numbers;
 mod op;
+#[cfg(test)]
+mod tests;
 mod trace;
 
 pub use buffer::Buffer;

@@ -7,11 +7,13 @@
 
 mod answering;
 mod calling;
-mod forwarding;
+mod forward;
 mod hanging_up;
 mod kernel;
 mod machine;
 mod receiving;
 mod request;
+#[cfg(test)]
+mod tests;
 
 pub use kernel::Kernel;

@@ -1,7 +1,7 @@
 //! A script that is still read: its last task may get more operations.
 ghost use Rattle.std.specs.Prelude.{◌≡◌, ◌≤◌, ◌++◌, None, IfOk, OnOk};
 ghost use Rattle.script_reader.specs.Drafts.{last_plan, last_plans, plan_of, IsStep, IsWhole};
-ghost use Rattle.script_reader.specs.Plans.{nothing, is_ns, is_wired, limit_at, one_body, with_task, with_wire, with_op, task_with_op, Follows};
+ghost use Rattle.script_reader.specs.Plans.{nothing, is_ns, is_wired, limit_at, with_task, with_wire, with_op, task_with_op, Follows};
 ghost use Rattle.script_reader.specs.Ranges.{KeepsRanges};
 ghost use Rattle.script_reader.specs.Sound.{IsRawTask};
 

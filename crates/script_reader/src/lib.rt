@@ -1,8 +1,11 @@
 //! Reads scripts and schedules.
 //!
-//! A script says which tasks there are, how their phones are wired and what each task does. A
-//! schedule says in which order the tasks make their steps. What bytes spell, and where they are at
-//! fault, is said line by line in specs/; the two readers answer just that.
+//! A script says which tasks there are, how their phones are wired and what each task does; a
+//! schedule says in which order the tasks make their steps. Contracts see a `Script` as a `Plan`, a
+//! list of tasks and a list of wires, which is sound: `IsSound` says what holds of each. What the
+//! bytes of a file spell, and which line of them is the first at fault, is a relation on whole lines
+//! in specs/, one for scripts and schedules alike; the readers answer just that, unless memory runs
+//! out.
 #![tactic(auto)]
 
 mod draft;

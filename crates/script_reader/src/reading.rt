@@ -50,10 +50,8 @@ fn read(alloc: Global, bytes: &[u8]) -> Result<Script, ScriptFault>
     let lines = lines(alloc, bytes)?;
     let mut draft = Draft::new(alloc);
     add_lines(&mut draft, alloc, lines.as_slice())?;
-    match draft.into_script(alloc) {
-        Ok(script) => Ok(script),
-        Err(_) => Err(ScriptFault::NoMemory),
-    }
+    let script = draft.into_script(alloc)?;
+    Ok(script)
 }
 
 /// The script that the bytes of a file spell.

@@ -3,7 +3,7 @@ ghost use Rattle.std.specs.Prelude.{◌≡◌, ◌≢◌, ◌≤◌, ℕ, List, 
 ghost use Rattle.ipc_ids.specs.declared.message.Event.{Event};
 ghost use Rattle.script_reader.specs.declared.fault.Reason.{Reason};
 ghost use Rattle.script_reader.specs.Text.{texts};
-ghost use Rattle.script_reader.specs.Plans.{task_names, Follows};
+ghost use Rattle.script_reader.specs.Plans.{Follows};
 ghost use Rattle.script_reader.specs.Schedules.{event_verb_of, count_of, with_events, step_with, step_of, kill_of, hangup_of, events_of, after_event_words, after_event_line, after_event};
 ghost use Rattle.script_reader.specs.Grammar.{Spells, IsFirstFault};
 ghost use Rattle.script_reader.specs.Reading.{lines_from, reading, schedule_of, events_in, fault_in_schedule, Reads, Agrees};
@@ -221,10 +221,8 @@ fn read_for(alloc: Global, bytes: &[u8], script: &Script) -> Result<Vec<Event>, 
     ensures value { Agrees fault_in_schedule (events_in result) (schedule_of script.now bytes.now) }
     ensures few { IfOk result (λ events. length events.items ≤ 65536) }
 {
-    match names_of(alloc, script.tasks.as_slice()) {
-        Ok(names) => read(alloc, bytes, &names),
-        Err(_) => Err(ScheduleFault::NoMemory),
-    }
+    let names = names_of(alloc, script.tasks.as_slice())?;
+    read(alloc, bytes, &names)
 }
 
 /// The events that the bytes of a file spell, for the tasks of a script.
