@@ -8,3 +8,4 @@ pub mod InEvent
 pub mod ServedHistories
 pub mod KilledHistories
 pub mod WholeHistories
+pub mod Steadiness

@@ -20,7 +20,10 @@ pub record HasPlaces (tasks places added : ℕ) : Type 0 where
   pub no_more : places ≤ tasks + 1
   pub few : tasks ≤ 64
 
+-- what a kernel keeps from event to event: a sound state with fewer live calls than numbers given;
 -- each event gives few numbers and stamps: a kill a number for each phone of the task, and a stamp for each call at it
-pub record HasFewCalls (k : KernelState) : Type 0 where
+pub record IsSteady (k : KernelState) : Type 0 where
+  pub sound : IsSound k
+  pub live : len k.calls.records < k.calls.next_number
   pub numbers : k.calls.next_number ≤ 64 * k.events + 1
   pub stamps : k.calls.next_stamp ≤ 2 ^ 32 * k.events + 1

@@ -1,7 +1,10 @@
 //! The kernel.
-ghost use Rattle.std.specs.Prelude.{◌≡◌, ◌+◌, ◌^◌, ◌<◌, ◌≤◌, ◌++◌, true, Some, IfOk, OnOk, OnErr, length};
+ghost use Rattle.ipc_ids.specs.declared.entry.Entry.{Entry};
+ghost use Rattle.std.specs.Prelude.{List, [], ◌≡◌, ◌+◌, ◌^◌, ◌<◌, ◌≤◌, ◌++◌, true, Some, IfOk, OnOk, OnErr, length};
 ghost use Rattle.cleanup.specs.State.{start, is_alive, phone_at, with_task, with_phone};
+ghost use Rattle.cleanup.specs.Sound.{IsSound};
 ghost use Rattle.kernel_core.specs.Serve.{serve, kill_event};
+ghost use Rattle.kernel_core.specs.History.{HistoryFits, served_entries, killed_entries};
 
 use crate::machine::Machine;
 use ipc_ids::{NoMemory, Outcome, PhoneNo, PhoneState, Request, TaskNo, Trace};
@@ -18,7 +21,7 @@ impl Model for Kernel {
     ghost use Rattle.call_slab.specs.contracts.call.Call as call;
     ghost use Rattle.ipc_ids.specs.contracts.message.PhoneState as phone;
     ghost use Rattle.cleanup.specs.State.{KernelState, state_code};
-    ghost use Rattle.kernel_core.specs.Kept.{HasFewCalls};
+    ghost use Rattle.kernel_core.specs.Kept.{IsSteady};
 
     ghost Value = { KernelState };
 
@@ -26,13 +29,15 @@ impl Model for Kernel {
 
     ghost view = { λ a. a.machine.k };
 
-    ghost invariant = { λ a. HasFewCalls a.machine.k };
+    ghost invariant = { λ a. IsSteady a.machine.k };
 }
 
 impl Kernel {
     /// No tasks.
     pub fn new(alloc: Global) -> Kernel
-        ensures { result ≡ start }
+        ensures state { result ≡ start }
+        ensures sound { IsSound result }
+        ensures history { HistoryFits [] result }
     {
         Kernel {
             machine: Machine::new(alloc),
@@ -52,6 +57,8 @@ impl Kernel {
         ensures state { OnOk result (self.new ≡ with_task self.old limit) }
         ensures number { IfOk result (λ t. t.0 ≡ length self.old.tasks.alive + 1) }
         ensures unchanged { OnErr result (self.new ≡ self.old) }
+        ensures sound { IsSound self.new }
+        ensures history { (h : List Entry) → HistoryFits h self.old → HistoryFits h self.new }
     {
         self.machine.add_task(limit)
     }
@@ -62,7 +69,9 @@ impl Kernel {
         requires alive { is_alive self.old t ≡ true }
         requires target { is_alive self.old to ≡ true }
         requires free { phone_at self.old t p.0 ≡ Some PhoneState.Free }
-        ensures { self.new ≡ with_phone self.old t p.0 (PhoneState.Connected to) }
+        ensures state { self.new ≡ with_phone self.old t p.0 (PhoneState.Connected to) }
+        ensures sound { IsSound self.new }
+        ensures history { (h : List Entry) → HistoryFits h self.old → HistoryFits h self.new }
     {
         self.machine.wire(t, p, to);
     }
@@ -100,6 +109,9 @@ impl Kernel {
         ensures events { OnOk result (self.new.events ≡ self.old.events + 1) }
         ensures unchanged { OnErr result (self.new ≡ self.old) }
         ensures trace_unchanged { OnErr result (out.new.entries ≡ out.old.entries) }
+        ensures sound { IsSound self.new }
+        ensures history { OnOk result ((h : List Entry) → HistoryFits h self.old
+            → HistoryFits (h ++ served_entries who request.now (serve self.old who request.now)) self.new) }
     {
         self.machine.reserve(1)?;
         // A receive may drop as many answers as there are calls, of which there are fewer than numbers given.
@@ -122,6 +134,9 @@ impl Kernel {
         ensures events { OnOk result (self.new.events ≡ self.old.events + 1) }
         ensures unchanged { OnErr result (self.new ≡ self.old) }
         ensures trace_unchanged { OnErr result (out.new.entries ≡ out.old.entries) }
+        ensures sound { IsSound self.new }
+        ensures history { OnOk result ((h : List Entry) → HistoryFits h self.old
+            → HistoryFits (h ++ killed_entries who (kill_event self.old who)) self.new) }
     {
         self.machine.kill(who, out)?;
         self.machine.count_event();

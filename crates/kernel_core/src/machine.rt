@@ -1,5 +1,5 @@
 //! The tasks, their phones and their calls, with room for more calls.
-ghost use Rattle.std.specs.Prelude.{◌≡◌, ℕ, ◌+◌, ◌-◌, ◌^◌, ◌<◌, ◌≤◌, ◌==◌, ◌++◌, List, Bool, true, false, Some, None, IsSome, IfSome, IfNone, IfOk, OnOk, OnErr, length, slice_set};
+ghost use Rattle.std.specs.Prelude.{◌≡◌, ℕ, ◌+◌, ◌-◌, ◌^◌, ◌*◌, ◌<◌, ◌≤◌, ◌==◌, ◌++◌, List, Bool, true, false, Some, None, IsSome, IfSome, IfNone, IfOk, OnOk, OnErr, length, slice_set};
 ghost use Rattle.std.specs.Option.{option_copied};
 ghost use Rattle.std.specs.FinMap.{len};
 ghost use Rattle.answerbox.specs.Calls.{call_at, active_calls, is_caller, enqueue, without_call, with_place, front};
@@ -293,12 +293,13 @@ impl Machine {
     /// Brings the task to its end.
     pub fn kill(&mut self, who: TaskNo, out: &mut Trace) -> Result<(), NoMemory>
         requires alive { is_alive_in self.old.k who ≡ true }
-        requires few_calls { self.old.k.calls.next_number < 2 ^ 31 - 64 }
+        requires few_calls { self.old.k.calls.next_number + 64 ≤ 2 ^ 31 }
         requires few_stamps { self.old.k.calls.next_stamp < 2 ^ 61 }
         ensures k { OnOk result (self.new.k ≡ (kill_of self.old.k who).state) }
         ensures entries { OnOk result (out.new.entries ≡ out.old.entries ++ (kill_of self.old.k who).entries) }
         ensures numbers { OnOk result (self.new.k.calls.next_number ≤ self.old.k.calls.next_number + 64) }
-        ensures stamps { OnOk result (self.new.k.calls.next_stamp ≤ self.old.k.calls.next_stamp + 2 ^ 32) }
+        ensures stamps { OnOk result (self.new.k.calls.next_stamp
+            ≤ self.old.k.calls.next_stamp + 2 * self.old.k.calls.next_number + 192) }
         ensures events { self.new.k.events ≡ self.old.k.events }
         ensures unchanged { OnErr result (self.new.k ≡ self.old.k) }
         ensures entries_unchanged { OnErr result (out.new.entries ≡ out.old.entries) }
@@ -352,7 +353,7 @@ fn end_alive(
     requires kept { IsKept (state_from alive.old.items phones.old.states boxes.old.calls 0) phones.old.counts }
     requires places { length alive.old.items ≤ boxes.old.tasks }
     requires few_tasks { length alive.old.items ≤ 64 }
-    requires few_calls { boxes.old.calls.next_number < 2 ^ 31 - 64 }
+    requires few_calls { boxes.old.calls.next_number + 64 ≤ 2 ^ 31 }
     requires few_stamps { boxes.old.calls.next_stamp < 2 ^ 61 }
     ensures alive { OnOk result (alive.new.items ≡ marks) }
     ensures calls { OnOk result (boxes.new.calls ≡ (end_parts who (state_from marks phones.old.states boxes.old.calls 0)).state.calls) }
@@ -363,7 +364,8 @@ fn end_alive(
     ensures few { OnOk result (len boxes.new.calls.records < boxes.new.calls.next_number) }
     ensures tasks { boxes.new.tasks ≡ boxes.old.tasks }
     ensures numbers { OnOk result (boxes.new.calls.next_number ≤ boxes.old.calls.next_number + 64) }
-    ensures stamps { OnOk result (boxes.new.calls.next_stamp ≤ boxes.old.calls.next_stamp + 2 ^ 32) }
+    ensures stamps { OnOk result (boxes.new.calls.next_stamp
+        ≤ boxes.old.calls.next_stamp + 2 * boxes.old.calls.next_number + 192) }
     ensures alive_unchanged { OnErr result (alive.new.items ≡ alive.old.items) }
     ensures calls_unchanged { OnErr result (boxes.new.calls ≡ boxes.old.calls) }
     ensures phones_unchanged { OnErr result (phones.new ≡ phones.old) }

@@ -12,7 +12,7 @@ end_task-ended-requires g c =
     let kept = c.requires.1.1.0 in
     let there = within c.args.alive.now.items c.args.who.0 alive in
     let long = ap length marked ∙ length-set c.args.alive.now.items (c.args.who.0 - 1) false in
-    (rw marked (marked_ended c.args.alive.now.items c.args.who.0), (there.0, (rw long there.1, (rw (marked, marked_back c.args.alive.now.items c.args.who.0 alive) kept.sound, (kept.shaped, (kept.counted, (kept.few, (rw long c.requires.1.1.1.0, (rw long c.requires.1.1.1.1.0, c.requires.1.1.1.1.1)))))))))
+    (rw marked (marked_ended c.args.alive.now.items c.args.who.0), (there.0, (rw long there.1, (rw (marked, marked_back c.args.alive.now.items c.args.who.0 alive) kept.sound, (kept.counted, (kept.shaped, (kept.few, (rw long c.requires.1.1.1.0, (rw long c.requires.1.1.1.1.0, c.requires.1.1.1.1.1)))))))))
 
 pub index_mut-requires-then-is_err : goal.index_mut-requires-then-is_err
 index_mut-requires-then-is_err g c = let there = within c.args.alive.now.items c.args.who.0 c.requires.1.0 in omega (arith, there.0, there.1)

@@ -1,0 +1,95 @@
+-- What a kernel keeps from event to event.
+use Rattle.std.proofs.Common.{◌≡◌, refl, ℕ, ◌+◌, ◌*◌, ◌^◌, ◌<◌, ◌≤◌, true, arith, subst, sym}
+use Rattle.std.specs.Prelude.{Result, Ok, Err, OnOk, OnErr}
+use Rattle.std.specs.Ordering.{nat_cmp}
+use Rattle.std.specs.FinMap.{len, len-empty}
+use Rattle.ipc_ids.specs.declared.numbers.TaskNo.{TaskNo}
+use Rattle.ipc_ids.specs.declared.message.Request.{Request}
+use Rattle.ipc_ids.specs.declared.message.PhoneState.TheVariants.{Connected}
+use Rattle.cleanup.specs.State.{KernelState, start, is_alive, with_task, with_phone, with_event}
+use Rattle.cleanup.specs.Sound.{IsSound}
+use Rattle.cleanup.proofs.Soundness.{sound_start, kept_task, kept_wired}
+use Rattle.cleanup.proofs.Killing.{sound_kill, kill_few}
+use Rattle.kernel_core.specs.Kept.{IsSteady}
+use Rattle.cleanup.specs.Kill.{kill}
+use Rattle.kernel_core.specs.Serve.{serve_request, serve, kill_event}
+use Rattle.kernel_core.proofs.Serving.{sound_serve, serve_few}
+
+pub steady_start : IsSteady start
+steady_start = record { sound = sound_start; live = rw (len-empty nat_cmp) (omega arith); numbers = omega arith; stamps = omega arith }
+
+pub steady_task : (k : KernelState) (limit : ℕ) → IsSteady k → IsSteady (with_task k limit)
+steady_task k limit s = record { sound = kept_task k limit s.sound; live = s.live; numbers = s.numbers; stamps = s.stamps }
+
+pub steady_wire : (k : KernelState) (t : TaskNo) (p : ℕ) (u : TaskNo) → IsSteady k → is_alive k t ≡ true → is_alive k u ≡ true → IsSteady (with_phone k t p (Connected u))
+steady_wire k t p u s alive target = record { sound = kept_wired k t p u s.sound alive target; live = s.live; numbers = s.numbers; stamps = s.stamps }
+
+pub sound_event : (k : KernelState) → IsSound k → IsSound (with_event k)
+sound_event k s = record { calls = s.calls; tasks = s.tasks }
+
+pub sound_kill_event : (k : KernelState) (t : TaskNo) → IsSteady k → is_alive k t ≡ true → IsSound (kill_event k t).state
+sound_kill_event k t s alive = let after = sound_kill k t s.sound alive s.live in record { calls = after.calls; tasks = after.tasks }
+
+-- the state after a system call, from what it gives at most
+pub steady_serve : (k j : KernelState) (t : TaskNo) (request : Request) → IsSteady k → is_alive k t ≡ true
+    → j ≡ (serve k t request).state
+    → j.calls.next_number ≤ 64 * j.events + 1 → j.calls.next_stamp ≤ 2 ^ 32 * j.events + 1 → IsSteady j
+steady_serve k j t request s alive is numbers stamps =
+    record {
+      sound = subst IsSound (sym is) (sound_serve k t request s.sound alive);
+      live = subst (λ (i : KernelState). len i.calls.records < i.calls.next_number) (sym is) (serve_few k t request s.sound alive s.live);
+      numbers = numbers;
+      stamps = stamps;
+    }
+
+-- the state after a kill
+pub steady_kill : (k j : KernelState) (t : TaskNo) → IsSteady k → is_alive k t ≡ true
+    → j ≡ (kill_event k t).state
+    → j.calls.next_number ≤ 64 * j.events + 1 → j.calls.next_stamp ≤ 2 ^ 32 * j.events + 1 → IsSteady j
+steady_kill k j t s alive is numbers stamps =
+    record {
+      sound = subst IsSound (sym is) (sound_kill_event k t s alive);
+      live = subst (λ (i : KernelState). len i.calls.records < i.calls.next_number) (sym is) (kill_few k t s.sound alive s.live);
+      numbers = numbers;
+      stamps = stamps;
+    }
+
+-- what holds of the old state, and of the state that is done, holds of the new one
+pub by_answer : {A E : Type 0} (r : Result A E) (P : KernelState → Type 0) (old new done : KernelState)
+    → OnOk r (new ≡ done) → OnErr r (new ≡ old) → P old → P done → P new
+by_answer (Ok a) P old new done is same before after = subst P (sym is) after
+by_answer (Err e) P old new done is same before after = subst P (sym same) before
+
+-- the state after a system call, step by step: there is room, the request is served, the event is counted
+pub served_after : (k ready served j : KernelState) (t : TaskNo) (request : Request)
+    → ready ≡ k → served ≡ (serve_request ready t request).state → j ≡ with_event served → j ≡ (serve k t request).state
+served_after k ready served j t request room does counts = rw (counts, does, room) refl
+
+pub steady_served : (k ready served j : KernelState) (t : TaskNo) (request : Request) → IsSteady k → is_alive k t ≡ true
+    → ready ≡ k → served ≡ (serve_request ready t request).state → j ≡ with_event served
+    → served.calls.next_number ≤ ready.calls.next_number + 1
+    → served.calls.next_stamp ≤ ready.calls.next_stamp + 1
+    → served.events ≡ ready.events
+    → IsSteady j
+steady_served k ready served j t request s alive room does counts numbers stamps events =
+    let few = rw room at numbers in
+    let later = rw room at stamps in
+    let same = rw room at events in
+    steady_serve k j t request s alive (served_after k ready served j t request room does counts)
+    (rw counts (omega (arith, few, same, s.numbers)))
+    (rw counts (omega (arith, later, same, s.stamps)))
+
+-- the state after a kill, step by step
+pub killed_after : (k killed j : KernelState) (t : TaskNo) → killed ≡ (kill k t).state → j ≡ with_event killed → j ≡ (kill_event k t).state
+killed_after k killed j t does counts = rw (counts, does) refl
+
+pub steady_killed : (k killed j : KernelState) (t : TaskNo) → IsSteady k → is_alive k t ≡ true → k.events < 2 ^ 24
+    → killed ≡ (kill k t).state → j ≡ with_event killed
+    → killed.calls.next_number ≤ k.calls.next_number + 64
+    → killed.calls.next_stamp ≤ k.calls.next_stamp + 2 * k.calls.next_number + 192
+    → killed.events ≡ k.events
+    → IsSteady j
+steady_killed k killed j t s alive few_events does counts numbers stamps events =
+    steady_kill k j t s alive (killed_after k killed j t does counts)
+    (rw counts (omega (arith, numbers, events, s.numbers)))
+    (rw counts (omega (arith, stamps, numbers, events, s.numbers, s.stamps, few_events)))

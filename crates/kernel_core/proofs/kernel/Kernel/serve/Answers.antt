@@ -1,0 +1,36 @@
+use Rattle.std.proofs.Common.{sym, subst, ◌++◌}
+use Rattle.cleanup.specs.State.{KernelState}
+use Rattle.kernel_core.specs.Serve.{serve}
+use Rattle.kernel_core.specs.History.{HistoryFits, served_entries}
+use Rattle.kernel_core.proofs.Steadiness.{steady_served, served_after}
+use Rattle.kernel_core.proofs.ServedHistories.{serve_fits}
+use Rattle.kernel_core.proofs.kernel.Kernel.serve.Goals as goal
+
+pub invariant_of-self-2 : goal.invariant_of-self-2
+invariant_of-self-2 c =
+    let served = c.serve_request-outcome in
+    let alive = rw (← c.self.view_is) at c.requires.alive in
+    steady_served c.self.inside.machine.k c.reserve.new.self.k served.new.self.k c.count_event.new.self.k c.args.who c.args.request.now c.self.invariant alive c.reserve.ensures.k served.ensures.state c.count_event.ensures.k served.ensures.numbers served.ensures.stamps served.ensures.events
+
+pub returns-clause-sound : goal.returns-clause-sound
+returns-clause-sound c =
+    let served = c.serve_request-outcome in
+    let alive = rw (← c.self.view_is) at c.requires.alive in
+    (steady_served c.self.inside.machine.k c.reserve.new.self.k served.new.self.k c.count_event.new.self.k c.args.who c.args.request.now c.self.invariant alive c.reserve.ensures.k served.ensures.state c.count_event.ensures.k served.ensures.numbers served.ensures.stamps served.ensures.events).sound
+
+pub returns-clause-history : goal.returns-clause-history
+returns-clause-history c = λ h fits.
+    let k = c.self.inside.machine.k in
+    let served = c.serve_request-outcome in
+    let alive = rw (← c.self.view_is) at c.requires.alive in
+    let before = rw (← c.self.view_is) at fits in
+    let is = served_after k c.reserve.new.self.k served.new.self.k c.count_event.new.self.k c.args.who c.args.request.now c.reserve.ensures.k served.ensures.state c.count_event.ensures.k in
+    let whole =
+        subst
+        (λ (j : KernelState). HistoryFits (h ++ served_entries c.args.who c.args.request.now (serve k c.args.who c.args.request.now)) j)
+        (sym is)
+        (serve_fits h k c.args.who c.args.request.now before c.self.invariant.sound alive) in
+    subst
+    (λ (old : KernelState). HistoryFits (h ++ served_entries c.args.who c.args.request.now (serve old c.args.who c.args.request.now)) c.count_event.new.self.k)
+    c.self.view_is
+    whole
