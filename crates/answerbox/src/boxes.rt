@@ -18,7 +18,6 @@ pub struct Boxes {
     tasks: u64,
     next_number: u64,
     next_stamp: u64,
-    alloc: Global,
 }
 
 impl Model for Boxes {
@@ -52,13 +51,12 @@ impl Boxes {
             tasks: 0,
             next_number: 1,
             next_stamp: 1,
-            alloc,
         }
     }
 
     /// The allocator of the records, which a new call may use for its bytes.
     pub fn alloc(&self) -> Global {
-        self.alloc
+        *self.records.allocator()
     }
 
     /// One more task has places. `NoMemory` where memory has run out.
