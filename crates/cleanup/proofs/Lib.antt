@@ -6,3 +6,4 @@ pub mod Counting
 pub mod Recounting
 pub mod Keeping
 pub mod Endings
+pub mod Alone
