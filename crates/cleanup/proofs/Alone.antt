@@ -1,6 +1,6 @@
 -- One task, whose first of two phones leads to itself, and no calls.
-use Rattle.std.proofs.Common.{◌≡◌, ℕ, zero, suc, ◌+◌, ◌-◌, List, [], ◌∷◌, true, Some, refl, arith, inl, inr}
-use Rattle.std.specs.Prelude.{IsSome, slice_get}
+use Rattle.std.proofs.Common.{◌≡◌, ℕ, zero, suc, ◌-◌, List, [], ◌∷◌, true, refl, arith}
+use Rattle.std.specs.Prelude.{IsSome}
 use Rattle.std.specs.Ordering.{nat_cmp}
 use Rattle.std.specs.FinMap.{len-empty}
 use Rattle.std.proofs.lemmas.Bool.{ne_eqb}

@@ -17,19 +17,24 @@ fn a_hangup_that_a_task_tells_itself_vanishes(rt: HostRuntime) -> Result<(), Fai
     phones.add(row)?;
     let mut out = Trace::new(rt.alloc());
     end_task(who, rt.alloc(), &mut boxes, &mut phones, &mut out)?;
-    assert!(rt; matches!(out.entries(), [
-        Entry::Accepted {
-            call: CallNo(1),
-            method: 0,
-            to: Some(TaskNo(1)),
-            ..
-        },
-        Entry::PhoneIs {
-            state: PhoneState::HungUp,
-            ..
-        },
-        Entry::Vanished(CallNo(1)),
-    ]));
+    assert!(rt;
+        matches!(
+            out.entries(),
+            [
+                Entry::Accepted {
+                    call: CallNo(1),
+                    method: 0,
+                    to: Some(TaskNo(1)),
+                    ..
+                },
+                Entry::PhoneIs {
+                    state: PhoneState::HungUp,
+                    ..
+                },
+                Entry::Vanished(CallNo(1)),
+            ]
+        )
+    );
     assert!(rt; boxes.get(CallNo(1)).is_none());
     assert_eq!(rt; phones.tasks(), 1);
     Ok(())

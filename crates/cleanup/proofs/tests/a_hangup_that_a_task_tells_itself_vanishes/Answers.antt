@@ -1,8 +1,7 @@
-use Rattle.std.proofs.Common.{◌≡◌, ap, ◌∙◌, refl, arith}
+use Rattle.std.proofs.Common.{◌≡◌, ◌∙◌, refl, arith}
 use Rattle.std.specs.Ordering.{nat_cmp}
 use Rattle.std.specs.FinMap.{len-empty}
 use Rattle.answerbox.specs.Calls.{no_calls}
-use Rattle.phone_table.specs.Phones.{Rows}
 use Rattle.cleanup.proofs.Alone.{its_phones, its_counts, alone_sound, alone_counted, alone_shaped}
 use Rattle.cleanup.proofs.tests.a_hangup_that_a_task_tells_itself_vanishes.Goals as goal
 
