@@ -1,7 +1,7 @@
 -- Each step on a call or a phone keeps what stays true while a task is brought to its end.
-use Rattle.std.proofs.Common.{◌≡◌, ℕ, ◌+◌, ◌-◌, ◌≤◌, ◌<◌, ◌⊎◌, Bool, true, false, inl, inr, Option, None, Some, Result, Ok, Err, List, length, refl, ap, sym, subst, ◌∙◌, arith, set}
+use Rattle.std.proofs.Common.{◌≡◌, ℕ, ◌-◌, ◌≤◌, ◌<◌, ◌⊎◌, Bool, true, false, inl, inr, Option, None, Some, Ok, List, length, refl, sym, ◌∙◌, arith, set}
 use Rattle.std.proofs.Math.ListN.{length-set}
-use Rattle.std.specs.Prelude.{IsSome, slice_get, unwrap_or, ◌==◌}
+use Rattle.std.specs.Prelude.{IsSome, slice_get, unwrap_or}
 use Rattle.std.specs.Option.{option_map_or}
 use Rattle.std.proofs.lemmas.Bool.{cases_eq, cases_lt, eq-eqb, ne_eqb}
 use Rattle.std.proofs.lemmas.Option.{slice_get_past}
@@ -17,7 +17,7 @@ use Rattle.call_slab.specs.declared.call.Place.TheVariants.{Answers}
 use Rattle.answerbox.specs.Calls.{CallTable, call_at, enqueue, put_at, without_call, without_caller, with_record}
 use Rattle.phone_table.specs.Phones.{row_at, state_at, count_at, hangup_answer}
 use Rattle.phone_table.specs.declared.hung.Hung.{Hung}
-use Rattle.phone_table.specs.declared.hung.Hung.TheVariants.{Sent, Silent}
+use Rattle.phone_table.specs.declared.hung.Hung.TheVariants.{Sent}
 use Rattle.cleanup.specs.State.{alive_in, with_state_at, state_from}
 use Rattle.cleanup.specs.Sound.{IsCaller, IsSound}
 use Rattle.cleanup.specs.Counts.{IsCounted}

@@ -1,8 +1,7 @@
 -- Each step keeps what the counts of calls need.
-use Rattle.std.proofs.Common.{◌≡◌, ℕ, ◌+◌, ◌-◌, ◌≤◌, ◌<◌, ◌^◌, Bool, true, false, cond, ◌&&◌, inl, inr, Option, None, Some, List, refl, ap, sym, subst, ◌∙◌, arith, set, Result, Ok, Err}
+use Rattle.std.proofs.Common.{◌≡◌, ℕ, ◌+◌, ◌-◌, ◌<◌, ◌^◌, Bool, true, false, cond, ◌&&◌, inl, inr, Option, None, Some, List, refl, ap, sym, subst, ◌∙◌, arith, set, Result, Ok, Err}
 use Rattle.std.specs.Prelude.{IsSome, slice_get, option_and_then, ◌==◌, if◌then◌else◌}
 use Rattle.std.specs.Option.{option_map_or, IsSomeAnd}
-use Rattle.std.specs.Ordering.{nat_cmp}
 use Rattle.std.specs.Cmp.{nat_cmp_total}
 use Rattle.std.specs.FinMap.{len, len-insert, get, insert, remove, get-remove}
 use Rattle.ipc_ids.specs.declared.numbers.TaskNo.{TaskNo}
@@ -22,7 +21,7 @@ use Rattle.phone_table.proofs.Lookups.{same_row}
 use Rattle.cleanup.specs.State.{with_state_at}
 use Rattle.cleanup.specs.Counts.{label_at, recount, count_changed, counts_without, IsCounted}
 use Rattle.cleanup.specs.Steps.{HasCounts, with_answer, IsCallOf, hung_rows}
-use Rattle.cleanup.proofs.Lookups.{at_insert, at_remove, chosen, same_call, record_of}
+use Rattle.cleanup.proofs.Lookups.{at_insert, at_remove, chosen, same_call}
 use Rattle.cleanup.proofs.Rows.{some_of, state_changed_at}
 use Rattle.cleanup.proofs.Soundness.{some_set, value_of, row_after, phone_kept}
 use Rattle.cleanup.proofs.Recounting.{some_and}

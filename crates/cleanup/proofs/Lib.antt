@@ -17,3 +17,4 @@ pub mod Histories
 pub mod KillExample
 pub mod Keeping
 pub mod Endings
+pub mod Alone

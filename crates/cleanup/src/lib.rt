@@ -5,6 +5,8 @@ mod counts;
 mod end;
 mod parts;
 mod steps;
+#[cfg(test)]
+mod tests;
 
 pub use counts::{count_out, count_up, label};
 pub use end::end_task;

@@ -1,4 +1,4 @@
-use Rattle.std.proofs.Common.{◌≡◌, ◌+◌, ◌-◌, ◌*◌, ◌≤◌, ap, arith}
+use Rattle.std.proofs.Common.{ap, arith}
 use Rattle.answerbox.specs.Calls.{CallTable}
 use Rattle.cleanup.proofs.Endings.{ending_start}
 use Rattle.cleanup.proofs.end.end_task.Goals as goal

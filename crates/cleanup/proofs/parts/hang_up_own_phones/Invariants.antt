@@ -1,4 +1,4 @@
-use Rattle.std.proofs.Common.{◌≡◌, ◌+◌, ◌-◌, ◌*◌, ◌≤◌, ◌++◌, length}
+use Rattle.std.proofs.Common.{◌≡◌, ◌+◌, ◌-◌, ◌*◌, ◌≤◌, ◌++◌}
 use Rattle.cleanup.specs.State.{state_from, each}
 use Rattle.cleanup.specs.Kill.{width, hang_up_at, hang_up_own_phones}
 use Rattle.cleanup.specs.Ending.{IsEnding}

@@ -1,4 +1,4 @@
-use Rattle.std.proofs.Common.{◌≡◌, Some, refl, sym, ap, ◌∙◌}
+use Rattle.std.proofs.Common.{refl}
 use Rattle.std.specs.Prelude.{IsSome}
 use Rattle.ipc_ids.specs.declared.message.PhoneState.TheVariants.{Slammed}
 use Rattle.phone_table.specs.Phones.{state_at}

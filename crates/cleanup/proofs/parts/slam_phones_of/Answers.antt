@@ -1,4 +1,4 @@
-use Rattle.std.proofs.Common.{◌∙◌, arith, length}
+use Rattle.std.proofs.Common.{arith}
 use Rattle.cleanup.specs.State.{state_from}
 use Rattle.cleanup.specs.Kill.{width, slam_at, slam_phones_of}
 use Rattle.cleanup.proofs.Loops.{each_state, each_entries}

@@ -1,4 +1,4 @@
-use Rattle.std.proofs.Common.{◌∙◌, arith, length}
+use Rattle.std.proofs.Common.{arith, length}
 use Rattle.cleanup.specs.State.{state_from}
 use Rattle.cleanup.specs.Kill.{slam_other, slam_phones_to}
 use Rattle.cleanup.proofs.Loops.{each_state, each_entries}

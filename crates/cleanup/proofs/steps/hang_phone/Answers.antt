@@ -1,6 +1,4 @@
-use Rattle.std.proofs.Common.{ap, ◌≡◌, ◌∙◌, refl, sym}
-use Rattle.phone_table.specs.Phones.{hangup_answer}
-use Rattle.cleanup.proofs.Keeping.{phone_of, hung_states, hung_counts}
+use Rattle.cleanup.proofs.Keeping.{hung_states, hung_counts}
 use Rattle.cleanup.proofs.steps.hang_phone.Goals as goal
 
 pub returns-clause-states : goal.returns-clause-states
