@@ -16,7 +16,7 @@ fn a_hangup_that_a_task_tells_itself_vanishes(rt: HostRuntime) -> Result<(), Fai
     let mut phones = PhoneRows::new(rt.alloc());
     phones.add(row)?;
     let mut out = Trace::new(rt.alloc());
-    end_task(who, rt.alloc(), &mut boxes, &mut phones, &mut out)?;
+    end_task(who, &mut boxes, &mut phones, &mut out)?;
     assert!(rt;
         matches!(
             out.entries(),
