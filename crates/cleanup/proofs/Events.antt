@@ -1,17 +1,16 @@
 -- No part of the end of a task reads or changes the number of events.
 use Rattle.ipc_ids.specs.Codes.{ehangup}
-use Rattle.std.proofs.Common.{◌≡◌, ℕ, length, zero, suc, ◌+◌, ◌++◌, List, Bool, true, false, Option, None, Some, refl, ap, ◌∙◌}
+use Rattle.std.proofs.Common.{◌≡◌, ℕ, length, zero, suc, ◌+◌, Bool, true, false, Option, None, Some, refl}
 use Rattle.std.specs.Prelude.{if◌then◌else◌, ◌==◌}
 use Rattle.std.specs.Option.{option_map_or}
 use Rattle.ipc_ids.specs.declared.numbers.TaskNo.{TaskNo}
 use Rattle.ipc_ids.specs.declared.message.PhoneState.{PhoneState}
 use Rattle.ipc_ids.specs.declared.message.PhoneState.TheVariants.{Free, Connecting, Connected, HungUp, Slammed}
-use Rattle.ipc_ids.specs.declared.message.Reply.{Reply}
 use Rattle.call_slab.specs.declared.call.Call.{Call}
 use Rattle.call_slab.specs.declared.call.Place.{Place}
 use Rattle.call_slab.specs.declared.call.Place.TheVariants.{Incoming, Dispatched, Answers}
 use Rattle.cleanup.specs.State.{KernelState, Transition, nothing, then_do, each, drain, phone_at, is_alive}
-use Rattle.cleanup.specs.Settling.{bare_reply, settle_for, settle, lives, drop_answer, forget_call}
+use Rattle.cleanup.specs.Settling.{bare_reply, settle_for, lives, drop_answer, forget_call}
 use Rattle.cleanup.specs.HangingUp.{hang_up}
 use Rattle.cleanup.specs.Kill.{width, task_no, hang_up_at, slam, slam_at, slam_phones_of, slam_other, first_at, settle_call, first_call_of, hang_up_own_phones, slam_phones_to, settle_incoming, settle_dispatched, drop_answers, forget_calls_elsewhere, end_parts}
 
@@ -60,6 +59,7 @@ slammed_at e t u k p = by_state (phone_at k u p) where
   by_target : (v : TaskNo) (b : Bool) → v.0 == t.0 ≡ b → slam t u (at e k) p (Some (Connected v)) ≡ done_at e (slam t u k p (Some (Connected v)))
   by_target v true h = rw h refl
   by_target v false h = rw h refl
+
   by_state : (s : Option PhoneState) → slam t u (at e k) p s ≡ done_at e (slam t u k p s)
   by_state None = refl
   by_state (Some Free) = refl

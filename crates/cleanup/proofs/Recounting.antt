@@ -1,5 +1,5 @@
 -- A count that is written into a row is a count that changes.
-use Rattle.std.proofs.Common.{◌≡◌, ℕ, ◌+◌, ◌-◌, ◌<◌, Option, Some, None, List, refl, set}
+use Rattle.std.proofs.Common.{◌≡◌, ℕ, ◌-◌, Option, Some, None, List, refl, set}
 use Rattle.std.specs.Prelude.{IsSome, slice_get, slice_index}
 use Rattle.std.specs.Option.{IsSomeAnd}
 use Rattle.phone_table.specs.Phones.{row_at, count_at}

@@ -1,5 +1,5 @@
 -- The counts of active calls at the phones.
-use Rattle.std.specs.Prelude.{◌≡◌, ℕ, ◌-◌, List, Option, Some, length, slice_get, slice_set, if◌then◌else◌}
+use Rattle.std.specs.Prelude.{◌≡◌, ℕ, ◌-◌, List, Option, Some, slice_get, slice_set, if◌then◌else◌}
 use Rattle.std.specs.Option.{option_map_or}
 use Rattle.ipc_ids.specs.declared.numbers.TaskNo.{TaskNo}
 use Rattle.ipc_ids.specs.declared.numbers.Label.{Label}

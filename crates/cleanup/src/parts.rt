@@ -47,13 +47,7 @@ pub(crate) fn hang_up_own_phones(
 }
 
 /// The phone is hung up, where it leads or led to a task.
-fn hang_up(
-    who: TaskNo,
-    phone: u64,
-    boxes: &mut Boxes,
-    phones: &mut PhoneRows,
-    out: &mut Trace,
-)
+fn hang_up(who: TaskNo, phone: u64, boxes: &mut Boxes, phones: &mut PhoneRows, out: &mut Trace)
     ghost alive: { List Bool }
     requires ending { IsHalfEnded alive who phones.old boxes.old }
     requires room { 0 < boxes.old.spare }

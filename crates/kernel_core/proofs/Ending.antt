@@ -1,19 +1,18 @@
 -- The end of a task, by its marks and its parts.
-use Rattle.std.proofs.Common.{◌≡◌, ℕ, zero, suc, ◌+◌, ◌-◌, ◌≤◌, ◌<◌, Bool, true, false, inl, inr, Option, None, Some, List, [], ◌∷◌, length, refl, ap, sym, ◌∙◌, subst, arith, set}
-use Rattle.std.specs.Prelude.{Result, Ok, Err, OnErr, IsSome, slice_get, ◌==◌, unwrap_or}
+use Rattle.std.proofs.Common.{◌≡◌, ℕ, zero, suc, ◌-◌, ◌<◌, Bool, true, false, inl, inr, List, [], ◌∷◌, refl, ap, sym, ◌∙◌, subst, set}
+use Rattle.std.specs.Prelude.{Result, Ok, Err, OnErr, IsSome, slice_get, unwrap_or}
 use Rattle.std.proofs.lemmas.Bool.{cases_eq, eq-eqb, ne_eqb}
-use Rattle.std.proofs.lemmas.List.{length-set}
 use Rattle.std.specs.FinMap.{len}
 use Rattle.ipc_ids.specs.declared.numbers.TaskNo.{TaskNo}
 use Rattle.ipc_ids.specs.declared.message.PhoneState.{PhoneState}
 use Rattle.answerbox.specs.Calls.{CallTable}
 use Rattle.phone_table.specs.Phones.{state_at, count_at}
-use Rattle.cleanup.specs.State.{KernelState, Transition, alive_in, is_alive, state_from, no_memory}
+use Rattle.cleanup.specs.State.{KernelState, alive_in, is_alive, state_from, no_memory}
 use Rattle.cleanup.specs.Sound.{IsSound}
 use Rattle.cleanup.specs.Counts.{IsCounted}
 use Rattle.cleanup.specs.Kill.{mark_ended, kill, end_parts}
 use Rattle.cleanup.proofs.Events.{at, done_at, ended_at}
-use Rattle.cleanup.proofs.Killing.{sound_kill, kill_marks, kill_events, kill_memory}
+use Rattle.cleanup.proofs.Killing.{sound_kill, kill_marks, kill_memory}
 use Rattle.kernel_core.specs.Kept.{IsKept}
 
 pub on_err : {A E P : Type 0} (r : Result A E) → P → OnErr r P

@@ -1,6 +1,6 @@
 -- What the kernel's code reads from sound states, and writes into rows.
 use Rattle.std.proofs.Common.{◌≡◌, ℕ, ◌+◌, ◌-◌, ◌<◌, ◌≤◌, ◌^◌, Bool, true, Option, None, Some, List, length, refl, ap, sym, subst, ◌∙◌, arith, set, Result, Ok, Err}
-use Rattle.std.specs.Prelude.{IsSome, IfSome, OnOk, slice_get, slice_index, option_and_then}
+use Rattle.std.specs.Prelude.{IsSome, IfSome, OnOk, slice_get, option_and_then}
 use Rattle.std.specs.Option.{IsSomeAnd, option_map_or, option_copied}
 use Rattle.std.specs.Borrow.{Bor}
 use Rattle.ipc_ids.specs.declared.numbers.TaskNo.{TaskNo}
@@ -17,14 +17,12 @@ use Rattle.answerbox.proofs.Steps.{with_place-with_reply}
 use Rattle.phone_table.specs.Phones.{Row, Rows, row_at, state_at, count_at, hangup_answer, after_hangup}
 use Rattle.phone_table.specs.declared.hung.Hung.{Hung}
 use Rattle.phone_table.proofs.Lookups.{same_row}
-use Rattle.phone_table.proofs.Writes.{counted}
 use Rattle.cleanup.specs.State.{Tasks, KernelState, state_from, alive_in, is_alive, phone_at, with_state_at, with_calls}
 use Rattle.cleanup.specs.Sound.{IsPlaced, IsCaller, IsSound, AreSoundTasks}
-use Rattle.cleanup.specs.Counts.{recount}
 use Rattle.kernel_core.specs.Kept.{IsKept}
 use Rattle.kernel_core.specs.Steps.{IsAliveCaller, LeadsToTask, TellsTask, with_hangup, IsCallOf, with_answer}
 use Rattle.cleanup.proofs.Lookups.{record_of}
-use Rattle.cleanup.proofs.Soundness.{value_of, phone_kept}
+use Rattle.cleanup.proofs.Soundness.{phone_kept}
 use Rattle.cleanup.proofs.Recounting.{some_and}
 use Rattle.cleanup.proofs.Counting.{count_few, count_positive}
 use Rattle.kernel_core.proofs.Keeping.{within, kept_hangup, kept_put}

@@ -1,17 +1,15 @@
 -- A call by task t over its phone p.
-use Rattle.std.specs.Prelude.{ℕ, false, if◌then◌else◌, nat_lt, nat_le, [], ◌∷◌, Option, None, Some, replicate}
+use Rattle.std.specs.Prelude.{ℕ, if◌then◌else◌, nat_lt, nat_le, [], ◌∷◌, Option, None, Some}
 use Rattle.ipc_ids.specs.declared.numbers.TaskNo.{TaskNo}
 use Rattle.ipc_ids.specs.declared.numbers.Code.{Code}
 use Rattle.ipc_ids.specs.declared.message.Msg.{Msg}
-use Rattle.ipc_ids.specs.declared.message.Reply.{Reply}
 use Rattle.ipc_ids.specs.declared.message.PhoneState.{PhoneState}
 use Rattle.ipc_ids.specs.declared.message.PhoneState.TheVariants.{Free, Connecting, Connected, HungUp, Slammed}
 use Rattle.ipc_ids.specs.declared.message.Outcome.TheVariants.{Refused, Accepted as Told}
 use Rattle.ipc_ids.specs.declared.entry.Entry.TheVariants.{Accepted, Answered}
-use Rattle.ipc_ids.specs.Codes.{eok, enoent, eperm, elimit, ehangup}
+use Rattle.ipc_ids.specs.Codes.{enoent, eperm, elimit, ehangup}
 use Rattle.ipc_ids.specs.Tables.{first_user_method, most_active}
 use Rattle.call_slab.specs.declared.call.Call.{Call}
-use Rattle.call_slab.specs.declared.call.Place.{Place}
 use Rattle.call_slab.specs.declared.call.Place.TheVariants.{Incoming, Answers}
 use Rattle.answerbox.specs.Calls.{enqueue, active_calls}
 use Rattle.cleanup.specs.State.{KernelState, phone_at, with_calls, label_of}

@@ -24,7 +24,8 @@ jump 65535
 jumpeq r1 R 0
 jumpne r1 W 0x2";
 
-const SCHEDULE: &[u8] = b"step client#once\n\nstep s_9 x 2\nkill s_9\n\thangup s_9 18446744073709551615 \n";
+const SCHEDULE: &[u8] =
+    b"step client#once\n\nstep s_9 x 2\nkill s_9\n\thangup s_9 18446744073709551615 \n";
 
 /// What a consumer of a script relies on: what a task does is there and in range.
 fn operations(script: &Script, index: usize) -> &[Op]

@@ -1,6 +1,5 @@
-use Rattle.std.proofs.Common.{arith, length, ap, ◌∙◌, ◌-◌, set, true, false}
+use Rattle.std.proofs.Common.{arith, length, ap, ◌∙◌, ◌-◌, false}
 use Rattle.std.proofs.lemmas.List.{length-set}
-use Rattle.cleanup.specs.State.{state_from}
 use Rattle.kernel_core.proofs.Keeping.{within}
 use Rattle.kernel_core.proofs.Ending.{marked_back, marked_ended, on_err}
 use Rattle.kernel_core.proofs.machine.end_alive.Goals as goal
