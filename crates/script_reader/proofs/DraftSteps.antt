@@ -1,5 +1,5 @@
 -- What each step of a draft makes of it.
-use Rattle.std.proofs.Common.{◌≡◌, ℕ, ◌+◌, ◌-◌, ◌<◌, ◌≤◌, false, List, [], ◌∷◌, ◌++◌, length, Option, Some, None, Result, Ok, Err, refl, sym, ap, subst, ◌∙◌, arith}
+use Rattle.std.proofs.Common.{◌≡◌, ℕ, ◌+◌, ◌-◌, ◌<◌, false, List, [], ◌∷◌, ◌++◌, length, Some, Result, Ok, Err, refl, sym, ap, subst, ◌∙◌, arith}
 use Rattle.std.specs.Prelude.{is_some, OnOk, ⊤}
 use Rattle.std.proofs.lemmas.List.{map_push, length-map}
 use Rattle.ipc_ids.specs.declared.op.Op.{Op}
@@ -12,9 +12,8 @@ use Rattle.script_reader.specs.declared.draft.LastTask.{LastTask}
 use Rattle.script_reader.specs.declared.draft.Draft.{Draft}
 use Rattle.script_reader.specs.Drafts.{last_plan, plan_of, IsWhole}
 use Rattle.script_reader.specs.Operations.{◌>>=◌}
-use Rattle.script_reader.specs.Plan.{Plan}
 use Rattle.script_reader.specs.Plans.{on_last, task_with_op, with_op, Follows, place_of, task_names, limit_at, is_wired}
-use Rattle.script_reader.specs.Sound.{IsRawTask, IsSound}
+use Rattle.script_reader.specs.Sound.{IsRawTask}
 use Rattle.script_reader.proofs.Soundness.{with_task_sound, with_wire_sound, with_last_sound, names_same, leads_within}
 
 -- ---- one more operation
