@@ -1,5 +1,6 @@
 pub mod Answer
 pub mod Due
+pub mod LawfulRun
 pub mod Numbers
 pub mod Raw
 pub mod Run

@@ -7,7 +7,6 @@ use Rattle.ipc_ids.specs.declared.message.Request.TheVariants as ask
 use Rattle.ipc_ids.specs.declared.message.Event.{Event}
 use Rattle.ipc_ids.specs.declared.message.Event.TheVariants.{Step, Kill, Hangup}
 use Rattle.ipc_ids.specs.declared.entry.Entry.{Entry}
-use Rattle.ipc_ids.specs.declared.entry.Entry.TheVariants as entry
 use Rattle.ipc_ids.specs.Trace.{TraceState}
 use Rattle.ipc_ids.specs.declared.op.Op.{Op}
 use Rattle.ipc_ids.specs.declared.op.Body.{Body}
@@ -18,6 +17,7 @@ use Rattle.cleanup.specs.State.{KernelState, Transition, is_alive, with_task}
 use Rattle.kernel_core.specs.Served.{Served}
 use Rattle.cleanup.specs.State as kernel
 use Rattle.kernel_core.specs.Serve.{serve, kill_event}
+use Rattle.kernel_core.specs.History.{served_entries, killed_entries, gone_entries}
 use Rattle.hipc.specs.Wiring.{with_wire}
 use Rattle.hipc.specs.Raw.{RawState, started, wanted, after}
 
@@ -65,14 +65,9 @@ program_at now task = if is_alive now.kernel task then slice_get now.programs (t
 abbrev pub Tells : TraceState → TraceState → List Entry → Type 0
 Tells before now entries = now.entries ≡ before.entries ++ entries
 
--- the head of a request, its effects and its outcome
-abbrev pub request_entries : TaskNo → Request → Served → List Entry
-request_entries task request served =
-    entry.Head task request ∷ served.entries ++ entry.Outcome served.outcome ∷ []
-
 -- an event on a task that has ended changes nothing
 abbrev pub gone : RunState → TaskNo → RunTransition
-gone now task = record { state = now; entries = entry.Gone task ∷ [] }
+gone now task = record { state = now; entries = gone_entries task }
 
 -- the kernel serves the program's request, and the program gets the outcome
 abbrev pub step_served : RunState → TaskNo → RawState → Served → RunTransition
@@ -82,7 +77,7 @@ step_served now task program served =
         kernel = served.state;
         programs = slice_set now.programs (task.0 - 1) (after program served.outcome);
       };
-      entries = request_entries task (wanted program) served;
+      entries = served_entries task (wanted program) served;
     }
 
 abbrev pub step_by : RunState → TaskNo → Option RawState → RunTransition
@@ -98,7 +93,7 @@ abbrev pub request_served : RunState → TaskNo → Request → Served → RunTr
 request_served now task request served =
     record {
       state = record { kernel = served.state; programs = now.programs };
-      entries = request_entries task request served;
+      entries = served_entries task request served;
     }
 
 abbrev pub request : RunState → TaskNo → Request → RunTransition
@@ -114,7 +109,7 @@ abbrev pub killed : RunState → TaskNo → Transition → RunTransition
 killed now task done =
     record {
       state = record { kernel = done.state; programs = now.programs };
-      entries = entry.Kill task ∷ done.entries;
+      entries = killed_entries task done;
     }
 
 -- a kill

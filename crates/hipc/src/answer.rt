@@ -4,7 +4,8 @@ ghost use Rattle.std.specs.Io.KnownBytes.{Appends, Keeps};
 ghost use Rattle.io_edge.specs.Edge.{AppendsStart, Rose};
 ghost use Rattle.hipc.specs.Answer.{answer_of, fault_line};
 ghost use Rattle.hipc.specs.Due.{DueForBytes, Whole, Part};
-ghost use Rattle.hipc.specs.declared.status.Status.TheVariants.{WriteFailed, NoMemory as Memory};
+ghost use Rattle.hipc.specs.LawfulRun.{IsLawfulText, WritesLawfulRun};
+ghost use Rattle.hipc.specs.declared.status.Status.TheVariants.{Done, WriteFailed, NoMemory as Memory};
 
 use crate::Status;
 use crate::replay::run_text;
@@ -44,6 +45,8 @@ fn answer(alloc: Global, script: &[u8], schedule: &[u8]) -> Result<(Status, Vec<
         answer_of script.now schedule.now ≡ (answer.0, answer.1.items)) }
     ensures no_write { IfOk result (λ answer. answer.0 ≢ WriteFailed) }
     ensures memory { IfOk result (λ answer. answer.0 ≢ Memory) }
+    ensures laws { IfOk result (λ answer.
+        answer.0 ≡ Done → IsLawfulText script.now schedule.now answer.1.items) }
 {
     let script = match read_script(alloc, script) {
         Ok(script) => script,
@@ -82,6 +85,9 @@ pub fn replay_bytes<K: Sink>(alloc: Global, script: &[u8], schedule: &[u8], sink
     ensures risen { K.faults sink.old < K.faults sink.new →
         (result ≡ WriteFailed) ⊎ (result ≡ Memory) }
     ensures later { K.faults sink.old ≤ K.faults sink.new }
+    // With Done, what was written is the text of a run that keeps the laws of calls.
+    ensures laws { result ≡ Done → WritesLawfulRun script.now schedule.now
+        (K.written sink.old) (K.written sink.new) }
 {
     match answer(alloc, script, schedule) {
         Ok((status, text)) => tell(status, &text, sink),

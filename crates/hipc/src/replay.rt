@@ -2,10 +2,11 @@
 ghost use Rattle.std.specs.Prelude.{◌≡◌, ◌+◌, ◌^◌, ◌<◌, ◌≤◌, ◌++◌, ◌∷◌, [], true, Some, map, length};
 ghost use Rattle.std.specs.Prelude.{All, IfOk, OnOk, OnErr, IfSome, option_map};
 ghost use Rattle.cleanup.specs.State.{is_alive};
+ghost use Rattle.kernel_core.specs.History.{served_entries};
 ghost use Rattle.kernel_core.specs.Serve.{serve};
 ghost use Rattle.script_reader.specs.Sound.{IsRawTask};
 ghost use Rattle.hipc.specs.Raw.{wanted};
-ghost use Rattle.hipc.specs.Run.{with_tasks, with_wires, ops_of, program_of, request_entries, run};
+ghost use Rattle.hipc.specs.Run.{with_tasks, with_wires, ops_of, program_of, run};
 ghost use Rattle.hipc.specs.Run.{Tells};
 ghost use Rattle.hipc.specs.Wiring.{AreOpen};
 ghost use Rattle.hipc.specs.Text.{text_of};
@@ -163,7 +164,7 @@ fn serve_request(
     requires few_events { kernel.old.events < 2 ^ 24 }
     ensures state { OnOk result (kernel.new ≡ (serve kernel.old task request.now).state) }
     ensures outcome { IfOk result (λ o. o ≡ (serve kernel.old task request.now).outcome) }
-    ensures entries { OnOk result (Tells out.old out.new (request_entries task request.now (serve kernel.old task request.now))) }
+    ensures entries { OnOk result (Tells out.old out.new (served_entries task request.now (serve kernel.old task request.now))) }
     ensures events { OnOk result (kernel.new.events ≡ kernel.old.events + 1) }
 {
     out.reserve(1)?;

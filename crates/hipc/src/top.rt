@@ -5,7 +5,8 @@ ghost use Rattle.std.specs.Io.KnownBytes.{Appends, Keeps};
 ghost use Rattle.io_edge.specs.Edge.{AppendsStart, Rose};
 ghost use Rattle.hipc.specs.Answer.{cannot_line};
 ghost use Rattle.hipc.specs.Due.{texts, files_of, Due, DueForFiles, Whole, Part, LosesOneAtMost};
-ghost use Rattle.hipc.specs.declared.status.Status.TheVariants.{CannotRead, WriteFailed, NoMemory as Memory};
+ghost use Rattle.hipc.specs.LawfulRun.{WritesLawfulRunOf, WritesLawfulRunOfFiles};
+ghost use Rattle.hipc.specs.declared.status.Status.TheVariants.{Done, CannotRead, WriteFailed, NoMemory as Memory};
 
 use crate::Status;
 use crate::answer::{replay_bytes, tell};
@@ -82,6 +83,8 @@ fn replay_files<S: Shelf, K: Sink>(
     ensures files { S.files shelf.new ≡ S.files shelf.old }
     ensures failed { LosesOneAtMost (Some (script.now, schedule.now))
         (S.failed shelf.old) (S.failed shelf.new) }
+    ensures laws { result ≡ Done → WritesLawfulRunOfFiles (S.files shelf.old)
+        script.now schedule.now (K.written sink.old) (K.written sink.new) }
 {
     let first = match shelf.load(alloc, script, MOST) {
         Ok(bytes) => bytes,
@@ -124,6 +127,9 @@ pub fn run<S: Shelf, K: Sink>(
     ensures files { S.files shelf.new ≡ S.files shelf.old }
     ensures failed { LosesOneAtMost (files_of (texts words.now))
         (S.failed shelf.old) (S.failed shelf.new) }
+    // With Done, what was written is the text of a run that keeps the laws of calls.
+    ensures laws { result ≡ Done → WritesLawfulRunOf (texts words.now) (S.files shelf.old)
+        (K.written sink.old) (K.written sink.new) }
 {
     match file_words(words) {
         Some((script, schedule)) => replay_files(alloc, script, schedule, shelf, sink),

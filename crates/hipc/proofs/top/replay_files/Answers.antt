@@ -4,6 +4,7 @@ use Rattle.hipc.specs.Due.{DueForBytes}
 use Rattle.hipc.specs.declared.status.Status.TheVariants.{CannotRead}
 use Rattle.hipc.proofs.Lost.{lost_it, lost_only, lost_none}
 use Rattle.hipc.proofs.Dues.{first_lost, second_lost, loaded, whole_on, part_on, kept_or_part_on}
+use Rattle.hipc.proofs.LawfulTexts.{lawful_of_files}
 use Rattle.hipc.proofs.top.replay_files.Goals as goal
 
 pub returns-in-Err-Failed-clause-whole : goal.returns-in-Err-Failed-clause-whole
@@ -67,3 +68,10 @@ returns-clause-memory g c = λ m.
     (loaded _ _ _ _ _ _ _ _ _ _ first.files c.deref.ensures.value c.deref-2.ensures.value
     first.bytes second.bytes (lost_none _ _ _ same) (lost_none _ _ _ same))
     (c.replay_bytes.ensures.memory m)
+
+pub returns-clause-laws : goal.returns-clause-laws
+returns-clause-laws g c = λ done.
+    let first = c.in-Ok.ensures in
+    let second = c.in-Ok-load.ensures in
+    lawful_of_files _ _ _ _ _ _ _ _ _ _ first.files c.deref.ensures.value c.deref-2.ensures.value
+    first.bytes second.bytes (c.replay_bytes.ensures.laws done)

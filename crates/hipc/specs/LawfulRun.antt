@@ -1,0 +1,44 @@
+-- A run that keeps the laws of calls, and when the program writes one.
+use Rattle.std.specs.Prelude.{ℕ, ◌≡◌, List, Option, Some, Ok}
+use Rattle.std.specs.Io.KnownBytes.{Appends}
+use Rattle.ipc_ids.specs.declared.message.Event.{Event}
+use Rattle.ipc_ids.specs.declared.entry.Entry.{Entry}
+use Rattle.ipc_ids.specs.Laws.{LivesAreLawful, AnsweredAtMostOnce, KillEndsHeldCalls}
+use Rattle.script_reader.specs.Plan.{Plan}
+use Rattle.script_reader.specs.Reading.{script_of, schedule_of}
+use Rattle.io_edge.specs.Edge.{Holds}
+use Rattle.hipc.specs.Run.{run}
+use Rattle.hipc.specs.Text.{text_of}
+use Rattle.hipc.specs.Due.{Files, files_of}
+
+-- these entries keep the laws of calls: of a call's life, of one answer, and of a kill
+pub record KeepsLaws (h : List Entry) : Type 0 where
+  pub lives : LivesAreLawful h
+  pub answers : AnsweredAtMostOnce h
+  pub kills : KillEndsHeldCalls h
+
+-- the bytes of a script and of a schedule spell a run that keeps the laws, and this is its text
+pub record IsLawfulText (script schedule text : List ℕ) : Type 0 where
+  pub plan : Plan
+  pub events : List Event
+  pub spells_plan : script_of script ≡ Ok plan
+  pub spells_events : schedule_of plan schedule ≡ Ok events
+  pub laws : KeepsLaws (run plan events)
+  pub text_is : text ≡ text_of (run plan events)
+
+-- what was written is the whole text of such a run
+abbrev pub WritesLawfulRun : List ℕ → List ℕ → Option (List ℕ) → Option (List ℕ) → Type 0
+WritesLawfulRun script schedule old new =
+    (text : List ℕ) × IsLawfulText script schedule text × Appends old new text
+
+-- the same of the bytes that two files have, by their names
+abbrev pub WritesLawfulRunOfFiles : Files → List ℕ → List ℕ → Option (List ℕ) → Option (List ℕ) → Type 0
+WritesLawfulRunOfFiles files script schedule old new =
+    (first : List ℕ) × (second : List ℕ)
+    × Holds files script first × Holds files schedule second × WritesLawfulRun first second old new
+
+-- the same of the two files that the words name
+abbrev pub WritesLawfulRunOf : List (List ℕ) → Files → Option (List ℕ) → Option (List ℕ) → Type 0
+WritesLawfulRunOf words files old new =
+    (script : List ℕ) × (schedule : List ℕ)
+    × (files_of words ≡ Some (script, schedule)) × WritesLawfulRunOfFiles files script schedule old new
