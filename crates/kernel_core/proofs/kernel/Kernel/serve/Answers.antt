@@ -26,10 +26,10 @@ returns-clause-history c = λ h fits.
     let before = rw (← c.self.view_is) at fits in
     let is = served_after k c.reserve.new.self.k served.new.self.k c.count_event.new.self.k c.args.who c.args.request.now c.reserve.ensures.k served.ensures.state c.count_event.ensures.k in
     let whole =
-        subst
-        (λ (j : KernelState). HistoryFits (h ++ served_entries c.args.who c.args.request.now (serve k c.args.who c.args.request.now)) j)
-        (sym is)
-        (serve_fits h k c.args.who c.args.request.now before c.self.invariant.sound alive) in
+    subst
+    (λ (j : KernelState). HistoryFits (h ++ served_entries c.args.who c.args.request.now (serve k c.args.who c.args.request.now)) j)
+    (sym is)
+    (serve_fits h k c.args.who c.args.request.now before c.self.invariant.sound alive) in
     subst
     (λ (old : KernelState). HistoryFits (h ++ served_entries c.args.who c.args.request.now (serve old c.args.who c.args.request.now)) c.count_event.new.self.k)
     c.self.view_is

@@ -12,9 +12,10 @@ invariant_of-self-2 c =
     let marks = set i.alive.items (c.args.who.0 - 1) false in
     let state = killed_state i.alive.items marks i.phones.states _ i.boxes.calls _ i.events c.args.who refl e.calls e.phones in
     let after = c.end_alive.new in
-    let is = ap (λ m. state_from m after.phones.states after.boxes.calls i.events) e.alive ∙ state in
-    (kept_kill (inner i) i.phones.counts after.phones.counts c.args.who after.alive.items after.phones.states after.boxes.calls i.events c.self.invariant.0 (rw (← c.self.view_is) at c.requires.alive) is e.shaped e.counted e.few,
-    rw (e.tasks, e.alive, length-set i.alive.items (c.args.who.0 - 1) false) c.self.invariant.1)
+    let is = ap (λ m. state_from m after.phones.states after.boxes.calls i.events) e.alive ∙ state in (
+      kept_kill (inner i) i.phones.counts after.phones.counts c.args.who after.alive.items after.phones.states after.boxes.calls i.events c.self.invariant.0 (rw (← c.self.view_is) at c.requires.alive) is e.shaped e.counted e.few,
+      rw (e.tasks, e.alive, length-set i.alive.items (c.args.who.0 - 1) false) c.self.invariant.1,
+    )
 
 pub returns-clause-k : goal.returns-clause-k
 returns-clause-k c =
