@@ -1,4 +1,6 @@
-//! A call from task to task, and a call that is forwarded, with memory for all of it.
+//! A call from task to task, a call that is forwarded, and in `kill` the end of tasks, with ample memory.
+
+mod kill;
 
 use crate::Kernel;
 use ipc_ids::{
@@ -86,6 +88,19 @@ fn is_same(left: &Entry, right: &Entry) -> bool {
         ) => { call == c && reply == r && by == b }
         (Entry::Delivered { call, to }, Entry::Delivered { call: c, to: t }) => {
             call == c && to == t
+        }
+        _ => is_same_end(left, right),
+    }
+}
+
+/// Whether both are the same entry of the end of a task or of a call.
+fn is_same_end(left: &Entry, right: &Entry) -> bool {
+    match (*left, *right) {
+        (Entry::Vanished(call), Entry::Vanished(c)) => call == c,
+        (Entry::Forgotten(call), Entry::Forgotten(c)) => call == c,
+        (Entry::Dropped { call, at }, Entry::Dropped { call: c, at: a }) => call == c && at == a,
+        (Entry::PhoneIs { phone, state }, Entry::PhoneIs { phone: p, state: s }) => {
+            phone == p && state == s
         }
         _ => false,
     }
