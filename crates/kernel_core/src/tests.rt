@@ -1,4 +1,4 @@
-//! A call from task to task, a call that is forwarded, and in `kill` the end of tasks, with ample memory.
+//! A call from task to task, a forwarded call, and in `kill` the end of tasks, with ample memory.
 
 mod kill;
 
