@@ -1,8 +1,9 @@
-//! The kernel: it serves one system call of one task at a time.
+//! The kernel: it serves one system call of one task at a time, and kills tasks.
 //!
 //! A `Kernel` is seen as `KernelState`: whether each task is alive, the states of its phones, the records
-//! of the live calls, and the number of events. `Kernel::serve` is the definition `serve` on that state.
-//! Inside, every state is sound, and each phone keeps the number of its active calls.
+//! of the live calls, and the number of events. `Kernel::serve` is the definition `serve` on that state, and
+//! `Kernel::kill` the definition `kill_event`. Every state is sound, inside each phone keeps the number of its
+//! active calls, and the entries of all events keep the laws of calls.
 #![tactic(auto)]
 
 mod answering;
@@ -10,6 +11,7 @@ mod calling;
 mod forward;
 mod hanging_up;
 mod kernel;
+mod laws;
 mod machine;
 mod receiving;
 mod request;
@@ -17,3 +19,4 @@ mod request;
 mod tests;
 
 pub use kernel::Kernel;
+pub use laws::fitting_histories_keep_the_laws;
