@@ -1,7 +1,8 @@
 //! The raw program, which does one operation of its body at a time.
 ghost use Rattle.std.specs.Prelude.{◌≡◌, ◌+◌, ◌^◌, ◌<◌, length, IfOk, IfSome};
 ghost use Rattle.std.specs.Option.{option_copied};
-ghost use Rattle.hipc.specs.Raw.{started, operation, value_in, value_of, values_of, request_of};
+ghost use Rattle.hipc.specs.Raw.{started, operation, value_in, value_of, values_of};
+ghost use Rattle.hipc.specs.Raw.{msg_of, reply_of, request_of};
 ghost use Rattle.hipc.specs.Raw.{with_register, with_five, at_next, at_place};
 ghost use Rattle.hipc.specs.Raw.{after_outcome, after_operation, wanted, after};
 
@@ -93,6 +94,24 @@ impl RawProgram {
         ]
     }
 
+    fn msg(&self, method: Value, args: &[Value; 5]) -> Msg
+        ensures { result ≡ msg_of self.now method args.now }
+    {
+        Msg {
+            method: self.value(method),
+            args: self.values(args),
+        }
+    }
+
+    fn reply(&self, code: Value, args: &[Value; 5]) -> Reply
+        ensures { result ≡ reply_of self.now code args.now }
+    {
+        Reply {
+            code: Code(self.value(code)),
+            args: self.values(args),
+        }
+    }
+
     fn request(&self, op: &Op) -> Request
         ensures { result ≡ request_of self.now op.now }
     {
@@ -103,18 +122,12 @@ impl RawProgram {
                 args,
             } => Request::Call {
                 phone: self.value(*phone),
-                msg: Msg {
-                    method: self.value(*method),
-                    args: self.values(args),
-                },
+                msg: self.msg(*method, args),
             },
             Op::Receive => Request::Receive,
             Op::Answer { call, code, args } => Request::Answer {
                 call: self.value(*call),
-                reply: Reply {
-                    code: Code(self.value(*code)),
-                    args: self.values(args),
-                },
+                reply: self.reply(*code, args),
             },
             Op::Forward { call, phone, mode } => Request::Forward {
                 call: self.value(*call),
@@ -132,10 +145,7 @@ impl RawProgram {
                 call: self.value(*call),
                 phone: self.value(*phone),
                 mode: *mode,
-                change: Some(Msg {
-                    method: self.value(*method),
-                    args: self.values(args),
-                }),
+                change: Some(self.msg(*method, args)),
             },
             Op::Hangup(phone) => Request::Hangup {
                 phone: self.value(*phone),
