@@ -25,7 +25,7 @@ use Rattle.cleanup.proofs.Lookups.{at_insert, at_remove, chosen, same_call}
 use Rattle.cleanup.proofs.Rows.{some_of, state_changed_at}
 use Rattle.cleanup.proofs.Soundness.{some_set, value_of, row_after, phone_kept}
 use Rattle.cleanup.proofs.Recounting.{some_and}
-use Rattle.cleanup.proofs.Counting.{counted_enqueue, counted_put, counted_without, count_few, count_positive}
+use Rattle.cleanup.proofs.Counting.{counted_enqueue, counted_put, counted_without, count_positive}
 
 -- how many calls are live
 
@@ -177,12 +177,6 @@ counts_phone phones counts q a b state s there = record {
   counted = s.counted;
   few = s.few;
 }
-
--- there is room to count one call more
-pub may_count : (phones : List (List PhoneState)) (counts : List (List ℕ)) (q : CallTable) (from : Label) → HasCounts phones counts q → IsSome (state_at phones from.task.0 from.phone.0) → q.next_number < 2 ^ 31 → IsSomeAnd (count_at counts from.task.0 from.phone.0) (λ n. n < 2 ^ 31)
-may_count phones counts q from s there few =
-    some_and (count_at counts from.task.0 from.phone.0) (λ n. n < 2 ^ 31) (s.shaped from.task.0 from.phone.0 there)
-    (λ n is. let l = count_few counts q from.task.0 from.phone.0 n s.counted is in let f = s.few in omega arith)
 
 -- a live call was counted
 pub was_counted : (phones : List (List PhoneState)) (counts : List (List ℕ)) (q : CallTable) (n : ℕ) (c : Call) → HasCounts phones counts q → call_at q n ≡ Some c → IsSomeAnd (count_at counts c.from.task.0 c.from.phone.0) (λ m. is_caller c.from.task c.caller ≡ true → 0 < m)

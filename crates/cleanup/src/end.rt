@@ -1,5 +1,5 @@
 //! The end of a task, whole.
-ghost use Rattle.std.specs.Prelude.{◌≡◌, ℕ, ◌+◌, ◌-◌, ◌*◌, ◌^◌, ◌<◌, ◌≤◌, ◌++◌, Bool, true, false, List, IsSome, OnOk, OnErr, length, slice_set};
+ghost use Rattle.std.specs.Prelude.{◌≡◌, ℕ, ◌+◌, ◌-◌, ◌*◌, ◌^◌, ◌<◌, ◌≤◌, ◌++◌, Bool, true, false, List, Some, IsSome, OnOk, OnErr, length, slice_set};
 ghost use Rattle.std.specs.FinMap.{len};
 ghost use Rattle.phone_table.specs.Phones.{state_at, count_at};
 ghost use Rattle.cleanup.specs.State.{state_from, alive_in};
@@ -46,7 +46,8 @@ pub fn end_task(
     requires few { len boxes.old.calls.records < boxes.old.calls.next_number }
     requires places { length alive ≤ boxes.old.tasks }
     requires few_tasks { length alive ≤ 64 }
-    requires few_calls { boxes.old.calls.next_number + 64 ≤ 2 ^ 31 }
+    requires few_active { (t p n : ℕ) → count_at phones.old.counts t p ≡ Some n → n < 2 ^ 31 }
+    requires few_calls { boxes.old.calls.next_number < 2 ^ 61 }
     requires few_stamps { boxes.old.calls.next_stamp < 2 ^ 61 }
     ensures calls { OnOk result (boxes.new.calls
         ≡ (end_parts who (state_with alive phones.old boxes.old)).state.calls) }
@@ -80,7 +81,8 @@ fn do_parts(who: TaskNo, boxes: &mut Boxes, phones: &mut PhoneRows, out: &mut Tr
     requires few_tasks { length alive ≤ 64 }
     requires room { 64 ≤ boxes.old.spare }
     requires lines { 4224 + 4 * (boxes.old.calls.next_number + 64) ≤ out.old.spare }
-    requires few_calls { boxes.old.calls.next_number + 64 ≤ 2 ^ 31 }
+    requires few_active { (q n : ℕ) → count_at phones.old.counts who.0 q ≡ Some n → n < 2 ^ 31 }
+    requires few_calls { boxes.old.calls.next_number < 2 ^ 61 }
     requires few_stamps { boxes.old.calls.next_stamp < 2 ^ 61 }
     ensures state { state_with alive phones.new boxes.new
         ≡ (end_parts who (state_with alive phones.old boxes.old)).state }
@@ -103,8 +105,7 @@ fn do_later_parts(who: TaskNo, boxes: &mut Boxes, phones: &mut PhoneRows, out: &
     requires ending { IsHalfEnded rest.alive who phones.old boxes.old }
     requires few_tasks { length rest.alive ≤ 64 }
     requires lines { 4096 + 4 * boxes.old.calls.next_number ≤ out.old.spare }
-    requires few_calls { boxes.old.calls.next_number ≤ 2 ^ 31 }
-    requires few_stamps { boxes.old.calls.next_stamp < 2 ^ 62 }
+    requires few_stamps { boxes.old.calls.next_stamp + 2 * boxes.old.calls.next_number < 2 ^ 63 }
     ensures state { state_with rest.alive phones.new boxes.new
         ≡ (later_parts who (state_with rest.alive phones.old boxes.old)).state }
     ensures entries { out.new.entries ≡ out.old.entries

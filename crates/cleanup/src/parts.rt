@@ -1,6 +1,7 @@
 //! The parts of the end of a task. There is room for all that they make.
 ghost use Rattle.std.specs.Prelude.{◌≡◌, ℕ, ◌+◌, ◌^◌, ◌<◌, ◌≤◌, ◌++◌, ◌*◌, ◌∷◌, [], Bool, List, Some, None, IsSome, length};
 ghost use Rattle.answerbox.specs.Calls.{call_at, task_of, without_caller};
+ghost use Rattle.phone_table.specs.Phones.{count_at};
 ghost use Rattle.cleanup.specs.State.{state_from};
 ghost use Rattle.cleanup.specs.HangingUp.{hangup_call as call_of_hangup};
 ghost use Rattle.cleanup.specs.Settling.{drop_answer as answer_drop, forget_call as call_loss};
@@ -29,7 +30,8 @@ pub(crate) fn hang_up_own_phones(
     requires ending { IsHalfEnded alive who phones.old boxes.old }
     requires room { 64 ≤ boxes.old.spare }
     requires lines { 128 ≤ out.old.spare }
-    requires few_calls { boxes.old.calls.next_number + 64 ≤ 2 ^ 31 }
+    requires few_active { (q n : ℕ) → count_at phones.old.counts who.0 q ≡ Some n → n < 2 ^ 31 }
+    requires few_calls { boxes.old.calls.next_number < 2 ^ 62 }
     requires few_stamps { boxes.old.calls.next_stamp < 2 ^ 62 }
     ensures state { state_with alive phones.new boxes.new
         ≡ (hangups who (state_with alive phones.old boxes.old)).state }
@@ -52,7 +54,8 @@ fn hang_up(who: TaskNo, phone: u64, boxes: &mut Boxes, phones: &mut PhoneRows, o
     requires ending { IsHalfEnded alive who phones.old boxes.old }
     requires room { 0 < boxes.old.spare }
     requires lines { 2 ≤ out.old.spare }
-    requires few_calls { boxes.old.calls.next_number < 2 ^ 31 }
+    requires few_active { (n : ℕ) → count_at phones.old.counts who.0 phone ≡ Some n → n < 2 ^ 31 }
+    requires few_calls { boxes.old.calls.next_number < 2 ^ 63 }
     requires few_stamps { boxes.old.calls.next_stamp < 2 ^ 63 }
     ensures state { state_with alive phones.new boxes.new
         ≡ (hang_up_at who (state_with alive phones.old boxes.old) phone).state }
@@ -62,6 +65,8 @@ fn hang_up(who: TaskNo, phone: u64, boxes: &mut Boxes, phones: &mut PhoneRows, o
     ensures tasks { boxes.new.tasks ≡ boxes.old.tasks }
     ensures numbers { boxes.new.calls.next_number ≤ boxes.old.calls.next_number + 1 }
     ensures stamps { boxes.new.calls.next_stamp ≤ boxes.old.calls.next_stamp + 1 }
+    ensures later { (q n : ℕ) → phone < q → count_at phones.new.counts who.0 q ≡ Some n
+        → count_at phones.old.counts who.0 q ≡ Some n }
     ensures room { boxes.old.spare ≤ boxes.new.spare + 1 }
     ensures lines { out.old.spare ≤ out.new.spare + 2 }
 {

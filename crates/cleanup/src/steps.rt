@@ -1,7 +1,7 @@
 //! Steps on the calls and the phones together, which keep the counts of active calls right.
-ghost use Rattle.std.specs.Prelude.{◌≡◌, ◌+◌, ◌^◌, ◌<◌, ◌≤◌, Some, None, IsSome, IfSome, OnOk, length};
+ghost use Rattle.std.specs.Prelude.{◌≡◌, ℕ, ◌+◌, ◌^◌, ◌<◌, ◌≤◌, Some, None, IsSome, IfSome, OnOk, length};
 ghost use Rattle.answerbox.specs.Calls.{call_at, task_of, enqueue, without_call, without_caller};
-ghost use Rattle.phone_table.specs.Phones.{state_at, hangup_answer};
+ghost use Rattle.phone_table.specs.Phones.{state_at, count_at, hangup_answer};
 ghost use Rattle.cleanup.specs.Counts.{recount, counts_without};
 ghost use Rattle.cleanup.specs.Kill.{width as width_of};
 ghost use Rattle.cleanup.specs.Steps.{HasCounts, with_answer, IsCallOf, hung_rows};
@@ -21,10 +21,14 @@ pub(crate) fn enqueue(call: Call, boxes: &mut Boxes, phones: &mut PhoneRows)
     requires place { task_of call.place ≤ boxes.old.tasks }
     requires task { call.from.task.0 ≤ boxes.old.tasks }
     requires counts { HasCounts phones.old.states phones.old.counts boxes.old.calls }
-    requires few_calls { boxes.old.calls.next_number < 2 ^ 31 }
+    requires few_active { (n : ℕ)
+        → count_at phones.old.counts call.from.task.0 call.from.phone.0 ≡ Some n → n < 2 ^ 31 }
+    requires few_calls { boxes.old.calls.next_number < 2 ^ 63 }
     requires few_stamps { boxes.old.calls.next_stamp < 2 ^ 63 }
     ensures calls { boxes.new.calls ≡ enqueue boxes.old.calls call }
     ensures states { phones.new.states ≡ phones.old.states }
+    ensures recounted { phones.new.counts
+        ≡ recount (λ n. n + 1) phones.old.counts call.from.task.0 call.from.phone.0 }
     ensures counts { HasCounts phones.new.states phones.new.counts boxes.new.calls }
     ensures tasks { boxes.new.tasks ≡ boxes.old.tasks }
     ensures spare { boxes.old.spare ≤ boxes.new.spare + 1 }

@@ -1,5 +1,5 @@
 -- The end of a task, by its marks and its parts.
-use Rattle.std.proofs.Common.{◌≡◌, ℕ, zero, suc, ◌-◌, ◌<◌, Bool, true, false, inl, inr, List, [], ◌∷◌, refl, ap, sym, ◌∙◌, subst, set}
+use Rattle.std.proofs.Common.{◌≡◌, ◌^◌, ◌+◌, ◌≤◌, ℕ, zero, suc, ◌-◌, ◌<◌, Bool, true, false, inl, inr, List, [], ◌∷◌, refl, ap, sym, ◌∙◌, subst, set, Some, arith}
 use Rattle.std.specs.Prelude.{Result, Ok, Err, OnErr, IsSome, slice_get, unwrap_or}
 use Rattle.std.proofs.lemmas.Bool.{cases_eq, eq-eqb, ne_eqb}
 use Rattle.std.specs.FinMap.{len}
@@ -11,6 +11,7 @@ use Rattle.cleanup.specs.State.{KernelState, alive_in, is_alive, state_from, no_
 use Rattle.cleanup.specs.Sound.{IsSound}
 use Rattle.cleanup.specs.Counts.{IsCounted}
 use Rattle.cleanup.specs.Kill.{mark_ended, kill, end_parts}
+use Rattle.cleanup.proofs.Counting.{count_few}
 use Rattle.cleanup.proofs.Events.{at, done_at, ended_at}
 use Rattle.cleanup.proofs.Killing.{sound_kill, kill_marks, kill_memory}
 use Rattle.kernel_core.specs.Kept.{IsKept}
@@ -41,6 +42,11 @@ marked_ended marks t = elim (cases_eq t 0) [
   | inl e ↦ rw (eq-eqb t 0 e) refl
   | inr ne ↦ rw (ne_eqb t 0 ne) (set_false marks (t - 1))
 ]
+
+-- no phone has more active calls than there are calls
+pub few_counts : (counts : List (List ℕ)) (calls : CallTable) → IsCounted counts calls → len calls.records < calls.next_number → calls.next_number + 64 ≤ 2 ^ 31
+    → (t p n : ℕ) → count_at counts t p ≡ Some n → n < 2 ^ 31
+few_counts counts calls counted live few t p n is = let most = count_few counts calls t p n counted is in omega (arith, most, live, few)
 
 -- soundness does not read the number of events
 pub sound_at : (e : ℕ) (k : KernelState) → IsSound k → IsSound (at e k)

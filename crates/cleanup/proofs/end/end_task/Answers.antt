@@ -13,5 +13,5 @@ do_parts-requires g c =
     let number = c.next_number.ensures.number in (
       rw (c.reserve.ensures.calls, c.reserve.ensures.tasks)
           (ending_start g.alive c.args.who c.args.phones.now.states c.args.phones.now.counts c.args.boxes.now.calls c.args.boxes.now.tasks r.0 r.1.0 r.1.1.0 r.1.1.1.1.1.1.1.0 r.1.1.1.0 r.1.1.1.1.0 r.1.1.1.1.1.0 r.1.1.1.1.1.1.0),
-      (r.1.1.1.1.1.1.1.1.0, (places, (omega arith, (omega arith, omega arith)))),
+      (r.1.1.1.1.1.1.1.1.0, (places, (omega arith, (r.1.1.1.1.1.1.1.1.1.0 c.args.who.0, (omega arith, omega arith))))),
     )

@@ -13,6 +13,7 @@ loop-phone-preserved g c =
       state = each_state (hang_up_at c.args.who) most c.loop-phone.phone k _ (hang_up_own_phones c.args.who old) c.args.out.now.entries c.loop-phone.out.entries _ (omega arith) c.hang_up.ensures.state c.hang_up.ensures.entries c.loop-phone.invariant.state;
       entries = each_entries (hang_up_at c.args.who) most c.loop-phone.phone k _ (hang_up_own_phones c.args.who old) c.args.out.now.entries c.loop-phone.out.entries _ (omega arith) c.hang_up.ensures.state c.hang_up.ensures.entries c.loop-phone.invariant.entries;
       ending = c.hang_up.ensures.ending;
+      few_active = λ q n after is. c.loop-phone.invariant.few_active q n (omega arith) (c.hang_up.ensures.later q n (omega arith) is);
       tasks = c.hang_up.ensures.tasks ∙ c.loop-phone.invariant.tasks;
       numbers = omega arith;
       stamps = omega arith;

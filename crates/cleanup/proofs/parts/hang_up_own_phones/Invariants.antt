@@ -1,4 +1,5 @@
-use Rattle.std.proofs.Common.{◌≡◌, ◌+◌, ◌-◌, ◌*◌, ◌≤◌, ◌++◌}
+use Rattle.std.proofs.Common.{◌≡◌, ℕ, Some, ◌<◌, ◌^◌, ◌+◌, ◌-◌, ◌*◌, ◌≤◌, ◌++◌}
+use Rattle.phone_table.specs.Phones.{count_at}
 use Rattle.cleanup.specs.State.{state_from, each}
 use Rattle.cleanup.specs.Kill.{width, hang_up_at, hang_up_own_phones}
 use Rattle.cleanup.specs.Ending.{IsEnding}
@@ -17,6 +18,7 @@ invariant-loop-phone g l =
       state : (each (hang_up_at l.who) (most - l.phone) l.phone k).state ≡ (hang_up_own_phones l.who old).state;
       entries : l.out.entries ++ (each (hang_up_at l.who) (most - l.phone) l.phone k).entries ≡ l.fn.out.entries ++ (hang_up_own_phones l.who old).entries;
       ending : IsEnding g.alive l.who l.phones.states l.phones.counts l.boxes.calls l.boxes.tasks;
+      few_active : (q n : ℕ) → l.phone ≤ q → count_at l.phones.counts l.who.0 q ≡ Some n → n < 2 ^ 31;
       tasks : l.boxes.tasks ≡ l.fn.boxes.tasks;
       numbers : l.boxes.calls.next_number ≤ l.fn.boxes.calls.next_number + l.phone;
       stamps : l.boxes.calls.next_stamp ≤ l.fn.boxes.calls.next_stamp + l.phone;

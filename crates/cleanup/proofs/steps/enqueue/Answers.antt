@@ -1,10 +1,13 @@
-use Rattle.std.proofs.Common.{ap, ◌∙◌}
+use Rattle.std.proofs.Common.{ap, ◌∙◌, ◌<◌, ◌^◌}
+use Rattle.phone_table.specs.Phones.{count_at}
+use Rattle.cleanup.proofs.Recounting.{some_and}
 use Rattle.answerbox.specs.Calls.{call_at}
-use Rattle.cleanup.proofs.Keeping.{may_count, counts_enqueue}
+use Rattle.cleanup.proofs.Keeping.{counts_enqueue}
 use Rattle.cleanup.proofs.steps.enqueue.Goals as goal
 
 pub count_up-requires-clause-few : goal.count_up-requires-clause-few
-count_up-requires-clause-few c = may_count c.args.phones.now.states c.args.phones.now.counts c.args.boxes.now.calls c.args.call.from c.requires.counts c.requires.there c.requires.few_calls
+count_up-requires-clause-few c =
+    some_and (count_at c.args.phones.now.counts c.args.call.from.task.0 c.args.call.from.phone.0) (λ n. n < 2 ^ 31) (c.requires.counts.shaped c.args.call.from.task.0 c.args.call.from.phone.0 c.requires.there) c.requires.few_active
 
 pub returns-clause-counts : goal.returns-clause-counts
 returns-clause-counts c =
