@@ -1,5 +1,5 @@
 -- One task, whose first of two phones leads to itself, and no calls.
-use Rattle.std.proofs.Common.{◌≡◌, ℕ, zero, suc, ◌-◌, List, [], ◌∷◌, true, refl, arith}
+use Rattle.std.proofs.Common.{◌≡◌, ◌<◌, ◌^◌, Some, ℕ, zero, suc, ◌-◌, List, [], ◌∷◌, true, refl, arith}
 use Rattle.std.specs.Prelude.{IsSome}
 use Rattle.std.specs.Ordering.{nat_cmp}
 use Rattle.std.specs.FinMap.{len-empty}
@@ -13,7 +13,7 @@ use Rattle.cleanup.specs.State.{start, state_from, with_task}
 use Rattle.cleanup.specs.Sound.{IsSound}
 use Rattle.cleanup.specs.Counts.{IsCounted}
 use Rattle.cleanup.proofs.Soundness.{sound_start, kept_task, kept_wired}
-use Rattle.cleanup.proofs.Counting.{counted_none, counted_task}
+use Rattle.cleanup.proofs.Counting.{counted_none, counted_task, count_few}
 
 abbrev pub alone : TaskNo
 alone = record { 0 = 1 }
@@ -29,6 +29,12 @@ alone_sound = kept_wired (with_task start 2) alone 0 alone (kept_task start 2 so
 
 pub alone_counted : IsCounted its_counts no_calls
 alone_counted = counted_task [] no_calls 2 counted_none (rw (len-empty nat_cmp) refl)
+
+pub alone_few : (t p n : ℕ) → count_at its_counts t p ≡ Some n → n < 2 ^ 31
+alone_few t p n is =
+    let most = count_few its_counts no_calls t p n alone_counted is in
+    let none = rw (len-empty nat_cmp) at most in
+    omega (arith, none)
 
 pub alone_shaped : (t p : ℕ) → IsSome (state_at its_phones t p) → IsSome (count_at its_counts t p)
 alone_shaped zero p h = absurd (cc h)

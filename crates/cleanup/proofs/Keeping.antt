@@ -1,5 +1,5 @@
 -- Each step keeps what the counts of calls need.
-use Rattle.std.proofs.Common.{◌≡◌, ℕ, ◌+◌, ◌-◌, ◌<◌, ◌^◌, Bool, true, false, cond, ◌&&◌, inl, inr, Option, None, Some, List, refl, ap, sym, subst, ◌∙◌, arith, set, Result, Ok, Err}
+use Rattle.std.proofs.Common.{◌≡◌, ℕ, ◌+◌, ◌-◌, ◌<◌, Bool, true, false, cond, ◌&&◌, inl, inr, Option, None, Some, List, refl, ap, sym, subst, ◌∙◌, arith, set, Result, Ok, Err}
 use Rattle.std.specs.Prelude.{IsSome, slice_get, option_and_then, ◌==◌, if◌then◌else◌}
 use Rattle.std.specs.Option.{option_map_or, IsSomeAnd}
 use Rattle.std.specs.Cmp.{nat_cmp_total}
