@@ -1,6 +1,5 @@
 pub mod Lookups
 pub mod Rows
-pub mod Events
 pub mod Loops
 pub mod Soundness
 pub mod Counting
@@ -17,4 +16,7 @@ pub mod Histories
 pub mod KillExample
 pub mod Keeping
 pub mod Endings
-pub mod Alone
+pub mod Inner
+pub mod Switched
+pub mod Turns
+pub mod SoundBoards

@@ -5,4 +5,6 @@ pub mod Settling
 pub mod HangingUp
 pub mod Kill
 pub mod Steps
-pub mod Ending
+pub mod Board
+pub mod Rooms
+pub mod Serving

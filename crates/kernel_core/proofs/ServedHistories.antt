@@ -35,9 +35,11 @@ use Rattle.cleanup.specs.HangingUp.{new_call, hangup_call, hang_up}
 use Rattle.cleanup.specs.Sound.{IsSound, IsPlaced, IsCaller}
 use Rattle.cleanup.proofs.Lookups.{at_insert, at_remove}
 use Rattle.cleanup.proofs.Histories.{drain_tells}
-use Rattle.kernel_core.specs.Served.{Served}
-use Rattle.kernel_core.specs.Calling.{answer_at_once, call_through, call_tested, call_over}
-use Rattle.kernel_core.specs.Receiving.{receive_first, receive_now, unawaited, next_unawaited, drop_unawaited}
+use Rattle.cleanup.specs.Serving.{Served}
+use Rattle.cleanup.specs.Serving.{answer_at_once}
+use Rattle.kernel_core.specs.Calling.{call_through, call_tested, call_over}
+use Rattle.cleanup.specs.Serving.{receive_first}
+use Rattle.kernel_core.specs.Receiving.{receive_now, unawaited, next_unawaited, drop_unawaited}
 use Rattle.kernel_core.specs.Answering.{held_by, answer_held}
 use Rattle.kernel_core.specs.HangingUp.{hangup_over}
 use Rattle.kernel_core.specs.Forwarding.{failed_forward, forward_told}

@@ -33,15 +33,15 @@ use Rattle.cleanup.proofs.Soundness.{sound_enqueue, sound_put, sound_without, ke
 use Rattle.cleanup.proofs.Repeats.{by_test, drain_keeps}
 use Rattle.cleanup.proofs.Silence.{next_free, more_calls, sound_hang_up}
 use Rattle.cleanup.proofs.Queues.{fewer_calls, as_many_calls}
-use Rattle.kernel_core.specs.Served.{Served}
+use Rattle.cleanup.specs.Serving.{Served}
 use Rattle.kernel_core.specs.Calling.{call_through, call_tested, call_over}
-use Rattle.kernel_core.specs.Receiving.{receive_first, receive_now, unawaited, next_unawaited, drop_unawaited}
+use Rattle.cleanup.specs.Serving.{receive_first}
+use Rattle.kernel_core.specs.Receiving.{receive_now, unawaited, next_unawaited, drop_unawaited}
 use Rattle.kernel_core.specs.Answering.{held_by, answer_held}
 use Rattle.kernel_core.specs.Forwarding.{failed_forward, passing_on, forward_told}
 use Rattle.kernel_core.specs.HangingUp.{hangup_over}
 use Rattle.kernel_core.specs.Serve.{serve, serve_request}
-use Rattle.kernel_core.proofs.Reading.{leads_of}
-use Rattle.kernel_core.proofs.Passing.{passes}
+use Rattle.kernel_core.proofs.Passing.{leads_of, passes}
 
 -- a state to which a request may lead: sound, with the same tasks alive, the same memory, one number and stamp more at most, and no more new calls than new numbers
 pub record MayFollow (k j : KernelState) : Type 0 where

@@ -10,6 +10,8 @@ use Rattle.cleanup.specs.State.{KernelState, start, is_alive, with_task, with_ph
 use Rattle.cleanup.specs.Sound.{IsSound}
 use Rattle.cleanup.proofs.Soundness.{sound_start, kept_task, kept_wired}
 use Rattle.cleanup.proofs.Killing.{sound_kill, kill_few}
+use Rattle.answerbox.proofs.Counts.{active-len}
+use Rattle.cleanup.specs.Board.{FewActive}
 use Rattle.kernel_core.specs.Kept.{IsSteady}
 use Rattle.cleanup.specs.Kill.{kill}
 use Rattle.kernel_core.specs.Serve.{serve_request, serve, kill_event}
@@ -93,3 +95,7 @@ steady_killed k killed j t s alive few_events does counts numbers stamps events 
     steady_kill k j t s alive (killed_after k killed j t does counts)
     (rw counts (omega (arith, numbers, events, s.numbers)))
     (rw counts (omega (arith, stamps, numbers, events, s.numbers, s.stamps, few_events)))
+
+-- no phone has more active calls than there are calls
+pub few_active : (k : KernelState) → IsSteady k → k.events < 2 ^ 24 → FewActive k
+few_active k s few l = let most = active-len k.calls l in omega (arith, most, s.live, s.numbers, few)

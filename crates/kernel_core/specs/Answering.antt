@@ -1,16 +1,20 @@
 -- An answer by task t to a call that it holds.
-use Rattle.std.specs.Prelude.{ℕ, if◌then◌else◌, Option, None, Some}
+use Rattle.std.specs.Prelude.{ℕ, if◌then◌else◌, [], Option, None, Some}
 use Rattle.ipc_ids.specs.declared.numbers.TaskNo.{TaskNo}
+use Rattle.ipc_ids.specs.declared.numbers.Code.{Code}
 use Rattle.ipc_ids.specs.declared.message.Reply.{Reply}
-use Rattle.ipc_ids.specs.declared.message.Outcome.TheVariants.{Done}
+use Rattle.ipc_ids.specs.declared.message.Outcome.TheVariants.{Done, Refused}
 use Rattle.ipc_ids.specs.Codes.{enoent}
 use Rattle.call_slab.specs.declared.call.Call.{Call}
 use Rattle.call_slab.specs.declared.call.Place.TheVariants.{Dispatched}
 use Rattle.answerbox.specs.Calls.{call_at, same_place}
 use Rattle.cleanup.specs.State.{KernelState}
 use Rattle.cleanup.specs.Settling.{settle}
-use Rattle.kernel_core.specs.Served.{Served, telling}
-use Rattle.kernel_core.specs.Calling.{refusal}
+use Rattle.cleanup.specs.Serving.{Served, telling}
+
+-- nothing changes, and the task is told this code
+abbrev pub refusal : KernelState → Code → Served
+refusal k code = record { state = k; outcome = Refused code; entries = [] }
 
 -- the live call, where task t has received it and has not answered it
 abbrev pub held_by : TaskNo → Option Call → Option Call

@@ -14,7 +14,7 @@ use Rattle.call_slab.specs.declared.call.Place.{Place}
 use Rattle.call_slab.specs.declared.call.Place.TheVariants as place
 use Rattle.answerbox.specs.Calls.{call_at}
 use Rattle.cleanup.specs.State.{KernelState, Transition}
-use Rattle.kernel_core.specs.Served.{Served}
+use Rattle.cleanup.specs.Serving.{Served}
 
 -- whether this is the number of a task that has ended; tasks are numbered from 1
 abbrev pub is_ended : List Bool → ℕ → Bool

@@ -6,7 +6,7 @@ use Rattle.ipc_ids.specs.declared.message.Request.TheVariants.{Call, Receive, An
 use Rattle.ipc_ids.specs.declared.message.Outcome.TheVariants.{Done}
 use Rattle.cleanup.specs.State.{KernelState, Transition, with_event}
 use Rattle.cleanup.specs.Kill.{kill}
-use Rattle.kernel_core.specs.Served.{Served}
+use Rattle.cleanup.specs.Serving.{Served}
 use Rattle.kernel_core.specs.Calling.{call}
 use Rattle.kernel_core.specs.Receiving.{receive}
 use Rattle.kernel_core.specs.Answering.{answer}

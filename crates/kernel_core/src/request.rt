@@ -1,38 +1,42 @@
 //! What each request does.
-ghost use Rattle.std.specs.Prelude.{◌≡◌, ◌+◌, ◌^◌, ◌<◌, ◌≤◌, ◌++◌, true};
-ghost use Rattle.cleanup.specs.State.{is_alive};
+ghost use Rattle.std.specs.Prelude.{◌+◌};
+ghost use Rattle.cleanup.specs.Board.{IsAdded, FewActive};
+ghost use Rattle.cleanup.specs.Rooms.{HasRoom, UsesRoom};
+ghost use Rattle.cleanup.specs.Serving.{Serves};
 ghost use Rattle.kernel_core.specs.Serve.{serve_request as serve_request_of};
 
-use crate::machine::Machine;
+use crate::answering::answer;
+use crate::calling::call;
+use crate::forward::forward;
+use crate::hanging_up::hangup;
+use crate::receiving::receive;
 use ipc_ids::{Outcome, Request, TaskNo, Trace};
+use cleanup::Switchboard;
 
-impl Machine {
-    /// Does what the task asks. There is room for a call and for all entries.
-    pub fn serve_request(&mut self, who: TaskNo, request: &Request, out: &mut Trace) -> Outcome
-        requires alive { is_alive self.old.k who ≡ true }
-        requires room { 0 < self.old.spare }
-        requires lines { self.old.k.calls.next_number + 2 ≤ out.old.spare }
-        requires few_calls { self.old.k.calls.next_number < 2 ^ 31 }
-        requires few_stamps { self.old.k.calls.next_stamp < 2 ^ 62 }
-        ensures state { self.new.k ≡ (serve_request_of self.old.k who request.now).state }
-        ensures outcome { result ≡ (serve_request_of self.old.k who request.now).outcome }
-        ensures entries { out.new.entries ≡ out.old.entries ++ (serve_request_of self.old.k who request.now).entries }
-        ensures numbers { self.new.k.calls.next_number ≤ self.old.k.calls.next_number + 1 }
-        ensures stamps { self.new.k.calls.next_stamp ≤ self.old.k.calls.next_stamp + 1 }
-        ensures events { self.new.k.events ≡ self.old.k.events }
-    {
-        match request {
-            Request::Call { phone, msg } => self.call(who, *phone, msg, out),
-            Request::Receive => self.receive(who, out),
-            Request::Answer { call, reply } => self.answer(who, *call, reply, out),
-            Request::Hangup { phone } => self.hangup(who, *phone, out),
-            Request::Nothing => Outcome::Done,
-            Request::Forward {
-                call,
-                phone,
-                mode,
-                change,
-            } => self.forward(who, *call, *phone, *mode, *change, out),
-        }
+/// Does what the task asks. There is room for a call and for all entries.
+pub(crate) fn serve_request(
+    board: &mut Switchboard,
+    who: TaskNo,
+    request: &Request,
+    out: &mut Trace,
+) -> Outcome
+    requires added { IsAdded board.old.k who }
+    requires few { FewActive board.old.k }
+    requires room { HasRoom board.old out.old 1 1 (board.old.k.calls.next_number + 2) }
+    ensures served { Serves board.new result out.old out.new (serve_request_of board.old.k who request.now) }
+    ensures room { UsesRoom board.old board.new out.old out.new 1 1 (board.old.k.calls.next_number + 2) }
+{
+    match request {
+        Request::Call { phone, msg } => call(board, who, *phone, msg, out),
+        Request::Receive => receive(board, who, out),
+        Request::Answer { call, reply } => answer(board, who, *call, reply, out),
+        Request::Hangup { phone } => hangup(board, who, *phone, out),
+        Request::Nothing => Outcome::Done,
+        Request::Forward {
+            call,
+            phone,
+            mode,
+            change,
+        } => forward(board, who, *call, *phone, *mode, *change, out),
     }
 }

@@ -1,0 +1,8 @@
+use Rattle.cleanup.proofs.Switched.{switched_calls, counts_readdress}
+use Rattle.cleanup.proofs.board.Switchboard.readdress.Goals as goal
+
+pub invariant_of-self : goal.invariant_of-self
+invariant_of-self c =
+    let i = c.self.inside in
+    rw (c.readdress.ensures.calls, c.readdress.ensures.tasks)
+    (switched_calls _ _ c.self.invariant.0 (counts_readdress i.phones.states i.phones.counts i.boxes.calls c.args.call.0 c.args.msg c.args.label c.args.to c.self.invariant.0.has_counts (rw (← c.self.view_is) at c.requires.live)), c.self.invariant.1)
