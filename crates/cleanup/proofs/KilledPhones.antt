@@ -14,8 +14,7 @@ use Rattle.call_slab.specs.declared.call.Place.TheVariants.{Incoming, Dispatched
 use Rattle.phone_table.specs.Phones.{state_at}
 use Rattle.cleanup.specs.State.{KernelState, Transition, is_alive, phone_at, with_state_at, with_phone}
 use Rattle.cleanup.specs.Sound.{IsQuiet, IsSound}
-use Rattle.cleanup.specs.Settling.{bare_reply, settle_for, lives, drop_answer, forget_call}
-use Rattle.cleanup.specs.HangingUp.{hang_up}
+use Rattle.cleanup.specs.Joins.{bare_reply, settle_for, lives, drop_answer, forget_call, hang_up}
 use Rattle.cleanup.specs.Kill.{width, mark_ended, hang_up_at, slam, first_at, first_call_of, settle_call, settle_calls_at, kill}
 use Rattle.cleanup.proofs.Rows.{state_changed_at}
 use Rattle.cleanup.proofs.Soundness.{phone_kept, value_of}
@@ -194,15 +193,15 @@ settle_phones rows j c reply (Some u) false h = h
 settle_phones rows j c reply (Some u) true h = h
 
 settles_phones : (place : Place) (rows : List (List PhoneState)) (j : KernelState) → j.tasks.phones ≡ rows → (settle_calls_at place j).state.tasks.phones ≡ rows
-settles_phones place rows j h = drain_keeps (first_at place) settle_call (λ i. i.tasks.phones ≡ rows) (λ i c s is. settle_phones rows i c (bare_reply ehangup) c.caller (lives i c.caller) s) j.calls.next_number j h
+settles_phones place rows j h = drain_keeps (first_at place) settle_call (λ i. i.tasks.phones ≡ rows) (λ i c s is. settle_phones rows i c (bare_reply ehangup) c.caller (lives i c.caller) s) (len j.calls.records) j h
 
 pub phones_after : (k : KernelState) (t : TaskNo) → (kill k t).state.tasks.phones ≡ (after_slams t k).tasks.phones
 phones_after k t =
     let rows : List (List PhoneState) = (after_slams t k).tasks.phones in
     let h3 : (after_incoming t k).tasks.phones ≡ rows = settles_phones (Incoming t) rows (after_slams t k) refl in
     let h4 : (after_dispatched t k).tasks.phones ≡ rows = settles_phones (Dispatched t) rows (after_incoming t k) h3 in
-    let h5 : (after_answers t k).tasks.phones ≡ rows = drain_keeps (first_at (Answers t)) (drop_answer t) (λ j. j.tasks.phones ≡ rows) (λ j c s is. s) (after_dispatched t k).calls.next_number (after_dispatched t k) h4 in
-    drain_keeps (first_call_of t) forget_call (λ j. j.tasks.phones ≡ rows) (λ j c s is. s) (after_answers t k).calls.next_number (after_answers t k) h5
+    let h5 : (after_answers t k).tasks.phones ≡ rows = drain_keeps (first_at (Answers t)) (drop_answer t) (λ j. j.tasks.phones ≡ rows) (λ j c s is. s) (len (after_dispatched t k).calls.records) (after_dispatched t k) h4 in
+    drain_keeps (first_call_of t) forget_call (λ j. j.tasks.phones ≡ rows) (λ j c s is. s) (len (after_answers t k).calls.records) (after_answers t k) h5
 
 -- a fact on the phones that a slam keeps, and the silence that it keeps
 record AndSilent (marks : List Bool) (t : TaskNo) (I : KernelState → Type 0) (k : KernelState) : Type 0 where

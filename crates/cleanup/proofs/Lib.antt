@@ -9,7 +9,6 @@ pub mod Absence
 pub mod Silence
 pub mod Queues
 pub mod Killing
-pub mod Numbering
 pub mod KilledPhones
 pub mod KilledCalls
 pub mod Histories
@@ -20,3 +19,4 @@ pub mod Inner
 pub mod Switched
 pub mod Turns
 pub mod SoundBoards
+pub mod Live

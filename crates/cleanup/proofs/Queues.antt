@@ -17,7 +17,7 @@ use Rattle.answerbox.proofs.Steps.{with_change-record}
 use Rattle.answerbox.proofs.Callers.{calls_of_live, calls_of_none}
 use Rattle.cleanup.specs.State.{Tasks, KernelState, with_calls}
 use Rattle.cleanup.specs.Sound.{IsPlaced, IsSoundCall, AreSoundCalls, IsSound}
-use Rattle.cleanup.specs.Settling.{bare_reply, settle, settle_for, lives, drop_answer, forget_call}
+use Rattle.cleanup.specs.Joins.{bare_reply, settle, settle_for, lives, drop_answer, forget_call}
 use Rattle.cleanup.specs.Kill.{first_at, first_call_of, settle_call, settle_incoming, settle_dispatched, drop_answers, forget_calls_elsewhere}
 use Rattle.cleanup.proofs.Lookups.{at_insert, at_remove, chosen, same_call}
 use Rattle.cleanup.proofs.Soundness.{sound_put, sound_without, kept_calls}
@@ -191,8 +191,6 @@ forget_none test k c is h fails = subst (NoneIs test) (sym (forget_step k c is))
 
 -- the parts
 
-fuel : (marks : List Bool) (k : KernelState) (test : Call → Bool) → IsEnding marks k → count_of test (entries k.calls.records) ≤ k.calls.next_number
-fuel marks k test h = let l = count-len test k.calls.records in let f = h.few in omega arith
 
 -- no call waits at t
 pub record IsUncalled (marks : List Bool) (t : TaskNo) (k : KernelState) : Type 0 where
@@ -204,10 +202,10 @@ incoming_alone marks t k c h is = settle_alone marks t k c h (front_at marks k (
 
 pub incoming_settled : (marks : List Bool) (t : TaskNo) (k : KernelState) → IsAlone marks t k → IsUncalled marks t (settle_incoming t k).state
 incoming_settled marks t k h = record {
-  alone = drain_keeps (first_at (Incoming t)) settle_call (IsAlone marks t) (incoming_alone marks t) k.calls.next_number k h;
+  alone = drain_keeps (first_at (Incoming t)) settle_call (IsAlone marks t) (incoming_alone marks t) (len k.calls.records) k h;
   incoming = drain_empties (first_at (Incoming t)) settle_call (IsAlone marks t) (incoming_alone marks t) (stands_at (Incoming t)) (λ j e. front_none j.calls (Incoming t) e)
       (λ j c i is. let f = front_at marks j (Incoming t) c i.silent.ending is in settle_less (stands_at (Incoming t)) j c f.0 f.1 (λ u. refl))
-      k.calls.next_number k h (fuel marks k (stands_at (Incoming t)) h.silent.ending);
+      (len k.calls.records) k h (count-len (stands_at (Incoming t)) k.calls.records);
 }
 
 -- no call is held by t
@@ -223,10 +221,10 @@ dispatched_uncalled marks t k c h is = record {
 
 pub dispatched_settled : (marks : List Bool) (t : TaskNo) (k : KernelState) → IsUncalled marks t k → IsIdle marks t (settle_dispatched t k).state
 dispatched_settled marks t k h = record {
-  uncalled = drain_keeps (first_at (Dispatched t)) settle_call (IsUncalled marks t) (dispatched_uncalled marks t) k.calls.next_number k h;
+  uncalled = drain_keeps (first_at (Dispatched t)) settle_call (IsUncalled marks t) (dispatched_uncalled marks t) (len k.calls.records) k h;
   dispatched = drain_empties (first_at (Dispatched t)) settle_call (IsUncalled marks t) (dispatched_uncalled marks t) (stands_at (Dispatched t)) (λ j e. front_none j.calls (Dispatched t) e)
       (λ j c i is. let f = front_at marks j (Dispatched t) c i.alone.silent.ending is in settle_less (stands_at (Dispatched t)) j c f.0 f.1 (λ u. refl))
-      k.calls.next_number k h (fuel marks k (stands_at (Dispatched t)) h.alone.silent.ending);
+      (len k.calls.records) k h (count-len (stands_at (Dispatched t)) k.calls.records);
 }
 
 -- no answer stands at t
@@ -245,10 +243,10 @@ drop_idle marks t k c h is = record {
 
 pub answers_dropped : (marks : List Bool) (t : TaskNo) (k : KernelState) → IsIdle marks t k → IsUnanswered marks t (drop_answers t k).state
 answers_dropped marks t k h = record {
-  idle = drain_keeps (first_at (Answers t)) (drop_answer t) (IsIdle marks t) (drop_idle marks t) k.calls.next_number k h;
+  idle = drain_keeps (first_at (Answers t)) (drop_answer t) (IsIdle marks t) (drop_idle marks t) (len k.calls.records) k h;
   answers = drain_empties (first_at (Answers t)) (drop_answer t) (IsIdle marks t) (drop_idle marks t) (stands_at (Answers t)) (λ j e. front_none j.calls (Answers t) e)
       (λ j c i is. let f = front_at marks j (Answers t) c i.uncalled.alone.silent.ending is in over_less (stands_at (Answers t)) j c f.0 f.1)
-      k.calls.next_number k h (fuel marks k (stands_at (Answers t)) h.uncalled.alone.silent.ending);
+      (len k.calls.records) k h (count-len (stands_at (Answers t)) k.calls.records);
 }
 
 -- no call is one of t
@@ -276,8 +274,8 @@ forget_unanswered marks t k c h is =
 
 pub calls_forgotten : (marks : List Bool) (t : TaskNo) (k : KernelState) → IsUnanswered marks t k → IsForgotten marks t (forget_calls_elsewhere t k).state
 calls_forgotten marks t k h = record {
-  unanswered = drain_keeps (first_call_of t) forget_call (IsUnanswered marks t) (forget_unanswered marks t) k.calls.next_number k h;
+  unanswered = drain_keeps (first_call_of t) forget_call (IsUnanswered marks t) (forget_unanswered marks t) (len k.calls.records) k h;
   callers = drain_empties (first_call_of t) forget_call (IsUnanswered marks t) (forget_unanswered marks t) (is_call_of t) (λ j e n c is. calls_of_none j.calls t n c e is)
       (λ j c i is. let f = call_from marks t j c i.idle.uncalled.alone.silent.ending is in forget_less (is_call_of t) j c f.0 f.1 refl)
-      k.calls.next_number k h (fuel marks k (is_call_of t) h.idle.uncalled.alone.silent.ending);
+      (len k.calls.records) k h (count-len (is_call_of t) k.calls.records);
 }

@@ -15,7 +15,7 @@ use Rattle.answerbox.specs.Calls.{CallTable, call_at, enqueue}
 use Rattle.phone_table.specs.Phones.{row_at, state_at}
 use Rattle.cleanup.specs.State.{Tasks, KernelState, Transition, alive_in, is_alive, phone_at, with_state_at, with_phone, with_calls}
 use Rattle.cleanup.specs.Sound.{AreSoundCalls, IsQuiet, IsSound}
-use Rattle.cleanup.specs.HangingUp.{hangup_call, hang_up}
+use Rattle.cleanup.specs.Joins.{hangup_call, hang_up}
 use Rattle.cleanup.specs.Kill.{task_no, width, hang_up_at, hang_up_own_phones, slam, slam_at, slam_phones_of, slam_other, slam_phones_to}
 use Rattle.cleanup.proofs.Rows.{state_changed_at}
 use Rattle.cleanup.proofs.Soundness.{sound_enqueue, sound_under, phone_kept, kept_calls, kept_hung_up}

@@ -9,7 +9,7 @@ use Rattle.ipc_ids.specs.declared.message.PhoneState.TheVariants.{Free, Connecti
 use Rattle.call_slab.specs.declared.call.Place.{Place}
 use Rattle.answerbox.specs.Calls.{CallTable, call_at, with_place, readdressed, no_calls, active_calls, same_label}
 use Rattle.answerbox.proofs.Counts.{active-enqueue}
-use Rattle.cleanup.specs.HangingUp.{hang_up, hangup_call}
+use Rattle.cleanup.specs.Joins.{hang_up, hangup_call}
 use Rattle.answerbox.proofs.Steps.{call_at-no_calls}
 use Rattle.ipc_ids.specs.declared.message.Msg.{Msg}
 use Rattle.call_slab.specs.declared.call.Place.TheVariants.{Incoming}
@@ -21,18 +21,16 @@ use Rattle.phone_table.specs.Phones.{row_at, state_at, count_at, hangup_answer}
 use Rattle.phone_table.specs.Usable.{IsConnected}
 use Rattle.phone_table.specs.declared.hung.Hung.{Hung}
 use Rattle.phone_table.specs.declared.hung.Hung.TheVariants.{Sent, Silent}
-use Rattle.cleanup.specs.Steps.{hung_rows}
-use Rattle.cleanup.specs.State.{KernelState, is_alive, label_of}
+use Rattle.cleanup.specs.Board.{hung_rows, IsSwitched, IsAdded, TellsAdded, LeadsToAdded}
+use Rattle.cleanup.specs.State.{KernelState, is_alive, label_of, with_state_at}
 use Rattle.cleanup.proofs.Soundness.{phone_kept, value_of, get_last, row_append, row_before}
-use Rattle.cleanup.specs.State.{with_state_at}
-use Rattle.cleanup.specs.Steps.{HasCounts}
+use Rattle.cleanup.specs.Counts.{HasCounts}
 use Rattle.cleanup.proofs.Lookups.{record_of}
 use Rattle.cleanup.proofs.Rows.{state_changed_at, some_of}
 use Rattle.cleanup.proofs.Recounting.{some_and}
 use Rattle.cleanup.proofs.Counting.{counted_none, counted_task}
 use Rattle.cleanup.proofs.Keeping.{counts_put, counts_phone}
 use Rattle.cleanup.proofs.Endings.{length_rows, sent_to, within}
-use Rattle.cleanup.specs.Board.{IsSwitched, IsAdded, TellsAdded, LeadsToAdded}
 
 -- calls and counts change
 pub switched_calls : {alive : List Bool} {phones : List (List PhoneState)} {counts : List (List ℕ)} {calls : CallTable} {tasks : ℕ} (counts' : List (List ℕ)) (calls' : CallTable) → IsSwitched alive phones counts calls tasks → HasCounts phones counts' calls' → IsSwitched alive phones counts' calls' tasks

@@ -10,7 +10,7 @@ mod board;
 mod counts;
 mod ending;
 mod joins;
-mod parts;
+mod kill;
 mod phones;
 
 pub use board::Switchboard;

@@ -18,7 +18,7 @@ use Rattle.call_slab.specs.declared.call.Place.{Place}
 use Rattle.call_slab.specs.declared.call.Place.TheVariants as place
 use Rattle.answerbox.specs.Calls.{call_at, same_place, is_caller, with_record}
 use Rattle.cleanup.specs.State.{KernelState, Transition, then_do, phone_at, alive_in, is_alive}
-use Rattle.cleanup.specs.Settling.{bare_reply, drop_answer, forget_call}
+use Rattle.cleanup.specs.Joins.{bare_reply, drop_answer, forget_call}
 use Rattle.cleanup.specs.Kill.{width, task_no, mark_ended, hang_up_at, hang_up_own_phones, slam, slam_at, slam_phones_of, slam_other, slam_phones_to, first_at, settle_call, settle_incoming, settle_dispatched, drop_answers, first_call_of, forget_calls_elsewhere, kill}
 use Rattle.cleanup.specs.Sound.{IsSound}
 use Rattle.cleanup.proofs.Lookups.{at_insert}
@@ -150,21 +150,21 @@ incoming_told t p k inside =
     drain_tells (List Tale) and_then (λ _. refl) and_then-append (first_at (place.Incoming t)) settle_call (InKill t)
     (λ q j c i is. let f = front_at (Kill t.0) q j i (place.Incoming t) c is in
     settled (Kill t.0) q j i c (bare_reply ehangup) None (Incoming c.from.task.0 t.0) f.0 (ap (life_at c.from.task.0) f.1) refl (λ dead. (dead, i.now)) (λ lives. (refl, i.now, lives)))
-    k.calls.next_number p k inside
+    (len k.calls.records) p k inside
 
 dispatched_told : (t : TaskNo) (p : List Tale) (k : KernelState) → InKill t p k → InKill t (and_then (settle_dispatched t k).entries p) (settle_dispatched t k).state
 dispatched_told t p k inside =
     drain_tells (List Tale) and_then (λ _. refl) and_then-append (first_at (place.Dispatched t)) settle_call (InKill t)
     (λ q j c i is. let f = front_at (Kill t.0) q j i (place.Dispatched t) c is in
     settled (Kill t.0) q j i c (bare_reply ehangup) None (Dispatched c.from.task.0 t.0) f.0 (ap (life_at c.from.task.0) f.1) refl (λ dead. (dead, inl i.now)) (λ lives. inl (refl, i.now, lives)))
-    k.calls.next_number p k inside
+    (len k.calls.records) p k inside
 
 -- the answers to t are dropped
 answers_told : (t : TaskNo) (p : List Tale) (k : KernelState) → InKill t p k → InKill t (and_then (drop_answers t k).entries p) (drop_answers t k).state
 answers_told t p k inside =
     drain_tells (List Tale) and_then (λ _. refl) and_then-append (first_at (place.Answers t)) (drop_answer t) (InKill t)
     (λ q j c i is. let f = front_at (Kill t.0) q j i (place.Answers t) c is in dropped (Kill t.0) q j i t c (inr refl) f.0 f.1)
-    k.calls.next_number p k inside
+    (len k.calls.records) p k inside
 
 -- the calls of t elsewhere are forgotten
 
@@ -205,7 +205,7 @@ module _ (marks : List Bool) (t : TaskNo) where
   forgotten_told p k late =
       drain_tells (List Tale) and_then (λ _. refl) and_then-append (first_call_of t) forget_call IsLate
       (λ q j c i is. (forget_told q j c i is, forget_unanswered marks t j c i.1 is))
-      k.calls.next_number p k late
+      (len k.calls.records) p k late
 
 -- the kill is over
 

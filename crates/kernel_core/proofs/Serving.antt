@@ -27,18 +27,16 @@ use Rattle.forwarding.specs.declared.passing.ForwardFault.TheVariants.{NotHeld, 
 use Rattle.forwarding.specs.Routes.{forward_answer, call_after, table_after}
 use Rattle.cleanup.specs.State.{KernelState, Transition, is_alive, phone_at, with_calls, with_phone, with_event, label_of}
 use Rattle.cleanup.specs.Sound.{IsPlaced, IsCaller, IsSound}
-use Rattle.cleanup.specs.Settling.{bare_reply, settle, settle_for, lives, drop_answer}
-use Rattle.cleanup.specs.HangingUp.{new_call, hangup_call, hang_up}
+use Rattle.cleanup.specs.Joins.{bare_reply, settle, settle_for, lives, drop_answer, new_call, hangup_call, hang_up, receive_first}
 use Rattle.cleanup.proofs.Soundness.{sound_enqueue, sound_put, sound_without, kept_calls}
 use Rattle.cleanup.proofs.Repeats.{by_test, drain_keeps}
 use Rattle.cleanup.proofs.Silence.{next_free, more_calls, sound_hang_up}
 use Rattle.cleanup.proofs.Queues.{fewer_calls, as_many_calls}
 use Rattle.cleanup.specs.Serving.{Served}
 use Rattle.kernel_core.specs.Calling.{call_through, call_tested, call_over}
-use Rattle.cleanup.specs.Serving.{receive_first}
 use Rattle.kernel_core.specs.Receiving.{receive_now, unawaited, next_unawaited, drop_unawaited}
-use Rattle.kernel_core.specs.Answering.{held_by, answer_held}
-use Rattle.kernel_core.specs.Forwarding.{failed_forward, passing_on, forward_told}
+use Rattle.kernel_core.specs.Answering.{held_call, answer_held}
+use Rattle.kernel_core.specs.Forward.{failed_forward, passing_on, forward_told}
 use Rattle.kernel_core.specs.HangingUp.{hangup_over}
 use Rattle.kernel_core.specs.Serve.{serve, serve_request}
 use Rattle.kernel_core.proofs.Passing.{leads_of, passes}
@@ -155,7 +153,7 @@ module _ (t : TaskNo) (k : KernelState) (alive : is_alive k t ≡ true) (h : IsS
   received None (Some c) first second = moved k c c (Dispatched t) h (front_at k (Incoming t) c h second) refl refl refl refl refl alive
   received None None first second = unchanged k h
 
-  answered : (n : ℕ) (reply : Reply) (o : Option Call) → call_at k.calls n ≡ o → Follows (answer_held k t reply (held_by t o))
+  answered : (n : ℕ) (reply : Reply) (o : Option Call) → call_at k.calls n ≡ o → Follows (answer_held k t reply (held_call t o))
   answered n reply None is = unchanged k h
   answered n reply (Some c) is = by_test (λ (o : Option Call). Follows (answer_held k t reply o)) (same_place c.place (Dispatched t)) (Some c) None (λ _. settled k c reply (Some t) h (own k n c h is)) (λ _. unchanged k h)
 
@@ -221,7 +219,7 @@ drop_less t k j c s is =
     record { sound = o.sound; calls = omega arith; alive = s.alive; memory = s.memory; events = s.events; number = s.number; stamp = s.stamp }
 
 drops_less : (t : TaskNo) (k : KernelState) → IsSound k → IsLess k (drop_unawaited t k).state
-drops_less t k h = drain_keeps (next_unawaited t) (drop_answer t) (IsLess k) (λ j c s is. drop_less t k j c s is) k.calls.next_number k (record { sound = h; calls = omega arith; alive = refl; memory = refl; events = refl; number = refl; stamp = refl })
+drops_less t k h = drain_keeps (next_unawaited t) (drop_answer t) (IsLess k) (λ j c s is. drop_less t k j c s is) (len k.calls.records) k (record { sound = h; calls = omega arith; alive = refl; memory = refl; events = refl; number = refl; stamp = refl })
 
 after_less : (k j i : KernelState) → IsLess k j → MayFollow j i → MayFollow k i
 after_less k j i s m =

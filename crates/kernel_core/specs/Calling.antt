@@ -9,9 +9,8 @@ use Rattle.ipc_ids.specs.Tables.{first_user_method, most_active}
 use Rattle.call_slab.specs.declared.call.Place.TheVariants.{Incoming, Answers}
 use Rattle.answerbox.specs.Calls.{active_calls}
 use Rattle.cleanup.specs.State.{KernelState, phone_at, label_of}
-use Rattle.cleanup.specs.HangingUp.{new_call}
-use Rattle.cleanup.specs.Serving.{Served, acceptance, answer_at_once}
-use Rattle.kernel_core.specs.Answering.{refusal}
+use Rattle.cleanup.specs.Joins.{new_call, acceptance, answer_at_once}
+use Rattle.cleanup.specs.Serving.{refusal, Served}
 
 -- a call that is not refused, over a phone in this state
 abbrev pub call_through : KernelState → TaskNo → ℕ → Msg → PhoneState → Served

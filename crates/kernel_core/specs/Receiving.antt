@@ -4,9 +4,9 @@ use Rattle.ipc_ids.specs.declared.numbers.TaskNo.{TaskNo}
 use Rattle.call_slab.specs.declared.call.Call.{Call}
 use Rattle.call_slab.specs.declared.call.Place.TheVariants.{Incoming, Answers}
 use Rattle.answerbox.specs.Calls.{front}
-use Rattle.cleanup.specs.State.{KernelState, Transition, drain}
-use Rattle.cleanup.specs.Settling.{drop_answer}
-use Rattle.cleanup.specs.Serving.{Served, then_serve, receive_first}
+use Rattle.cleanup.specs.State.{KernelState, Transition, live_calls, drain}
+use Rattle.cleanup.specs.Joins.{drop_answer, receive_first}
+use Rattle.cleanup.specs.Serving.{Served, then_serve}
 
 abbrev pub receive_now : TaskNo → KernelState → Served
 receive_now t k = receive_first k t (front k.calls (Answers t)) (front k.calls (Incoming t))
@@ -19,9 +19,9 @@ unawaited (Some c) = if c.discard then Some c else None
 abbrev pub next_unawaited : TaskNo → KernelState → Option Call
 next_unawaited t k = unawaited (front k.calls (Answers t))
 
--- the answers at the front that nobody waits for; there are fewer calls than numbers given
+-- the answers at the front that nobody waits for; there are no more than live calls
 abbrev pub drop_unawaited : TaskNo → KernelState → Transition
-drop_unawaited t k = drain (next_unawaited t) (drop_answer t) k.calls.next_number k
+drop_unawaited t k = drain (next_unawaited t) (drop_answer t) (live_calls k) k
 
 abbrev pub receive : KernelState → TaskNo → Served
 receive k t = then_serve (drop_unawaited t k) (receive_now t)

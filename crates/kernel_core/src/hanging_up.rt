@@ -4,16 +4,17 @@ ghost use Rattle.cleanup.specs.Rooms.{HasRoom, UsesRoom};
 ghost use Rattle.cleanup.specs.Serving.{Serves};
 ghost use Rattle.kernel_core.specs.HangingUp.{hangup as hangup_of};
 
-use ipc_ids::{Outcome, TaskNo, Trace};
 use cleanup::Switchboard;
+use ipc_ids::{Outcome, TaskNo, Trace};
 
-/// The task hangs its phone up.
+/// Hangs the task's phone up. It refuses with `ENOENT` where the task has no such phone, and with
+/// `EINVAL` where the phone leads and led nowhere or was hung up before.
 pub(crate) fn hangup(board: &mut Switchboard, who: TaskNo, phone: u64, out: &mut Trace) -> Outcome
-    requires added { IsAdded board.old.k who }
-    requires few { FewActive board.old.k }
-    requires room { HasRoom board.old out.old 1 1 2 }
-    ensures served { Serves board.new result out.old out.new (hangup_of board.old.k who phone) }
-    ensures room { UsesRoom board.old board.new out.old out.new 1 1 2 }
+    requires added { IsAdded board.old.state who }
+    requires few { FewActive board.old.state }
+    requires room { HasRoom board.old out.old 1 1 3 }
+    ensures served { Serves board.new result out.old out.new (hangup_of board.old.state who phone) }
+    ensures room { UsesRoom board.old board.new out.old out.new 1 1 3 }
 {
     match board.hang_up(who, phone, out) {
         Ok(()) => Outcome::Done,

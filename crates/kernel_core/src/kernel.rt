@@ -6,11 +6,11 @@ ghost use Rattle.cleanup.specs.Sound.{IsSound};
 ghost use Rattle.kernel_core.specs.Serve.{serve, kill_event};
 ghost use Rattle.kernel_core.specs.History.{HistoryFits, served_entries, killed_entries};
 
-use crate::request::serve_request;
+use crate::request::{room_of, serve_request};
+use cleanup::Switchboard;
 use ipc_ids::{NoMemory, Outcome, PhoneNo, PhoneState, Request, TaskNo, Trace};
 use std::alloc::Global;
 use std::marker::Model;
-use cleanup::Switchboard;
 
 /// The kernel of all tasks, which are added and wired before the first event.
 #[derive(Drop)]
@@ -28,9 +28,9 @@ impl Model for Kernel {
 
     ghost coded = { state_code phone.the_row.coded call.the_row.coded };
 
-    ghost view = { λ a. a.board.k };
+    ghost view = { λ a. a.board.state };
 
-    ghost invariant = { λ a. IsSteady a.board.k };
+    ghost invariant = { λ a. IsSteady a.board.state };
 }
 
 impl Kernel {
@@ -114,12 +114,17 @@ impl Kernel {
         ensures history { OnOk result ((h : List Entry) → HistoryFits h self.old
             → HistoryFits (h ++ served_entries who request.now (serve self.old who request.now)) self.new) }
     {
-        self.board.reserve(1)?;
-        // A receive may drop as many answers as there are calls, of which there are fewer than numbers given.
-        out.reserve(self.board.next_number().0 as usize + 2)?;
-        let outcome = serve_request(&mut self.board, who, request, out);
-        self.board.count_event();
-        Ok(outcome)
+        let _next = self.board.next_number();
+        let (calls, entries) = room_of(&self.board, request);
+        self.board.reserve(calls)?;
+        out.reserve(entries)?;
+        match serve_request(&mut self.board, who, request, out) {
+            Ok(outcome) => {
+                self.board.count_event();
+                Ok(outcome)
+            }
+            Err(NoMemory) => Err(NoMemory),
+        }
     }
 
     /// Kills the task: an event.

@@ -10,7 +10,7 @@ use Rattle.cleanup.proofs.board.Switchboard.hang_up_own_phones.Given as goal
 abbrev pub invariant-loop-phone : goal.invariant-loop-phone
 invariant-loop-phone l =
     record {
-      step : Completes l.self l.fn.out l.out (each (hang_up_at l.who) (width l.fn.self.k.tasks.phones l.who.0 - l.phone) l.phone l.self.k) (hang_up_own_phones l.who l.fn.self.k);
-      few : FewFrom l.self.k l.who l.phone;
-      room : UsesRoom l.fn.self l.self l.fn.out l.out l.phone l.phone (2 * l.phone);
+      step : Completes l.self l.fn.out l.out (each (hang_up_at l.who) (width l.fn.self.state.tasks.phones l.who.0 - l.phone) l.phone l.self.state) (hang_up_own_phones l.who l.fn.self.state);
+      few : FewFrom l.self.state l.who l.phone;
+      room : UsesRoom l.fn.self l.self l.fn.out l.out l.phone l.phone (3 * l.phone);
     }

@@ -9,6 +9,6 @@ use Rattle.cleanup.proofs.board.Switchboard.slam_phones_of.Given as goal
 abbrev pub invariant-loop-phone : goal.invariant-loop-phone
 invariant-loop-phone l =
     record {
-      step : Completes l.self l.fn.out l.out (each (slam_at l.who l.other) (width l.fn.self.k.tasks.phones l.other.0 - l.phone) l.phone l.self.k) (slam_phones_of l.who l.other l.fn.self.k);
+      step : Completes l.self l.fn.out l.out (each (slam_at l.who l.other) (width l.fn.self.state.tasks.phones l.other.0 - l.phone) l.phone l.self.state) (slam_phones_of l.who l.other l.fn.self.state);
       room : UsesRoom l.fn.self l.self l.fn.out l.out 0 0 l.phone;
     }

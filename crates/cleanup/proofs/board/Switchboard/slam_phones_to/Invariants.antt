@@ -9,6 +9,6 @@ use Rattle.cleanup.proofs.board.Switchboard.slam_phones_to.Given as goal
 abbrev pub invariant-loop-i : goal.invariant-loop-i
 invariant-loop-i l =
     record {
-      step : Completes l.self l.fn.out l.out (each (slam_other l.who) (length l.fn.self.k.tasks.phones - l.i) l.i l.self.k) (slam_phones_to l.who l.fn.self.k);
+      step : Completes l.self l.fn.out l.out (each (slam_other l.who) (length l.fn.self.state.tasks.phones - l.i) l.i l.self.state) (slam_phones_to l.who l.fn.self.state);
       room : UsesRoom l.fn.self l.self l.fn.out l.out 0 0 (64 * l.i);
     }

@@ -15,10 +15,8 @@ use Rattle.forwarding.specs.declared.passing.ForwardFault.TheVariants.{NotHeld, 
 use Rattle.forwarding.specs.Forwarding.{label_after}
 use Rattle.forwarding.specs.Routes.{forward_answer, table_after}
 use Rattle.cleanup.specs.State.{KernelState, phone_at, with_calls}
-use Rattle.cleanup.specs.Serving.{Served, telling}
-use Rattle.cleanup.specs.Settling.{bare_reply}
-use Rattle.kernel_core.specs.Answering.{refusal}
-use Rattle.cleanup.specs.Settling.{settle_live}
+use Rattle.cleanup.specs.Serving.{refusal, Served, telling}
+use Rattle.cleanup.specs.Joins.{bare_reply, settle_live}
 
 -- the kernel answers the call, and the task is refused with this code
 abbrev pub failed_forward : KernelState → Option Call → Code → Served
