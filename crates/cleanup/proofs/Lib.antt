@@ -13,6 +13,8 @@ pub mod Numbering
 pub mod KilledPhones
 pub mod KilledCalls
 pub mod Histories
+pub mod KillOrder
+pub mod KillLaws
 pub mod KillExample
 pub mod Keeping
 pub mod Endings

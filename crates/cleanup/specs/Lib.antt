@@ -4,6 +4,7 @@ pub mod Counts
 pub mod Settling
 pub mod HangingUp
 pub mod Kill
+pub mod KillLaws
 pub mod Steps
 pub mod Board
 pub mod Rooms

@@ -10,9 +10,11 @@ mod board;
 mod counts;
 mod ending;
 mod joins;
+mod laws;
 mod parts;
 mod phones;
 
 pub use board::Switchboard;
 pub use counts::label;
 pub use ending::end_task;
+pub use laws::kills_leave_nothing;
