@@ -1,5 +1,5 @@
 -- What a receive by task t comes to, in the words of calls, outcomes and entries.
-use Rattle.std.specs.Prelude.{◌≡◌, ℕ, ◌<◌, ◌≤◌, false, ⊤, List, [], ◌∷◌, Some}
+use Rattle.std.specs.Prelude.{◌≡◌, ℕ, ◌<◌, ◌≤◌, ⊤, List, [], ◌∷◌, None, Some}
 use Rattle.ipc_ids.specs.declared.numbers.TaskNo.{TaskNo}
 use Rattle.ipc_ids.specs.declared.message.Outcome.{Outcome}
 use Rattle.ipc_ids.specs.declared.message.Outcome.TheVariants as outcome
@@ -68,6 +68,8 @@ pub record IsLawfulReceive (t : TaskNo) (k : KernelState) (done : Served) : Type
   -- where there is none, the first call that waits is told
   pub call : (c : Call) → HasNone k.calls (IsAwaited t) →
       IsFirst k.calls (λ d. d.place ≡ Incoming t) c → TellsCall c done.outcome
-  -- where there is neither, there is nothing to tell
+  -- there is nothing to tell just where there is neither
   pub nothing : HasNone k.calls (IsAwaited t) → HasNone k.calls (λ d. d.place ≡ Incoming t) →
       done.outcome ≡ outcome.Empty
+  pub empty : done.outcome ≡ outcome.Empty →
+      HasNone k.calls (IsAwaited t) × HasNone k.calls (λ d. d.place ≡ Incoming t)
