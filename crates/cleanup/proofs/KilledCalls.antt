@@ -54,13 +54,13 @@ Becomes t c now = (now ≡ Some c) ⊎ (IsAnswered t c now ⊎ (IsOver t c now �
 put_here : (q : CallTable) (m n : ℕ) (d : Call) → m ≡ n → get (insert q.records m d) n ≡ Some d
 put_here q m n d e = at_insert q.records m n d ∙ rw (eq-eqb m n e) refl
 
-put_other : (q : CallTable) (m n : ℕ) (d : Call) → (m ≡ n → ⊥) → get (insert q.records m d) n ≡ call_at q n
+pub put_other : (q : CallTable) (m n : ℕ) (d : Call) → (m ≡ n → ⊥) → get (insert q.records m d) n ≡ call_at q n
 put_other q m n d ne = at_insert q.records m n d ∙ rw (ne_eqb m n ne) refl
 
 gone_here : (q : CallTable) (m n : ℕ) → m ≡ n → call_at (without_call q m) n ≡ None
 gone_here q m n e = at_remove q.records m n ∙ rw (eq-eqb m n e) refl
 
-gone_other : (q : CallTable) (m n : ℕ) → (m ≡ n → ⊥) → call_at (without_call q m) n ≡ call_at q n
+pub gone_other : (q : CallTable) (m n : ℕ) → (m ≡ n → ⊥) → call_at (without_call q m) n ≡ call_at q n
 gone_other q m n ne = at_remove q.records m n ∙ rw (ne_eqb m n ne) refl
 
 none_some : {A : Type 0} (x : A) → None ≡ Some x → ⊥
@@ -200,7 +200,7 @@ module _ (k : KernelState) (t : TaskNo) (sound : IsSound k) (alive : is_alive k 
   slam_calls q u j p (Some Slammed) h = h
   slam_calls q u j p (Some (Connected v)) h = by_test (λ (s : Transition). s.state.calls ≡ q) (v.0 == t.0) _ _ (λ _. h) (λ _. h)
 
-  after_phones : call_at (after_slams t k).calls n ≡ Some c
+  pub after_phones : call_at (after_slams t k).calls n ≡ Some c
   after_phones =
       let h1 : IsBelow (after_hangups t k) = each_keeps (hang_up_at t) IsBelow (λ j p h. hang_up_leaves j p (phone_at j t p) h) (width k.tasks.phones t.0) 0 now_dead (record { there = is; below = (sound.calls.each n c is).below }) in
       let h2 : (after_slams t k).calls ≡ (after_hangups t k).calls = slams_keep t (λ j. j.calls ≡ (after_hangups t k).calls) (λ u p j h. slam_calls (after_hangups t k).calls u j p (phone_at j u p) h) (after_hangups t k) refl in

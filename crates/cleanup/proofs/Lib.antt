@@ -12,6 +12,8 @@ pub mod Killing
 pub mod KilledPhones
 pub mod KilledCalls
 pub mod Histories
+pub mod KillOrder
+pub mod KillLaws
 pub mod KillExample
 pub mod Keeping
 pub mod Endings

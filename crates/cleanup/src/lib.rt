@@ -11,8 +11,10 @@ mod counts;
 mod ending;
 mod joins;
 mod kill;
+mod laws;
 mod phones;
 
 pub use board::Switchboard;
 pub use counts::label;
 pub use ending::end_task;
+pub use laws::kills_leave_nothing;
