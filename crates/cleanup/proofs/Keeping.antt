@@ -12,7 +12,7 @@ use Rattle.ipc_ids.specs.declared.message.PhoneState.{PhoneState}
 use Rattle.call_slab.specs.declared.call.Call.{Call}
 use Rattle.call_slab.specs.declared.call.Place.{Place}
 use Rattle.call_slab.specs.declared.call.Place.TheVariants.{Answers}
-use Rattle.answerbox.specs.Calls.{CallTable, call_at, answered, enqueue, put_at, with_record, with_place, without_call, without_caller, is_caller, is_active_on, same_label, active_calls}
+use Rattle.answerbox.specs.Calls.{CallTable, call_at, answered, enqueue, put_at, with_record, without_call, without_caller, is_caller, is_active_on, same_label, active_calls}
 use Rattle.answerbox.proofs.Counts.{insert-remove, ties, active-without_call, count-with_record}
 use Rattle.phone_table.specs.Phones.{Row, row_at, state_at, count_at, after_hangup}
 use Rattle.phone_table.specs.declared.hung.Hung.{Hung}

@@ -1,16 +1,11 @@
 -- A kill of a task whose phone was slammed, and to which the phone of another leads.
-use Rattle.std.proofs.Common.{◌≡◌, true, false, Option, None, Some, [], ◌∷◌, refl}
+use Rattle.std.proofs.Common.{◌≡◌, true, false, [], ◌∷◌, refl}
 use Rattle.std.specs.Ordering.{nat_cmp}
 use Rattle.std.specs.FinMap.{len-empty}
 use Rattle.ipc_ids.specs.declared.numbers.TaskNo.{TaskNo}
 use Rattle.ipc_ids.specs.declared.message.PhoneState.TheVariants.{Free, Connected, HungUp, Slammed}
 use Rattle.ipc_ids.specs.declared.entry.Entry.TheVariants.{PhoneIs}
-use Rattle.call_slab.specs.declared.call.Call.{Call}
-use Rattle.call_slab.specs.declared.call.Place.{Place}
-use Rattle.call_slab.specs.declared.call.Place.TheVariants.{Incoming, Dispatched, Answers}
-use Rattle.answerbox.specs.Calls.{no_calls, front, calls_of}
-use Rattle.answerbox.proofs.Fronts.{front_is_none}
-use Rattle.answerbox.proofs.Callers.{calls_of_live}
+use Rattle.answerbox.specs.Calls.{no_calls}
 use Rattle.cleanup.specs.State.{KernelState, state_from}
 use Rattle.cleanup.specs.Kill.{kill}
 

@@ -1,20 +1,17 @@
 -- A kill keeps its laws.
-use Rattle.std.proofs.Common.{◌≡◌, ℕ, ◌<◌, Bool, true, false, ◌⊎◌, inl, inr, Option, None, Some, option_map, refl, ap, sym, subst, ◌∙◌}
+use Rattle.std.proofs.Common.{◌≡◌, true, false, ◌⊎◌, inl, inr, Option, None, Some, option_map, refl, ap, sym, ◌∙◌}
 use Rattle.std.proofs.lemmas.Bool.{eqb-true, eq-eqb, ne_eqb, false≢true}
-use Rattle.std.specs.FinMap.{len}
 use Rattle.ipc_ids.specs.declared.numbers.TaskNo.{TaskNo}
 use Rattle.ipc_ids.specs.declared.message.PhoneState.{PhoneState}
 use Rattle.ipc_ids.specs.declared.message.PhoneState.TheVariants.{Free, Connecting, Connected, HungUp, Slammed}
-use Rattle.ipc_ids.specs.Codes.{ehangup}
 use Rattle.call_slab.specs.declared.call.Call.{Call}
 use Rattle.call_slab.specs.declared.call.Place.{Place}
 use Rattle.call_slab.specs.declared.call.Place.TheVariants.{Incoming, Dispatched, Answers}
-use Rattle.answerbox.specs.Calls.{call_at, same_place, is_caller, task_of}
-use Rattle.cleanup.specs.State.{KernelState, is_alive, phone_at}
+use Rattle.answerbox.specs.Calls.{same_place, is_caller, task_of}
+use Rattle.cleanup.specs.State.{KernelState, is_alive}
 use Rattle.cleanup.specs.Sound.{IsSound}
-use Rattle.cleanup.specs.Joins.{bare_reply}
 use Rattle.cleanup.specs.Kill.{kill}
-use Rattle.cleanup.specs.KillLaws.{LeavesNothingOf, IsOpen, ClosesPhones, IsWith, HasHangup, HasNoCaller, ClosesCalls}
+use Rattle.cleanup.specs.KillLaws.{LeavesNothingOf, IsOpen, ClosesPhones, IsWith, ClosesCalls}
 use Rattle.cleanup.proofs.Killing.{kill_leaves_nothing}
 use Rattle.cleanup.proofs.KilledCalls.{kill_answers, kill_ends, kill_orphans, kill_spares, IsWith as StandsWith}
 use Rattle.cleanup.proofs.KilledPhones.{hung, slammed, kill_own_phone, kill_other_phone}
@@ -80,10 +77,10 @@ slammed_other t (Connected u) ne = rw (ne_eqb u.0 t.0 (λ e. ne (ap Connected (s
 slammed_other t HungUp ne = refl
 slammed_other t Slammed ne = refl
 
-module _ (k : KernelState) (t : TaskNo) (sound : IsSound k) (alive : is_alive k t ≡ true) (few : len k.calls.records < k.calls.next_number) where
+module _ (k : KernelState) (t : TaskNo) (sound : IsSound k) (alive : is_alive k t ≡ true) where
   pub kill_leaves_nothing_of : LeavesNothingOf t (kill k t).state
   kill_leaves_nothing_of =
-      let left = kill_leaves_nothing k t sound alive few in
+      let left = kill_leaves_nothing k t sound alive in
       record {
         places = λ n c is e. stands t c.place e (left.incoming n c is) (left.dispatched n c is) (left.answers n c is);
         callers = λ n c is e. false≢true (sym (left.callers n c is) ∙ is_its_caller t c.caller e);
@@ -92,15 +89,15 @@ module _ (k : KernelState) (t : TaskNo) (sound : IsSound k) (alive : is_alive k 
 
   pub kill_closes_phones : ClosesPhones t k (kill k t).state
   kill_closes_phones = record {
-    own = λ p s is opened. kill_own_phone k t sound alive few p ∙ ap (option_map hung) is ∙ ap Some (hung_open s opened);
-    leading = λ u p ne is. kill_other_phone k t sound alive few u p ne ∙ ap (option_map (slammed t)) is ∙ ap Some (slammed_leading t);
-    others = λ u p s ne is opened other. kill_other_phone k t sound alive few u p ne ∙ ap (option_map (slammed t)) is ∙ ap Some (slammed_other t s other);
+    own = λ p s is opened. kill_own_phone k t sound alive p ∙ ap (option_map hung) is ∙ ap Some (hung_open s opened);
+    leading = λ u p ne is. kill_other_phone k t sound alive u p ne ∙ ap (option_map (slammed t)) is ∙ ap Some (slammed_leading t);
+    others = λ u p s ne is opened other. kill_other_phone k t sound alive u p ne ∙ ap (option_map (slammed t)) is ∙ ap Some (slammed_other t s other);
   }
 
   pub kill_closes_calls : ClosesCalls t k (kill k t).state
   kill_closes_calls = record {
-    answered = λ n c u is at from ne. let a = kill_answers k t sound alive n c is few u (with_test t c.place at) from ne in rw (a.1) (from, refl, refl);
-    over = λ n c is at only. kill_ends k t sound alive n c is few (at_test t c at) only;
-    forgotten = λ n c is away from. rw (kill_orphans k t sound alive n c is few (λ w. away (task_test t c w)) (is_its_caller t c.caller from)) (refl, refl);
-    others = λ n c is away other. kill_spares k t sound alive n c is few (λ w. away (task_test t c w)) (not_its_caller t c.caller other);
+    answered = λ n c u is at from ne. let a = kill_answers k t sound alive n c is u (with_test t c.place at) from ne in rw (a.1) (from, refl, refl);
+    over = λ n c is at only. kill_ends k t sound alive n c is (at_test t c at) only;
+    forgotten = λ n c is away from. rw (kill_orphans k t sound alive n c is (λ w. away (task_test t c w)) (is_its_caller t c.caller from)) (refl, refl);
+    others = λ n c is away other. kill_spares k t sound alive n c is (λ w. away (task_test t c w)) (not_its_caller t c.caller other);
   }

@@ -1,5 +1,5 @@
 -- What waited at the task that is killed ends before what it held.
-use Rattle.std.proofs.Common.{◌≡◌, ℕ, ◌+◌, ◌<◌, Bool, true, false, ◌⊎◌, inl, inr, Option, None, Some, List, [], ◌∷◌, ◌++◌, append_assoc, length, refl, ap, sym, subst, ◌∙◌, arith}
+use Rattle.std.proofs.Common.{◌≡◌, ℕ, ◌+◌, Bool, true, false, ◌⊎◌, inl, inr, Option, None, Some, List, [], ◌∷◌, ◌++◌, append_assoc, length, refl, ap, sym, subst, ◌∙◌}
 use Rattle.std.specs.Prelude.{◌==◌}
 use Rattle.std.proofs.lemmas.Bool.{cases_eq, eq-eqb, false≢true}
 use Rattle.std.specs.FinMap.{len}
@@ -132,7 +132,7 @@ leaves_other n j d (Some u) false ne = gone_other j.calls d.number.0 n ne
 leaves_other n j d (Some u) true ne = put_other j.calls d.number.0 n (record d { reply = bare_reply ehangup; place = Answers u; stamp = j.calls.next_stamp }) ne
 
 module _
-    (k : KernelState) (t : TaskNo) (sound : IsSound k) (alive : is_alive k t ≡ true) (few : len k.calls.records < k.calls.next_number)
+    (k : KernelState) (t : TaskNo) (sound : IsSound k) (alive : is_alive k t ≡ true)
     (m n : ℕ) (c d : Call) (waits : call_at k.calls m ≡ Some c) (at_t : c.place ≡ Incoming t)
     (held : call_at k.calls n ≡ Some d) (by_t : d.place ≡ Dispatched t) where
   abbrev marks : List Bool
@@ -147,7 +147,7 @@ module _
 
   alone_first : IsAlone marks t (after_slams t k)
   alone_first =
-      let h0 : IsEnding marks (mark_ended k t) = record { sound = sound; few = few } in
+      let h0 : IsEnding marks (mark_ended k t) = record { sound = sound } in
       phones_slammed marks t (after_hangups t k) (own_phones_hung_up marks t (mark_ended k t) alive h0)
 
   abbrev told_first : List Entry
@@ -180,7 +180,7 @@ module _
   told_waiting = told_first ++ (settle_incoming t (after_slams t k)).entries
 
   all_waiting : Waits told_waiting (after_incoming t k)
-  all_waiting = drain_tells (List Entry) told_after none_after both_after (first_at (Incoming t)) settle_call Waits goes_on (after_slams t k).calls.next_number told_first (after_slams t k) begun
+  all_waiting = drain_tells (List Entry) told_after none_after both_after (first_at (Incoming t)) settle_call Waits goes_on (len (after_slams t k).calls.records) told_first (after_slams t k) begun
 
   m_ends : HasEnd m told_waiting
   m_ends = elim all_waiting.first [
@@ -206,5 +206,5 @@ module _
   ends_before = subst (EndsBefore m n) whole (before_rest m n told_waiting (told_held ++ (told_answers ++ told_last)) m_ends all_waiting.none)
 
 -- what waits at the task ends before what it holds
-pub kill_ends_waiting_first : (k : KernelState) (t : TaskNo) → IsSound k → is_alive k t ≡ true → len k.calls.records < k.calls.next_number → EndsWaitingFirst t k (kill k t).entries
-kill_ends_waiting_first k t sound alive few m n c d waits at_t held by_t = ends_before k t sound alive few m n c d waits at_t held by_t
+pub kill_ends_waiting_first : (k : KernelState) (t : TaskNo) → IsSound k → is_alive k t ≡ true → EndsWaitingFirst t k (kill k t).entries
+kill_ends_waiting_first k t sound alive m n c d waits at_t held by_t = ends_before k t sound alive m n c d waits at_t held by_t

@@ -1,5 +1,5 @@
 -- Each phone after a kill: those of the task are hung up, and those that led to it are slammed.
-use Rattle.std.proofs.Common.{◌≡◌, ℕ, ◌<◌, Bool, true, false, ◌⊎◌, inl, inr, Option, None, Some, List, refl, ap, sym, subst, ◌∙◌}
+use Rattle.std.proofs.Common.{◌≡◌, ℕ, Bool, true, false, ◌⊎◌, inl, inr, Option, None, Some, List, refl, ap, sym, subst, ◌∙◌}
 use Rattle.std.specs.Prelude.{◌==◌, if◌then◌else◌, IsSome, option_map}
 use Rattle.std.proofs.lemmas.Bool.{cases_eq, eqb-true, eq-eqb, ne_eqb, false≢true}
 use Rattle.std.specs.FinMap.{len}
@@ -208,12 +208,12 @@ record AndSilent (marks : List Bool) (t : TaskNo) (I : KernelState → Type 0) (
   pub silent : IsSilent marks t k
   pub fact : I k
 
-module _ (k : KernelState) (t : TaskNo) (sound : IsSound k) (alive : is_alive k t ≡ true) (few : len k.calls.records < k.calls.next_number) where
+module _ (k : KernelState) (t : TaskNo) (sound : IsSound k) (alive : is_alive k t ≡ true) where
   nothing_left : HasNothingOf t (kill k t).state
-  nothing_left = kill_leaves_nothing k t sound alive few
+  nothing_left = kill_leaves_nothing k t sound alive
 
   silent_first : IsSilent k.tasks.alive t (after_hangups t k)
-  silent_first = let h0 : IsEnding k.tasks.alive (mark_ended k t) = record { sound = sound; few = few } in own_phones_hung_up k.tasks.alive t (mark_ended k t) alive h0
+  silent_first = let h0 : IsEnding k.tasks.alive (mark_ended k t) = record { sound = sound } in own_phones_hung_up k.tasks.alive t (mark_ended k t) alive h0
 
   -- a phone of the task
   pub kill_own_phone : (q : ℕ) → phone_at (kill k t).state t q ≡ option_map hung (phone_at k t q)

@@ -1,15 +1,15 @@
 -- How many calls are live after each change.
-use Rattle.std.proofs.Common.{◌≡◌, ℕ, ◌+◌, ◌≤◌, List, Option, None, Some, refl, ap, ◌∙◌, arith}
+use Rattle.std.proofs.Common.{◌≡◌, ℕ, ◌+◌, ◌≤◌, List, None, Some, ap, ◌∙◌, arith}
 use Rattle.std.specs.Prelude.{IsSome}
 use Rattle.std.specs.Cmp.{nat_cmp_total}
-use Rattle.std.specs.FinMap.{len, len-insert, get, insert}
+use Rattle.std.specs.FinMap.{len, len-insert, insert}
 use Rattle.ipc_ids.specs.declared.numbers.Label.{Label}
 use Rattle.ipc_ids.specs.declared.message.Msg.{Msg}
 use Rattle.ipc_ids.specs.declared.message.Reply.{Reply}
 use Rattle.ipc_ids.specs.declared.message.PhoneState.{PhoneState}
 use Rattle.call_slab.specs.declared.call.Call.{Call}
 use Rattle.call_slab.specs.declared.call.Place.{Place}
-use Rattle.answerbox.specs.Calls.{CallTable, call_at, enqueue, put_at, with_record, with_place, answered, readdressed, without_call, without_caller}
+use Rattle.answerbox.specs.Calls.{CallTable, call_at, enqueue, with_place, answered, readdressed, without_call, without_caller}
 use Rattle.cleanup.specs.Counts.{HasCounts}
 use Rattle.cleanup.proofs.Lookups.{record_of}
 use Rattle.cleanup.proofs.Queues.{fewer_calls, as_many_calls}

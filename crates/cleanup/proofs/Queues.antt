@@ -1,5 +1,5 @@
 -- The call parts of a kill: no call waits at the task, is held by it or answers it, and none is its own.
-use Rattle.std.proofs.Common.{◌≡◌, ℕ, suc, ◌+◌, ◌<◌, ◌≤◌, Bool, true, false, ◌⊎◌, inl, inr, Option, None, Some, List, refl, ap, sym, subst, ◌∙◌, arith}
+use Rattle.std.proofs.Common.{◌≡◌, ℕ, suc, ◌+◌, Bool, true, false, ◌⊎◌, inl, inr, Option, None, Some, List, refl, ap, sym, subst, ◌∙◌, arith}
 use Rattle.std.specs.Prelude.{◌==◌}
 use Rattle.std.proofs.lemmas.Bool.{false≢true}
 use Rattle.std.specs.Cmp.{nat_cmp_total}
@@ -99,8 +99,8 @@ pub front_at : (marks : List Bool) (k : KernelState) (place : Place) (c : Call) 
 front_at marks k place c h is = let f = front_live k.calls place c is in (own marks k f.0 c h f.1, f.2)
 
 -- the calls change, and the phones stay
-alone_with : (marks : List Bool) (t : TaskNo) (k : KernelState) (q : CallTable) → IsAlone marks t k → IsSound (with_marks marks (with_calls k q)) → len q.records < q.next_number → IsAlone marks t (with_calls k q)
-alone_with marks t k q h sound few = record { silent = record { ending = record { sound = sound; few = few }; still = h.silent.still }; unled = h.unled }
+alone_with : (marks : List Bool) (t : TaskNo) (k : KernelState) (q : CallTable) → IsAlone marks t k → IsSound (with_marks marks (with_calls k q)) → IsAlone marks t (with_calls k q)
+alone_with marks t k q h sound = record { silent = record { ending = record { sound = sound }; still = h.silent.still }; unled = h.unled }
 
 -- the record of a call that the kernel has answered, and of one whose caller has ended
 abbrev answered : KernelState → Call → TaskNo → Call
@@ -113,7 +113,6 @@ over_alone : (marks : List Bool) (t : TaskNo) (k : KernelState) (c : Call) → I
 over_alone marks t k c h is =
     let e = h.silent.ending in
     alone_with marks t k (without_call k.calls c.number.0) h (kept_calls (with_marks marks k) (without_call k.calls c.number.0) e.sound (sound_without (with_marks marks k).tasks k.calls c.number.0 e.sound.calls))
-    (let l = fewer_calls k.calls c.number.0 c is in let f = e.few in omega arith)
 
 settle_alone : (marks : List Bool) (t : TaskNo) (k : KernelState) (c : Call) → IsAlone marks t k → IsLive k c → IsAlone marks t (settle_call k c).state
 settle_alone marks t k c h is = by_caller c.caller (lives k c.caller) refl where
@@ -124,7 +123,6 @@ settle_alone marks t k c h is = by_caller c.caller (lives k c.caller) refl where
       let e = h.silent.ending in
       alone_with marks t k (put_at k.calls (record c { reply = bare_reply ehangup }) (Answers u)) h
       (sound_settle_for (with_marks marks k) c.number.0 c (bare_reply ehangup) None (Some u) true e.sound is from)
-      (let l = as_many_calls k.calls c.number.0 c (answered k c u) is in let f = e.few in omega arith)
 
 forgotten_place : (tasks : Tasks) (t : TaskNo) (o : Option TaskNo) (place : Place) → IsPlaced tasks o place → is_caller t o ≡ true → same_place place (Answers t) ≡ false → IsPlaced tasks None place
 forgotten_place tasks t o (Incoming s) h made none = h
@@ -149,8 +147,7 @@ forget_alone marks t k c h is made none =
     } in
     subst (IsAlone marks t) (sym (forget_step k c is))
     (alone_with marks t k (with_record k.calls (forgotten c)) h
-    (kept_calls (with_marks marks k) (with_record k.calls (forgotten c)) e.sound (sound_record (with_marks marks k).tasks k.calls c.number.0 c (forgotten c) e.sound.calls is refl refl here))
-    (let l = as_many_calls k.calls c.number.0 c (forgotten c) is in let f = e.few in omega arith))
+    (kept_calls (with_marks marks k) (with_record k.calls (forgotten c)) e.sound (sound_record (with_marks marks k).tasks k.calls c.number.0 c (forgotten c) e.sound.calls is refl refl here)))
 
 -- one call fewer passes
 

@@ -1,10 +1,10 @@
 -- A turn of a loop: what is done goes on, and the room that is used adds up.
-use Rattle.std.proofs.Common.{◌≡◌, ℕ, ◌+◌, ◌-◌, ◌≤◌, ◌<◌, Option, Some, ◌∙◌, ap, append_assoc, arith}
+use Rattle.std.proofs.Common.{◌≡◌, ℕ, ◌+◌, ◌-◌, ◌≤◌, ◌<◌, Option, Some, ◌∙◌, arith}
 use Rattle.ipc_ids.specs.Trace.{TraceState}
 use Rattle.call_slab.specs.declared.call.Call.{Call}
-use Rattle.cleanup.specs.State.{KernelState, BoardState, Transition, then_do, drain, each}
+use Rattle.cleanup.specs.State.{KernelState, BoardState, Transition, drain, each}
 use Rattle.cleanup.proofs.Loops.{drained_state, drained_entries, each_state, each_entries}
-use Rattle.cleanup.specs.Rooms.{HasRoom, UsesRoom}
+use Rattle.cleanup.specs.Rooms.{UsesRoom}
 use Rattle.cleanup.specs.Serving.{Does, Completes}
 
 -- a call that was next

@@ -11,19 +11,19 @@ ghost use Rattle.cleanup.specs.KillLaws.{LeavesNothingOf, EndsWaitingFirst, Clos
 /// phones and its calls, and no others.
 pub fn kills_leave_nothing()
     ensures nothing {
-        (k : KernelState) (t : TaskNo) → IsSound k → is_alive k t ≡ true → len k.calls.records < k.calls.next_number
+        (k : KernelState) (t : TaskNo) → IsSound k → is_alive k t ≡ true
         → LeavesNothingOf t (kill k t).state
     }
     ensures order {
-        (k : KernelState) (t : TaskNo) → IsSound k → is_alive k t ≡ true → len k.calls.records < k.calls.next_number
+        (k : KernelState) (t : TaskNo) → IsSound k → is_alive k t ≡ true
         → EndsWaitingFirst t k (kill k t).entries
     }
     ensures phones {
-        (k : KernelState) (t : TaskNo) → IsSound k → is_alive k t ≡ true → len k.calls.records < k.calls.next_number
+        (k : KernelState) (t : TaskNo) → IsSound k → is_alive k t ≡ true
         → ClosesPhones t k (kill k t).state
     }
     ensures calls {
-        (k : KernelState) (t : TaskNo) → IsSound k → is_alive k t ≡ true → len k.calls.records < k.calls.next_number
+        (k : KernelState) (t : TaskNo) → IsSound k → is_alive k t ≡ true
         → ClosesCalls t k (kill k t).state
     }
 {}

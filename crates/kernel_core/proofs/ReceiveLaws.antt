@@ -102,7 +102,7 @@ awaited_is d e = by_mark d.discard e where
   by_mark true g = absurd (cc g)
   by_mark false g = refl
 
-module _ (k : KernelState) (t : TaskNo) (sound : IsSound k) (few : len k.calls.records < k.calls.next_number) where
+module _ (k : KernelState) (t : TaskNo) (sound : IsSound k) where
   -- the mark on an answer, and its method
   is_hangup : (n : ℕ) (c : Call) → call_at k.calls n ≡ Some c → c.discard ≡ true → c.request.method ≡ phone_hungup
   is_hangup n c is mark = eqb-true c.request.method 0 (sym (sound.calls.each n c is).discard ∙ mark)
@@ -158,7 +158,7 @@ module _ (k : KernelState) (t : TaskNo) (sound : IsSound k) (few : len k.calls.r
   rest = (drop_unawaited t k).state
 
   dropped : IsRest (drop_unawaited t k).entries rest
-  dropped = drain_tells (List Entry) told_after none_after both_after (next_unawaited t) (drop_answer t) IsRest drops_next k.calls.next_number [] k
+  dropped = drain_tells (List Entry) told_after none_after both_after (next_unawaited t) (drop_answer t) IsRest drops_next (len k.calls.records) [] k
       (record { fine = sound; left = λ n c is. is; kept = λ n c is. inl is; drops = tt })
 
   -- then none stands first
@@ -166,7 +166,7 @@ module _ (k : KernelState) (t : TaskNo) (sound : IsSound k) (few : len k.calls.r
   none_next = drain_stops (next_unawaited t) (drop_answer t) IsSound (λ c. same_place c.place (Answers t))
       (λ j x s is. sound_drop j t x s)
       (λ j x s is. let it = next_is j x s is in let sum = rw it.at at (count-without_call (λ c. same_place c.place (Answers t)) j.calls x.number.0 x it.live) in omega arith)
-      k.calls.next_number k sound (let l = count-len (λ c. same_place c.place (Answers t)) k.calls.records in omega arith)
+      (len k.calls.records) k sound (count-len (λ c. same_place c.place (Answers t)) k.calls.records)
 
   -- the first answer and the first call of what is left
 

@@ -41,6 +41,7 @@ use Rattle.kernel_core.specs.Answering.{held_call, answer_held}
 use Rattle.kernel_core.specs.HangingUp.{hangup_over}
 use Rattle.kernel_core.specs.Forward.{failed_forward, forward_told}
 use Rattle.kernel_core.specs.Serve.{serve_request, serve}
+use Rattle.kernel_core.proofs.Serving.{sound_serve}
 use Rattle.kernel_core.specs.History.{is_ended, life_at, IsTold, TellsOf, PastFits, HistoryFits, served_entries}
 use Rattle.kernel_core.proofs.InEvent.{and_then, and_then-append, IsTask, CallerFits, IsHome, Agrees, Core, InEvent, by_test, same_place-true, noted, is_told, own, front_at, phone_told}
 use Rattle.kernel_core.proofs.InEvent as one
@@ -320,6 +321,8 @@ past_serves p k fits sound t asked alive =
     (step_finished t (ask asked) _ s.state (served_inside t asked (Head (Step t.0 (ask asked)) ∷ p) k (step_begun p k fits sound t (ask asked) alive))))
 
 -- a request that is served keeps the history fitting
-pub serve_fits : (h : List Entry) (k : KernelState) (t : TaskNo) (asked : Request) → HistoryFits h k → IsSound k → is_alive k t ≡ true → HistoryFits (h ++ served_entries t asked (serve k t asked)) (serve k t asked).state
-serve_fits h k t asked fits sound alive =
-    rw (past-append h (served_entries t asked (serve k t asked))) (past_serves (past h) k fits sound t asked alive)
+pub serve_fits : (h : List Entry) (k : KernelState) (t : TaskNo) (asked : Request) → HistoryFits h k → is_alive k t ≡ true → HistoryFits (h ++ served_entries t asked (serve k t asked)) (serve k t asked).state
+serve_fits h k t asked fits alive = record {
+  sound = sound_serve k t asked fits.sound alive;
+  told = rw (past-append h (served_entries t asked (serve k t asked))) (past_serves (past h) k fits.told fits.sound t asked alive);
+}

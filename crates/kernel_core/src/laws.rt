@@ -1,6 +1,5 @@
 //! The laws of calls, for the entries of any events.
-ghost use Rattle.std.specs.Prelude.{List, ◌<◌};
-ghost use Rattle.std.specs.FinMap.{len};
+ghost use Rattle.std.specs.Prelude.{List};
 ghost use Rattle.ipc_ids.specs.declared.numbers.TaskNo.{TaskNo};
 ghost use Rattle.ipc_ids.specs.declared.entry.Entry.{Entry};
 ghost use Rattle.ipc_ids.specs.Laws.{LivesAreLawful, AnsweredAtMostOnce, KillEndsHeldCalls};
@@ -22,7 +21,7 @@ pub fn fitting_histories_keep_the_laws()
 /// tells the first answer that is left, or else the first call that waits.
 pub fn receives_are_lawful()
     ensures {
-        (k : KernelState) (t : TaskNo) → IsSound k → len k.calls.records < k.calls.next_number
+        (k : KernelState) (t : TaskNo) → IsSound k
         → IsLawfulReceive t k (receive k t)
     }
 {}

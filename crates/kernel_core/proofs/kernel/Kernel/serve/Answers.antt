@@ -36,7 +36,7 @@ returns-clause-history c = λ h fits.
     subst
     (λ (j : KernelState). HistoryFits (h ++ served_entries c.args.who c.args.request.now (serve k c.args.who c.args.request.now)) j)
     (sym is)
-    (serve_fits h k c.args.who c.args.request.now before c.self.invariant.sound alive) in
+    (serve_fits h k c.args.who c.args.request.now before alive) in
     subst
     (λ (old : KernelState). HistoryFits (h ++ served_entries c.args.who c.args.request.now (serve old c.args.who c.args.request.now)) c.count_event.new.self.state)
     c.self.view_is
