@@ -1,6 +1,10 @@
 """Reads traces and the names of a script's tasks, for the tools beside it."""
 import re
+import signal
 import sys
+
+# A reader of the output who has enough of it, as head does, ends the tool without a word.
+signal.signal(signal.SIGPIPE, signal.SIG_DFL)
 
 NUMBER = r"\d+"
 TASK = r"t[1-9]\d*"
