@@ -1,0 +1,28 @@
+" A script of hipc: tasks, wires and operations.
+if exists('b:current_syntax')
+  finish
+endif
+syntax case match
+syntax iskeyword @,48-57,_
+syntax match hipcComment /#.*$/
+syntax match hipcBadByte /[^\x20-\x7e\t]/
+syntax match hipcStructure /^\s*\zs\(task\|wire\)\>/
+syntax match hipcOperation /^\s*\zs\(call\|receive\|answer\|forward\|hangup\|set\|jump\|jumpeq\|jumpne\)\>/
+syntax keyword hipcKind raw plain route
+syntax match hipcRegister /\<r\([12]\?[0-9]\|3[01]\)\>/
+syntax match hipcNumber /\<\([0-9]\{1,20\}\|0x[0-9A-Fa-f]\{1,16\}\)\>/
+syntax keyword hipcMethod PHONE_HUNGUP CONNECT_TO_ME CONNECT_ME_TO DATA_WRITE DATA_READ SHARE_OUT SHARE_IN
+syntax keyword hipcCode EOK ENOENT EPERM EEXIST EINVAL ELIMIT EHANGUP EFORWARD EBUSY ENOMEM
+syntax keyword hipcRights R W RW
+
+highlight default link hipcComment Comment
+highlight default link hipcBadByte Error
+highlight default link hipcStructure Structure
+highlight default link hipcOperation Statement
+highlight default link hipcKind Type
+highlight default link hipcRegister Identifier
+highlight default link hipcNumber Number
+highlight default link hipcMethod Constant
+highlight default link hipcCode Constant
+highlight default link hipcRights Constant
+let b:current_syntax = 'hipcscript'
