@@ -26,6 +26,8 @@ use Rattle.cleanup.proofs.Histories.{then_tells, each_tells, drain_tells}
 use Rattle.cleanup.proofs.Silence.{IsEnding, own_phones_hung_up, phones_slammed}
 use Rattle.cleanup.proofs.Queues.{IsUnanswered, incoming_settled, dispatched_settled, answers_dropped, forget_unanswered, call_from, forget_step}
 use Rattle.cleanup.proofs.Killing.{sound_kill, after_hangups, after_slams, after_incoming, after_dispatched, ended_here, alive_elsewhere, kill_leaves_nothing, HasNothingOf}
+use Rattle.cleanup.proofs.Limits.{within_kill}
+use Rattle.kernel_core.proofs.ServedLimits.{within_event}
 use Rattle.kernel_core.specs.Serve.{kill_event}
 use Rattle.kernel_core.specs.History.{is_ended, life_at, IsGone, PastFits, HistoryFits, killed_entries}
 use Rattle.kernel_core.proofs.InEvent.{and_then, and_then-append, IsTask, CallerFits, IsHome, Agrees, InEvent, by_test, noted, is_told, front_at, phone_told, settled, dropped}
@@ -260,5 +262,6 @@ kill_fits h k t fits alive =
     let after = sound_kill k t fits.sound alive in
     record {
       sound = record { calls = after.calls; tasks = after.tasks };
+      limits = within_event (kill k t).state (within_kill k t fits.sound alive fits.limits);
       told = rw (past-append h (killed_entries t (kill_event k t))) (fits_later _ (kill k t).state (past_kills (past h) k fits.told fits.sound t alive));
     }
