@@ -38,12 +38,6 @@ after_dispatched t k = (settle_dispatched t (after_incoming t k)).state
 abbrev pub after_answers : TaskNo → KernelState → KernelState
 after_answers t k = (drop_answers t (after_dispatched t k)).state
 
-abbrev pub after_kill : TaskNo → KernelState → KernelState
-after_kill t k = (forget_calls_elsewhere t (after_answers t k)).state
-
-pub kill_parts : (k : KernelState) (t : TaskNo) → (kill k t).state ≡ after_kill t k
-kill_parts k t = refl
-
 -- the marks of who is alive, where that of task t is taken away
 
 get_set_same : (xs : List Bool) (i : ℕ) (v x : Bool) → slice_get xs i ≡ Some x → slice_get (set xs i v) i ≡ Some v
@@ -212,9 +206,3 @@ killed_task k t alive = ap (λ (marks : List Bool). alive_in marks t.0) (kill_ma
 
 pub other_task : (k : KernelState) (t u : TaskNo) → is_alive k t ≡ true → (u.0 ≡ t.0 → ⊥) → is_alive (kill k t).state u ≡ is_alive k u
 other_task k t u alive ne = ap (λ (marks : List Bool). alive_in marks u.0) (kill_marks k t) ∙ alive_elsewhere k.tasks.alive t.0 alive u.0 ne
-
-pub kill_memory : (k : KernelState) (t : TaskNo) → (kill k t).state.memory ≡ k.memory
-kill_memory k t = (kill_steady k t).memory
-
-pub kill_events : (k : KernelState) (t : TaskNo) → (kill k t).state.events ≡ k.events
-kill_events k t = (kill_steady k t).events

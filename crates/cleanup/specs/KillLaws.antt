@@ -1,5 +1,5 @@
 -- What a kill of task t comes to, in the words of calls, phones and entries.
-use Rattle.std.specs.Prelude.{◌≡◌, ℕ, ◌⊎◌, ◌++◌, ⊤, List, [], ◌∷◌, Option, None, Some}
+use Rattle.std.specs.Prelude.{◌≡◌, ℕ, ◌⊎◌, ◌++◌, false, ⊤, List, [], ◌∷◌, Option, None, Some}
 use Rattle.ipc_ids.specs.declared.numbers.TaskNo.{TaskNo}
 use Rattle.ipc_ids.specs.declared.message.PhoneState.{PhoneState}
 use Rattle.ipc_ids.specs.declared.message.PhoneState.TheVariants.{Free, Connecting, Connected, HungUp, Slammed}
@@ -11,8 +11,13 @@ use Rattle.call_slab.specs.declared.call.Place.{Place}
 use Rattle.call_slab.specs.declared.call.Place.TheVariants.{Incoming, Dispatched, Answers}
 use Rattle.answerbox.specs.Calls.{call_at, task_of}
 use Rattle.phone_table.specs.Phones.{state_at}
-use Rattle.cleanup.specs.State.{KernelState, phone_at}
+use Rattle.cleanup.specs.State.{KernelState, is_alive, phone_at}
 use Rattle.cleanup.specs.Joins.{bare_reply}
+
+-- task t has ended, and each other task is alive just where it was
+pub record EndsTask (t : TaskNo) (before after : KernelState) : Type 0 where
+  pub ended : is_alive after t ≡ false
+  pub others : (u : TaskNo) → (u.0 ≡ t.0 → ⊥) → is_alive after u ≡ is_alive before u
 
 -- nothing is left of task t: no call stands at it, none is its own, and no phone leads to it
 pub record LeavesNothingOf (t : TaskNo) (k : KernelState) : Type 0 where

@@ -9,11 +9,14 @@ ghost use Rattle.cleanup.specs.State.{label_of};
 ghost use Rattle.cleanup.specs.Counts.{label_at};
 ghost use Rattle.cleanup.specs.Limits.{IsWithinLimits, IsRowOf};
 ghost use Rattle.cleanup.specs.Kill.{kill};
-ghost use Rattle.cleanup.specs.KillLaws.{LeavesNothingOf, EndsWaitingFirst, ClosesPhones, ClosesCalls};
+ghost use Rattle.cleanup.specs.KillLaws.{EndsTask, LeavesNothingOf, EndsWaitingFirst, ClosesPhones, ClosesCalls};
 
-/// A kill leaves nothing of the task, ends what waited at it before what it held, and closes its
-/// phones and its calls, and no others.
+/// A kill ends the task and no other, leaves nothing of it, ends what waited at it before what it
+/// held, and closes its phones and its calls, and no others.
 pub fn kills_leave_nothing()
+    ensures task {
+        (k : KernelState) (t : TaskNo) → is_alive k t ≡ true → EndsTask t k (kill k t).state
+    }
     ensures nothing {
         (k : KernelState) (t : TaskNo) → IsSound k → is_alive k t ≡ true
         → LeavesNothingOf t (kill k t).state
