@@ -17,7 +17,7 @@ use Rattle.answerbox.proofs.Steps.{with_change-record}
 use Rattle.answerbox.proofs.Callers.{calls_of_live, calls_of_none}
 use Rattle.cleanup.specs.State.{Tasks, KernelState, with_calls}
 use Rattle.cleanup.specs.Sound.{IsPlaced, IsSoundCall, AreSoundCalls, IsSound}
-use Rattle.cleanup.specs.Joins.{bare_reply, settle, settle_for, lives, drop_answer, forget_call}
+use Rattle.cleanup.specs.Joins.{bare_reply, settle_for, lives, drop_answer, forget_call}
 use Rattle.cleanup.specs.Kill.{first_at, first_call_of, settle_call, settle_incoming, settle_dispatched, drop_answers, forget_calls_elsewhere}
 use Rattle.cleanup.proofs.Lookups.{at_insert, at_remove, chosen, same_call}
 use Rattle.cleanup.proofs.Soundness.{sound_put, sound_without, kept_calls}
