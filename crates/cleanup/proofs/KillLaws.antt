@@ -99,8 +99,8 @@ module _ (k : KernelState) (t : TaskNo) (sound : IsSound k) (alive : is_alive k 
 
   pub kill_closes_calls : ClosesCalls t k (kill k t).state
   kill_closes_calls = record {
-    answered = λ n c u is at from ne. let a = kill_answers k t sound alive n c is u (with_test t c.place at) from ne in rw (a.1) (from, refl, refl);
+    answered = λ n c u is at from ne. let a = kill_answers k t sound alive n c is u (with_test t c.place at) from ne in rw (a.1) ((refl, refl, refl), from, refl, refl);
     over = λ n c is at only. kill_ends k t sound alive n c is (at_test t c at) only;
-    forgotten = λ n c is away from. rw (kill_orphans k t sound alive n c is (λ w. away (task_test t c w)) (is_its_caller t c.caller from)) (refl, refl);
+    forgotten = λ n c is away from. rw (kill_orphans k t sound alive n c is (λ w. away (task_test t c w)) (is_its_caller t c.caller from)) ((refl, refl, refl), refl, refl);
     others = λ n c is away other. kill_spares k t sound alive n c is (λ w. away (task_test t c w)) (not_its_caller t c.caller other);
   }

@@ -43,6 +43,7 @@ use Rattle.kernel_core.specs.Forward.{failed_forward, passing_on, forward_told}
 use Rattle.kernel_core.specs.HangingUp.{hangup_over}
 use Rattle.kernel_core.specs.Serve.{serve, serve_request}
 use Rattle.kernel_core.proofs.Passing.{leads_of, passes}
+use Rattle.kernel_core.proofs.Serving.{front_at, unawaited_front, user_method}
 
 -- a call is accepted
 
@@ -72,12 +73,6 @@ module _ (k : KernelState) (t : TaskNo) (p : ℕ) (msg : Msg) where
 
 -- each request
 
-front_at : (k : KernelState) (place : Place) (c : Call) → IsSound k → front k.calls place ≡ Some c → IsLive k c
-front_at k place c h is = let f = front_live k.calls place c is in ap (call_at k.calls) (h.calls.each f.0 c f.1).number ∙ f.1
-
-users : (m : ℕ) → nat_lt m first_user_method ≡ false → (m == 0) ≡ false
-users m h = ne_eqb m 0 (λ e. grind (arith, nat_tests))
-
 module _ (t : TaskNo) (k : KernelState) (h : IsSound k) (w : IsWithinLimits k) where
   abbrev Keeps : Served → Type 0
   Keeps s = IsWithinLimits s.state
@@ -85,7 +80,7 @@ module _ (t : TaskNo) (k : KernelState) (h : IsSound k) (w : IsWithinLimits k) w
   made : (p : ℕ) (msg : Msg) (s : PhoneState) (place : Place) (reply : Reply) → phone_at k t p ≡ Some s → (IsIdle (Some s) → ⊥) → nat_lt msg.method first_user_method ≡ false → nat_le most_active (active_calls k.calls (label_of t p)) ≡ false
       → IsWithinLimits (with_calls k (enqueue k.calls (record (new_call k t p msg place) { reply = reply })))
   made p msg s place reply is busy user few =
-      within_call k (record (new_call k t p msg place) { reply = reply }) w (next_free k.tasks k.calls h.calls) (λ idle. busy (subst IsIdle is idle)) (users msg.method user) (few_of (active_calls k.calls (label_of t p)) few)
+      within_call k (record (new_call k t p msg place) { reply = reply }) w (next_free k.tasks k.calls h.calls) (λ idle. busy (subst IsIdle is idle)) (sym (user_method msg.method user)) (few_of (active_calls k.calls (label_of t p)) few)
 
   through : (p : ℕ) (msg : Msg) (s : PhoneState) → phone_at k t p ≡ Some s → nat_lt msg.method first_user_method ≡ false → nat_le most_active (active_calls k.calls (label_of t p)) ≡ false → Keeps (call_through k t p msg s)
   through p msg Free is user few = w
@@ -145,13 +140,6 @@ module _ (t : TaskNo) (k : KernelState) (h : IsSound k) (w : IsWithinLimits k) w
 record IsFine (j : KernelState) : Type 0 where
   pub sound : IsSound j
   pub within : IsWithinLimits j
-
-unawaited_front : (o : Option Call) (c : Call) → unawaited o ≡ Some c → o ≡ Some c
-unawaited_front None c e = absurd (cc e)
-unawaited_front (Some d) c e = by_discard d.discard e where
-  by_discard : (b : Bool) → (if b then Some d else None) ≡ Some c → Some d ≡ Some c
-  by_discard true g = g
-  by_discard false g = absurd (cc g)
 
 drops_fine : (t : TaskNo) (k : KernelState) → IsFine k → IsFine (drop_unawaited t k).state
 drops_fine t k h = drain_keeps (next_unawaited t) (drop_answer t) IsFine
