@@ -1,5 +1,5 @@
 -- The front of a place, told by what the map has at each number.
-use Rattle.std.proofs.Common.{◌≡◌, ℕ, ◌<◌, Bool, true, false, cond, ◌&&◌, ◌⊎◌, List, [], ◌∷◌, Option, None, Some, refl, ap, sym, ◌∙◌, map, fold, inl, inr, ⊎_elim, arith, T, nat_lt}
+use Rattle.std.proofs.Common.{◌≡◌, ℕ, ◌<◌, ◌≤◌, Bool, true, false, cond, ◌&&◌, ◌⊎◌, List, [], ◌∷◌, Option, None, Some, refl, ap, sym, ◌∙◌, map, fold, inl, inr, ⊎_elim, arith, T, nat_lt}
 use Rattle.std.specs.Prelude.{if◌then◌else◌}
 use Rattle.std.specs.Ordering.{nat_cmp, is_eq, is_lt}
 use Rattle.std.specs.FinMap.{find, is_sorted, entries, entries_sorted, get-entries}
@@ -8,6 +8,7 @@ use Rattle.std.proofs.lemmas.Bool.Decides.{nat_tests}
 use Rattle.call_slab.specs.declared.call.Call.{Call}
 use Rattle.call_slab.specs.declared.call.Place.{Place}
 use Rattle.answerbox.specs.Calls.{CallTable, call_at, same_place, sooner, front}
+use Rattle.answerbox.specs.Places.{IsFrontOf, HasNoCalls}
 
 abbrev pick : Place → Option Call → Call → Option Call
 pick place best c = if same_place c.place place then sooner best c else best
@@ -166,3 +167,100 @@ front_live q place c is =
     (λ (h : ◌≡◌ {A = Option Call} None (Some c)). absurd (cc h))
     (λ (h : (k : ℕ) × (find nat_cmp k (entries q.records) ≡ Some c) × (same_place c.place place ≡ true)). (h.0, get-entries q.records h.0 ∙ h.1, h.2))
     (picked place (entries q.records) None c (entries_sorted q.records) is)
+
+-- nothing so far, or a call that did not come before
+abbrev NoSooner : Call → Option Call → Type 0
+NoSooner c None = Unit {0}
+NoSooner c (Some b) = c.stamp ≤ b.stamp
+
+-- no entry at the place came before
+abbrev NoneSooner : Call → Place → List (ℕ × Call) → Type 0
+NoneSooner c place [] = Unit {0}
+NoneSooner c place (e ∷ es) = (same_place e.1.place place ≡ true → c.stamp ≤ e.1.stamp) × NoneSooner c place es
+
+at_most : (c b : Call) → Some b ≡ Some c → c.stamp ≤ b.stamp
+at_most c b is = let same : b ≡ c = some_same b c is in rw same (omega arith)
+
+lt_stamp : (a b : ℕ) (x : Bool) → nat_lt a b ≡ x → (x ≡ true → a < b) × (x ≡ false → b ≤ a)
+lt_stamp a b x is = (λ t. grind (arith, nat_tests), λ t. grind (arith, nat_tests))
+
+-- what did not come after the sooner of two came after neither
+sooner_least : (c d : Call) (o : Option Call) → NoSooner c (sooner o d) → NoSooner c o × (c.stamp ≤ d.stamp)
+sooner_least c d None h = (tt, h)
+sooner_least c d (Some b) h =
+    let test = lt_stamp d.stamp b.stamp (nat_lt d.stamp b.stamp) refl in
+    elim (nat_lt d.stamp b.stamp) as (λ t. (t ≡ true → d.stamp < b.stamp) × (t ≡ false → b.stamp ≤ d.stamp) → NoSooner c (cond t (Some d) (Some b)) → (c.stamp ≤ b.stamp) × (c.stamp ≤ d.stamp)) [
+      | true ↦ λ k g. let lt = k.0 refl in (omega arith, g)
+      | false ↦ λ k g. let le = k.1 refl in (g, omega arith)
+    ] test h
+
+pick_least : (place : Place) (c d : Call) (o : Option Call) → NoSooner c (pick place o d) → NoSooner c o × (same_place d.place place ≡ true → c.stamp ≤ d.stamp)
+pick_least place c d o h =
+    elim (same_place d.place place) as (λ b. NoSooner c (cond b (sooner o d) o) → NoSooner c o × (b ≡ true → c.stamp ≤ d.stamp)) [
+      | true ↦ λ g. let k = sooner_least c d o g in (k.0, λ _. k.1)
+      | false ↦ λ g. (g, λ t. absurd (cc t))
+    ] h
+
+search_least : (place : Place) (c : Call) (es : List (ℕ × Call)) (o : Option Call) → fold (pick place) o (map (λ e. e.1) es) ≡ Some c → NoSooner c o × NoneSooner c place es
+search_least place c [] None is = absurd (cc is)
+search_least place c [] (Some b) is = (at_most c b is, tt)
+search_least place c (e ∷ es) o is =
+    let rest = search_least place c es (pick place o e.1) is in
+    let here = pick_least place c e.1 o rest.0 in
+    (here.0, (here.1, rest.1))
+
+none_sooner : (place : Place) (c : Call) (es : List (ℕ × Call)) (k : ℕ) (d : Call) → NoneSooner c place es → find nat_cmp k es ≡ Some d → same_place d.place place ≡ true → c.stamp ≤ d.stamp
+none_sooner place c [] k d h f at = absurd (cc f)
+none_sooner place c (e ∷ es) k d h f at =
+    elim (is_eq (nat_cmp k e.0)) as (λ t. cond t (Some e.1) (find nat_cmp k es) ≡ Some d → c.stamp ≤ d.stamp) [
+      | true ↦ λ g. let same : e.1 ≡ d = some_same e.1 d g in rw same at h.0 at
+      | false ↦ λ g. none_sooner place c es k d h.1 g at
+    ] f
+
+-- the front that the search finds has the least stamp of its place
+pub front-is_front : (q : CallTable) (place : Place) (n : ℕ) (c : Call) → front q place ≡ Some c → call_at q n ≡ Some c → IsFrontOf q n place
+front-is_front q place n c first is =
+    let found = front_live q place c first in
+    let least = search_least place c (entries q.records) None first in
+    record {
+      here = rw is found.2;
+      least = λ b m d own other at.
+          let same : c ≡ b = some_same c b (sym is ∙ own) in
+          rw same at (none_sooner place c (entries q.records) m d least.1 (sym (get-entries q.records m) ∙ other) at);
+    }
+
+-- no entry stands at the place
+abbrev NoneHere : Place → List (ℕ × Call) → Type 0
+NoneHere place [] = Unit {0}
+NoneHere place (e ∷ es) = (same_place e.1.place place ≡ false) × NoneHere place es
+
+sooner_some : (o : Option Call) (d : Call) → sooner o d ≡ None → ⊥
+sooner_some None d h = cc h
+sooner_some (Some b) d h = elim (nat_lt d.stamp b.stamp) as (λ t. cond t (Some d) (Some b) ≡ None → ⊥) [ true ↦ λ g. cc g | false ↦ λ g. cc g ] h
+
+pick_none : (place : Place) (o : Option Call) (d : Call) → pick place o d ≡ None → (o ≡ None) × (same_place d.place place ≡ false)
+pick_none place o d h =
+    elim (same_place d.place place) as (λ b. cond b (sooner o d) o ≡ None → (o ≡ None) × (b ≡ false)) [
+      | true ↦ λ g. absurd (sooner_some o d g)
+      | false ↦ λ g. (g, refl)
+    ] h
+
+search_none : (place : Place) (es : List (ℕ × Call)) (o : Option Call) → fold (pick place) o (map (λ e. e.1) es) ≡ None → (o ≡ None) × NoneHere place es
+search_none place [] o is = (is, tt)
+search_none place (e ∷ es) o is =
+    let rest = search_none place es (pick place o e.1) is in
+    let here = pick_none place o e.1 rest.0 in
+    (here.0, (here.1, rest.1))
+
+none_here : (place : Place) (es : List (ℕ × Call)) (k : ℕ) (d : Call) → NoneHere place es → find nat_cmp k es ≡ Some d → same_place d.place place ≡ false
+none_here place [] k d h f = absurd (cc f)
+none_here place (e ∷ es) k d h f =
+    elim (is_eq (nat_cmp k e.0)) as (λ t. cond t (Some e.1) (find nat_cmp k es) ≡ Some d → same_place d.place place ≡ false) [
+      | true ↦ λ g. let same : e.1 ≡ d = some_same e.1 d g in rw same at h.0
+      | false ↦ λ g. none_here place es k d h.1 g
+    ] f
+
+-- where the search finds no front no call stands
+pub no_front-has_no_calls : (q : CallTable) (place : Place) → front q place ≡ None → HasNoCalls q place
+no_front-has_no_calls q place none k d is =
+    none_here place (entries q.records) k d (search_none place (entries q.records) None none).1 (sym (get-entries q.records k) ∙ is)

@@ -1,9 +1,9 @@
 //! Searches in a list of call records.
-ghost use Rattle.std.specs.Prelude.{◌≡◌, ◌+◌, Option, Some, None, IfSome, IfNone, Contains, true};
+ghost use Rattle.std.specs.Prelude.{◌≡◌, ◌+◌, Option, Some, None, IfSome, IfNone, Contains};
 ghost use Rattle.std.specs.Option.{option_copied};
 ghost use Rattle.std.specs.Ordering.{nat_cmp};
 ghost use Rattle.std.specs.FinMap.{find};
-ghost use Rattle.answerbox.specs.Calls.{first_at, first_from, same_place};
+ghost use Rattle.answerbox.specs.Calls.{first_at, first_from};
 ghost use Rattle.answerbox.specs.Kept.{keyed, StandsAt};
 
 use call_slab::{Call, Place};
@@ -26,7 +26,6 @@ pub fn position_of(calls: &[Call], number: CallNo) -> Option<usize>
 pub fn first_of(calls: &[Call], place: Place) -> Option<&Call>
     ensures first { option_copied result ≡ first_at place calls.now }
     ensures within { IfSome result (λ c. Contains calls.now c.now) }
-    ensures here { IfSome result (λ c. same_place c.now.place place ≡ true) }
 {
     let mut first: Option<&Call> = None;
     for call in calls {

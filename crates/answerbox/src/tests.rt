@@ -44,6 +44,7 @@ fn calls_go_from_place_to_place(rt: HostRuntime) -> Result<(), Fail> {
     let (caller, receiver) = (TaskNo(1), TaskNo(2));
     let incoming = Place::Incoming(receiver);
     let dispatched = Place::Dispatched(receiver);
+    let answers = Place::Answers(caller);
     let one = boxes.next_number();
     boxes.enqueue(call_from(rt.alloc(), one, caller, incoming));
     let two = boxes.next_number();
@@ -60,9 +61,10 @@ fn calls_go_from_place_to_place(rt: HostRuntime) -> Result<(), Fail> {
     assert_eq!(rt; boxes.front(incoming), Some(two));
     assert_eq!(rt; boxes.front(dispatched), Some(one));
     if let Some(first) = boxes.front(dispatched) {
-        boxes.set_reply(first, Reply::bare(Code::ENOENT));
+        boxes.answer(first, Reply::bare(Code::ENOENT), answers);
     }
-    if let Some(first) = boxes.front(dispatched) {
+    assert_eq!(rt; boxes.front(dispatched), None);
+    if let Some(first) = boxes.front(answers) {
         let gone = boxes.leave(first);
         assert_eq!(rt; gone.number, one);
         assert_eq!(rt; gone.reply, Reply::bare(Code::ENOENT));
@@ -70,5 +72,70 @@ fn calls_go_from_place_to_place(rt: HostRuntime) -> Result<(), Fail> {
     assert!(rt; boxes.get(one).is_none());
     assert!(rt; boxes.get(two).is_some());
     assert_eq!(rt; boxes.calls_of(caller), Some(two));
+    Ok(())
+}
+
+#[test]
+fn a_caller_has_its_calls_by_rising_number(rt: HostRuntime) -> Result<(), Fail> {
+    let mut boxes = Boxes::new(rt.alloc());
+    boxes.add_task()?;
+    boxes.add_task()?;
+    boxes.reserve(3)?;
+    let (caller, other) = (TaskNo(1), TaskNo(2));
+    let incoming = Place::Incoming(other);
+    let one = boxes.next_number();
+    boxes.enqueue(call_from(rt.alloc(), one, caller, incoming));
+    let two = boxes.next_number();
+    boxes.enqueue(call_from(rt.alloc(), two, other, incoming));
+    let three = boxes.next_number();
+    boxes.enqueue(call_from(rt.alloc(), three, caller, incoming));
+    assert_eq!(rt; boxes.calls_of(caller), Some(one));
+    assert_eq!(rt; next_of_same_caller(&boxes, one), Some(three));
+    assert_eq!(rt; next_of_same_caller(&boxes, two), None);
+    assert_eq!(rt; next_of_same_caller(&boxes, three), None);
+    if let Some(first) = boxes.calls_of(caller) {
+        boxes.forget(first);
+    }
+    assert_eq!(rt; boxes.calls_of(caller), Some(three));
+    assert_eq!(rt; next_of_same_caller(&boxes, one), None);
+    Ok(())
+}
+
+/// The next call of the same caller, where the call is live and its caller has not ended.
+fn next_of_same_caller(boxes: &Boxes, number: CallNo) -> Option<CallNo> {
+    match boxes.get(number)?.caller {
+        Some(_) => boxes.next_of(number),
+        None => None,
+    }
+}
+
+#[test]
+fn a_readdressed_call_comes_last_to_its_next_place(rt: HostRuntime) -> Result<(), Fail> {
+    let mut boxes = Boxes::new(rt.alloc());
+    boxes.add_task()?;
+    boxes.add_task()?;
+    boxes.add_task()?;
+    boxes.reserve(2)?;
+    let (caller, receiver, third) = (TaskNo(1), TaskNo(2), TaskNo(3));
+    let one = boxes.next_number();
+    boxes.enqueue(call_from(rt.alloc(), one, caller, Place::Incoming(receiver)));
+    let two = boxes.next_number();
+    boxes.enqueue(call_from(rt.alloc(), two, caller, Place::Incoming(third)));
+    let label = Label {
+        task: receiver,
+        phone: PhoneNo(4),
+    };
+    if let Some(first) = boxes.front(Place::Incoming(receiver)) {
+        boxes.readdress(first, Msg::bare(700), label, Place::Incoming(third));
+    }
+    assert_eq!(rt; boxes.front(Place::Incoming(receiver)), None);
+    assert_eq!(rt; boxes.front(Place::Incoming(third)), Some(two));
+    let Some(call) = boxes.get(one) else {
+        return Err(Fail::new("the call is gone"));
+    };
+    assert_eq!(rt; call.msg, Msg::bare(700));
+    assert_eq!(rt; call.request, Msg::bare(512));
+    assert_eq!(rt; call.label, label);
+    assert_eq!(rt; call.stamp, 3);
     Ok(())
 }

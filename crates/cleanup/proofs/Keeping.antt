@@ -12,15 +12,14 @@ use Rattle.ipc_ids.specs.declared.message.PhoneState.{PhoneState}
 use Rattle.call_slab.specs.declared.call.Call.{Call}
 use Rattle.call_slab.specs.declared.call.Place.{Place}
 use Rattle.call_slab.specs.declared.call.Place.TheVariants.{Answers}
-use Rattle.answerbox.specs.Calls.{CallTable, call_at, enqueue, put_at, with_record, with_reply, with_place, without_call, without_caller, is_caller, is_active_on, same_label, active_calls}
+use Rattle.answerbox.specs.Calls.{CallTable, call_at, answered, enqueue, put_at, with_record, without_call, without_caller, is_caller, is_active_on, same_label, active_calls}
 use Rattle.answerbox.proofs.Counts.{insert-remove, ties, active-without_call, count-with_record}
-use Rattle.answerbox.proofs.Steps.{with_place-with_reply}
 use Rattle.phone_table.specs.Phones.{Row, row_at, state_at, count_at, after_hangup}
 use Rattle.phone_table.specs.declared.hung.Hung.{Hung}
 use Rattle.phone_table.proofs.Lookups.{same_row}
 use Rattle.cleanup.specs.State.{with_state_at}
-use Rattle.cleanup.specs.Counts.{label_at, recount, count_changed, counts_without, IsCounted}
-use Rattle.cleanup.specs.Steps.{HasCounts, with_answer, IsCallOf, hung_rows}
+use Rattle.cleanup.specs.Counts.{label_at, recount, count_changed, counts_without, IsCounted, HasCounts}
+use Rattle.cleanup.specs.Board.{IsCallOf, hung_rows}
 use Rattle.cleanup.proofs.Lookups.{at_insert, at_remove, chosen, same_call}
 use Rattle.cleanup.proofs.Rows.{some_of, state_changed_at}
 use Rattle.cleanup.proofs.Soundness.{some_set, value_of, row_after, phone_kept}
@@ -190,11 +189,7 @@ pub call_of : (o : Option Call) (caller : TaskNo) → IsCallOf o caller → (c :
 call_of None caller h = absurd h
 call_of (Some c) caller h = (c, refl, h)
 
--- a reply, and then a place among the answers
-pub answered : (calls : CallTable) (n : ℕ) (c : Call) (reply : Reply) (caller : TaskNo) → call_at calls n ≡ Some c → c.number.0 ≡ n → with_place (with_reply calls n reply) n (Answers caller) ≡ with_answer calls n reply caller
-answered calls n c reply caller is number = rw is (subst (λ (o : Option Call). option_map_or (λ d. put_at (option_map_or (λ e. with_record calls (record e { reply = reply })) o calls) d (Answers caller)) (call_at (option_map_or (λ e. with_record calls (record e { reply = reply })) o calls) n) (option_map_or (λ e. with_record calls (record e { reply = reply })) o calls) ≡ put_at calls (record c { reply = reply }) (Answers caller)) is (with_place-with_reply calls n c reply (Answers caller) is number))
-
-pub counts_answer : (phones : List (List PhoneState)) (counts : List (List ℕ)) (q : CallTable) (n : ℕ) (reply : Reply) (caller : TaskNo) → HasCounts phones counts q → IsCallOf (call_at q n) caller → HasCounts phones counts (with_answer q n reply caller)
+pub counts_answer : (phones : List (List PhoneState)) (counts : List (List ℕ)) (q : CallTable) (n : ℕ) (reply : Reply) (caller : TaskNo) → HasCounts phones counts q → IsCallOf (call_at q n) caller → HasCounts phones counts (answered q n reply (Answers caller))
 counts_answer phones counts q n reply caller s called =
     let f = call_of (call_at q n) caller called in
     rw (f.1) (counts_put phones counts q n f.0 (record f.0 { reply = reply }) (Answers caller) s f.1 refl refl refl)

@@ -1,16 +1,11 @@
 -- A kill of a task whose phone was slammed, and to which the phone of another leads.
-use Rattle.std.proofs.Common.{◌≡◌, true, false, Option, None, Some, [], ◌∷◌, refl}
+use Rattle.std.proofs.Common.{◌≡◌, true, false, [], ◌∷◌, refl}
 use Rattle.std.specs.Ordering.{nat_cmp}
-use Rattle.std.specs.FinMap.{get-empty}
+use Rattle.std.specs.FinMap.{len-empty}
 use Rattle.ipc_ids.specs.declared.numbers.TaskNo.{TaskNo}
 use Rattle.ipc_ids.specs.declared.message.PhoneState.TheVariants.{Free, Connected, HungUp, Slammed}
 use Rattle.ipc_ids.specs.declared.entry.Entry.TheVariants.{PhoneIs}
-use Rattle.call_slab.specs.declared.call.Call.{Call}
-use Rattle.call_slab.specs.declared.call.Place.{Place}
-use Rattle.call_slab.specs.declared.call.Place.TheVariants.{Incoming, Dispatched, Answers}
-use Rattle.answerbox.specs.Calls.{no_calls, front, calls_of}
-use Rattle.answerbox.proofs.Fronts.{front_is_none}
-use Rattle.answerbox.proofs.Callers.{calls_of_live}
+use Rattle.answerbox.specs.Calls.{no_calls}
 use Rattle.cleanup.specs.State.{KernelState, state_from}
 use Rattle.cleanup.specs.Kill.{kill}
 
@@ -20,15 +15,6 @@ first = record { 0 = 1 }
 abbrev second : TaskNo
 second = record { 0 = 2 }
 
-no_front : (place : Place) → front no_calls place ≡ None
-no_front place = front_is_none no_calls place (λ n c is. absurd (let g = rw (get-empty nat_cmp n) at is in cc))
-
-no_call_of : (t : TaskNo) → calls_of no_calls t ≡ None
-no_call_of t = by_call (calls_of no_calls t) refl where
-  by_call : (o : Option Call) → calls_of no_calls t ≡ o → o ≡ None
-  by_call None is = refl
-  by_call (Some c) is = absurd (let f = calls_of_live no_calls t c is in let g = rw (get-empty nat_cmp f.number) at f.is in cc)
-
 abbrev before : KernelState
 before = state_from (true ∷ true ∷ []) ((Slammed ∷ Free ∷ []) ∷ (Connected first ∷ Connected second ∷ []) ∷ []) no_calls 5
 
@@ -36,4 +22,4 @@ slammed_and_hung_up : kill before first ≡ record {
   state = state_from (false ∷ true ∷ []) ((HungUp ∷ Free ∷ []) ∷ (Slammed ∷ Connected second ∷ []) ∷ []) no_calls 5;
   entries = PhoneIs (record { task = first; phone = record { 0 = 0 } }) HungUp ∷ PhoneIs (record { task = second; phone = record { 0 = 0 } }) Slammed ∷ [];
 }
-slammed_and_hung_up = rw (no_front (Incoming first), no_front (Dispatched first), no_front (Answers first), no_call_of first) refl
+slammed_and_hung_up = rw (len-empty nat_cmp, len-empty nat_cmp, len-empty nat_cmp, len-empty nat_cmp) refl

@@ -13,8 +13,7 @@ use Rattle.call_slab.specs.declared.call.Place.TheVariants.{Incoming, Dispatched
 use Rattle.answerbox.specs.Calls.{CallTable, call_at, same_place, is_caller, without_call, with_record}
 use Rattle.cleanup.specs.State.{Tasks, KernelState, Transition, alive_in, is_alive, phone_at, with_calls}
 use Rattle.cleanup.specs.Sound.{IsPlaced, IsCaller, IsSound}
-use Rattle.cleanup.specs.Settling.{bare_reply, settle_for, lives, drop_answer, forget_call}
-use Rattle.cleanup.specs.HangingUp.{hangup_call, hang_up}
+use Rattle.cleanup.specs.Joins.{bare_reply, settle_for, lives, drop_answer, forget_call, hangup_call, hang_up}
 use Rattle.cleanup.specs.Kill.{width, mark_ended, hang_up_at, slam, first_at, first_call_of, settle_call, kill}
 use Rattle.cleanup.proofs.Lookups.{at_insert, at_remove, same_call}
 use Rattle.cleanup.proofs.Repeats.{by_test, each_keeps, drain_keeps}
@@ -55,13 +54,13 @@ Becomes t c now = (now ≡ Some c) ⊎ (IsAnswered t c now ⊎ (IsOver t c now �
 put_here : (q : CallTable) (m n : ℕ) (d : Call) → m ≡ n → get (insert q.records m d) n ≡ Some d
 put_here q m n d e = at_insert q.records m n d ∙ rw (eq-eqb m n e) refl
 
-put_other : (q : CallTable) (m n : ℕ) (d : Call) → (m ≡ n → ⊥) → get (insert q.records m d) n ≡ call_at q n
+pub put_other : (q : CallTable) (m n : ℕ) (d : Call) → (m ≡ n → ⊥) → get (insert q.records m d) n ≡ call_at q n
 put_other q m n d ne = at_insert q.records m n d ∙ rw (ne_eqb m n ne) refl
 
 gone_here : (q : CallTable) (m n : ℕ) → m ≡ n → call_at (without_call q m) n ≡ None
 gone_here q m n e = at_remove q.records m n ∙ rw (eq-eqb m n e) refl
 
-gone_other : (q : CallTable) (m n : ℕ) → (m ≡ n → ⊥) → call_at (without_call q m) n ≡ call_at q n
+pub gone_other : (q : CallTable) (m n : ℕ) → (m ≡ n → ⊥) → call_at (without_call q m) n ≡ call_at q n
 gone_other q m n ne = at_remove q.records m n ∙ rw (ne_eqb m n ne) refl
 
 none_some : {A : Type 0} (x : A) → None ≡ Some x → ⊥
@@ -201,7 +200,7 @@ module _ (k : KernelState) (t : TaskNo) (sound : IsSound k) (alive : is_alive k 
   slam_calls q u j p (Some Slammed) h = h
   slam_calls q u j p (Some (Connected v)) h = by_test (λ (s : Transition). s.state.calls ≡ q) (v.0 == t.0) _ _ (λ _. h) (λ _. h)
 
-  after_phones : call_at (after_slams t k).calls n ≡ Some c
+  pub after_phones : call_at (after_slams t k).calls n ≡ Some c
   after_phones =
       let h1 : IsBelow (after_hangups t k) = each_keeps (hang_up_at t) IsBelow (λ j p h. hang_up_leaves j p (phone_at j t p) h) (width k.tasks.phones t.0) 0 now_dead (record { there = is; below = (sound.calls.each n c is).below }) in
       let h2 : (after_slams t k).calls ≡ (after_hangups t k).calls = slams_keep t (λ j. j.calls ≡ (after_hangups t k).calls) (λ u p j h. slam_calls (after_hangups t k).calls u j p (phone_at j u p) h) (after_hangups t k) refl in
@@ -221,87 +220,86 @@ module _ (k : KernelState) (t : TaskNo) (sound : IsSound k) (alive : is_alive k 
   settled_steady : (j : KernelState) (d : Call) → IsSteady now_dead j → IsSteady now_dead (settle_call j d).state
   settled_steady j d s = settle_steady now_dead j d (bare_reply ehangup) d.caller (lives j d.caller) s
 
-  module _ (few : len k.calls.records < k.calls.next_number) where
-    abbrev marks : List Bool
-    marks = k.tasks.alive
+  abbrev marks : List Bool
+  marks = k.tasks.alive
 
-    alone_first : IsAlone marks t (after_slams t k)
-    alone_first =
-        let h0 : IsEnding marks now_dead = record { sound = sound; few = few } in
-        phones_slammed marks t (after_hangups t k) (own_phones_hung_up marks t now_dead alive h0)
+  alone_first : IsAlone marks t (after_slams t k)
+  alone_first =
+      let h0 : IsEnding marks now_dead = record { sound = sound } in
+      phones_slammed marks t (after_hangups t k) (own_phones_hung_up marks t now_dead alive h0)
 
-    comes_incoming : IsOn (IsAlone marks t) (after_incoming t k)
-    comes_incoming = drain_keeps (first_at (Incoming t)) settle_call (IsOn (IsAlone marks t))
-        (λ j d h e. let f = front_at marks j (Incoming t) d h.calls.silent.ending e in record { calls = incoming_alone marks t j d h.calls e; steady = settled_steady j d h.steady; comes = settle_comes j d h.steady f.0 (inl f.1) h.comes })
-        (after_slams t k).calls.next_number (after_slams t k) (record { calls = alone_first; steady = steady_phones; comes = inl after_phones })
+  comes_incoming : IsOn (IsAlone marks t) (after_incoming t k)
+  comes_incoming = drain_keeps (first_at (Incoming t)) settle_call (IsOn (IsAlone marks t))
+      (λ j d h e. let f = front_at marks j (Incoming t) d h.calls.silent.ending e in record { calls = incoming_alone marks t j d h.calls e; steady = settled_steady j d h.steady; comes = settle_comes j d h.steady f.0 (inl f.1) h.comes })
+      (len (after_slams t k).calls.records) (after_slams t k) (record { calls = alone_first; steady = steady_phones; comes = inl after_phones })
 
-    uncalled : IsUncalled marks t (after_incoming t k)
-    uncalled = incoming_settled marks t (after_slams t k) alone_first
+  uncalled : IsUncalled marks t (after_incoming t k)
+  uncalled = incoming_settled marks t (after_slams t k) alone_first
 
-    comes_dispatched : IsOn (IsUncalled marks t) (after_dispatched t k)
-    comes_dispatched = drain_keeps (first_at (Dispatched t)) settle_call (IsOn (IsUncalled marks t))
-        (λ j d h e. let f = front_at marks j (Dispatched t) d h.calls.alone.silent.ending e in record { calls = dispatched_uncalled marks t j d h.calls e; steady = settled_steady j d h.steady; comes = settle_comes j d h.steady f.0 (inr f.1) h.comes })
-        (after_incoming t k).calls.next_number (after_incoming t k) (record { calls = uncalled; steady = comes_incoming.steady; comes = comes_incoming.comes })
+  comes_dispatched : IsOn (IsUncalled marks t) (after_dispatched t k)
+  comes_dispatched = drain_keeps (first_at (Dispatched t)) settle_call (IsOn (IsUncalled marks t))
+      (λ j d h e. let f = front_at marks j (Dispatched t) d h.calls.alone.silent.ending e in record { calls = dispatched_uncalled marks t j d h.calls e; steady = settled_steady j d h.steady; comes = settle_comes j d h.steady f.0 (inr f.1) h.comes })
+      (len (after_incoming t k).calls.records) (after_incoming t k) (record { calls = uncalled; steady = comes_incoming.steady; comes = comes_incoming.comes })
 
-    idle : IsIdle marks t (after_dispatched t k)
-    idle = dispatched_settled marks t (after_incoming t k) uncalled
+  idle : IsIdle marks t (after_dispatched t k)
+  idle = dispatched_settled marks t (after_incoming t k) uncalled
 
-    comes_answers : IsOn (IsIdle marks t) (after_answers t k)
-    comes_answers = drain_keeps (first_at (Answers t)) (drop_answer t) (IsOn (IsIdle marks t))
-        (λ j d h e. let f = front_at marks j (Answers t) d h.calls.uncalled.alone.silent.ending e in record { calls = drop_idle marks t j d h.calls e; steady = record { alive = h.steady.alive; memory = h.steady.memory; events = h.steady.events }; comes = drop_comes j d f.0 f.1 h.comes })
-        (after_dispatched t k).calls.next_number (after_dispatched t k) (record { calls = idle; steady = comes_dispatched.steady; comes = comes_dispatched.comes })
+  comes_answers : IsOn (IsIdle marks t) (after_answers t k)
+  comes_answers = drain_keeps (first_at (Answers t)) (drop_answer t) (IsOn (IsIdle marks t))
+      (λ j d h e. let f = front_at marks j (Answers t) d h.calls.uncalled.alone.silent.ending e in record { calls = drop_idle marks t j d h.calls e; steady = record { alive = h.steady.alive; memory = h.steady.memory; events = h.steady.events }; comes = drop_comes j d f.0 f.1 h.comes })
+      (len (after_dispatched t k).calls.records) (after_dispatched t k) (record { calls = idle; steady = comes_dispatched.steady; comes = comes_dispatched.comes })
 
-    unanswered : IsUnanswered marks t (after_answers t k)
-    unanswered = answers_dropped marks t (after_dispatched t k) idle
+  unanswered : IsUnanswered marks t (after_answers t k)
+  unanswered = answers_dropped marks t (after_dispatched t k) idle
 
-    comes_last : IsOn (IsUnanswered marks t) (kill k t).state
-    comes_last = drain_keeps (first_call_of t) forget_call (IsOn (IsUnanswered marks t))
-        (λ j d h e. let f = call_from marks t j d h.calls.idle.uncalled.alone.silent.ending e in record { calls = forget_unanswered marks t j d h.calls e; steady = record { alive = h.steady.alive; memory = h.steady.memory; events = h.steady.events }; comes = forget_comes j d f.0 f.1 h.comes })
-        (after_answers t k).calls.next_number (after_answers t k) (record { calls = unanswered; steady = comes_answers.steady; comes = comes_answers.comes })
+  comes_last : IsOn (IsUnanswered marks t) (kill k t).state
+  comes_last = drain_keeps (first_call_of t) forget_call (IsOn (IsUnanswered marks t))
+      (λ j d h e. let f = call_from marks t j d h.calls.idle.uncalled.alone.silent.ending e in record { calls = forget_unanswered marks t j d h.calls e; steady = record { alive = h.steady.alive; memory = h.steady.memory; events = h.steady.events }; comes = forget_comes j d f.0 f.1 h.comes })
+      (len (after_answers t k).calls.records) (after_answers t k) (record { calls = unanswered; steady = comes_answers.steady; comes = comes_answers.comes })
 
-    pub kill_becomes : Becomes t c (call_at (kill k t).state.calls n)
-    kill_becomes = comes_last.comes
+  pub kill_becomes : Becomes t c (call_at (kill k t).state.calls n)
+  kill_becomes = comes_last.comes
 
-    nothing_left : HasNothingOf t (kill k t).state
-    nothing_left = kill_leaves_nothing k t sound alive few
+  nothing_left : HasNothingOf t (kill k t).state
+  nothing_left = kill_leaves_nothing k t sound alive
 
-    not_there : IsWith t c ⊎ (same_place c.place (Answers t) ≡ true) → (d : Call) → call_at (kill k t).state.calls n ≡ Some d → d.place ≡ c.place → ⊥
-    not_there (inl (inl w)) d e p = false≢true (sym (nothing_left.incoming n d e) ∙ ap (λ (x : Place). same_place x (Incoming t)) p ∙ w)
-    not_there (inl (inr w)) d e p = false≢true (sym (nothing_left.dispatched n d e) ∙ ap (λ (x : Place). same_place x (Dispatched t)) p ∙ w)
-    not_there (inr w) d e p = false≢true (sym (nothing_left.answers n d e) ∙ ap (λ (x : Place). same_place x (Answers t)) p ∙ w)
+  not_there : IsWith t c ⊎ (same_place c.place (Answers t) ≡ true) → (d : Call) → call_at (kill k t).state.calls n ≡ Some d → d.place ≡ c.place → ⊥
+  not_there (inl (inl w)) d e p = false≢true (sym (nothing_left.incoming n d e) ∙ ap (λ (x : Place). same_place x (Incoming t)) p ∙ w)
+  not_there (inl (inr w)) d e p = false≢true (sym (nothing_left.dispatched n d e) ∙ ap (λ (x : Place). same_place x (Dispatched t)) p ∙ w)
+  not_there (inr w) d e p = false≢true (sym (nothing_left.answers n d e) ∙ ap (λ (x : Place). same_place x (Answers t)) p ∙ w)
 
-    -- a call of another task that waited at t, or that t held, is answered by the kernel
-    pub kill_answers : (u : TaskNo) → IsWith t c → c.caller ≡ Some u → (u.0 ≡ t.0 → ⊥) → (stamp : ℕ) × (call_at (kill k t).state.calls n ≡ Some (record c { reply = bare_reply ehangup; place = Answers u; stamp = stamp }))
-    kill_answers u w from ne = by_fate kill_becomes where
-      by_fate : Becomes t c (call_at (kill k t).state.calls n) → (stamp : ℕ) × (call_at (kill k t).state.calls n ≡ Some (record c { reply = bare_reply ehangup; place = Answers u; stamp = stamp }))
-      by_fate (inl e) = absurd (not_there (inl w) c e refl)
-      by_fate (inr (inl a)) = (a.stamp, a.answer ∙ ap (λ (v : TaskNo). Some (record c { reply = bare_reply ehangup; place = Answers v; stamp = a.stamp })) (same_caller a.caller u (sym a.is ∙ from)))
-      by_fate (inr (inr (inl o))) = absurd (ne (o.alone u from))
-      by_fate (inr (inr (inr o))) = absurd (ne (its_caller t u c.caller o.made from))
+  -- a call of another task that waited at t, or that t held, is answered by the kernel
+  pub kill_answers : (u : TaskNo) → IsWith t c → c.caller ≡ Some u → (u.0 ≡ t.0 → ⊥) → (stamp : ℕ) × (call_at (kill k t).state.calls n ≡ Some (record c { reply = bare_reply ehangup; place = Answers u; stamp = stamp }))
+  kill_answers u w from ne = by_fate kill_becomes where
+    by_fate : Becomes t c (call_at (kill k t).state.calls n) → (stamp : ℕ) × (call_at (kill k t).state.calls n ≡ Some (record c { reply = bare_reply ehangup; place = Answers u; stamp = stamp }))
+    by_fate (inl e) = absurd (not_there (inl w) c e refl)
+    by_fate (inr (inl a)) = (a.stamp, a.answer ∙ ap (λ (v : TaskNo). Some (record c { reply = bare_reply ehangup; place = Answers v; stamp = a.stamp })) (same_caller a.caller u (sym a.is ∙ from)))
+    by_fate (inr (inr (inl o))) = absurd (ne (o.alone u from))
+    by_fate (inr (inr (inr o))) = absurd (ne (its_caller t u c.caller o.made from))
 
-    -- a call at t that nobody else waits for is over
-    pub kill_ends : IsWith t c ⊎ (same_place c.place (Answers t) ≡ true) → ((u : TaskNo) → c.caller ≡ Some u → u.0 ≡ t.0) → call_at (kill k t).state.calls n ≡ None
-    kill_ends w only = by_fate kill_becomes where
-      by_fate : Becomes t c (call_at (kill k t).state.calls n) → call_at (kill k t).state.calls n ≡ None
-      by_fate (inl e) = absurd (not_there w c e refl)
-      by_fate (inr (inl a)) = absurd (a.other (only a.caller a.is))
-      by_fate (inr (inr (inl o))) = o.over
-      by_fate (inr (inr (inr o))) = absurd (not_there w (orphan c) o.orphan refl)
+  -- a call at t that nobody else waits for is over
+  pub kill_ends : IsWith t c ⊎ (same_place c.place (Answers t) ≡ true) → ((u : TaskNo) → c.caller ≡ Some u → u.0 ≡ t.0) → call_at (kill k t).state.calls n ≡ None
+  kill_ends w only = by_fate kill_becomes where
+    by_fate : Becomes t c (call_at (kill k t).state.calls n) → call_at (kill k t).state.calls n ≡ None
+    by_fate (inl e) = absurd (not_there w c e refl)
+    by_fate (inr (inl a)) = absurd (a.other (only a.caller a.is))
+    by_fate (inr (inr (inl o))) = o.over
+    by_fate (inr (inr (inr o))) = absurd (not_there w (orphan c) o.orphan refl)
 
-    -- a call of t elsewhere stays there, and has no caller any more
-    pub kill_orphans : (IsWith t c ⊎ (same_place c.place (Answers t) ≡ true) → ⊥) → is_caller t c.caller ≡ true → call_at (kill k t).state.calls n ≡ Some (record c { caller = None })
-    kill_orphans away made = by_fate kill_becomes where
-      by_fate : Becomes t c (call_at (kill k t).state.calls n) → call_at (kill k t).state.calls n ≡ Some (record c { caller = None })
-      by_fate (inl e) = absurd (false≢true (sym (nothing_left.callers n c e) ∙ made))
-      by_fate (inr (inl a)) = absurd (away (inl a.with_task))
-      by_fate (inr (inr (inl o))) = absurd (away o.at_task)
-      by_fate (inr (inr (inr o))) = o.orphan
+  -- a call of t elsewhere stays there, and has no caller any more
+  pub kill_orphans : (IsWith t c ⊎ (same_place c.place (Answers t) ≡ true) → ⊥) → is_caller t c.caller ≡ true → call_at (kill k t).state.calls n ≡ Some (record c { caller = None })
+  kill_orphans away made = by_fate kill_becomes where
+    by_fate : Becomes t c (call_at (kill k t).state.calls n) → call_at (kill k t).state.calls n ≡ Some (record c { caller = None })
+    by_fate (inl e) = absurd (false≢true (sym (nothing_left.callers n c e) ∙ made))
+    by_fate (inr (inl a)) = absurd (away (inl a.with_task))
+    by_fate (inr (inr (inl o))) = absurd (away o.at_task)
+    by_fate (inr (inr (inr o))) = o.orphan
 
-    -- each other call stays as it is
-    pub kill_spares : (IsWith t c ⊎ (same_place c.place (Answers t) ≡ true) → ⊥) → is_caller t c.caller ≡ false → call_at (kill k t).state.calls n ≡ Some c
-    kill_spares away other = by_fate kill_becomes where
-      by_fate : Becomes t c (call_at (kill k t).state.calls n) → call_at (kill k t).state.calls n ≡ Some c
-      by_fate (inl e) = e
-      by_fate (inr (inl a)) = absurd (away (inl a.with_task))
-      by_fate (inr (inr (inl o))) = absurd (away o.at_task)
-      by_fate (inr (inr (inr o))) = absurd (false≢true (sym other ∙ o.made))
+  -- each other call stays as it is
+  pub kill_spares : (IsWith t c ⊎ (same_place c.place (Answers t) ≡ true) → ⊥) → is_caller t c.caller ≡ false → call_at (kill k t).state.calls n ≡ Some c
+  kill_spares away other = by_fate kill_becomes where
+    by_fate : Becomes t c (call_at (kill k t).state.calls n) → call_at (kill k t).state.calls n ≡ Some c
+    by_fate (inl e) = e
+    by_fate (inr (inl a)) = absurd (away (inl a.with_task))
+    by_fate (inr (inr (inl o))) = absurd (away o.at_task)
+    by_fate (inr (inr (inr o))) = absurd (false≢true (sym other ∙ o.made))

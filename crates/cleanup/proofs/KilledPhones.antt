@@ -1,5 +1,5 @@
 -- Each phone after a kill: those of the task are hung up, and those that led to it are slammed.
-use Rattle.std.proofs.Common.{◌≡◌, ℕ, ◌<◌, Bool, true, false, ◌⊎◌, inl, inr, Option, None, Some, List, refl, ap, sym, subst, ◌∙◌}
+use Rattle.std.proofs.Common.{◌≡◌, ℕ, Bool, true, false, ◌⊎◌, inl, inr, Option, None, Some, List, refl, ap, sym, subst, ◌∙◌}
 use Rattle.std.specs.Prelude.{◌==◌, if◌then◌else◌, IsSome, option_map}
 use Rattle.std.proofs.lemmas.Bool.{cases_eq, eqb-true, eq-eqb, ne_eqb, false≢true}
 use Rattle.std.specs.FinMap.{len}
@@ -14,8 +14,7 @@ use Rattle.call_slab.specs.declared.call.Place.TheVariants.{Incoming, Dispatched
 use Rattle.phone_table.specs.Phones.{state_at}
 use Rattle.cleanup.specs.State.{KernelState, Transition, is_alive, phone_at, with_state_at, with_phone}
 use Rattle.cleanup.specs.Sound.{IsQuiet, IsSound}
-use Rattle.cleanup.specs.Settling.{bare_reply, settle_for, lives, drop_answer, forget_call}
-use Rattle.cleanup.specs.HangingUp.{hang_up}
+use Rattle.cleanup.specs.Joins.{bare_reply, settle_for, lives, drop_answer, forget_call, hang_up}
 use Rattle.cleanup.specs.Kill.{width, mark_ended, hang_up_at, slam, first_at, first_call_of, settle_call, settle_calls_at, kill}
 use Rattle.cleanup.proofs.Rows.{state_changed_at}
 use Rattle.cleanup.proofs.Soundness.{phone_kept, value_of}
@@ -194,27 +193,27 @@ settle_phones rows j c reply (Some u) false h = h
 settle_phones rows j c reply (Some u) true h = h
 
 settles_phones : (place : Place) (rows : List (List PhoneState)) (j : KernelState) → j.tasks.phones ≡ rows → (settle_calls_at place j).state.tasks.phones ≡ rows
-settles_phones place rows j h = drain_keeps (first_at place) settle_call (λ i. i.tasks.phones ≡ rows) (λ i c s is. settle_phones rows i c (bare_reply ehangup) c.caller (lives i c.caller) s) j.calls.next_number j h
+settles_phones place rows j h = drain_keeps (first_at place) settle_call (λ i. i.tasks.phones ≡ rows) (λ i c s is. settle_phones rows i c (bare_reply ehangup) c.caller (lives i c.caller) s) (len j.calls.records) j h
 
 pub phones_after : (k : KernelState) (t : TaskNo) → (kill k t).state.tasks.phones ≡ (after_slams t k).tasks.phones
 phones_after k t =
     let rows : List (List PhoneState) = (after_slams t k).tasks.phones in
     let h3 : (after_incoming t k).tasks.phones ≡ rows = settles_phones (Incoming t) rows (after_slams t k) refl in
     let h4 : (after_dispatched t k).tasks.phones ≡ rows = settles_phones (Dispatched t) rows (after_incoming t k) h3 in
-    let h5 : (after_answers t k).tasks.phones ≡ rows = drain_keeps (first_at (Answers t)) (drop_answer t) (λ j. j.tasks.phones ≡ rows) (λ j c s is. s) (after_dispatched t k).calls.next_number (after_dispatched t k) h4 in
-    drain_keeps (first_call_of t) forget_call (λ j. j.tasks.phones ≡ rows) (λ j c s is. s) (after_answers t k).calls.next_number (after_answers t k) h5
+    let h5 : (after_answers t k).tasks.phones ≡ rows = drain_keeps (first_at (Answers t)) (drop_answer t) (λ j. j.tasks.phones ≡ rows) (λ j c s is. s) (len (after_dispatched t k).calls.records) (after_dispatched t k) h4 in
+    drain_keeps (first_call_of t) forget_call (λ j. j.tasks.phones ≡ rows) (λ j c s is. s) (len (after_answers t k).calls.records) (after_answers t k) h5
 
 -- a fact on the phones that a slam keeps, and the silence that it keeps
 record AndSilent (marks : List Bool) (t : TaskNo) (I : KernelState → Type 0) (k : KernelState) : Type 0 where
   pub silent : IsSilent marks t k
   pub fact : I k
 
-module _ (k : KernelState) (t : TaskNo) (sound : IsSound k) (alive : is_alive k t ≡ true) (few : len k.calls.records < k.calls.next_number) where
+module _ (k : KernelState) (t : TaskNo) (sound : IsSound k) (alive : is_alive k t ≡ true) where
   nothing_left : HasNothingOf t (kill k t).state
-  nothing_left = kill_leaves_nothing k t sound alive few
+  nothing_left = kill_leaves_nothing k t sound alive
 
   silent_first : IsSilent k.tasks.alive t (after_hangups t k)
-  silent_first = let h0 : IsEnding k.tasks.alive (mark_ended k t) = record { sound = sound; few = few } in own_phones_hung_up k.tasks.alive t (mark_ended k t) alive h0
+  silent_first = let h0 : IsEnding k.tasks.alive (mark_ended k t) = record { sound = sound } in own_phones_hung_up k.tasks.alive t (mark_ended k t) alive h0
 
   -- a phone of the task
   pub kill_own_phone : (q : ℕ) → phone_at (kill k t).state t q ≡ option_map hung (phone_at k t q)

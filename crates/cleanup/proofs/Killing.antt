@@ -1,5 +1,5 @@
 -- A kill keeps a sound state sound, and leaves nothing of the task.
-use Rattle.std.proofs.Common.{◌≡◌, ℕ, zero, suc, ◌-◌, ◌<◌, Bool, true, false, inl, inr, Option, None, Some, List, [], ◌∷◌, refl, ap, sym, subst, ◌∙◌, arith, set}
+use Rattle.std.proofs.Common.{◌≡◌, ℕ, zero, suc, ◌-◌, Bool, true, false, inl, inr, Option, None, Some, List, [], ◌∷◌, refl, ap, sym, subst, ◌∙◌, arith, set}
 use Rattle.std.proofs.Math.ListN.{length-set}
 use Rattle.std.specs.Prelude.{◌==◌, if◌then◌else◌, slice_get, unwrap_or}
 use Rattle.std.proofs.lemmas.Bool.{cases_eq, eq-eqb, ne_eqb, false≢true}
@@ -16,8 +16,7 @@ use Rattle.answerbox.specs.Calls.{call_at, same_place, is_caller}
 use Rattle.phone_table.specs.Phones.{state_at}
 use Rattle.cleanup.specs.State.{KernelState, Transition, alive_in, is_alive, phone_at}
 use Rattle.cleanup.specs.Sound.{IsPlaced, IsCaller, IsQuiet, IsSound}
-use Rattle.cleanup.specs.Settling.{bare_reply, settle_for, lives, drop_answer, forget_call}
-use Rattle.cleanup.specs.HangingUp.{hang_up}
+use Rattle.cleanup.specs.Joins.{bare_reply, settle_for, lives, drop_answer, forget_call, hang_up}
 use Rattle.cleanup.specs.Kill.{width, mark_ended, hang_up_at, hang_up_own_phones, slam, slam_phones_to, first_at, first_call_of, settle_call, settle_calls_at, settle_incoming, settle_dispatched, drop_answers, forget_calls_elsewhere, kill}
 use Rattle.cleanup.proofs.Repeats.{by_test, each_keeps, drain_keeps}
 use Rattle.cleanup.proofs.Silence.{with_marks, IsEnding, own_phones_hung_up, phones_slammed, slams_keep}
@@ -109,7 +108,7 @@ settle_steady k j c reply (Some u) false h = record { alive = h.alive; memory = 
 settle_steady k j c reply (Some u) true h = record { alive = h.alive; memory = h.memory; events = h.events }
 
 settles_steady : (place : Place) (k j : KernelState) → IsSteady k j → IsSteady k (settle_calls_at place j).state
-settles_steady place k j h = drain_keeps (first_at place) settle_call (IsSteady k) (λ i c s is. settle_steady k i c (bare_reply Rattle.ipc_ids.specs.Codes.ehangup) c.caller (lives i c.caller) s) j.calls.next_number j h
+settles_steady place k j h = drain_keeps (first_at place) settle_call (IsSteady k) (λ i c s is. settle_steady k i c (bare_reply Rattle.ipc_ids.specs.Codes.ehangup) c.caller (lives i c.caller) s) (len j.calls.records) j h
 
 pub kill_steady : (k : KernelState) (t : TaskNo) → IsSteady (mark_ended k t) (kill k t).state
 kill_steady k t =
@@ -118,14 +117,14 @@ kill_steady k t =
     let h2 : IsSteady k0 (after_slams t k) = slams_keep t (IsSteady k0) (λ u p j s. slam_steady k0 t u j p (phone_at j u p) s) (after_hangups t k) h1 in
     let h3 : IsSteady k0 (after_incoming t k) = settles_steady (Incoming t) k0 (after_slams t k) h2 in
     let h4 : IsSteady k0 (after_dispatched t k) = settles_steady (Dispatched t) k0 (after_incoming t k) h3 in
-    let h5 : IsSteady k0 (after_answers t k) = drain_keeps (first_at (Answers t)) (drop_answer t) (IsSteady k0) (λ j c s is. record { alive = s.alive; memory = s.memory; events = s.events }) (after_dispatched t k).calls.next_number (after_dispatched t k) h4 in
-    drain_keeps (first_call_of t) forget_call (IsSteady k0) (λ j c s is. record { alive = s.alive; memory = s.memory; events = s.events }) (after_answers t k).calls.next_number (after_answers t k) h5
+    let h5 : IsSteady k0 (after_answers t k) = drain_keeps (first_at (Answers t)) (drop_answer t) (IsSteady k0) (λ j c s is. record { alive = s.alive; memory = s.memory; events = s.events }) (len (after_dispatched t k).calls.records) (after_dispatched t k) h4 in
+    drain_keeps (first_call_of t) forget_call (IsSteady k0) (λ j c s is. record { alive = s.alive; memory = s.memory; events = s.events }) (len (after_answers t k).calls.records) (after_answers t k) h5
 
 -- what a kill leaves, by the marks from before
-pub killed : (k : KernelState) (t : TaskNo) → IsSound k → is_alive k t ≡ true → len k.calls.records < k.calls.next_number → IsForgotten k.tasks.alive t (kill k t).state
-killed k t s alive few =
+pub killed : (k : KernelState) (t : TaskNo) → IsSound k → is_alive k t ≡ true → IsForgotten k.tasks.alive t (kill k t).state
+killed k t s alive =
     let marks : List Bool = k.tasks.alive in
-    let h0 : IsEnding marks (mark_ended k t) = record { sound = s; few = few } in
+    let h0 : IsEnding marks (mark_ended k t) = record { sound = s } in
     let h1 = own_phones_hung_up marks t (mark_ended k t) alive h0 in
     let h2 = phones_slammed marks t (after_hangups t k) h1 in
     let h3 = incoming_settled marks t (after_slams t k) h2 in
@@ -178,10 +177,10 @@ module _ (marks : List Bool) (t : TaskNo) (alive : alive_in marks t.0 ≡ true) 
   }
 
 -- a kill keeps soundness
-pub sound_kill : (k : KernelState) (t : TaskNo) → IsSound k → is_alive k t ≡ true → len k.calls.records < k.calls.next_number → IsSound (kill k t).state
-sound_kill k t s alive few =
+pub sound_kill : (k : KernelState) (t : TaskNo) → IsSound k → is_alive k t ≡ true → IsSound (kill k t).state
+sound_kill k t s alive =
     subst (λ (marks : List Bool). IsSound (with_marks marks (kill k t).state)) (sym (kill_steady k t).alive)
-    (sound_without_task k.tasks.alive t alive (kill k t).state (killed k t s alive few))
+    (sound_without_task k.tasks.alive t alive (kill k t).state (killed k t s alive))
 
 -- what laws ask of a kill
 
@@ -194,8 +193,8 @@ pub record HasNothingOf (t : TaskNo) (k : KernelState) : Type 0 where
   pub unled : (s q : ℕ) (v : TaskNo) → state_at k.tasks.phones s q ≡ Some (Connected v) → v.0 ≡ t.0 → ⊥
   pub quiet : (q : ℕ) (x : PhoneState) → phone_at k t q ≡ Some x → IsQuiet x
 
-pub kill_leaves_nothing : (k : KernelState) (t : TaskNo) → IsSound k → is_alive k t ≡ true → len k.calls.records < k.calls.next_number → HasNothingOf t (kill k t).state
-kill_leaves_nothing k t s alive few = let h = killed k t s alive few in record {
+pub kill_leaves_nothing : (k : KernelState) (t : TaskNo) → IsSound k → is_alive k t ≡ true → HasNothingOf t (kill k t).state
+kill_leaves_nothing k t s alive = let h = killed k t s alive in record {
   incoming = h.unanswered.idle.uncalled.incoming;
   dispatched = h.unanswered.idle.dispatched;
   answers = h.unanswered.answers;
@@ -203,10 +202,6 @@ kill_leaves_nothing k t s alive few = let h = killed k t s alive few in record {
   unled = h.unanswered.idle.uncalled.alone.unled;
   quiet = h.unanswered.idle.uncalled.alone.silent.still;
 }
-
--- there are still fewer calls than numbers given
-pub kill_few : (k : KernelState) (t : TaskNo) → IsSound k → is_alive k t ≡ true → len k.calls.records < k.calls.next_number → len (kill k t).state.calls.records < (kill k t).state.calls.next_number
-kill_few k t s alive few = (killed k t s alive few).unanswered.idle.uncalled.alone.silent.ending.few
 
 -- the marks change at t alone
 pub kill_marks : (k : KernelState) (t : TaskNo) → (kill k t).state.tasks.alive ≡ set k.tasks.alive (t.0 - 1) false

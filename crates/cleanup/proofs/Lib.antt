@@ -1,6 +1,5 @@
 pub mod Lookups
 pub mod Rows
-pub mod Events
 pub mod Loops
 pub mod Soundness
 pub mod Counting
@@ -10,11 +9,16 @@ pub mod Absence
 pub mod Silence
 pub mod Queues
 pub mod Killing
-pub mod Numbering
 pub mod KilledPhones
 pub mod KilledCalls
 pub mod Histories
+pub mod KillOrder
+pub mod KillLaws
 pub mod KillExample
 pub mod Keeping
 pub mod Endings
-pub mod Alone
+pub mod Inner
+pub mod Switched
+pub mod Turns
+pub mod SoundBoards
+pub mod Live

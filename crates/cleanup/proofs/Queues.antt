@@ -1,5 +1,5 @@
 -- The call parts of a kill: no call waits at the task, is held by it or answers it, and none is its own.
-use Rattle.std.proofs.Common.{◌≡◌, ℕ, suc, ◌+◌, ◌<◌, ◌≤◌, Bool, true, false, ◌⊎◌, inl, inr, Option, None, Some, List, refl, ap, sym, subst, ◌∙◌, arith}
+use Rattle.std.proofs.Common.{◌≡◌, ℕ, suc, ◌+◌, Bool, true, false, ◌⊎◌, inl, inr, Option, None, Some, List, refl, ap, sym, subst, ◌∙◌, arith}
 use Rattle.std.specs.Prelude.{◌==◌}
 use Rattle.std.proofs.lemmas.Bool.{false≢true}
 use Rattle.std.specs.Cmp.{nat_cmp_total}
@@ -17,7 +17,7 @@ use Rattle.answerbox.proofs.Steps.{with_change-record}
 use Rattle.answerbox.proofs.Callers.{calls_of_live, calls_of_none}
 use Rattle.cleanup.specs.State.{Tasks, KernelState, with_calls}
 use Rattle.cleanup.specs.Sound.{IsPlaced, IsSoundCall, AreSoundCalls, IsSound}
-use Rattle.cleanup.specs.Settling.{bare_reply, settle, settle_for, lives, drop_answer, forget_call}
+use Rattle.cleanup.specs.Joins.{bare_reply, settle, settle_for, lives, drop_answer, forget_call}
 use Rattle.cleanup.specs.Kill.{first_at, first_call_of, settle_call, settle_incoming, settle_dispatched, drop_answers, forget_calls_elsewhere}
 use Rattle.cleanup.proofs.Lookups.{at_insert, at_remove, chosen, same_call}
 use Rattle.cleanup.proofs.Soundness.{sound_put, sound_without, kept_calls}
@@ -99,8 +99,8 @@ pub front_at : (marks : List Bool) (k : KernelState) (place : Place) (c : Call) 
 front_at marks k place c h is = let f = front_live k.calls place c is in (own marks k f.0 c h f.1, f.2)
 
 -- the calls change, and the phones stay
-alone_with : (marks : List Bool) (t : TaskNo) (k : KernelState) (q : CallTable) → IsAlone marks t k → IsSound (with_marks marks (with_calls k q)) → len q.records < q.next_number → IsAlone marks t (with_calls k q)
-alone_with marks t k q h sound few = record { silent = record { ending = record { sound = sound; few = few }; still = h.silent.still }; unled = h.unled }
+alone_with : (marks : List Bool) (t : TaskNo) (k : KernelState) (q : CallTable) → IsAlone marks t k → IsSound (with_marks marks (with_calls k q)) → IsAlone marks t (with_calls k q)
+alone_with marks t k q h sound = record { silent = record { ending = record { sound = sound }; still = h.silent.still }; unled = h.unled }
 
 -- the record of a call that the kernel has answered, and of one whose caller has ended
 abbrev answered : KernelState → Call → TaskNo → Call
@@ -113,7 +113,6 @@ over_alone : (marks : List Bool) (t : TaskNo) (k : KernelState) (c : Call) → I
 over_alone marks t k c h is =
     let e = h.silent.ending in
     alone_with marks t k (without_call k.calls c.number.0) h (kept_calls (with_marks marks k) (without_call k.calls c.number.0) e.sound (sound_without (with_marks marks k).tasks k.calls c.number.0 e.sound.calls))
-    (let l = fewer_calls k.calls c.number.0 c is in let f = e.few in omega arith)
 
 settle_alone : (marks : List Bool) (t : TaskNo) (k : KernelState) (c : Call) → IsAlone marks t k → IsLive k c → IsAlone marks t (settle_call k c).state
 settle_alone marks t k c h is = by_caller c.caller (lives k c.caller) refl where
@@ -124,7 +123,6 @@ settle_alone marks t k c h is = by_caller c.caller (lives k c.caller) refl where
       let e = h.silent.ending in
       alone_with marks t k (put_at k.calls (record c { reply = bare_reply ehangup }) (Answers u)) h
       (sound_settle_for (with_marks marks k) c.number.0 c (bare_reply ehangup) None (Some u) true e.sound is from)
-      (let l = as_many_calls k.calls c.number.0 c (answered k c u) is in let f = e.few in omega arith)
 
 forgotten_place : (tasks : Tasks) (t : TaskNo) (o : Option TaskNo) (place : Place) → IsPlaced tasks o place → is_caller t o ≡ true → same_place place (Answers t) ≡ false → IsPlaced tasks None place
 forgotten_place tasks t o (Incoming s) h made none = h
@@ -149,8 +147,7 @@ forget_alone marks t k c h is made none =
     } in
     subst (IsAlone marks t) (sym (forget_step k c is))
     (alone_with marks t k (with_record k.calls (forgotten c)) h
-    (kept_calls (with_marks marks k) (with_record k.calls (forgotten c)) e.sound (sound_record (with_marks marks k).tasks k.calls c.number.0 c (forgotten c) e.sound.calls is refl refl here))
-    (let l = as_many_calls k.calls c.number.0 c (forgotten c) is in let f = e.few in omega arith))
+    (kept_calls (with_marks marks k) (with_record k.calls (forgotten c)) e.sound (sound_record (with_marks marks k).tasks k.calls c.number.0 c (forgotten c) e.sound.calls is refl refl here)))
 
 -- one call fewer passes
 
@@ -191,8 +188,6 @@ forget_none test k c is h fails = subst (NoneIs test) (sym (forget_step k c is))
 
 -- the parts
 
-fuel : (marks : List Bool) (k : KernelState) (test : Call → Bool) → IsEnding marks k → count_of test (entries k.calls.records) ≤ k.calls.next_number
-fuel marks k test h = let l = count-len test k.calls.records in let f = h.few in omega arith
 
 -- no call waits at t
 pub record IsUncalled (marks : List Bool) (t : TaskNo) (k : KernelState) : Type 0 where
@@ -204,10 +199,10 @@ incoming_alone marks t k c h is = settle_alone marks t k c h (front_at marks k (
 
 pub incoming_settled : (marks : List Bool) (t : TaskNo) (k : KernelState) → IsAlone marks t k → IsUncalled marks t (settle_incoming t k).state
 incoming_settled marks t k h = record {
-  alone = drain_keeps (first_at (Incoming t)) settle_call (IsAlone marks t) (incoming_alone marks t) k.calls.next_number k h;
+  alone = drain_keeps (first_at (Incoming t)) settle_call (IsAlone marks t) (incoming_alone marks t) (len k.calls.records) k h;
   incoming = drain_empties (first_at (Incoming t)) settle_call (IsAlone marks t) (incoming_alone marks t) (stands_at (Incoming t)) (λ j e. front_none j.calls (Incoming t) e)
       (λ j c i is. let f = front_at marks j (Incoming t) c i.silent.ending is in settle_less (stands_at (Incoming t)) j c f.0 f.1 (λ u. refl))
-      k.calls.next_number k h (fuel marks k (stands_at (Incoming t)) h.silent.ending);
+      (len k.calls.records) k h (count-len (stands_at (Incoming t)) k.calls.records);
 }
 
 -- no call is held by t
@@ -223,10 +218,10 @@ dispatched_uncalled marks t k c h is = record {
 
 pub dispatched_settled : (marks : List Bool) (t : TaskNo) (k : KernelState) → IsUncalled marks t k → IsIdle marks t (settle_dispatched t k).state
 dispatched_settled marks t k h = record {
-  uncalled = drain_keeps (first_at (Dispatched t)) settle_call (IsUncalled marks t) (dispatched_uncalled marks t) k.calls.next_number k h;
+  uncalled = drain_keeps (first_at (Dispatched t)) settle_call (IsUncalled marks t) (dispatched_uncalled marks t) (len k.calls.records) k h;
   dispatched = drain_empties (first_at (Dispatched t)) settle_call (IsUncalled marks t) (dispatched_uncalled marks t) (stands_at (Dispatched t)) (λ j e. front_none j.calls (Dispatched t) e)
       (λ j c i is. let f = front_at marks j (Dispatched t) c i.alone.silent.ending is in settle_less (stands_at (Dispatched t)) j c f.0 f.1 (λ u. refl))
-      k.calls.next_number k h (fuel marks k (stands_at (Dispatched t)) h.alone.silent.ending);
+      (len k.calls.records) k h (count-len (stands_at (Dispatched t)) k.calls.records);
 }
 
 -- no answer stands at t
@@ -245,10 +240,10 @@ drop_idle marks t k c h is = record {
 
 pub answers_dropped : (marks : List Bool) (t : TaskNo) (k : KernelState) → IsIdle marks t k → IsUnanswered marks t (drop_answers t k).state
 answers_dropped marks t k h = record {
-  idle = drain_keeps (first_at (Answers t)) (drop_answer t) (IsIdle marks t) (drop_idle marks t) k.calls.next_number k h;
+  idle = drain_keeps (first_at (Answers t)) (drop_answer t) (IsIdle marks t) (drop_idle marks t) (len k.calls.records) k h;
   answers = drain_empties (first_at (Answers t)) (drop_answer t) (IsIdle marks t) (drop_idle marks t) (stands_at (Answers t)) (λ j e. front_none j.calls (Answers t) e)
       (λ j c i is. let f = front_at marks j (Answers t) c i.uncalled.alone.silent.ending is in over_less (stands_at (Answers t)) j c f.0 f.1)
-      k.calls.next_number k h (fuel marks k (stands_at (Answers t)) h.uncalled.alone.silent.ending);
+      (len k.calls.records) k h (count-len (stands_at (Answers t)) k.calls.records);
 }
 
 -- no call is one of t
@@ -276,8 +271,8 @@ forget_unanswered marks t k c h is =
 
 pub calls_forgotten : (marks : List Bool) (t : TaskNo) (k : KernelState) → IsUnanswered marks t k → IsForgotten marks t (forget_calls_elsewhere t k).state
 calls_forgotten marks t k h = record {
-  unanswered = drain_keeps (first_call_of t) forget_call (IsUnanswered marks t) (forget_unanswered marks t) k.calls.next_number k h;
+  unanswered = drain_keeps (first_call_of t) forget_call (IsUnanswered marks t) (forget_unanswered marks t) (len k.calls.records) k h;
   callers = drain_empties (first_call_of t) forget_call (IsUnanswered marks t) (forget_unanswered marks t) (is_call_of t) (λ j e n c is. calls_of_none j.calls t n c e is)
       (λ j c i is. let f = call_from marks t j c i.idle.uncalled.alone.silent.ending is in forget_less (is_call_of t) j c f.0 f.1 refl)
-      k.calls.next_number k h (fuel marks k (is_call_of t) h.idle.uncalled.alone.silent.ending);
+      (len k.calls.records) k h (count-len (is_call_of t) k.calls.records);
 }

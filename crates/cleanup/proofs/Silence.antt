@@ -1,5 +1,5 @@
 -- The phone parts of a kill: the phones of the task fall silent, and no phone leads to it any more.
-use Rattle.std.proofs.Common.{◌≡◌, ℕ, ◌+◌, ◌-◌, ◌<◌, ◌≤◌, Bool, true, false, ◌⊎◌, inl, inr, Option, None, Some, List, length, refl, ap, sym, subst, ◌∙◌, arith, set}
+use Rattle.std.proofs.Common.{◌≡◌, ℕ, ◌+◌, ◌-◌, ◌≤◌, Bool, true, false, ◌⊎◌, inl, inr, Option, None, Some, List, length, refl, ap, sym, subst, ◌∙◌, arith, set}
 use Rattle.std.proofs.Math.ListN.{length-set}
 use Rattle.std.specs.Prelude.{◌==◌, IsSome}
 use Rattle.std.specs.Option.{option_map_or}
@@ -15,7 +15,7 @@ use Rattle.answerbox.specs.Calls.{CallTable, call_at, enqueue}
 use Rattle.phone_table.specs.Phones.{row_at, state_at}
 use Rattle.cleanup.specs.State.{Tasks, KernelState, Transition, alive_in, is_alive, phone_at, with_state_at, with_phone, with_calls}
 use Rattle.cleanup.specs.Sound.{AreSoundCalls, IsQuiet, IsSound}
-use Rattle.cleanup.specs.HangingUp.{hangup_call, hang_up}
+use Rattle.cleanup.specs.Joins.{hangup_call, hang_up}
 use Rattle.cleanup.specs.Kill.{task_no, width, hang_up_at, hang_up_own_phones, slam, slam_at, slam_phones_of, slam_other, slam_phones_to}
 use Rattle.cleanup.proofs.Rows.{state_changed_at}
 use Rattle.cleanup.proofs.Soundness.{sound_enqueue, sound_under, phone_kept, kept_calls, kept_hung_up}
@@ -25,10 +25,9 @@ use Rattle.cleanup.proofs.Repeats.{by_test, each_keeps, each_does}
 abbrev pub with_marks : List Bool → KernelState → KernelState
 with_marks marks k = record { tasks = record { alive = marks; phones = k.tasks.phones }; calls = k.calls; memory = k.memory; events = k.events }
 
--- while a task ends, the state is sound by the marks from before, with fewer calls than numbers given
+-- while a task ends, the state is sound by the marks from before
 pub record IsEnding (marks : List Bool) (k : KernelState) : Type 0 where
   pub sound : IsSound (with_marks marks k)
-  pub few : len k.calls.records < k.calls.next_number
 
 -- the next number is free
 pub next_free : (tasks : Tasks) (q : CallTable) → AreSoundCalls tasks q → call_at q q.next_number ≡ None
@@ -63,10 +62,9 @@ hang_up_ends marks t k p alive h = by_state (phone_at k t p) refl where
   by_state (Some Free) is = h
   by_state (Some Connecting) is = h
   by_state (Some HungUp) is = h
-  by_state (Some Slammed) is = record { sound = sound_hang_up (with_marks marks k) t p (Some Slammed) is h.sound alive; few = h.few }
+  by_state (Some Slammed) is = record { sound = sound_hang_up (with_marks marks k) t p (Some Slammed) is h.sound alive }
   by_state (Some (Connected u)) is = record {
     sound = sound_hang_up (with_marks marks k) t p (Some (Connected u)) is h.sound alive;
-    few = let f = h.few in let m = more_calls k.calls (hangup_call k t p u) (next_free (with_marks marks k).tasks k.calls h.sound.calls) in omega arith;
   }
 
 -- phone m of task t is quiet
@@ -155,7 +153,7 @@ slam_silent marks t u n k (Some Slammed) is h = h
 slam_silent marks t u n k (Some (Connected v)) is h = by_test (λ (s : Transition). IsSilent marks t s.state) (v.0 == t.0) _ _ (λ _. slammed) (λ _. h) where
   slammed : IsSilent marks t (with_phone k u n Slammed)
   slammed = record {
-    ending = record { sound = kept_slammed (with_marks marks k) u n h.ending.sound (leader_alive (with_marks marks k) u n v h.ending.sound is); few = h.ending.few };
+    ending = record { sound = kept_slammed (with_marks marks k) u n h.ending.sound (leader_alive (with_marks marks k) u n v h.ending.sound is) };
     still = λ q x there. elim (state_changed_at k.tasks.phones u.0 n t.0 q Slammed x there) [
       | inl e ↦ absurd (h.still q (Connected v) (ap (λ a. state_at k.tasks.phones a q) e.0 ∙ ap (state_at k.tasks.phones u.0) e.1 ∙ is))
       | inr old ↦ h.still q x old.1

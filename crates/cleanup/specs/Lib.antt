@@ -1,8 +1,9 @@
 pub mod State
 pub mod Sound
 pub mod Counts
-pub mod Settling
-pub mod HangingUp
+pub mod Serving
+pub mod Joins
 pub mod Kill
-pub mod Steps
-pub mod Ending
+pub mod KillLaws
+pub mod Board
+pub mod Rooms

@@ -3,7 +3,7 @@ use Rattle.std.specs.Prelude.{ℕ, zero, suc, ◌+◌, ◌-◌, ◌==◌, Bool, 
 use Rattle.std.specs.Option.{option_map_or}
 use Rattle.std.specs.Coded.{Coded, code_by, coded×, coded_ℕ, coded_list, coded_bool}
 use Rattle.std.specs.Ordering.{nat_cmp}
-use Rattle.std.specs.FinMap.{FinMap, empty}
+use Rattle.std.specs.FinMap.{FinMap, empty, len}
 use Rattle.std.specs.FinMap as map
 use Rattle.ipc_ids.specs.declared.numbers.TaskNo.{TaskNo}
 use Rattle.ipc_ids.specs.declared.numbers.Label.{Label}
@@ -40,9 +40,9 @@ pub record KernelState : Type 0 where
   pub memory : Memory
   pub events : ℕ
 
--- the state, and for how many more calls there is room
-pub record MachineState : Type 0 where
-  pub k : KernelState
+-- what a switchboard stands for: the state, and for how many more calls there is room
+pub record BoardState : Type 0 where
+  pub state : KernelState
   pub spare : ℕ
 
 -- the state after a step, and the entries that tell of it
@@ -105,6 +105,10 @@ with_calls k calls = record { tasks = k.tasks; calls = calls; memory = k.memory;
 abbrev pub with_event : KernelState → KernelState
 with_event k = record { tasks = k.tasks; calls = k.calls; memory = k.memory; events = k.events + 1 }
 
+-- how many calls are live
+abbrev pub live_calls : KernelState → ℕ
+live_calls k = len k.calls.records
+
 -- nothing changes
 abbrev pub nothing : KernelState → Transition
 nothing k = record { state = k; entries = [] }
@@ -140,5 +144,5 @@ abbrev pub state_code : Coded PhoneState → Coded Call → Coded KernelState
 state_code phone call =
     code_by (Tasks × (CallTable × (Memory × ℕ))) (coded× (tasks_code phone) (coded× (table_code call) (coded× memory_code coded_ℕ))) (λ k. (k.tasks, (k.calls, (k.memory, k.events)))) (λ p. record { tasks = p.0; calls = p.1.0; memory = p.1.1.0; events = p.1.1.1 }) (λ _. refl)
 
-abbrev pub machine_code : Coded PhoneState → Coded Call → Coded MachineState
-machine_code phone call = code_by (KernelState × ℕ) (coded× (state_code phone call) coded_ℕ) (λ m. (m.k, m.spare)) (λ p. record { k = p.0; spare = p.1 }) (λ _. refl)
+abbrev pub board_code : Coded PhoneState → Coded Call → Coded BoardState
+board_code phone call = code_by (KernelState × ℕ) (coded× (state_code phone call) coded_ℕ) (λ b. (b.state, b.spare)) (λ p. record { state = p.0; spare = p.1 }) (λ _. refl)

@@ -20,19 +20,22 @@ pub fn label(task: TaskNo, phone: u64) -> Label
 }
 
 /// One call more is active over that phone.
-pub fn count_up(phones: &mut PhoneRows, from: Label)
+pub(crate) fn count_up(phones: &mut PhoneRows, from: Label)
     requires there { IsSome (state_at phones.old.states from.task.0 from.phone.0) }
-    requires few { IsSomeAnd (count_at phones.old.counts from.task.0 from.phone.0) (λ n. n < 2 ^ 31) }
+    requires few { IsSomeAnd (count_at phones.old.counts from.task.0 from.phone.0) (λ n. n < 2 ^ 31)
+        }
     ensures states { phones.new.states ≡ phones.old.states }
-    ensures counts { phones.new.counts ≡ recount (λ n. n + 1) phones.old.counts from.task.0 from.phone.0 }
+    ensures counts { phones.new.counts
+        ≡ recount (λ n. n + 1) phones.old.counts from.task.0 from.phone.0 }
 {
     phones.row_mut(from.task).count_up(from.phone);
 }
 
 /// A call over that phone is active no more, unless its caller had ended.
-pub fn count_out(phones: &mut PhoneRows, caller: Option<TaskNo>, from: Label)
+pub(crate) fn count_out(phones: &mut PhoneRows, caller: Option<TaskNo>, from: Label)
     requires there { IsSome (state_at phones.old.states from.task.0 from.phone.0) }
-    requires counted { IsSomeAnd (count_at phones.old.counts from.task.0 from.phone.0) (λ n. is_caller from.task caller ≡ true → 0 < n) }
+    requires counted { IsSomeAnd (count_at phones.old.counts from.task.0 from.phone.0)
+        (λ n. is_caller from.task caller ≡ true → 0 < n) }
     ensures states { phones.new.states ≡ phones.old.states }
     ensures counts { phones.new.counts ≡ counts_without phones.old.counts caller from }
 {

@@ -1,12 +1,20 @@
-//! The end of a task, and the steps that it shares with the kernel's requests.
+//! The phones and the calls of all tasks in step, and the end of a task.
+//!
+//! A `Switchboard` is seen as `BoardState`: the kernel's state, and for how many more calls there is room.
+//! Its private changes keep the counts of active calls right; its joins are one change each, with the entry
+//! that tells of it. The kernel's requests and the parts of a kill are made of joins. `end_task` makes of
+//! calls and phones what the definition `kill` says.
 #![tactic(auto)]
 
+mod board;
 mod counts;
-mod end;
-mod parts;
-mod steps;
-#[cfg(test)]
-mod tests;
+mod ending;
+mod joins;
+mod kill;
+mod laws;
+mod phones;
 
-pub use counts::{count_out, count_up, label};
-pub use end::end_task;
+pub use board::Switchboard;
+pub use counts::label;
+pub use ending::end_task;
+pub use laws::kills_leave_nothing;

@@ -1,4 +1,4 @@
--- The calls after the two steps of a forward: what the next receiver sees, and then its place.
+-- The calls after a forward: what the next receiver sees, and its place.
 use Rattle.std.proofs.Common.{◌≡◌, ℕ, Option, Some, ap, refl, ◌∙◌}
 use Rattle.std.specs.Prelude.{Ok, IsSome, ◌==◌, if◌then◌else◌}
 use Rattle.ipc_ids.specs.declared.message.Msg.{Msg}
@@ -7,20 +7,17 @@ use Rattle.ipc_ids.specs.declared.numbers.Label.{Label}
 use Rattle.ipc_ids.specs.declared.numbers.TaskNo.{TaskNo}
 use Rattle.call_slab.specs.declared.call.Call.{Call}
 use Rattle.call_slab.specs.declared.call.Place.TheVariants.{Incoming}
-use Rattle.answerbox.specs.Calls.{CallTable, call_at, put_at, with_msg, with_place, active_calls}
-use Rattle.answerbox.proofs.Steps.{with_place-with_msg, call_at-put_at, ties}
+use Rattle.answerbox.specs.Calls.{CallTable, call_at, put_at, readdressed, active_calls}
+use Rattle.answerbox.proofs.Steps.{call_at-put_at, ties}
 use Rattle.answerbox.proofs.Counts.{active-put_at}
 use Rattle.forwarding.specs.Forwarding.{msg_after, label_after}
 use Rattle.forwarding.specs.Routes.{call_after, table_after}
 
-module _ (calls written moved : CallTable) (n : ℕ) (c : Call) (by : TaskNo) (through : ℕ) (mode : Mode) (change : Option Msg) (to : TaskNo) (msg : Msg) (label : Label)
+module _ (calls moved : CallTable) (n : ℕ) (c : Call) (by : TaskNo) (through : ℕ) (mode : Mode) (change : Option Msg) (to : TaskNo) (msg : Msg) (label : Label)
     (found : call_at calls n ≡ Some c) (number : c.number.0 ≡ n) (seen : msg ≡ msg_after change c) (sender : label ≡ label_after by through mode c)
-    (writes : written ≡ with_msg calls n msg label) (moves : moved ≡ with_place written n (Incoming to)) where
+    (moves : moved ≡ readdressed calls n msg label (Incoming to)) where
   passed : moved ≡ put_at calls (call_after by through mode change c) (Incoming to)
-  passed =
-      moves ∙ ap (λ table. with_place table n (Incoming to)) writes
-      ∙ with_place-with_msg calls n c msg label (Incoming to) found number
-      ∙ rw (seen, sender) refl
+  passed = moves ∙ rw (found, seen, sender) refl
 
   pub table_passed : moved ≡ table_after calls by through mode change (Ok (record { call = record { 0 = n }; to = to }))
   table_passed = passed ∙ rw found refl

@@ -14,7 +14,7 @@ use Rattle.script_reader.specs.declared.plan.TaskPlan.{TaskPlan}
 use Rattle.script_reader.specs.declared.plan.Wire.{Wire}
 use Rattle.script_reader.specs.Plan.{Plan}
 use Rattle.cleanup.specs.State.{KernelState, Transition, is_alive, with_task}
-use Rattle.kernel_core.specs.Served.{Served}
+use Rattle.cleanup.specs.Serving.{Served}
 use Rattle.cleanup.specs.State as kernel
 use Rattle.kernel_core.specs.Serve.{serve, kill_event}
 use Rattle.kernel_core.specs.History.{served_entries, killed_entries, gone_entries}

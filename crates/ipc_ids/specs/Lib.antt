@@ -2,6 +2,7 @@ pub mod Codes
 pub mod Lawful
 pub mod Laws
 pub mod Life
+pub mod Methods
 pub mod Origins
 pub mod Tables
 pub mod Tales

@@ -1,6 +1,6 @@
-//! The words that all crates share: numbers of tasks, phones and calls, messages and replies,
-//! what a task asks and is told, what a script says, and the entries of a trace. The laws of calls
-//! stand here too, over a list of entries alone.
+//! The words that all crates share: numbers of tasks, phones and calls, methods, messages and
+//! replies, what a task asks and is told, what a script says, and the entries of a trace. The laws
+//! of calls stand here too, over a list of entries alone.
 //!
 //! Contracts see every type as the record or enum that it is, but for the lists `Ops`, `Bodies` and
 //! `Buffer`, which they see as lists, and `Trace`, a list of entries with room for more.
@@ -10,6 +10,7 @@ mod buffer;
 mod entry;
 mod laws;
 mod message;
+pub mod methods;
 mod numbers;
 mod op;
 #[cfg(test)]

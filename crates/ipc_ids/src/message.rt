@@ -1,10 +1,11 @@
-//! Messages and replies, what a task asks of the kernel and what it is told, and the events of a schedule.
+//! Messages and replies, what a task asks of the kernel and what it is told, and the events of a
+//! schedule.
 ghost use Rattle.std.specs.Prelude.{◌≡◌, replicate};
 
 use crate::numbers::{CallNo, Code, Label, TaskNo};
 use std::fmt;
 
-/// What a call asks: a method, from 512 on for users' own, and five arguments.
+/// What a call asks: a method, one of `methods` or a user's own, and five arguments.
 #[derive(Clone, Copy, Debug, PartialEq, Eq)]
 pub struct Msg {
     pub method: u64,

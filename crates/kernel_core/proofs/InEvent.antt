@@ -19,7 +19,7 @@ use Rattle.answerbox.specs.Calls.{CallTable, call_at, same_place, enqueue, put_a
 use Rattle.answerbox.proofs.Fronts.{front_live}
 use Rattle.phone_table.specs.Phones.{state_at}
 use Rattle.cleanup.specs.State.{KernelState, with_calls, with_phone, alive_in}
-use Rattle.cleanup.specs.Settling.{settle, settle_for, lives, drop_answer}
+use Rattle.cleanup.specs.Joins.{settle, settle_for, lives, drop_answer}
 use Rattle.cleanup.proofs.Lookups.{at_insert, at_remove}
 use Rattle.cleanup.proofs.Rows.{state_changed_at}
 use Rattle.kernel_core.specs.History.{is_ended, life_at, IsGone}

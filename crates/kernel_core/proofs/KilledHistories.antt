@@ -18,14 +18,14 @@ use Rattle.call_slab.specs.declared.call.Place.{Place}
 use Rattle.call_slab.specs.declared.call.Place.TheVariants as place
 use Rattle.answerbox.specs.Calls.{call_at, same_place, is_caller, with_record}
 use Rattle.cleanup.specs.State.{KernelState, Transition, then_do, phone_at, alive_in, is_alive}
-use Rattle.cleanup.specs.Settling.{bare_reply, drop_answer, forget_call}
+use Rattle.cleanup.specs.Joins.{bare_reply, drop_answer, forget_call}
 use Rattle.cleanup.specs.Kill.{width, task_no, mark_ended, hang_up_at, hang_up_own_phones, slam, slam_at, slam_phones_of, slam_other, slam_phones_to, first_at, settle_call, settle_incoming, settle_dispatched, drop_answers, first_call_of, forget_calls_elsewhere, kill}
 use Rattle.cleanup.specs.Sound.{IsSound}
 use Rattle.cleanup.proofs.Lookups.{at_insert}
 use Rattle.cleanup.proofs.Histories.{then_tells, each_tells, drain_tells}
 use Rattle.cleanup.proofs.Silence.{IsEnding, own_phones_hung_up, phones_slammed}
 use Rattle.cleanup.proofs.Queues.{IsUnanswered, incoming_settled, dispatched_settled, answers_dropped, forget_unanswered, call_from, forget_step}
-use Rattle.cleanup.proofs.Killing.{after_hangups, after_slams, after_incoming, after_dispatched, ended_here, alive_elsewhere, kill_leaves_nothing, HasNothingOf}
+use Rattle.cleanup.proofs.Killing.{sound_kill, after_hangups, after_slams, after_incoming, after_dispatched, ended_here, alive_elsewhere, kill_leaves_nothing, HasNothingOf}
 use Rattle.kernel_core.specs.Serve.{kill_event}
 use Rattle.kernel_core.specs.History.{is_ended, life_at, IsGone, PastFits, HistoryFits, killed_entries}
 use Rattle.kernel_core.proofs.InEvent.{and_then, and_then-append, IsTask, CallerFits, IsHome, Agrees, InEvent, by_test, noted, is_told, front_at, phone_told, settled, dropped}
@@ -150,21 +150,21 @@ incoming_told t p k inside =
     drain_tells (List Tale) and_then (λ _. refl) and_then-append (first_at (place.Incoming t)) settle_call (InKill t)
     (λ q j c i is. let f = front_at (Kill t.0) q j i (place.Incoming t) c is in
     settled (Kill t.0) q j i c (bare_reply ehangup) None (Incoming c.from.task.0 t.0) f.0 (ap (life_at c.from.task.0) f.1) refl (λ dead. (dead, i.now)) (λ lives. (refl, i.now, lives)))
-    k.calls.next_number p k inside
+    (len k.calls.records) p k inside
 
 dispatched_told : (t : TaskNo) (p : List Tale) (k : KernelState) → InKill t p k → InKill t (and_then (settle_dispatched t k).entries p) (settle_dispatched t k).state
 dispatched_told t p k inside =
     drain_tells (List Tale) and_then (λ _. refl) and_then-append (first_at (place.Dispatched t)) settle_call (InKill t)
     (λ q j c i is. let f = front_at (Kill t.0) q j i (place.Dispatched t) c is in
     settled (Kill t.0) q j i c (bare_reply ehangup) None (Dispatched c.from.task.0 t.0) f.0 (ap (life_at c.from.task.0) f.1) refl (λ dead. (dead, inl i.now)) (λ lives. inl (refl, i.now, lives)))
-    k.calls.next_number p k inside
+    (len k.calls.records) p k inside
 
 -- the answers to t are dropped
 answers_told : (t : TaskNo) (p : List Tale) (k : KernelState) → InKill t p k → InKill t (and_then (drop_answers t k).entries p) (drop_answers t k).state
 answers_told t p k inside =
     drain_tells (List Tale) and_then (λ _. refl) and_then-append (first_at (place.Answers t)) (drop_answer t) (InKill t)
     (λ q j c i is. let f = front_at (Kill t.0) q j i (place.Answers t) c is in dropped (Kill t.0) q j i t c (inr refl) f.0 f.1)
-    k.calls.next_number p k inside
+    (len k.calls.records) p k inside
 
 -- the calls of t elsewhere are forgotten
 
@@ -205,7 +205,7 @@ module _ (marks : List Bool) (t : TaskNo) where
   forgotten_told p k late =
       drain_tells (List Tale) and_then (λ _. refl) and_then-append (first_call_of t) forget_call IsLate
       (λ q j c i is. (forget_told q j c i is, forget_unanswered marks t j c i.1 is))
-      k.calls.next_number p k late
+      (len k.calls.records) p k late
 
 -- the kill is over
 
@@ -230,8 +230,8 @@ module _ (t : TaskNo) (p : List Tale) (k : KernelState) (inside : InKill t p k) 
       let same : v ≡ t.0 = cc in
       none_stands n (call_at k.calls n) refl (subst (λ x. StandsAt x (life n p)) same s))
 
-past_kills : (p : List Tale) (k : KernelState) → PastFits p k → IsSound k → (t : TaskNo) → is_alive k t ≡ true → len k.calls.records < k.calls.next_number → PastFits (and_then (killed_entries t (kill k t)) p) (kill k t).state
-past_kills p k fits sound t alive few =
+past_kills : (p : List Tale) (k : KernelState) → PastFits p k → IsSound k → (t : TaskNo) → is_alive k t ≡ true → PastFits (and_then (killed_entries t (kill k t)) p) (kill k t).state
+past_kills p k fits sound t alive =
     let marks : List Bool = k.tasks.alive in
     let h : List Tale = Head (Kill t.0) ∷ p in
     let m0 : Transition = hang_up_own_phones t (mark_ended k t) in
@@ -244,17 +244,21 @@ past_kills p k fits sound t alive few =
     let i2 : InKill t (and_then m2.entries h) m2.state = tells (InKill t) m1 (settle_incoming t) h (incoming_told t (and_then m1.entries h) m1.state i1) in
     let i3 : InKill t (and_then m3.entries h) m3.state = tells (InKill t) m2 (settle_dispatched t) h (dispatched_told t (and_then m2.entries h) m2.state i2) in
     let i4 : InKill t (and_then m4.entries h) m4.state = tells (InKill t) m3 (drop_answers t) h (answers_told t (and_then m3.entries h) m3.state i3) in
-    let s0 : IsEnding marks (mark_ended k t) = record { sound = sound; few = few } in
+    let s0 : IsEnding marks (mark_ended k t) = record { sound = sound } in
     let s1 = phones_slammed marks t (after_hangups t k) (own_phones_hung_up marks t (mark_ended k t) alive s0) in
     let s2 = dispatched_settled marks t (after_incoming t k) (incoming_settled marks t (after_slams t k) s1) in
     let s3 : IsUnanswered marks t m4.state = answers_dropped marks t (after_dispatched t k) s2 in
     let i5 : IsLate marks t (and_then (kill k t).entries h) (kill k t).state = tells (IsLate marks t) m4 (forget_calls_elsewhere t) h (forgotten_told marks t (and_then m4.entries h) m4.state (i4, s3)) in
-    kill_finished t _ _ i5.0 (kill_leaves_nothing k t sound alive few)
+    kill_finished t _ _ i5.0 (kill_leaves_nothing k t sound alive)
   where
     tells : (J : List Tale → KernelState → Type 0) (s : Transition) (f : KernelState → Transition) (q : List Tale) → J (and_then (f s.state).entries (and_then s.entries q)) (f s.state).state → J (and_then (then_do s f).entries q) (then_do s f).state
     tells J s f q i = then_tells (List Tale) and_then (λ _. refl) and_then-append J s f q i
 
 -- a kill keeps the history fitting
-pub kill_fits : (h : List Entry) (k : KernelState) (t : TaskNo) → HistoryFits h k → IsSound k → is_alive k t ≡ true → len k.calls.records < k.calls.next_number → HistoryFits (h ++ killed_entries t (kill_event k t)) (kill_event k t).state
-kill_fits h k t fits sound alive few =
-    rw (past-append h (killed_entries t (kill_event k t))) (fits_later _ (kill k t).state (past_kills (past h) k fits sound t alive few))
+pub kill_fits : (h : List Entry) (k : KernelState) (t : TaskNo) → HistoryFits h k → is_alive k t ≡ true → HistoryFits (h ++ killed_entries t (kill_event k t)) (kill_event k t).state
+kill_fits h k t fits alive =
+    let after = sound_kill k t fits.sound alive in
+    record {
+      sound = record { calls = after.calls; tasks = after.tasks };
+      told = rw (past-append h (killed_entries t (kill_event k t))) (fits_later _ (kill k t).state (past_kills (past h) k fits.told fits.sound t alive));
+    }

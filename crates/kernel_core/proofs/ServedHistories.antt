@@ -30,18 +30,18 @@ use Rattle.forwarding.specs.declared.passing.ForwardFault.TheVariants.{NotHeld}
 use Rattle.forwarding.specs.Forwarding.{is_held, is_forwardable}
 use Rattle.forwarding.specs.Routes.{callee_of, receiver_of, answer_of, call_after}
 use Rattle.cleanup.specs.State.{KernelState, Transition, with_event, phone_at, label_of, alive_in, is_alive}
-use Rattle.cleanup.specs.Settling.{bare_reply, drop_answer}
-use Rattle.cleanup.specs.HangingUp.{new_call, hangup_call, hang_up}
+use Rattle.cleanup.specs.Joins.{bare_reply, drop_answer, new_call, hangup_call, hang_up, answer_at_once, receive_first}
 use Rattle.cleanup.specs.Sound.{IsSound, IsPlaced, IsCaller}
 use Rattle.cleanup.proofs.Lookups.{at_insert, at_remove}
 use Rattle.cleanup.proofs.Histories.{drain_tells}
-use Rattle.kernel_core.specs.Served.{Served}
-use Rattle.kernel_core.specs.Calling.{answer_at_once, call_through, call_tested, call_over}
-use Rattle.kernel_core.specs.Receiving.{receive_first, receive_now, unawaited, next_unawaited, drop_unawaited}
-use Rattle.kernel_core.specs.Answering.{held_by, answer_held}
+use Rattle.cleanup.specs.Serving.{Served}
+use Rattle.kernel_core.specs.Calling.{call_through, call_tested, call_over}
+use Rattle.kernel_core.specs.Receiving.{receive_now, unawaited, next_unawaited, drop_unawaited}
+use Rattle.kernel_core.specs.Answering.{held_call, answer_held}
 use Rattle.kernel_core.specs.HangingUp.{hangup_over}
-use Rattle.kernel_core.specs.Forwarding.{failed_forward, forward_told}
+use Rattle.kernel_core.specs.Forward.{failed_forward, forward_told}
 use Rattle.kernel_core.specs.Serve.{serve_request, serve}
+use Rattle.kernel_core.proofs.Serving.{sound_serve}
 use Rattle.kernel_core.specs.History.{is_ended, life_at, IsTold, TellsOf, PastFits, HistoryFits, served_entries}
 use Rattle.kernel_core.proofs.InEvent.{and_then, and_then-append, IsTask, CallerFits, IsHome, Agrees, Core, InEvent, by_test, same_place-true, noted, is_told, own, front_at, phone_told}
 use Rattle.kernel_core.proofs.InEvent as one
@@ -128,14 +128,14 @@ module _ (t : TaskNo) (r : Ask) (p : List Tale) (k : KernelState) (inside : InEv
   hangup_told q (Some (phone.Connected u)) h = hang_up_told (Step t.0 r) p k inside t q (Some (phone.Connected u)) h refl
 
   -- a held call is live and stands at t
-  held : (o : Option Call) (c : Call) → held_by t o ≡ Some c → (o ≡ Some c) × (c.place ≡ place.Dispatched t)
+  held : (o : Option Call) (c : Call) → held_call t o ≡ Some c → (o ≡ Some c) × (c.place ≡ place.Dispatched t)
   held None c h = absurd (cc h)
   held (Some d) c h = here (same_place d.place (place.Dispatched t)) refl h where
     here : (b : Bool) → same_place d.place (place.Dispatched t) ≡ b → (if b then Some d else None) ≡ Some c → (Some d ≡ Some c) × (c.place ≡ place.Dispatched t)
     here true e g = let same : d ≡ c = cc in (g, subst (λ (x : Call). x.place ≡ place.Dispatched t) same (same_place-true d.place (place.Dispatched t) e))
     here false e g = absurd (cc g)
 
-  answer_told : (n : ℕ) (reply : Reply) (o : Option Call) → r ≡ Answer n → held_by t (call_at k.calls n) ≡ o → Is (answer_held k t reply o)
+  answer_told : (n : ℕ) (reply : Reply) (o : Option Call) → r ≡ Answer n → held_call t (call_at k.calls n) ≡ o → Is (answer_held k t reply o)
   answer_told n reply None is h = inside
   answer_told n reply (Some c) is h =
       let f = held (call_at k.calls n) c h in
@@ -205,14 +205,14 @@ unawaited_told : (t : TaskNo) (p : List Tale) (k : KernelState) → InEvent (Ste
 unawaited_told t p k inside =
     drain_tells (List Tale) and_then (λ _. refl) and_then-append (next_unawaited t) (drop_answer t) (InEvent (Step t.0 Receive))
     (λ q j c i is. let f = front_at (Step t.0 Receive) q j i (place.Answers t) c (unawaited_is (front j.calls (place.Answers t)) c is) in one.dropped (Step t.0 Receive) q j i t c (inl refl) f.0 f.1)
-    k.calls.next_number p k inside
+    (len k.calls.records) p k inside
 
 served_inside : (t : TaskNo) (asked : Request) (p : List Tale) (k : KernelState) → InEvent (Step t.0 (ask asked)) p k → InEvent (Step t.0 (ask asked)) (and_then (serve_request k t asked).entries p) (serve_request k t asked).state
 served_inside t (request.Call q msg) p k inside = call_told t Other_request p k inside q msg (phone_at k t q) refl
 served_inside t request.Receive p k inside =
     let d : Transition = drop_unawaited t k in
     rw (and_then-append d.entries (receive_now t d.state).entries p) (receive_told t (and_then d.entries p) d.state (unawaited_told t p k inside) (front d.state.calls (place.Answers t)) (front d.state.calls (place.Incoming t)) refl refl)
-served_inside t (request.Answer n reply) p k inside = answer_told t (Answer n) p k inside n reply (held_by t (call_at k.calls n)) refl refl
+served_inside t (request.Answer n reply) p k inside = answer_told t (Answer n) p k inside n reply (held_call t (call_at k.calls n)) refl refl
 served_inside t (request.Forward n q mode change) p k inside = forwarded_told t (Forward n) p k inside n q mode change (call_at k.calls n) refl refl
 served_inside t (request.Hangup q) p k inside = hangup_told t Other_request p k inside q (phone_at k t q) refl
 served_inside t request.Nothing p k inside = inside
@@ -321,6 +321,8 @@ past_serves p k fits sound t asked alive =
     (step_finished t (ask asked) _ s.state (served_inside t asked (Head (Step t.0 (ask asked)) ∷ p) k (step_begun p k fits sound t (ask asked) alive))))
 
 -- a request that is served keeps the history fitting
-pub serve_fits : (h : List Entry) (k : KernelState) (t : TaskNo) (asked : Request) → HistoryFits h k → IsSound k → is_alive k t ≡ true → HistoryFits (h ++ served_entries t asked (serve k t asked)) (serve k t asked).state
-serve_fits h k t asked fits sound alive =
-    rw (past-append h (served_entries t asked (serve k t asked))) (past_serves (past h) k fits sound t asked alive)
+pub serve_fits : (h : List Entry) (k : KernelState) (t : TaskNo) (asked : Request) → HistoryFits h k → is_alive k t ≡ true → HistoryFits (h ++ served_entries t asked (serve k t asked)) (serve k t asked).state
+serve_fits h k t asked fits alive = record {
+  sound = sound_serve k t asked fits.sound alive;
+  told = rw (past-append h (served_entries t asked (serve k t asked))) (past_serves (past h) k fits.told fits.sound t asked alive);
+}

@@ -27,52 +27,25 @@ use Rattle.forwarding.specs.declared.passing.ForwardFault.TheVariants.{NotHeld, 
 use Rattle.forwarding.specs.Routes.{forward_answer, call_after, table_after}
 use Rattle.cleanup.specs.State.{KernelState, Transition, is_alive, phone_at, with_calls, with_phone, with_event, label_of}
 use Rattle.cleanup.specs.Sound.{IsPlaced, IsCaller, IsSound}
-use Rattle.cleanup.specs.Settling.{bare_reply, settle, settle_for, lives, drop_answer}
-use Rattle.cleanup.specs.HangingUp.{new_call, hangup_call, hang_up}
+use Rattle.cleanup.specs.Joins.{bare_reply, settle, settle_for, lives, drop_answer, new_call, hangup_call, hang_up, receive_first}
 use Rattle.cleanup.proofs.Soundness.{sound_enqueue, sound_put, sound_without, kept_calls}
 use Rattle.cleanup.proofs.Repeats.{by_test, drain_keeps}
-use Rattle.cleanup.proofs.Silence.{next_free, more_calls, sound_hang_up}
+use Rattle.cleanup.proofs.Silence.{sound_hang_up}
 use Rattle.cleanup.proofs.Queues.{fewer_calls, as_many_calls}
-use Rattle.kernel_core.specs.Served.{Served}
+use Rattle.cleanup.specs.Serving.{Served}
 use Rattle.kernel_core.specs.Calling.{call_through, call_tested, call_over}
-use Rattle.kernel_core.specs.Receiving.{receive_first, receive_now, unawaited, next_unawaited, drop_unawaited}
-use Rattle.kernel_core.specs.Answering.{held_by, answer_held}
-use Rattle.kernel_core.specs.Forwarding.{failed_forward, passing_on, forward_told}
+use Rattle.kernel_core.specs.Receiving.{receive_now, unawaited, next_unawaited, drop_unawaited}
+use Rattle.kernel_core.specs.Answering.{held_call, answer_held}
+use Rattle.kernel_core.specs.Forward.{failed_forward, passing_on, forward_told}
 use Rattle.kernel_core.specs.HangingUp.{hangup_over}
 use Rattle.kernel_core.specs.Serve.{serve, serve_request}
-use Rattle.kernel_core.proofs.Reading.{leads_of}
-use Rattle.kernel_core.proofs.Passing.{passes}
-
--- a state to which a request may lead: sound, with the same tasks alive, the same memory, one number and stamp more at most, and no more new calls than new numbers
-pub record MayFollow (k j : KernelState) : Type 0 where
-  pub sound : IsSound j
-  pub calls : len j.calls.records + k.calls.next_number ≤ len k.calls.records + j.calls.next_number
-  pub alive : j.tasks.alive ≡ k.tasks.alive
-  pub memory : j.memory ≡ k.memory
-  pub events : j.events ≡ k.events
-  pub number : j.calls.next_number ≤ k.calls.next_number + 1
-  pub no_less : k.calls.next_number ≤ j.calls.next_number
-  pub stamp : j.calls.next_stamp ≤ k.calls.next_stamp + 1
+use Rattle.kernel_core.proofs.Passing.{leads_of, passes}
 
 -- the steps
 
-unchanged : (k : KernelState) → IsSound k → MayFollow k k
-unchanged k h = record { sound = h; calls = omega arith; alive = refl; memory = refl; events = refl; number = omega arith; no_less = omega arith; stamp = omega arith }
-
-enqueued : (k : KernelState) (c : Call) → IsSound k → c.number.0 ≡ k.calls.next_number → IsPlaced k.tasks c.caller c.place → IsCaller k.tasks c.from c.caller → IsSome (state_at k.tasks.phones c.from.task.0 c.from.phone.0) → c.discard ≡ (c.request.method == 0) → MayFollow k (with_calls k (enqueue k.calls c))
+enqueued : (k : KernelState) (c : Call) → IsSound k → c.number.0 ≡ k.calls.next_number → IsPlaced k.tasks c.caller c.place → IsCaller k.tasks c.from c.caller → IsSome (state_at k.tasks.phones c.from.task.0 c.from.phone.0) → c.discard ≡ (c.request.method == 0) → IsSound (with_calls k (enqueue k.calls c))
 enqueued k c h number place caller phone discard =
-    let free : call_at k.calls c.number.0 ≡ None = ap (call_at k.calls) number ∙ next_free k.tasks k.calls h.calls in
-    let m = more_calls k.calls c free in
-    record {
-      sound = kept_calls k (enqueue k.calls c) h (sound_enqueue k.tasks k.calls c h.calls number place caller phone discard);
-      calls = omega arith;
-      alive = refl;
-      memory = refl;
-      events = refl;
-      number = omega arith;
-      no_less = omega arith;
-      stamp = omega arith;
-    }
+    kept_calls k (enqueue k.calls c) h (sound_enqueue k.tasks k.calls c h.calls number place caller phone discard)
 
 -- a live call under its own number
 abbrev IsLive : KernelState → Call → Type 0
@@ -81,38 +54,17 @@ IsLive k c = call_at k.calls c.number.0 ≡ Some c
 own : (k : KernelState) (n : ℕ) (c : Call) → IsSound k → call_at k.calls n ≡ Some c → IsLive k c
 own k n c h is = ap (call_at k.calls) (h.calls.each n c is).number ∙ is
 
-over : (k : KernelState) (c : Call) → IsSound k → IsLive k c → MayFollow k (with_calls k (without_call k.calls c.number.0))
+over : (k : KernelState) (c : Call) → IsSound k → IsLive k c → IsSound (with_calls k (without_call k.calls c.number.0))
 over k c h is =
-    let l = fewer_calls k.calls c.number.0 c is in
-    record {
-      sound = kept_calls k (without_call k.calls c.number.0) h (sound_without k.tasks k.calls c.number.0 h.calls);
-      calls = omega arith;
-      alive = refl;
-      memory = refl;
-      events = refl;
-      number = omega arith;
-      no_less = omega arith;
-      stamp = omega arith;
-    }
+    kept_calls k (without_call k.calls c.number.0) h (sound_without k.tasks k.calls c.number.0 h.calls)
 
-moved : (k : KernelState) (c d : Call) (place : Place) → IsSound k → IsLive k c → d.number ≡ c.number → d.caller ≡ c.caller → d.from ≡ c.from → d.request ≡ c.request → d.discard ≡ c.discard → IsPlaced k.tasks d.caller place → MayFollow k (with_calls k (put_at k.calls d place))
+moved : (k : KernelState) (c d : Call) (place : Place) → IsSound k → IsLive k c → d.number ≡ c.number → d.caller ≡ c.caller → d.from ≡ c.from → d.request ≡ c.request → d.discard ≡ c.discard → IsPlaced k.tasks d.caller place → IsSound (with_calls k (put_at k.calls d place))
 moved k c d place h is number caller from request discard placed =
-    let live : call_at k.calls d.number.0 ≡ Some c = ap (λ (x : Rattle.ipc_ids.specs.declared.numbers.CallNo.CallNo). call_at k.calls x.0) number ∙ is in
-    let l = as_many_calls k.calls d.number.0 c (record d { place = place; stamp = k.calls.next_stamp }) live in
-    record {
-      sound = kept_calls k (put_at k.calls d place) h (sound_put k.tasks k.calls c.number.0 c d place h.calls is number caller from request discard placed);
-      calls = omega arith;
-      alive = refl;
-      memory = refl;
-      events = refl;
-      number = omega arith;
-      no_less = omega arith;
-      stamp = omega arith;
-    }
+    kept_calls k (put_at k.calls d place) h (sound_put k.tasks k.calls c.number.0 c d place h.calls is number caller from request discard placed)
 
-settled : (k : KernelState) (c : Call) (reply : Reply) (by : Option TaskNo) → IsSound k → IsLive k c → MayFollow k (settle k c reply by).state
+settled : (k : KernelState) (c : Call) (reply : Reply) (by : Option TaskNo) → IsSound k → IsLive k c → IsSound (settle k c reply by).state
 settled k c reply by h is = by_caller c.caller (lives k c.caller) refl where
-  by_caller : (o : Option TaskNo) (b : Bool) → c.caller ≡ o → MayFollow k (settle_for k c reply by o b).state
+  by_caller : (o : Option TaskNo) (b : Bool) → c.caller ≡ o → IsSound (settle_for k c reply by o b).state
   by_caller None b from = over k c h is
   by_caller (Some u) false from = over k c h is
   by_caller (Some u) true from = moved k c (record c { reply = reply }) (Answers u) h is refl refl refl refl refl from
@@ -130,22 +82,22 @@ user_method m h = sym (ne_eqb m 0 (λ e. grind (arith, nat_tests)))
 
 module _ (t : TaskNo) (k : KernelState) (alive : is_alive k t ≡ true) (h : IsSound k) where
   abbrev Follows : Served → Type 0
-  Follows s = MayFollow k s.state
+  Follows s = IsSound s.state
 
   through : (p : ℕ) (msg : Msg) (s : PhoneState) → phone_at k t p ≡ Some s → nat_lt msg.method first_user_method ≡ false → Follows (call_through k t p msg s)
-  through p msg Free is user = unchanged k h
-  through p msg Connecting is user = unchanged k h
+  through p msg Free is user = h
+  through p msg Connecting is user = h
   through p msg (Connected u) is user = enqueued k (new_call k t p msg (Incoming u)) h refl (h.tasks.leads t.0 p u is) (refl, alive) (is_some (phone_at k t p) (Connected u) is) (user_method msg.method user)
   through p msg HungUp is user = enqueued k (record (new_call k t p msg (Answers t)) { reply = bare_reply ehangup }) h refl refl (refl, alive) (is_some (phone_at k t p) HungUp is) (user_method msg.method user)
   through p msg Slammed is user = enqueued k (record (new_call k t p msg (Answers t)) { reply = bare_reply enoent }) h refl refl (refl, alive) (is_some (phone_at k t p) Slammed is) (user_method msg.method user)
 
   tested : (p : ℕ) (msg : Msg) (s : PhoneState) → phone_at k t p ≡ Some s → Follows (call_tested k t p msg s)
-  tested p msg s is = by_test Follows (nat_lt msg.method first_user_method) _ _ (λ _. unchanged k h) (λ user. by_test Follows (nat_le most_active (active_calls k.calls (label_of t p))) _ _ (λ _. unchanged k h) (λ _. through p msg s is user))
+  tested p msg s is = by_test Follows (nat_lt msg.method first_user_method) _ _ (λ _. h) (λ user. by_test Follows (nat_le most_active (active_calls k.calls (label_of t p))) _ _ (λ _. h) (λ _. through p msg s is user))
 
   called : (p : ℕ) (msg : Msg) (o : Option PhoneState) → phone_at k t p ≡ o → Follows (call_over k t p msg o)
-  called p msg None is = unchanged k h
-  called p msg (Some Free) is = unchanged k h
-  called p msg (Some Connecting) is = unchanged k h
+  called p msg None is = h
+  called p msg (Some Free) is = h
+  called p msg (Some Connecting) is = h
   called p msg (Some (Connected u)) is = tested p msg (Connected u) is
   called p msg (Some HungUp) is = tested p msg HungUp is
   called p msg (Some Slammed) is = tested p msg Slammed is
@@ -153,58 +105,51 @@ module _ (t : TaskNo) (k : KernelState) (alive : is_alive k t ≡ true) (h : IsS
   received : (a i : Option Call) → front k.calls (Answers t) ≡ a → front k.calls (Incoming t) ≡ i → Follows (receive_first k t a i)
   received (Some c) i first second = over k c h (front_at k (Answers t) c h first)
   received None (Some c) first second = moved k c c (Dispatched t) h (front_at k (Incoming t) c h second) refl refl refl refl refl alive
-  received None None first second = unchanged k h
+  received None None first second = h
 
-  answered : (n : ℕ) (reply : Reply) (o : Option Call) → call_at k.calls n ≡ o → Follows (answer_held k t reply (held_by t o))
-  answered n reply None is = unchanged k h
-  answered n reply (Some c) is = by_test (λ (o : Option Call). Follows (answer_held k t reply o)) (same_place c.place (Dispatched t)) (Some c) None (λ _. settled k c reply (Some t) h (own k n c h is)) (λ _. unchanged k h)
+  answered : (n : ℕ) (reply : Reply) (o : Option Call) → call_at k.calls n ≡ o → Follows (answer_held k t reply (held_call t o))
+  answered n reply None is = h
+  answered n reply (Some c) is = by_test (λ (o : Option Call). Follows (answer_held k t reply o)) (same_place c.place (Dispatched t)) (Some c) None (λ _. settled k c reply (Some t) h (own k n c h is)) (λ _. h)
 
   refused : (n : ℕ) (code : Code) (o : Option Call) → call_at k.calls n ≡ o → Follows (failed_forward k o code)
-  refused n code None is = unchanged k h
+  refused n code None is = h
   refused n code (Some c) is = settled k c (bare_reply eforward) None h (own k n c h is)
 
   forwarded : (n p : ℕ) (mode : Mode) (change : Option Msg) (answer : Result Forwarded ForwardFault) → forward_answer k.calls t (phone_at k t p) n change ≡ answer → Follows (forward_told k t p mode change (call_at k.calls n) answer)
-  forwarded n p mode change (Err NotHeld) is = unchanged k h
+  forwarded n p mode change (Err NotHeld) is = h
   forwarded n p mode change (Err NotForwardable) is = refused n Rattle.ipc_ids.specs.Codes.eperm (call_at k.calls n) refl
   forwarded n p mode change (Err NotConnected) is = refused n enoent (call_at k.calls n) refl
   forwarded n p mode change (Ok f) is = by_call (call_at k.calls n) where
-    passed : MayFollow k (with_calls k (table_after k.calls t p mode change (Ok f)))
+    passed : IsSound (with_calls k (table_after k.calls t p mode change (Ok f)))
     passed =
         let g = passes k t (phone_at k t p) n change f (leads_of k t.0 p (phone_at k t p) h.tasks refl) is in
         let here : call_at k.calls f.call.0 ≡ Some g.call = ap (call_at k.calls) g.number ∙ g.live in
         rw here (moved k g.call (call_after t p mode change g.call) (Incoming f.to) h (own k f.call.0 g.call h here) refl refl refl refl refl g.alive)
 
     by_call : (o : Option Call) → Follows (passing_on k t p mode change f o)
-    by_call None = unchanged k h
+    by_call None = h
     by_call (Some c) = passed
 
-  hung_up : (p : ℕ) (o : Option PhoneState) → phone_at k t p ≡ o → MayFollow k (hang_up k t p o).state
-  hung_up p None is = unchanged k h
-  hung_up p (Some Free) is = unchanged k h
-  hung_up p (Some Connecting) is = unchanged k h
-  hung_up p (Some HungUp) is = unchanged k h
-  hung_up p (Some Slammed) is = record { sound = sound_hang_up k t p (Some Slammed) is h alive; calls = omega arith; alive = refl; memory = refl; events = refl; number = omega arith; no_less = omega arith; stamp = omega arith }
-  hung_up p (Some (Connected u)) is =
-      let m = more_calls k.calls (hangup_call k t p u) (next_free k.tasks k.calls h.calls) in
-      record { sound = sound_hang_up k t p (Some (Connected u)) is h alive; calls = omega arith; alive = refl; memory = refl; events = refl; number = omega arith; no_less = omega arith; stamp = omega arith }
+  hung_up : (p : ℕ) (o : Option PhoneState) → phone_at k t p ≡ o → IsSound (hang_up k t p o).state
+  hung_up p None is = h
+  hung_up p (Some Free) is = h
+  hung_up p (Some Connecting) is = h
+  hung_up p (Some HungUp) is = h
+  hung_up p (Some Slammed) is = sound_hang_up k t p (Some Slammed) is h alive
+  hung_up p (Some (Connected u)) is = sound_hang_up k t p (Some (Connected u)) is h alive
 
   hanging : (p : ℕ) (o : Option PhoneState) → phone_at k t p ≡ o → Follows (hangup_over k t p o)
-  hanging p None is = unchanged k h
-  hanging p (Some Free) is = unchanged k h
-  hanging p (Some Connecting) is = unchanged k h
-  hanging p (Some HungUp) is = unchanged k h
+  hanging p None is = h
+  hanging p (Some Free) is = h
+  hanging p (Some Connecting) is = h
+  hanging p (Some HungUp) is = h
   hanging p (Some Slammed) is = hung_up p (Some Slammed) is
   hanging p (Some (Connected u)) is = hung_up p (Some (Connected u)) is
 
 -- what stays while answers that nobody waits for are dropped
 record IsLess (k j : KernelState) : Type 0 where
   pub sound : IsSound j
-  pub calls : len j.calls.records ≤ len k.calls.records
   pub alive : j.tasks.alive ≡ k.tasks.alive
-  pub memory : j.memory ≡ k.memory
-  pub events : j.events ≡ k.events
-  pub number : j.calls.next_number ≡ k.calls.next_number
-  pub stamp : j.calls.next_stamp ≡ k.calls.next_stamp
 
 unawaited_front : (o : Option Call) (c : Call) → unawaited o ≡ Some c → o ≡ Some c
 unawaited_front None c e = absurd (cc e)
@@ -214,50 +159,23 @@ unawaited_front (Some d) c e = by_discard d.discard e where
   by_discard false g = absurd (cc g)
 
 drop_less : (t : TaskNo) (k j : KernelState) (c : Call) → IsLess k j → next_unawaited t j ≡ Some c → IsLess k (drop_answer t j c).state
-drop_less t k j c s is =
-    let o = over j c s.sound (front_at j (Answers t) c s.sound (unawaited_front (front j.calls (Answers t)) c is)) in
-    let less = o.calls in
-    let was = s.calls in
-    record { sound = o.sound; calls = omega arith; alive = s.alive; memory = s.memory; events = s.events; number = s.number; stamp = s.stamp }
+drop_less t k j c s is = record { sound = over j c s.sound (front_at j (Answers t) c s.sound (unawaited_front (front j.calls (Answers t)) c is)); alive = s.alive }
 
 drops_less : (t : TaskNo) (k : KernelState) → IsSound k → IsLess k (drop_unawaited t k).state
-drops_less t k h = drain_keeps (next_unawaited t) (drop_answer t) (IsLess k) (λ j c s is. drop_less t k j c s is) k.calls.next_number k (record { sound = h; calls = omega arith; alive = refl; memory = refl; events = refl; number = refl; stamp = refl })
+drops_less t k h = drain_keeps (next_unawaited t) (drop_answer t) (IsLess k) (λ j c s is. drop_less t k j c s is) (len k.calls.records) k (record { sound = h; alive = refl })
 
-after_less : (k j i : KernelState) → IsLess k j → MayFollow j i → MayFollow k i
-after_less k j i s m =
-    let a = s.number in
-    let b = s.stamp in
-    let x = m.number in
-    let y = m.no_less in
-    let z = m.stamp in
-    let u = s.calls in
-    let v = m.calls in
-    record { sound = m.sound; calls = omega arith; alive = m.alive ∙ s.alive; memory = m.memory ∙ s.memory; events = m.events ∙ s.events; number = omega arith; no_less = omega arith; stamp = omega arith }
-
-serves : (k : KernelState) (t : TaskNo) (request : Request) → IsSound k → is_alive k t ≡ true → MayFollow k (serve_request k t request).state
+serves : (k : KernelState) (t : TaskNo) (request : Request) → IsSound k → is_alive k t ≡ true → IsSound (serve_request k t request).state
 serves k t (R.Call p msg) h alive = called t k alive h p msg (phone_at k t p) refl
 serves k t R.Receive h alive =
     let d : KernelState = (drop_unawaited t k).state in
     let less = drops_less t k h in
     let lives : is_alive d t ≡ true = ap (λ (marks : List Bool). Rattle.cleanup.specs.State.alive_in marks t.0) less.alive ∙ alive in
-    after_less k d (receive_now t d).state less (received t d lives less.sound (front d.calls (Answers t)) (front d.calls (Incoming t)) refl refl)
+    received t d lives less.sound (front d.calls (Answers t)) (front d.calls (Incoming t)) refl refl
 serves k t (R.Answer n reply) h alive = answered t k alive h n reply (call_at k.calls n) refl
 serves k t (R.Forward n p mode change) h alive = forwarded t k alive h n p mode change (forward_answer k.calls t (phone_at k t p) n change) refl
 serves k t (R.Hangup p) h alive = hanging t k alive h p (phone_at k t p) refl
-serves k t R.Nothing h alive = unchanged k h
+serves k t R.Nothing h alive = h
 
 -- a request keeps soundness
 pub sound_serve : (k : KernelState) (t : TaskNo) (request : Request) → IsSound k → is_alive k t ≡ true → IsSound (serve k t request).state
-sound_serve k t request s alive = let m = serves k t request s alive in record { calls = m.sound.calls; tasks = m.sound.tasks }
-
--- and leaves fewer calls than numbers given
-pub serve_few : (k : KernelState) (t : TaskNo) (request : Request) → IsSound k → is_alive k t ≡ true → len k.calls.records < k.calls.next_number → len (serve k t request).state.calls.records < (serve k t request).state.calls.next_number
-serve_few k t request s alive few = let more = (serves k t request s alive).calls in omega arith
-
--- the same tasks are alive, with the same memory, and one event more
-pub serve_steady : (k : KernelState) (t : TaskNo) (request : Request) → IsSound k → is_alive k t ≡ true → ((serve k t request).state.tasks.alive ≡ k.tasks.alive) × ((serve k t request).state.memory ≡ k.memory) × ((serve k t request).state.events ≡ k.events + 1)
-serve_steady k t request s alive = let m = serves k t request s alive in (m.alive, m.memory, ap (λ n. n + 1) m.events)
-
--- one number and one stamp more at most
-pub serve_rises : (k : KernelState) (t : TaskNo) (request : Request) → IsSound k → is_alive k t ≡ true → ((serve k t request).state.calls.next_number ≤ k.calls.next_number + 1) × (k.calls.next_number ≤ (serve k t request).state.calls.next_number) × ((serve k t request).state.calls.next_stamp ≤ k.calls.next_stamp + 1)
-serve_rises k t request s alive = let m = serves k t request s alive in (m.number, m.no_less, m.stamp)
+sound_serve k t request s alive = let m = serves k t request s alive in record { calls = m.calls; tasks = m.tasks }

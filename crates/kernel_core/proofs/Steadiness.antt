@@ -1,34 +1,34 @@
 -- What a kernel keeps from event to event.
 use Rattle.std.proofs.Common.{◌≡◌, refl, ℕ, ◌+◌, ◌*◌, ◌^◌, ◌<◌, ◌≤◌, true, arith, subst, sym}
 use Rattle.std.specs.Prelude.{Result, Ok, Err, OnOk, OnErr}
-use Rattle.std.specs.Ordering.{nat_cmp}
-use Rattle.std.specs.FinMap.{len, len-empty}
 use Rattle.ipc_ids.specs.declared.numbers.TaskNo.{TaskNo}
 use Rattle.ipc_ids.specs.declared.message.Request.{Request}
 use Rattle.ipc_ids.specs.declared.message.PhoneState.TheVariants.{Connected}
-use Rattle.cleanup.specs.State.{KernelState, start, is_alive, with_task, with_phone, with_event}
+use Rattle.cleanup.specs.State.{KernelState, live_calls, start, is_alive, with_task, with_phone, with_event}
 use Rattle.cleanup.specs.Sound.{IsSound}
 use Rattle.cleanup.proofs.Soundness.{sound_start, kept_task, kept_wired}
-use Rattle.cleanup.proofs.Killing.{sound_kill, kill_few}
+use Rattle.cleanup.proofs.Killing.{sound_kill}
+use Rattle.answerbox.proofs.Counts.{active-len}
+use Rattle.cleanup.specs.Board.{FewActive}
 use Rattle.kernel_core.specs.Kept.{IsSteady}
 use Rattle.cleanup.specs.Kill.{kill}
 use Rattle.kernel_core.specs.Serve.{serve_request, serve, kill_event}
-use Rattle.kernel_core.proofs.Serving.{sound_serve, serve_few}
+use Rattle.kernel_core.proofs.Serving.{sound_serve}
 
 pub steady_start : IsSteady start
-steady_start = record { sound = sound_start; live = rw (len-empty nat_cmp) (omega arith); numbers = omega arith; stamps = omega arith }
+steady_start = record { sound = sound_start; numbers = omega arith; stamps = omega arith }
 
 pub steady_task : (k : KernelState) (limit : ℕ) → IsSteady k → IsSteady (with_task k limit)
-steady_task k limit s = record { sound = kept_task k limit s.sound; live = s.live; numbers = s.numbers; stamps = s.stamps }
+steady_task k limit s = record { sound = kept_task k limit s.sound; numbers = s.numbers; stamps = s.stamps }
 
 pub steady_wire : (k : KernelState) (t : TaskNo) (p : ℕ) (u : TaskNo) → IsSteady k → is_alive k t ≡ true → is_alive k u ≡ true → IsSteady (with_phone k t p (Connected u))
-steady_wire k t p u s alive target = record { sound = kept_wired k t p u s.sound alive target; live = s.live; numbers = s.numbers; stamps = s.stamps }
+steady_wire k t p u s alive target = record { sound = kept_wired k t p u s.sound alive target; numbers = s.numbers; stamps = s.stamps }
 
 pub sound_event : (k : KernelState) → IsSound k → IsSound (with_event k)
 sound_event k s = record { calls = s.calls; tasks = s.tasks }
 
 pub sound_kill_event : (k : KernelState) (t : TaskNo) → IsSteady k → is_alive k t ≡ true → IsSound (kill_event k t).state
-sound_kill_event k t s alive = let after = sound_kill k t s.sound alive s.live in record { calls = after.calls; tasks = after.tasks }
+sound_kill_event k t s alive = let after = sound_kill k t s.sound alive in record { calls = after.calls; tasks = after.tasks }
 
 -- the state after a system call, from what it gives at most
 pub steady_serve : (k j : KernelState) (t : TaskNo) (request : Request) → IsSteady k → is_alive k t ≡ true
@@ -37,7 +37,6 @@ pub steady_serve : (k j : KernelState) (t : TaskNo) (request : Request) → IsSt
 steady_serve k j t request s alive is numbers stamps =
     record {
       sound = subst IsSound (sym is) (sound_serve k t request s.sound alive);
-      live = subst (λ (i : KernelState). len i.calls.records < i.calls.next_number) (sym is) (serve_few k t request s.sound alive s.live);
       numbers = numbers;
       stamps = stamps;
     }
@@ -49,7 +48,6 @@ pub steady_kill : (k j : KernelState) (t : TaskNo) → IsSteady k → is_alive k
 steady_kill k j t s alive is numbers stamps =
     record {
       sound = subst IsSound (sym is) (sound_kill_event k t s alive);
-      live = subst (λ (i : KernelState). len i.calls.records < i.calls.next_number) (sym is) (kill_few k t s.sound alive s.live);
       numbers = numbers;
       stamps = stamps;
     }
@@ -84,12 +82,17 @@ pub killed_after : (k killed j : KernelState) (t : TaskNo) → killed ≡ (kill 
 killed_after k killed j t does counts = rw (counts, does) refl
 
 pub steady_killed : (k killed j : KernelState) (t : TaskNo) → IsSteady k → is_alive k t ≡ true → k.events < 2 ^ 24
+    → live_calls k < k.calls.next_number
     → killed ≡ (kill k t).state → j ≡ with_event killed
     → killed.calls.next_number ≤ k.calls.next_number + 64
-    → killed.calls.next_stamp ≤ k.calls.next_stamp + 2 * k.calls.next_number + 192
+    → killed.calls.next_stamp ≤ k.calls.next_stamp + 2 * live_calls k + 192
     → killed.events ≡ k.events
     → IsSteady j
-steady_killed k killed j t s alive few_events does counts numbers stamps events =
+steady_killed k killed j t s alive few_events live does counts numbers stamps events =
     steady_kill k j t s alive (killed_after k killed j t does counts)
     (rw counts (omega (arith, numbers, events, s.numbers)))
-    (rw counts (omega (arith, stamps, numbers, events, s.numbers, s.stamps, few_events)))
+    (rw counts (omega (arith, stamps, numbers, events, s.numbers, s.stamps, few_events, live)))
+
+-- no phone has more active calls than there are calls
+pub few_active : (k : KernelState) → IsSteady k → k.events < 2 ^ 24 → live_calls k < k.calls.next_number → FewActive k
+few_active k s few live l = let most = active-len k.calls l in omega (arith, most, live, s.numbers, few)

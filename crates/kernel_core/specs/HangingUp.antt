@@ -6,9 +6,8 @@ use Rattle.ipc_ids.specs.declared.message.PhoneState.TheVariants.{Free, Connecti
 use Rattle.ipc_ids.specs.declared.message.Outcome.TheVariants.{Done}
 use Rattle.ipc_ids.specs.Codes.{enoent, einval}
 use Rattle.cleanup.specs.State.{KernelState, phone_at}
-use Rattle.kernel_core.specs.Served.{Served, telling}
-use Rattle.cleanup.specs.HangingUp.{hang_up}
-use Rattle.kernel_core.specs.Calling.{refusal}
+use Rattle.cleanup.specs.Serving.{refusal, Served, telling}
+use Rattle.cleanup.specs.Joins.{hang_up}
 
 abbrev pub hangup_over : KernelState → TaskNo → ℕ → Option PhoneState → Served
 hangup_over k t p None = refusal k enoent

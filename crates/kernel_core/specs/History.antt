@@ -14,7 +14,8 @@ use Rattle.call_slab.specs.declared.call.Place.{Place}
 use Rattle.call_slab.specs.declared.call.Place.TheVariants as place
 use Rattle.answerbox.specs.Calls.{call_at}
 use Rattle.cleanup.specs.State.{KernelState, Transition}
-use Rattle.kernel_core.specs.Served.{Served}
+use Rattle.cleanup.specs.Sound.{IsSound}
+use Rattle.cleanup.specs.Serving.{Served}
 
 -- whether this is the number of a task that has ended; tasks are numbered from 1
 abbrev pub is_ended : List Bool → ℕ → Bool
@@ -60,9 +61,10 @@ pub record PastFits (p : List Tale) (k : KernelState) : Type 0 where
   pub ended : (t : ℕ) → is_killed t p ≡ is_ended k.tasks.alive t
   pub calls : (n : ℕ) → TellsOf p n (call_at k.calls n)
 
--- the entries so far fit the state
-abbrev pub HistoryFits : List Entry → KernelState → Type 0
-HistoryFits h k = PastFits (past h) k
+-- the state is sound, and the entries so far fit it
+pub record HistoryFits (h : List Entry) (k : KernelState) : Type 0 where
+  pub sound : IsSound k
+  pub told : PastFits (past h) k
 
 -- the entries of a request: its head, what it did, and its outcome
 abbrev pub served_entries : TaskNo → Request → Served → List Entry

@@ -1,16 +1,16 @@
 -- The events: a system call of task t, and a kill of it.
-use Rattle.std.specs.Prelude.{[]}
+use Rattle.std.specs.Prelude.{ℕ, ◌+◌, ◌*◌, []}
 use Rattle.ipc_ids.specs.declared.numbers.TaskNo.{TaskNo}
 use Rattle.ipc_ids.specs.declared.message.Request.{Request}
 use Rattle.ipc_ids.specs.declared.message.Request.TheVariants.{Call, Receive, Answer, Forward, Hangup, Nothing}
 use Rattle.ipc_ids.specs.declared.message.Outcome.TheVariants.{Done}
-use Rattle.cleanup.specs.State.{KernelState, Transition, with_event}
+use Rattle.cleanup.specs.State.{KernelState, Transition, live_calls, with_event}
 use Rattle.cleanup.specs.Kill.{kill}
-use Rattle.kernel_core.specs.Served.{Served}
+use Rattle.cleanup.specs.Serving.{Served}
 use Rattle.kernel_core.specs.Calling.{call}
 use Rattle.kernel_core.specs.Receiving.{receive}
 use Rattle.kernel_core.specs.Answering.{answer}
-use Rattle.kernel_core.specs.Forwarding.{forward}
+use Rattle.kernel_core.specs.Forward.{forward}
 use Rattle.kernel_core.specs.HangingUp.{hangup}
 
 -- what each request does
@@ -21,6 +21,24 @@ serve_request k t (Answer n reply) = answer k t n reply
 serve_request k t (Forward n p mode change) = forward k t n p mode change
 serve_request k t (Hangup p) = hangup k t p
 serve_request k t Nothing = record { state = k; outcome = Done; entries = [] }
+
+-- how many calls a request adds at most
+abbrev pub most_calls : Request → ℕ
+most_calls (Call p msg) = 1
+most_calls Receive = 0
+most_calls (Answer n reply) = 0
+most_calls (Forward n p mode change) = 0
+most_calls (Hangup p) = 1
+most_calls Nothing = 0
+
+-- how many entries a request makes at most: a receive two for each call that it drops
+abbrev pub most_entries : KernelState → Request → ℕ
+most_entries k (Call p msg) = 2
+most_entries k Receive = 2 * live_calls k + 2
+most_entries k (Answer n reply) = 2
+most_entries k (Forward n p mode change) = 2
+most_entries k (Hangup p) = 3
+most_entries k Nothing = 0
 
 -- one event more
 abbrev pub and_event : Served → Served

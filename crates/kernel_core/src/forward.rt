@@ -1,74 +1,68 @@
 //! A forward of a call that a task holds.
-ghost use Rattle.std.specs.Prelude.{◌≡◌, ◌+◌, ◌^◌, ◌<◌, ◌≤◌, ◌++◌, ◌∷◌, [], true, IsSome};
+ghost use Rattle.std.specs.Prelude.{◌≡◌, IsSome, IfSome};
 ghost use Rattle.answerbox.specs.Calls.{call_at};
-ghost use Rattle.cleanup.specs.State.{is_alive};
-ghost use Rattle.kernel_core.specs.Forwarding.{forward as forward_of, failed_forward};
-ghost use Rattle.kernel_core.specs.Steps.{TellsLabel};
+ghost use Rattle.cleanup.specs.Board.{IsAdded};
+ghost use Rattle.cleanup.specs.Rooms.{HasRoom, UsesRoom};
+ghost use Rattle.cleanup.specs.Serving.{Serves};
+ghost use Rattle.kernel_core.specs.Forward.{forward as forward_of, failed_forward};
 
-use crate::machine::Machine;
-use forwarding::{ForwardFault, Forwarded};
-use ipc_ids::{CallNo, Code, Entry, Mode, Msg, Outcome, Reply, TaskNo, Trace};
+use cleanup::Switchboard;
+use forwarding::{ForwardFault, label_after, msg_after, receiver_of};
+use ipc_ids::{CallNo, Code, Mode, Msg, Outcome, Reply, TaskNo, Trace};
 
-impl Machine {
-    /// The task passes a call on over its phone.
-    pub fn forward(
-        &mut self,
-        who: TaskNo,
-        call: u64,
-        phone: u64,
-        mode: Mode,
-        change: Option<Msg>,
-        out: &mut Trace,
-    ) -> Outcome
-        requires alive { is_alive self.old.k who ≡ true }
-        requires line { 0 < out.old.spare }
-        requires few_stamps { self.old.k.calls.next_stamp < 2 ^ 62 }
-        ensures state { self.new.k ≡ (forward_of self.old.k who call phone mode change).state }
-        ensures outcome { result ≡ (forward_of self.old.k who call phone mode change).outcome }
-        ensures entries { out.new.entries ≡ out.old.entries ++ (forward_of self.old.k who call phone mode change).entries }
-        ensures numbers { self.new.k.calls.next_number ≡ self.old.k.calls.next_number }
-        ensures stamps { self.new.k.calls.next_stamp ≤ self.old.k.calls.next_stamp + 1 }
-        ensures events { self.new.k.events ≡ self.old.k.events }
-    {
-        match self.pass_on(who, call, phone, mode, change) {
-            Ok(forwarded) => {
-                self.tell_forwarded(who, forwarded, out);
-                Outcome::Done
-            }
-            Err(ForwardFault::NotHeld) => Outcome::Refused(Code::ENOENT),
-            Err(ForwardFault::NotForwardable) => self.fail_forward(call, Code::EPERM, out),
-            Err(ForwardFault::NotConnected) => self.fail_forward(call, Code::ENOENT, out),
+/// Passes the call on over the task's phone. It refuses with `ENOENT` where the task does not hold
+/// the call, and else with the code of the first test that fails; the kernel then answers the call
+/// with `EFORWARD`.
+pub(crate) fn forward(
+    board: &mut Switchboard,
+    who: TaskNo,
+    call: CallNo,
+    phone: u64,
+    mode: Mode,
+    change: Option<Msg>,
+    out: &mut Trace,
+) -> Outcome
+    requires added { IsAdded board.old.state who }
+    requires room { HasRoom board.old out.old 0 1 2 }
+    ensures served { Serves board.new result out.old out.new
+        (forward_of board.old.state who call.0 phone mode change) }
+    ensures room { UsesRoom board.old board.new out.old out.new 0 1 2 }
+{
+    let state = board.phone(who, phone);
+    let Some(held) = board.get(call) else {
+        return Outcome::Refused(Code::ENOENT);
+    };
+    let caller = held.caller;
+    match receiver_of(held, who, state, change) {
+        Ok(to) => {
+            let msg = msg_after(held, change);
+            let label = label_after(held, who, phone, mode);
+            board.pass_on(call, msg, label, who, to, out);
+            Outcome::Done
         }
+        Err(ForwardFault::NotHeld) => Outcome::Refused(Code::ENOENT),
+        Err(ForwardFault::NotForwardable) => fail_forward(board, call, caller, Code::EPERM, out),
+        Err(ForwardFault::NotConnected) => fail_forward(board, call, caller, Code::ENOENT, out),
     }
+}
 
-    /// The trace tells to whom the call went, and from whom the receiver sees it.
-    fn tell_forwarded(&self, who: TaskNo, forwarded: Forwarded, out: &mut Trace)
-        requires live { IsSome (call_at self.now.k.calls forwarded.call.0) }
-        requires line { 0 < out.old.spare }
-        ensures { TellsLabel (call_at self.now.k.calls forwarded.call.0) who forwarded out.old.entries out.new.entries }
-    {
-        let label = self.get(forwarded.call).unwrap().label;
-        out.push(Entry::Forwarded {
-            call: forwarded.call,
-            by: who,
-            to: forwarded.to,
-            label,
-        });
-    }
-
-    /// The kernel answers a call that cannot be passed on, and the task is refused.
-    fn fail_forward(&mut self, call: u64, code: Code, out: &mut Trace) -> Outcome
-        requires live { IsSome (call_at self.old.k.calls call) }
-        requires line { 0 < out.old.spare }
-        requires few_stamps { self.old.k.calls.next_stamp < 2 ^ 62 }
-        ensures state { self.new.k ≡ (failed_forward self.old.k (call_at self.old.k.calls call) code).state }
-        ensures outcome { result ≡ (failed_forward self.old.k (call_at self.old.k.calls call) code).outcome }
-        ensures entries { out.new.entries ≡ out.old.entries ++ (failed_forward self.old.k (call_at self.old.k.calls call) code).entries }
-        ensures numbers { self.new.k.calls.next_number ≡ self.old.k.calls.next_number }
-        ensures stamps { self.new.k.calls.next_stamp ≤ self.old.k.calls.next_stamp + 1 }
-        ensures events { self.new.k.events ≡ self.old.k.events }
-    {
-        self.settle(CallNo(call), &Reply::bare(Code::EFORWARD), None, out);
-        Outcome::Refused(code)
-    }
+/// Answers a call that cannot be passed on in the kernel's name, and refuses the task with the
+/// code.
+fn fail_forward(
+    board: &mut Switchboard,
+    call: CallNo,
+    caller: Option<TaskNo>,
+    code: Code,
+    out: &mut Trace,
+) -> Outcome
+    requires live { IsSome (call_at board.old.state.calls call.0) }
+    requires number { IfSome (call_at board.old.state.calls call.0) (λ c. c.number ≡ call) }
+    requires caller { IfSome (call_at board.old.state.calls call.0) (λ c. c.caller ≡ caller) }
+    requires room { HasRoom board.old out.old 0 1 2 }
+    ensures served { Serves board.new result out.old out.new
+        (failed_forward board.old.state (call_at board.old.state.calls call.0) code) }
+    ensures room { UsesRoom board.old board.new out.old out.new 0 1 2 }
+{
+    board.settle_for(call, caller, &Reply::bare(Code::EFORWARD), None, out);
+    Outcome::Refused(code)
 }

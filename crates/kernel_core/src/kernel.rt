@@ -6,7 +6,8 @@ ghost use Rattle.cleanup.specs.Sound.{IsSound};
 ghost use Rattle.kernel_core.specs.Serve.{serve, kill_event};
 ghost use Rattle.kernel_core.specs.History.{HistoryFits, served_entries, killed_entries};
 
-use crate::machine::Machine;
+use crate::request::{room_of, serve_request};
+use cleanup::Switchboard;
 use ipc_ids::{NoMemory, Outcome, PhoneNo, PhoneState, Request, TaskNo, Trace};
 use std::alloc::Global;
 use std::marker::Model;
@@ -14,7 +15,7 @@ use std::marker::Model;
 /// The kernel of all tasks, which are added and wired before the first event.
 #[derive(Drop)]
 pub struct Kernel {
-    machine: Machine,
+    board: Switchboard,
 }
 
 impl Model for Kernel {
@@ -27,9 +28,9 @@ impl Model for Kernel {
 
     ghost coded = { state_code phone.the_row.coded call.the_row.coded };
 
-    ghost view = { λ a. a.machine.k };
+    ghost view = { λ a. a.board.state };
 
-    ghost invariant = { λ a. IsSteady a.machine.k };
+    ghost invariant = { λ a. IsSteady a.board.state };
 }
 
 impl Kernel {
@@ -40,7 +41,7 @@ impl Kernel {
         ensures history { HistoryFits [] result }
     {
         Kernel {
-            machine: Machine::new(alloc),
+            board: Switchboard::new(alloc),
         }
     }
 
@@ -60,7 +61,7 @@ impl Kernel {
         ensures sound { IsSound self.new }
         ensures history { (h : List Entry) → HistoryFits h self.old → HistoryFits h self.new }
     {
-        self.machine.add_task(limit)
+        self.board.add_task(limit)
     }
 
     /// The free phone of the first task leads to the second, which may be the same.
@@ -73,21 +74,21 @@ impl Kernel {
         ensures sound { IsSound self.new }
         ensures history { (h : List Entry) → HistoryFits h self.old → HistoryFits h self.new }
     {
-        self.machine.wire(t, p, to);
+        self.board.wire(t, p, to);
     }
 
     /// Whether a task has this number and has not ended.
     pub fn alive(&self, t: TaskNo) -> bool
         ensures { result ≡ is_alive self.now t }
     {
-        self.machine.is_alive(t)
+        self.board.is_alive(t)
     }
 
     /// How many events there were.
     pub fn events(&self) -> u64
         ensures { result ≡ self.now.events }
     {
-        self.machine.events()
+        self.board.events()
     }
 
     /// Serves one system call of the task: an event.
@@ -113,12 +114,17 @@ impl Kernel {
         ensures history { OnOk result ((h : List Entry) → HistoryFits h self.old
             → HistoryFits (h ++ served_entries who request.now (serve self.old who request.now)) self.new) }
     {
-        self.machine.reserve(1)?;
-        // A receive may drop as many answers as there are calls, of which there are fewer than numbers given.
-        out.reserve(self.machine.next_number().0 as usize + 2)?;
-        let outcome = self.machine.serve_request(who, request, out);
-        self.machine.count_event();
-        Ok(outcome)
+        let _next = self.board.next_number();
+        let (calls, entries) = room_of(&self.board, request);
+        self.board.reserve(calls)?;
+        out.reserve(entries)?;
+        match serve_request(&mut self.board, who, request, out) {
+            Ok(outcome) => {
+                self.board.count_event();
+                Ok(outcome)
+            }
+            Err(NoMemory) => Err(NoMemory),
+        }
     }
 
     /// Kills the task: an event.
@@ -138,8 +144,8 @@ impl Kernel {
         ensures history { OnOk result ((h : List Entry) → HistoryFits h self.old
             → HistoryFits (h ++ killed_entries who (kill_event self.old who)) self.new) }
     {
-        self.machine.kill(who, out)?;
-        self.machine.count_event();
+        self.board.end(who, out)?;
+        self.board.count_event();
         Ok(())
     }
 }

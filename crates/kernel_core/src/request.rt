@@ -1,38 +1,65 @@
-//! What each request does.
-ghost use Rattle.std.specs.Prelude.{◌≡◌, ◌+◌, ◌^◌, ◌<◌, ◌≤◌, ◌++◌, true};
-ghost use Rattle.cleanup.specs.State.{is_alive};
-ghost use Rattle.kernel_core.specs.Serve.{serve_request as serve_request_of};
+//! What each request does, and the room that it needs.
+ghost use Rattle.std.specs.Prelude.{◌≡◌, ◌<◌, ◌^◌};
+ghost use Rattle.cleanup.specs.State.{live_calls};
+ghost use Rattle.cleanup.specs.Board.{IsAdded, FewActive};
+ghost use Rattle.cleanup.specs.Rooms.{HasRoom, UsesRoom};
+ghost use Rattle.cleanup.specs.Serving.{ServesOrLeaves};
+ghost use Rattle.kernel_core.specs.Serve.{serve_request as serve_request_of, most_calls, most_entries};
 
-use crate::machine::Machine;
-use ipc_ids::{Outcome, Request, TaskNo, Trace};
+use crate::answering::answer;
+use crate::calling::call;
+use crate::forward::forward;
+use crate::hanging_up::hangup;
+use crate::receiving::receive;
+use cleanup::Switchboard;
+use ipc_ids::{CallNo, NoMemory, Outcome, Request, TaskNo, Trace};
 
-impl Machine {
-    /// Does what the task asks. There is room for a call and for all entries.
-    pub fn serve_request(&mut self, who: TaskNo, request: &Request, out: &mut Trace) -> Outcome
-        requires alive { is_alive self.old.k who ≡ true }
-        requires room { 0 < self.old.spare }
-        requires lines { self.old.k.calls.next_number + 2 ≤ out.old.spare }
-        requires few_calls { self.old.k.calls.next_number < 2 ^ 31 }
-        requires few_stamps { self.old.k.calls.next_stamp < 2 ^ 62 }
-        ensures state { self.new.k ≡ (serve_request_of self.old.k who request.now).state }
-        ensures outcome { result ≡ (serve_request_of self.old.k who request.now).outcome }
-        ensures entries { out.new.entries ≡ out.old.entries ++ (serve_request_of self.old.k who request.now).entries }
-        ensures numbers { self.new.k.calls.next_number ≤ self.old.k.calls.next_number + 1 }
-        ensures stamps { self.new.k.calls.next_stamp ≤ self.old.k.calls.next_stamp + 1 }
-        ensures events { self.new.k.events ≡ self.old.k.events }
-    {
-        match request {
-            Request::Call { phone, msg } => self.call(who, *phone, msg, out),
-            Request::Receive => self.receive(who, out),
-            Request::Answer { call, reply } => self.answer(who, *call, reply, out),
-            Request::Hangup { phone } => self.hangup(who, *phone, out),
-            Request::Nothing => Outcome::Done,
-            Request::Forward {
-                call,
-                phone,
-                mode,
-                change,
-            } => self.forward(who, *call, *phone, *mode, *change, out),
+/// How many calls the request adds at most, and how many entries it makes.
+pub(crate) fn room_of(board: &Switchboard, request: &Request) -> (usize, usize)
+    requires { live_calls board.now.state < 2 ^ 62 }
+    ensures calls { result.0 ≡ most_calls request.now }
+    ensures entries { result.1 ≡ most_entries board.now.state request.now }
+{
+    match request {
+        Request::Call { .. } => (1, 2),
+        Request::Receive => (0, 2 * board.live() + 2),
+        Request::Answer { .. } => (0, 2),
+        Request::Forward { .. } => (0, 2),
+        Request::Hangup { .. } => (1, 3),
+        Request::Nothing => (0, 0),
+    }
+}
+
+/// Does what the task asks. There is room for its calls and its entries.
+pub(crate) fn serve_request(
+    board: &mut Switchboard,
+    who: TaskNo,
+    request: &Request,
+    out: &mut Trace,
+) -> Result<Outcome, NoMemory>
+    requires added { IsAdded board.old.state who }
+    requires few { FewActive board.old.state }
+    requires room { HasRoom board.old out.old (most_calls request.now) 1
+        (most_entries board.old.state request.now) }
+    ensures served { ServesOrLeaves result board.old board.new out.old out.new
+        (serve_request_of board.old.state who request.now) }
+    ensures room { UsesRoom board.old board.new out.old out.new 1 1
+        (most_entries board.old.state request.now) }
+{
+    match request {
+        Request::Call { phone, msg } => call(board, who, *phone, msg, out),
+        Request::Receive => Ok(receive(board, who, out)),
+        Request::Answer { call, reply } => answer(board, who, CallNo(*call), reply, out),
+        Request::Hangup { phone } => Ok(hangup(board, who, *phone, out)),
+        Request::Nothing => Ok(Outcome::Done),
+        Request::Forward {
+            call,
+            phone,
+            mode,
+            change,
+        } => {
+            let call = CallNo(*call);
+            Ok(forward(board, who, call, *phone, *mode, *change, out))
         }
     }
 }

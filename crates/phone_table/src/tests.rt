@@ -23,3 +23,24 @@ fn a_hung_up_phone_comes_back_after_its_last_call(rt: HostRuntime) -> Result<(),
     assert_eq!(rt; row.first_usable(), Some(PhoneNo(0)));
     Ok(())
 }
+
+#[test]
+fn a_kept_phone_is_connected_or_free_again(rt: HostRuntime) -> Result<(), Fail> {
+    let mut phones = Phones::new(2);
+    let Some(kept) = phones.first_usable() else {
+        return Err(Fail::new("no phone is usable"));
+    };
+    phones.reserve(kept);
+    assert_eq!(rt; phones.first_usable(), Some(PhoneNo(1)));
+    assert_eq!(rt; phones.hangup(0), Err(Code::EINVAL));
+    phones.free(kept);
+    assert_eq!(rt; phones.first_usable(), Some(PhoneNo(0)));
+    phones.reserve(kept);
+    phones.connect(kept, TaskNo(7));
+    assert_eq!(rt; phones.state(0), Some(PhoneState::Connected(TaskNo(7))));
+    phones.slam(kept);
+    assert_eq!(rt; phones.hangup(0), Ok(Hung::Silent));
+    assert_eq!(rt; phones.active(kept), 0);
+    assert_eq!(rt; phones.first_usable(), Some(PhoneNo(0)));
+    Ok(())
+}

@@ -1,6 +1,6 @@
-use Rattle.std.proofs.Common.{◌≡◌, true, take, IfSome, Contains}
+use Rattle.std.proofs.Common.{◌≡◌, take, IfSome, Contains}
 use Rattle.std.specs.Option.{option_copied}
-use Rattle.answerbox.specs.Calls.{first_at, same_place}
+use Rattle.answerbox.specs.Calls.{first_at}
 use Rattle.answerbox.proofs.search.first_of.Given as goal
 
 abbrev pub invariant-loop-call : goal.invariant-loop-call
@@ -8,5 +8,4 @@ invariant-loop-call l =
     record {
       first : option_copied l.first ≡ first_at l.place (take l.call-index l.calls);
       within : IfSome l.first (λ c. Contains l.calls c.now);
-      here : IfSome l.first (λ c. same_place c.now.place l.place ≡ true);
     }

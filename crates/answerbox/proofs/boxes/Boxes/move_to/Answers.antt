@@ -1,7 +1,7 @@
 use Rattle.std.proofs.Common.{ap, refl}
 use Rattle.answerbox.specs.Calls.{BoxesState}
 use Rattle.answerbox.specs.Kept.{StandsAt}
-use Rattle.answerbox.proofs.Rising.{stands, rises-set, with_place_at}
+use Rattle.answerbox.proofs.Rising.{stands, rises-set, put_at_at}
 use Rattle.answerbox.proofs.boxes.Boxes.move_to.Goals as goal
 
 pub unwrap-i-requires : goal.unwrap-i-requires
@@ -11,9 +11,9 @@ unwrap-i-requires c =
 pub invariant_of-self : goal.invariant_of-self
 invariant_of-self c =
     let s : StandsAt c.self.inside.records.items c.args.call.0 c.unwrap-i.result = rw (c.unwrap-i.ensures, c.deref.ensures.value) at c.position_of.ensures.found in
-    rises-set 1 c.self.inside.records.items c.self.inside.next_number c.unwrap-i.result c.index_mut-call.result.now _ c.self.invariant s.in_range c.index_mut-call.ensures.value refl
+    rw c.put.ensures (rises-set 1 c.self.inside.records.items c.self.inside.next_number c.unwrap-i.result c.index_mut-call.result.now _ c.self.invariant s.in_range c.index_mut-call.ensures.value refl)
 
 pub returns-clause-calls : goal.returns-clause-calls
 returns-clause-calls c =
     let s : StandsAt c.self.inside.records.items c.args.call.0 c.unwrap-i.result = rw (c.unwrap-i.ensures, c.deref.ensures.value) at c.position_of.ensures.found in
-    rw (← c.self.view_is) (with_place_at c.self.inside.records.items c.self.inside.next_number c.self.inside.next_stamp c.args.call.0 c.unwrap-i.result c.index_mut-call.result.now c.args.place c.self.invariant s c.index_mut-call.ensures.value)
+    rw (← c.self.view_is, c.put.ensures) (put_at_at c.self.inside.records.items c.self.inside.next_number c.self.inside.next_stamp c.args.call.0 c.unwrap-i.result c.index_mut-call.result.now (λ d. d) c.args.place c.self.invariant s c.index_mut-call.ensures.value refl)

@@ -1,0 +1,40 @@
+-- How many calls are live after each change.
+use Rattle.std.proofs.Common.{◌≡◌, ℕ, ◌+◌, ◌≤◌, List, None, Some, ap, ◌∙◌, arith}
+use Rattle.std.specs.Prelude.{IsSome}
+use Rattle.std.specs.Cmp.{nat_cmp_total}
+use Rattle.std.specs.FinMap.{len, len-insert, insert}
+use Rattle.ipc_ids.specs.declared.numbers.Label.{Label}
+use Rattle.ipc_ids.specs.declared.message.Msg.{Msg}
+use Rattle.ipc_ids.specs.declared.message.Reply.{Reply}
+use Rattle.ipc_ids.specs.declared.message.PhoneState.{PhoneState}
+use Rattle.call_slab.specs.declared.call.Call.{Call}
+use Rattle.call_slab.specs.declared.call.Place.{Place}
+use Rattle.answerbox.specs.Calls.{CallTable, call_at, enqueue, with_place, answered, readdressed, without_call, without_caller}
+use Rattle.cleanup.specs.Counts.{HasCounts}
+use Rattle.cleanup.proofs.Lookups.{record_of}
+use Rattle.cleanup.proofs.Queues.{fewer_calls, as_many_calls}
+
+-- a new call is one more
+pub live_enqueue : (q : CallTable) (c : Call) → call_at q c.number.0 ≡ None → len (enqueue q c).records ≤ len q.records + 1
+live_enqueue q c free = rw (len-insert nat_cmp_total q.records c.number.0 (record c { stamp = q.next_stamp }), free) (omega arith)
+
+-- a call that is over is one less
+pub live_without : (q : CallTable) (n : ℕ) → IsSome (call_at q n) → len (without_call q n).records ≤ len q.records
+live_without q n live = let f = record_of (call_at q n) live in let l = fewer_calls q n f.0 f.1 in omega arith
+
+module _ (phones : List (List PhoneState)) (counts : List (List ℕ)) (q : CallTable) (n : ℕ) (s : HasCounts phones counts q) (live : IsSome (call_at q n)) where
+  -- a record in the place of another leaves as many
+  same : (c d : Call) → call_at q n ≡ Some c → len (insert q.records c.number.0 d) ≡ len q.records
+  same c d is = as_many_calls q c.number.0 c d (ap (call_at q) (s.numbered n c is) ∙ is)
+
+  pub live_place : (place : Place) → len (with_place q n place).records ≤ len q.records
+  live_place place = let f = record_of (call_at q n) live in let l = same f.0 (record f.0 { place = place; stamp = q.next_stamp }) f.1 in rw f.1 (omega arith)
+
+  pub live_answered : (reply : Reply) (place : Place) → len (answered q n reply place).records ≤ len q.records
+  live_answered reply place = let f = record_of (call_at q n) live in let l = same f.0 (record f.0 { reply = reply; place = place; stamp = q.next_stamp }) f.1 in rw f.1 (omega arith)
+
+  pub live_readdressed : (msg : Msg) (label : Label) (place : Place) → len (readdressed q n msg label place).records ≤ len q.records
+  live_readdressed msg label place = let f = record_of (call_at q n) live in let l = same f.0 (record f.0 { msg = msg; label = label; place = place; stamp = q.next_stamp }) f.1 in rw f.1 (omega arith)
+
+  pub live_caller : len (without_caller q n).records ≤ len q.records
+  live_caller = let f = record_of (call_at q n) live in let l = same f.0 (record f.0 { caller = None }) f.1 in rw f.1 (omega arith)

@@ -1,0 +1,206 @@
+-- Each step keeps what a switchboard keeps.
+use Rattle.std.proofs.Common.{◌≡◌, ℕ, zero, suc, ◌≤◌, ◌<◌, ◌+◌, ◌-◌, ◌^◌, Bool, true, false, ◌&&◌, Option, None, Some, List, [], ◌∷◌, ◌++◌, replicate, length, length-append, refl, sym, subst, ◌∙◌, arith, inl, inr}
+use Rattle.std.specs.Prelude.{IsSome, IfSome, slice_get, option_and_then, ◌==◌, OnOk, Result, Ok, Err}
+use Rattle.std.specs.Option.{IsSomeAnd}
+use Rattle.ipc_ids.specs.declared.numbers.TaskNo.{TaskNo}
+use Rattle.ipc_ids.specs.declared.numbers.Label.{Label}
+use Rattle.ipc_ids.specs.declared.message.PhoneState.{PhoneState}
+use Rattle.ipc_ids.specs.declared.message.PhoneState.TheVariants.{Free, Connecting, Connected, HungUp, Slammed}
+use Rattle.call_slab.specs.declared.call.Place.{Place}
+use Rattle.answerbox.specs.Calls.{CallTable, call_at, with_place, readdressed, no_calls, active_calls, same_label}
+use Rattle.answerbox.proofs.Counts.{active-enqueue}
+use Rattle.cleanup.specs.Joins.{hang_up, hangup_call}
+use Rattle.answerbox.proofs.Steps.{call_at-no_calls}
+use Rattle.ipc_ids.specs.declared.message.Msg.{Msg}
+use Rattle.call_slab.specs.declared.call.Place.TheVariants.{Incoming}
+use Rattle.std.proofs.lemmas.Bool.{cases_eq, eq-eqb, ne_eqb}
+use Rattle.std.specs.Ordering.{nat_cmp}
+use Rattle.std.specs.FinMap.{len-empty}
+use Rattle.ipc_ids.specs.declared.numbers.Code.{Code}
+use Rattle.phone_table.specs.Phones.{row_at, state_at, count_at, hangup_answer}
+use Rattle.phone_table.specs.Usable.{IsConnected}
+use Rattle.phone_table.specs.declared.hung.Hung.{Hung}
+use Rattle.phone_table.specs.declared.hung.Hung.TheVariants.{Sent, Silent}
+use Rattle.cleanup.specs.Board.{hung_rows, IsSwitched, IsAdded, TellsAdded, LeadsToAdded}
+use Rattle.cleanup.specs.State.{KernelState, is_alive, label_of, with_state_at}
+use Rattle.cleanup.proofs.Soundness.{phone_kept, value_of, get_last, row_append, row_before}
+use Rattle.cleanup.specs.Counts.{HasCounts}
+use Rattle.cleanup.proofs.Lookups.{record_of}
+use Rattle.cleanup.proofs.Rows.{state_changed_at, some_of}
+use Rattle.cleanup.proofs.Recounting.{some_and}
+use Rattle.cleanup.proofs.Counting.{counted_none, counted_task}
+use Rattle.cleanup.proofs.Keeping.{counts_put, counts_phone}
+use Rattle.cleanup.proofs.Endings.{length_rows, sent_to, within}
+
+-- calls and counts change
+pub switched_calls : {alive : List Bool} {phones : List (List PhoneState)} {counts : List (List ℕ)} {calls : CallTable} {tasks : ℕ} (counts' : List (List ℕ)) (calls' : CallTable) → IsSwitched alive phones counts calls tasks → HasCounts phones counts' calls' → IsSwitched alive phones counts' calls' tasks
+switched_calls counts' calls' s h = record { paired = s.paired; places = s.places; few = s.few; leads = s.leads; has_counts = h }
+
+-- a phone that is there gets a state in which it leads to no task
+pub switched_phone : {alive : List Bool} {phones : List (List PhoneState)} {counts : List (List ℕ)} {calls : CallTable} {tasks : ℕ} (a b : ℕ) (state : PhoneState) → IsSwitched alive phones counts calls tasks → IsSome (state_at phones a b) → ((u : TaskNo) → state ≡ Connected u → ⊥) → IsSwitched alive (with_state_at phones a b state) counts calls tasks
+switched_phone {alive} {phones} {counts} {calls} a b state s there quiet = record {
+  paired = length_rows phones a b state ∙ s.paired;
+  places = s.places;
+  few = s.few;
+  leads = λ t p u is. elim (state_changed_at phones a b t p state (Connected u) is) [ inl e ↦ absurd (quiet u e.2) | inr e ↦ s.leads t p u e.1 ];
+  has_counts = counts_phone phones counts calls a b state s.has_counts there;
+}
+
+-- a live call goes to another place
+pub counts_move : (phones : List (List PhoneState)) (counts : List (List ℕ)) (calls : CallTable) (n : ℕ) (place : Place) → HasCounts phones counts calls → IsSome (call_at calls n) → HasCounts phones counts (with_place calls n place)
+counts_move phones counts calls n place s live =
+    let f = record_of (call_at calls n) live in
+    rw (f.1) (counts_put phones counts calls n f.0 f.0 place s f.1 refl refl refl)
+
+-- there is room to count one call more
+pub may_count : (phones : List (List PhoneState)) (counts : List (List ℕ)) (calls : CallTable) (from : Label) → HasCounts phones counts calls → IsSome (state_at phones from.task.0 from.phone.0) → active_calls calls from < 2 ^ 31 → IsSomeAnd (count_at counts from.task.0 from.phone.0) (λ n. n < 2 ^ 31)
+may_count phones counts calls from s there few =
+    some_and (count_at counts from.task.0 from.phone.0) (λ n. n < 2 ^ 31) (s.shaped from.task.0 from.phone.0 there)
+    (λ n is. let same : n ≡ active_calls calls from = s.counted from.task.0 from.phone.0 n is in rw same few)
+
+-- a hangup of one phone leaves the calls of the next ones
+other_label : (t : TaskNo) (p q : ℕ) → p < q → same_label (label_of t p) (label_of t q) ≡ false
+other_label t p q lt = let ne : p ≡ q → ⊥ = λ e. omega arith in rw (ne_eqb p q ne) (by_task (t.0 == t.0)) where
+  by_task : (b : Bool) → (b && false) ≡ false
+  by_task true = refl
+  by_task false = refl
+
+pub later_same : (k : KernelState) (t : TaskNo) (p q : ℕ) (o : Option PhoneState) → call_at k.calls k.calls.next_number ≡ None → p < q → active_calls (hang_up k t p o).state.calls (label_of t q) ≡ active_calls k.calls (label_of t q)
+later_same k t p q None free lt = refl
+later_same k t p q (Some Free) free lt = refl
+later_same k t p q (Some Connecting) free lt = refl
+later_same k t p q (Some (Connected u)) free lt = active-enqueue k.calls (hangup_call k t p u) (label_of t q) free ∙ rw (other_label t p q lt) (omega arith)
+later_same k t p q (Some HungUp) free lt = refl
+later_same k t p q (Some Slammed) free lt = refl
+
+-- a phone that leads to a task is there
+pub connected_there : (o : Option PhoneState) → IsConnected o → IsSome o
+connected_there None h = absurd h
+connected_there (Some s) h = refl
+
+hung_there : (o : Option PhoneState) (h : Hung) → Ok h ≡ hangup_answer o → IsSome o
+hung_there None h e = absurd (cc e)
+hung_there (Some s) h e = refl
+
+-- a phone is hung up, where it can be
+pub switched_hung : {alive : List Bool} {phones : List (List PhoneState)} {counts : List (List ℕ)} {calls : CallTable} {tasks : ℕ} (t p : ℕ) (answer : Result Hung Code) → IsSwitched alive phones counts calls tasks → answer ≡ hangup_answer (state_at phones t p) → IsSwitched alive (hung_rows phones t p answer) counts calls tasks
+switched_hung t p (Err e) s is = s
+switched_hung {phones} t p (Ok h) s is = switched_phone t p HungUp s (hung_there (state_at phones t p) h is) (λ u e. absurd (cc e))
+
+pub tells_added : (k : KernelState) (t p : ℕ) (answer : Result Hung Code) → ((a b : ℕ) (u : TaskNo) → state_at k.tasks.phones a b ≡ Some (Connected u) → u.0 ≤ length k.tasks.alive) → answer ≡ hangup_answer (state_at k.tasks.phones t p) → TellsAdded k answer
+tells_added k t p (Err e) leads is = tt
+tells_added k t p (Ok Silent) leads is = tt
+tells_added k t p (Ok (Sent u)) leads is = leads t p u (sent_to (state_at k.tasks.phones t p) u is)
+
+pub hung_there_after : (rows : List (List PhoneState)) (t p : ℕ) (answer : Result Hung Code) → answer ≡ hangup_answer (state_at rows t p) → OnOk answer (IsSome (state_at (hung_rows rows t p answer) t p))
+hung_there_after rows t p (Err e) is = tt
+hung_there_after rows t p (Ok h) is = phone_kept rows t p t p HungUp (hung_there (state_at rows t p) h is)
+
+-- a phone that was read leads to a task that was added
+pub leads_of : (k : KernelState) (t p : ℕ) (o : Option PhoneState) → ((a b : ℕ) (u : TaskNo) → state_at k.tasks.phones a b ≡ Some (Connected u) → u.0 ≤ length k.tasks.alive) → o ≡ state_at k.tasks.phones t p → IfSome o (LeadsToAdded k)
+leads_of k t p None s e = tt
+leads_of k t p (Some Free) s e = tt
+leads_of k t p (Some Connecting) s e = tt
+leads_of k t p (Some (Connected u)) s e = s t p u (sym e)
+leads_of k t p (Some HungUp) s e = tt
+leads_of k t p (Some Slammed) s e = tt
+
+-- a live call goes on to a task
+pub counts_readdress : (phones : List (List PhoneState)) (counts : List (List ℕ)) (calls : CallTable) (n : ℕ) (msg : Msg) (label : Label) (to : TaskNo) → HasCounts phones counts calls → IsSome (call_at calls n) → HasCounts phones counts (readdressed calls n msg label (Incoming to))
+counts_readdress phones counts calls n msg label to s live =
+    let f = record_of (call_at calls n) live in
+    rw (f.1) (counts_put phones counts calls n f.0 (record f.0 { msg = msg; label = label }) (Incoming to) s f.1 refl refl refl)
+
+-- a phone that is there leads to a task from now on
+same_end : (u v : TaskNo) → Connected u ≡ Connected v → u ≡ v
+same_end u v e = cc
+
+pub switched_wired : {alive : List Bool} {phones : List (List PhoneState)} {counts : List (List ℕ)} {calls : CallTable} {tasks : ℕ} (a b : ℕ) (to : TaskNo) → IsSwitched alive phones counts calls tasks → IsSome (state_at phones a b) → to.0 ≤ length alive → IsSwitched alive (with_state_at phones a b (Connected to)) counts calls tasks
+switched_wired {alive} {phones} {counts} {calls} a b to s there added = record {
+  paired = length_rows phones a b (Connected to) ∙ s.paired;
+  places = s.places;
+  few = s.few;
+  leads = λ t p u is. elim (state_changed_at phones a b t p (Connected to) (Connected u) is) [ inl e ↦ subst (λ (v : TaskNo). v.0 ≤ length alive) (same_end to u e.2) added | inr e ↦ s.leads t p u e.1 ];
+  has_counts = counts_phone phones counts calls a b (Connected to) s.has_counts there;
+}
+
+-- no tasks and no calls
+nowhere : {A : Type 0} (t p : ℕ) (x : A) → option_and_then (λ row. slice_get row p) (row_at {A = List A} [] t) ≡ Some x → ⊥
+nowhere t p x h = elim (cases_eq t 0) [ inl e ↦ let g = rw (eq-eqb t 0 e) at h in cc | inr ne ↦ let g = rw (ne_eqb t 0 ne) at h in cc ]
+
+pub switched_start : IsSwitched [] [] [] no_calls 0
+switched_start = record {
+  paired = refl;
+  places = omega arith;
+  few = omega arith;
+  leads = λ t p u is. absurd (nowhere t p (Connected u) is);
+  has_counts = record {
+    numbered = λ n c is. absurd (let g = sym (call_at-no_calls n) ∙ is in cc);
+    over_phone = λ n c is. absurd (let g = sym (call_at-no_calls n) ∙ is in cc);
+    shaped = λ t p h. let f = value_of (state_at [] t p) h in absurd (nowhere t p f.0 f.1);
+    counted = counted_none;
+    few = rw (len-empty nat_cmp) (omega arith);
+  };
+}
+
+-- one task more, before the first call
+get_all : {A B : Type 0} (k p : ℕ) (x : A) (y : B) → IsSome (slice_get (replicate k x) p) → slice_get (replicate k y) p ≡ Some y
+get_all zero p x y h = absurd (cc h)
+get_all (suc k) zero x y h = refl
+get_all (suc k) (suc p) x y h = get_all k p x y h
+
+last_row : {A : Type 0} (rows : List A) (row : A) (t : ℕ) → t ≡ length rows + 1 → row_at (rows ++ row ∷ []) t ≡ Some row
+last_row rows row t e = let ne : t ≡ 0 → ⊥ = λ z. omega arith in rw (ne_eqb t 0 ne) (get_last rows row (t - 1) (omega arith))
+
+shaped_task : (phones : List (List PhoneState)) (counts : List (List ℕ)) (limit t p : ℕ) → length counts ≡ length phones → ((u q : ℕ) → IsSome (state_at phones u q) → IsSome (count_at counts u q)) → IsSome (state_at (phones ++ replicate limit Free ∷ []) t p) → IsSome (count_at (counts ++ replicate limit 0 ∷ []) t p)
+shaped_task phones counts limit t p paired s h =
+    let found = value_of (state_at (phones ++ replicate limit Free ∷ []) t p) h in
+    let row = some_of (row_at (phones ++ replicate limit Free ∷ []) t) (λ r. slice_get r p) found.0 found.1 in
+    elim (row_append phones (replicate limit Free) t row.0 row.1) [
+      | inl e ↦
+          let was : IsSome (state_at phones t p) = rw (e, row.2) refl in
+          let count = value_of (count_at counts t p) (s t p was) in
+          let counted = some_of (row_at counts t) (λ r. slice_get r p) count.0 count.1 in
+          rw (row_before counts (replicate limit 0) t counted.0 counted.1, counted.2) refl
+      | inr e ↦
+          let there : IsSome (slice_get (replicate limit Free) p) = rw (e.1, row.2) refl in
+          rw (last_row counts (replicate limit 0) t (omega arith), get_all {B = ℕ} limit p Free 0 there) refl
+    ]
+
+free_leads_nowhere : (k p : ℕ) (u : TaskNo) → slice_get (replicate k Free) p ≡ Some (Connected u) → ⊥
+free_leads_nowhere zero p u h = cc
+free_leads_nowhere (suc k) zero u h = cc
+free_leads_nowhere (suc k) (suc p) u h = free_leads_nowhere k p u h
+
+there_before : (rows : List (List PhoneState)) (row : List PhoneState) (t p : ℕ) → IsSome (state_at rows t p) → IsSome (state_at (rows ++ row ∷ []) t p)
+there_before rows row t p h =
+    let f = value_of (state_at rows t p) h in
+    let r = some_of (row_at rows t) (λ x. slice_get x p) f.0 f.1 in
+    rw (row_before rows row t r.0 r.1, r.2) refl
+
+pub switched_task : {alive : List Bool} {phones : List (List PhoneState)} {counts : List (List ℕ)} {calls : CallTable} {tasks : ℕ} (limit tasks' : ℕ) → IsSwitched alive phones counts calls tasks → length counts ≡ length phones → length alive + 1 ≤ tasks' → length alive < 64 → calls.next_number ≤ 1 → IsSwitched (alive ++ true ∷ []) (phones ++ replicate limit Free ∷ []) (counts ++ replicate limit 0 ∷ []) calls tasks'
+switched_task {alive} {phones} {counts} {calls} limit tasks' s paired enough few first = record {
+  paired = rw (length-append, length-append) (let e = s.paired in omega arith);
+  places = rw length-append (omega (arith, enough));
+  few = rw length-append (omega (arith, few));
+  leads = λ t p u is.
+  let row = some_of (row_at (phones ++ replicate limit Free ∷ []) t) (λ r. slice_get r p) (Connected u) is in
+  elim (row_append phones (replicate limit Free) t row.0 row.1) [
+    | inl e ↦ let l = s.leads t p u (rw e row.2) in rw length-append (omega (arith, l))
+    | inr e ↦ absurd (free_leads_nowhere limit p u (rw (e.1) row.2))
+  ];
+  has_counts = record {
+    numbered = s.has_counts.numbered;
+    over_phone = λ n c is. there_before phones (replicate limit Free) c.from.task.0 c.from.phone.0 (s.has_counts.over_phone n c is);
+    shaped = λ t p h. shaped_task phones counts limit t p paired s.has_counts.shaped h;
+    counted = counted_task counts calls limit s.has_counts.counted (let f = s.has_counts.few in omega arith);
+    few = s.has_counts.few;
+  };
+}
+
+-- a task that is alive was added
+pub alive_added : (k : KernelState) (t : TaskNo) → is_alive k t ≡ true → IsAdded k t
+alive_added k t h = elim (cases_eq t.0 0) [
+  | inl e ↦ absurd (let g = rw (eq-eqb t.0 0 e) at h in cc)
+  | inr ne ↦ record { from_one = omega arith; task = within k.tasks.alive t.0 h }
+]

@@ -1,0 +1,15 @@
+use Rattle.cleanup.proofs.KillOrder.{kill_ends_waiting_first}
+use Rattle.cleanup.proofs.KillLaws.{kill_leaves_nothing_of, kill_closes_phones, kill_closes_calls}
+use Rattle.cleanup.proofs.laws.kills_leave_nothing.Goals as goal
+
+pub returns-clause-nothing : goal.returns-clause-nothing
+returns-clause-nothing c = kill_leaves_nothing_of
+
+pub returns-clause-order : goal.returns-clause-order
+returns-clause-order c = kill_ends_waiting_first
+
+pub returns-clause-phones : goal.returns-clause-phones
+returns-clause-phones c = kill_closes_phones
+
+pub returns-clause-calls : goal.returns-clause-calls
+returns-clause-calls c = kill_closes_calls

@@ -1,0 +1,186 @@
+//! The end of a task, part by part.
+ghost use Rattle.std.specs.Prelude.{◌≡◌, ◌+◌, ◌*◌, ◌^◌, ◌<◌, ◌≤◌, OnOk, OnErr, length};
+ghost use Rattle.answerbox.specs.Calls.{task_of};
+ghost use Rattle.cleanup.specs.State.{live_calls};
+ghost use Rattle.cleanup.specs.Kill.{kill, end_parts, hang_up_own_phones, slam_phones_to, slam_other, slam_phones_of, settle_calls_at, drop_answers, forget_calls_elsewhere};
+ghost use Rattle.cleanup.specs.Board.{IsAdded, FewFrom};
+ghost use Rattle.cleanup.specs.Rooms.{HasRoom, UsesRoom};
+ghost use Rattle.cleanup.specs.Serving.{Does, Leaves};
+
+use crate::board::Switchboard;
+use call_slab::Place;
+use ipc_ids::{Code, NoMemory, Reply, TaskNo, Trace};
+
+/// The most phones of a task.
+pub(crate) const MOST_PHONES: usize = 64;
+
+impl Switchboard {
+    /// Marks the task as ended, and brings it to its end.
+    ///
+    /// # Errors
+    ///
+    /// `NoMemory` where no memory was found for all calls and entries; then nothing has changed.
+    pub fn end(&mut self, who: TaskNo, out: &mut Trace) -> Result<(), NoMemory>
+        requires added { IsAdded self.old.state who }
+        requires few_active { FewFrom self.old.state who 0 }
+        requires few_calls { self.old.state.calls.next_number < 2 ^ 61 }
+        requires few_stamps { self.old.state.calls.next_stamp < 2 ^ 61 }
+        ensures step { OnOk result (Does self.new out.old out.new (kill self.old.state who)) }
+        ensures numbers { self.new.state.calls.next_number ≤ self.old.state.calls.next_number + 64 }
+        ensures stamps { self.new.state.calls.next_stamp ≤ self.old.state.calls.next_stamp + 2 *
+            live_calls self.old.state + 192 }
+        ensures events { self.new.state.events ≡ self.old.state.events }
+        ensures unchanged { OnErr result (Leaves self.old self.new out.old out.new) }
+    {
+        let _next = self.next_number();
+        self.reserve(MOST_PHONES)?;
+        out.reserve(self.most_entries())?;
+        self.end_reserved(who, out);
+        Ok(())
+    }
+
+    /// How many entries the end of a task makes at most: three for each of its phones, one for each
+    /// phone that leads to it, and for each call two in each of three parts and one in the last.
+    fn most_entries(&self) -> usize
+        requires { live_calls self.now.state < 2 ^ 61 }
+        ensures { result ≡ 7 * live_calls self.now.state + 64 * length self.now.state.tasks.alive +
+            640 }
+    {
+        7 * self.live() + MOST_PHONES * self.tasks() as usize + 10 * MOST_PHONES
+    }
+
+    /// The same, where there is room for all of it.
+    pub(crate) fn end_reserved(&mut self, who: TaskNo, out: &mut Trace)
+        requires added { IsAdded self.old.state who }
+        requires few_active { FewFrom self.old.state who 0 }
+        requires room { HasRoom self.old out.old 64 (2 * live_calls self.old.state + 192)
+            (7 * live_calls self.old.state + 64 * length self.old.state.tasks.alive + 640) }
+        ensures step { Does self.new out.old out.new (kill self.old.state who) }
+        ensures numbers { self.new.state.calls.next_number ≤ self.old.state.calls.next_number + 64 }
+        ensures stamps { self.new.state.calls.next_stamp ≤ self.old.state.calls.next_stamp + 2 *
+            live_calls self.old.state + 192 }
+        ensures events { self.new.state.events ≡ self.old.state.events }
+    {
+        self.mark_ended(who);
+        self.do_parts(who, out);
+    }
+
+    /// The parts in their order.
+    fn do_parts(&mut self, who: TaskNo, out: &mut Trace)
+        requires added { IsAdded self.old.state who }
+        requires few_active { FewFrom self.old.state who 0 }
+        requires room { HasRoom self.old out.old 64 (2 * live_calls self.old.state + 192)
+            (7 * live_calls self.old.state + 64 * length self.old.state.tasks.alive + 640) }
+        ensures step { Does self.new out.old out.new (end_parts who self.old.state) }
+        ensures room { UsesRoom self.old self.new out.old out.new 64
+            (2 * live_calls self.old.state + 192)
+            (7 * live_calls self.old.state + 64 * length self.old.state.tasks.alive + 640) }
+    {
+        self.hang_up_own_phones(who, out);
+        self.slam_phones_to(who, out);
+        self.settle_calls_at(Place::Incoming(who), out);
+        self.settle_calls_at(Place::Dispatched(who), out);
+        self.drop_answers(who, out);
+        self.forget_calls_elsewhere(who, out);
+    }
+
+    /// Hangs up each phone of the task that leads or led to a task.
+    fn hang_up_own_phones(&mut self, who: TaskNo, out: &mut Trace)
+        requires added { IsAdded self.old.state who }
+        requires few_active { FewFrom self.old.state who 0 }
+        requires room { HasRoom self.old out.old 64 64 192 }
+        ensures step { Does self.new out.old out.new (hang_up_own_phones who self.old.state) }
+        ensures room { UsesRoom self.old self.new out.old out.new 64 64 192 }
+    {
+        for phone in 0..self.width(who) {
+            let _told = self.hang_up(who, phone, out);
+        }
+    }
+
+    /// Slams each phone of another task that leads to the task.
+    fn slam_phones_to(&mut self, who: TaskNo, out: &mut Trace)
+        requires room { HasRoom self.old out.old 0 0 (64 * length self.old.state.tasks.alive) }
+        ensures step { Does self.new out.old out.new (slam_phones_to who self.old.state) }
+        ensures room { UsesRoom self.old self.new out.old out.new 0 0
+            (64 * length self.old.state.tasks.alive) }
+    {
+        for i in 0..self.tasks() {
+            self.slam_other(who, i, out);
+        }
+    }
+
+    /// Slams the phones of the task numbered `i + 1` that lead to the task, unless it is itself
+    /// that task.
+    fn slam_other(&mut self, who: TaskNo, i: u64, out: &mut Trace)
+        requires added { i < length self.old.state.tasks.alive }
+        requires few { i < 64 }
+        requires room { HasRoom self.old out.old 0 0 64 }
+        ensures step { Does self.new out.old out.new (slam_other who self.old.state i) }
+        ensures room { UsesRoom self.old self.new out.old out.new 0 0 64 }
+    {
+        if i + 1 != who.0 {
+            self.slam_phones_of(who, TaskNo(i + 1), out);
+        }
+    }
+
+    /// Slams each phone of one task that leads to the task.
+    fn slam_phones_of(&mut self, who: TaskNo, other: TaskNo, out: &mut Trace)
+        requires added { IsAdded self.old.state other }
+        requires room { HasRoom self.old out.old 0 0 64 }
+        ensures step { Does self.new out.old out.new (slam_phones_of who other self.old.state) }
+        ensures room { UsesRoom self.old self.new out.old out.new 0 0 64 }
+    {
+        for phone in 0..self.width(other) {
+            self.slam(who, other, phone, out);
+        }
+    }
+
+    /// Answers each call at this place with `EHANGUP` in the kernel's name; one whose caller has
+    /// ended vanishes.
+    fn settle_calls_at(&mut self, place: Place, out: &mut Trace)
+        requires added { task_of place ≤ length self.old.state.tasks.alive }
+        requires room { HasRoom self.old out.old 0 (live_calls self.old.state)
+            (2 * live_calls self.old.state) }
+        ensures step { Does self.new out.old out.new (settle_calls_at place self.old.state) }
+        ensures room { UsesRoom self.old self.new out.old out.new 0 (live_calls self.old.state)
+            (2 * live_calls self.old.state) }
+    {
+        for _ in 0..self.live() {
+            match self.front(place) {
+                Some(number) => self.settle(number, &Reply::bare(Code::EHANGUP), None, out),
+                None => return,
+            }
+        }
+    }
+
+    /// Drops each answer at the task.
+    fn drop_answers(&mut self, who: TaskNo, out: &mut Trace)
+        requires added { IsAdded self.old.state who }
+        requires room { HasRoom self.old out.old 0 0 (2 * live_calls self.old.state) }
+        ensures step { Does self.new out.old out.new (drop_answers who self.old.state) }
+        ensures room { UsesRoom self.old self.new out.old out.new 0 0
+            (2 * live_calls self.old.state) }
+    {
+        for _ in 0..self.live() {
+            match self.front(Place::Answers(who)) {
+                Some(number) => self.drop_answer(number, who, out),
+                None => return,
+            }
+        }
+    }
+
+    /// Forgets the task as the caller of each of its calls that stands at another task.
+    fn forget_calls_elsewhere(&mut self, who: TaskNo, out: &mut Trace)
+        requires added { IsAdded self.old.state who }
+        requires room { HasRoom self.old out.old 0 0 (live_calls self.old.state) }
+        ensures step { Does self.new out.old out.new (forget_calls_elsewhere who self.old.state) }
+        ensures room { UsesRoom self.old self.new out.old out.new 0 0 (live_calls self.old.state) }
+    {
+        for _ in 0..self.live() {
+            match self.calls_of(who) {
+                Some(number) => self.forget(number, out),
+                None => return,
+            }
+        }
+    }
+}

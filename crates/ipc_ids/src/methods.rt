@@ -1,0 +1,26 @@
+//! The methods of calls by their names: the kernel's own, and where users' methods begin.
+
+/// A phone that led to the receiver was hung up. The kernel alone makes such a call.
+pub const PHONE_HUNGUP: u64 = 0;
+
+/// Asks the receiver to keep a phone that leads to the caller.
+pub const CONNECT_TO_ME: u64 = 1;
+
+/// Asks for a phone that leads to the task that answers.
+pub const CONNECT_ME_TO: u64 = 2;
+
+/// Offers bytes of the caller's memory to the receiver.
+pub const DATA_WRITE: u64 = 3;
+
+/// Asks for bytes of the receiver's memory.
+pub const DATA_READ: u64 = 4;
+
+/// Offers an area of the caller's memory to the receiver.
+pub const SHARE_OUT: u64 = 5;
+
+/// Asks for an area of the receiver's memory.
+pub const SHARE_IN: u64 = 6;
+
+/// The least method that means what the two tasks make of it. Those below are the system's, and
+/// those from 7 on among them have no meaning.
+pub const FIRST_USER_METHOD: u64 = 512;

@@ -1,0 +1,293 @@
+-- A receive keeps its laws.
+use Rattle.std.proofs.Common.{◌≡◌, ℕ, zero, suc, ◌<◌, ◌≤◌, Bool, true, false, ◌⊎◌, inl, inr, Option, None, Some, List, [], ◌∷◌, ◌++◌, append_assoc, refl, ap, sym, subst, ◌∙◌, arith}
+use Rattle.std.specs.Prelude.{◌==◌, if◌then◌else◌}
+use Rattle.std.specs.Option.{option_map_or}
+use Rattle.std.proofs.lemmas.Bool.{cases_eq, eqb-true, eq-eqb, ne_eqb, false≢true}
+use Rattle.std.specs.FinMap.{len, entries}
+use Rattle.ipc_ids.specs.declared.numbers.TaskNo.{TaskNo}
+use Rattle.ipc_ids.specs.declared.message.Outcome.TheVariants as outcome
+use Rattle.ipc_ids.specs.declared.entry.Entry.{Entry}
+use Rattle.ipc_ids.specs.declared.entry.Entry.TheVariants.{Dropped}
+use Rattle.ipc_ids.specs.Methods.{phone_hungup}
+use Rattle.call_slab.specs.declared.call.Call.{Call}
+use Rattle.call_slab.specs.declared.call.Place.{Place}
+use Rattle.call_slab.specs.declared.call.Place.TheVariants.{Incoming, Dispatched, Answers}
+use Rattle.answerbox.specs.Calls.{CallTable, call_at, same_place, front, without_call, put_at, count_of}
+use Rattle.answerbox.proofs.Counts.{count-len, count-without_call}
+use Rattle.answerbox.proofs.Fronts.{front_live, front-is_front, no_front-has_no_calls}
+use Rattle.cleanup.specs.State.{KernelState, Transition, nothing, then_do, drain}
+use Rattle.cleanup.specs.Sound.{IsSound}
+use Rattle.cleanup.specs.Joins.{drop_answer, receive_first}
+use Rattle.cleanup.specs.Serving.{Served}
+use Rattle.cleanup.proofs.Lookups.{at_insert, at_remove, chosen, same_call}
+use Rattle.cleanup.proofs.Repeats.{by_test}
+use Rattle.cleanup.proofs.Histories.{drain_tells}
+use Rattle.cleanup.proofs.Queues.{sound_drop}
+use Rattle.kernel_core.specs.Receiving.{unawaited, next_unawaited, drop_unawaited, receive_now, receive}
+use Rattle.kernel_core.specs.ReceiveLaws.{IsAwaited, IsHangupAnswer, IsFirst, HasNone, TellsAnswer, TellsCall, DropsHangupsOnly, IsLawfulReceive}
+
+-- the steps of a repetition come to an end: where each takes one call out of those that pass a test, and there are no
+-- more of them than steps, there is no next one
+module _ (next : KernelState → Option Call) (step : KernelState → Call → Transition) (I : KernelState → Type 0) (test : Call → Bool)
+    (keeps : (k : KernelState) (c : Call) → I k → next k ≡ Some c → I (step k c).state)
+    (less : (k : KernelState) (c : Call) → I k → next k ≡ Some c → suc (count_of test (entries (step k c).state.calls.records)) ≡ count_of test (entries k.calls.records)) where
+  drain_stops : (n : ℕ) (k : KernelState) → I k → count_of test (entries k.calls.records) ≤ n → next (drain next step n k).state ≡ None
+  drain_stops zero k h few = by_next (next k) refl where
+    by_next : (o : Option Call) → next k ≡ o → o ≡ None
+    by_next None is = refl
+    by_next (Some c) is = absurd (let l = less k c h is in omega arith)
+  drain_stops (suc n) k h few = by_next n k h few (next k) refl (drain_stops n) where
+    by_next : (n : ℕ) (k : KernelState) → I k → count_of test (entries k.calls.records) ≤ suc n → (o : Option Call) → next k ≡ o → ((j : KernelState) → I j → count_of test (entries j.calls.records) ≤ n → next (drain next step n j).state ≡ None) → next (option_map_or (λ c. then_do (step k c) (drain next step n)) o (nothing k)).state ≡ None
+    by_next n k h few None is later = is
+    by_next n k h few (Some c) is later = later (step k c).state (keeps k c h is) (let l = less k c h is in omega arith)
+
+-- the entries before, and then these
+abbrev told_after : List Entry → List Entry → List Entry
+told_after es p = p ++ es
+
+none_after : (p : List Entry) → told_after [] p ≡ p
+none_after [] = refl
+none_after (e ∷ p) = ap (λ x. e ∷ x) (none_after p)
+
+both_after : (es fs : List Entry) (p : List Entry) → told_after (es ++ fs) p ≡ told_after fs (told_after es p)
+both_after es fs p = sym (append_assoc p es fs)
+
+drops_both : (t : TaskNo) (k : KernelState) (xs ys : List Entry) → DropsHangupsOnly t k xs → DropsHangupsOnly t k ys → DropsHangupsOnly t k (xs ++ ys)
+drops_both t k [] ys f g = g
+drops_both t k (x ∷ xs) ys f g = (f.0, drops_both t k xs ys f.1 g)
+
+-- places and tests
+
+at_answers : (t : TaskNo) (place : Place) → same_place place (Answers t) ≡ true → place ≡ Answers t
+at_answers t (Incoming u) h = absurd (false≢true h)
+at_answers t (Dispatched u) h = absurd (false≢true h)
+at_answers t (Answers u) h = ap (λ n. let r : TaskNo = record { 0 = n } in Answers r) (eqb-true u.0 t.0 h)
+
+at_incoming : (t : TaskNo) (place : Place) → same_place place (Incoming t) ≡ true → place ≡ Incoming t
+at_incoming t (Incoming u) h = ap (λ n. let r : TaskNo = record { 0 = n } in Incoming r) (eqb-true u.0 t.0 h)
+at_incoming t (Dispatched u) h = absurd (false≢true h)
+at_incoming t (Answers u) h = absurd (false≢true h)
+
+is_answers : (t : TaskNo) (place : Place) → place ≡ Answers t → same_place place (Answers t) ≡ true
+is_answers t place e = ap (λ (p : Place). same_place p (Answers t)) e ∙ eq-eqb t.0 t.0 refl
+
+is_incoming : (t : TaskNo) (place : Place) → place ≡ Incoming t → same_place place (Incoming t) ≡ true
+is_incoming t place e = ap (λ (p : Place). same_place p (Incoming t)) e ∙ eq-eqb t.0 t.0 refl
+
+not_both_places : (t : TaskNo) (place : Place) → place ≡ Incoming t → place ≡ Answers t → ⊥
+not_both_places t place a b = let c : Incoming t ≡ Answers t = sym a ∙ b in cc
+
+gone_here : (q : CallTable) (m n : ℕ) → m ≡ n → call_at (without_call q m) n ≡ None
+gone_here q m n e = at_remove q.records m n ∙ rw (eq-eqb m n e) refl
+
+gone_other : (q : CallTable) (m n : ℕ) → (m ≡ n → ⊥) → call_at (without_call q m) n ≡ call_at q n
+gone_other q m n ne = at_remove q.records m n ∙ rw (ne_eqb m n ne) refl
+
+none_stays : (q : CallTable) (m n : ℕ) → call_at q n ≡ None → call_at (without_call q m) n ≡ None
+none_stays q m n none = elim (cases_eq m n) [ inl e ↦ gone_here q m n e | inr ne ↦ gone_other q m n ne ∙ none ]
+
+none_some : {A : Type 0} (o : Option A) (x : A) → o ≡ None → o ≡ Some x → ⊥
+none_some o x a b = cc
+
+unawaited_is : (o : Option Call) (c : Call) → unawaited o ≡ Some c → (o ≡ Some c) × (c.discard ≡ true)
+unawaited_is None c e = absurd (cc e)
+unawaited_is (Some d) c e = by_mark d.discard refl e where
+  by_mark : (b : Bool) → d.discard ≡ b → (if b then Some d else None) ≡ Some c → (Some d ≡ Some c) × (c.discard ≡ true)
+  by_mark true mark g = let same : d ≡ c = same_call d c g in (g, ap (λ (x : Call). x.discard) (sym same) ∙ mark)
+  by_mark false mark g = absurd (cc g)
+
+awaited_is : (d : Call) → unawaited (Some d) ≡ None → d.discard ≡ false
+awaited_is d e = by_mark d.discard e where
+  by_mark : (b : Bool) → (if b then Some d else None) ≡ None → b ≡ false
+  by_mark true g = absurd (cc g)
+  by_mark false g = refl
+
+module _ (k : KernelState) (t : TaskNo) (sound : IsSound k) where
+  -- the mark on an answer, and its method
+  is_hangup : (n : ℕ) (c : Call) → call_at k.calls n ≡ Some c → c.discard ≡ true → c.request.method ≡ phone_hungup
+  is_hangup n c is mark = eqb-true c.request.method 0 (sym (sound.calls.each n c is).discard ∙ mark)
+
+  no_hangup : (n : ℕ) (c : Call) → call_at k.calls n ≡ Some c → c.discard ≡ false → c.request.method ≡ phone_hungup → ⊥
+  no_hangup n c is mark e = false≢true (sym mark ∙ (sound.calls.each n c is).discard ∙ eq-eqb c.request.method 0 e)
+
+  own_number : (n : ℕ) (c : Call) → call_at k.calls n ≡ Some c → call_at k.calls c.number.0 ≡ Some c
+  own_number n c is = ap (call_at k.calls) (sound.calls.each n c is).number ∙ is
+
+  -- while answers are dropped: what is left, what was dropped, and what the entries say
+  record IsRest (p : List Entry) (j : KernelState) : Type 0 where
+    pub fine : IsSound j
+    pub left : (n : ℕ) (c : Call) → call_at j.calls n ≡ Some c → call_at k.calls n ≡ Some c
+    pub kept : (n : ℕ) (c : Call) → call_at k.calls n ≡ Some c → (call_at j.calls n ≡ Some c) ⊎ ((call_at j.calls n ≡ None) × IsHangupAnswer t c)
+    pub drops : DropsHangupsOnly t k p
+
+  -- the answer that is dropped next
+  record IsNext (j : KernelState) (x : Call) : Type 0 where
+    pub live : call_at j.calls x.number.0 ≡ Some x
+    pub at : same_place x.place (Answers t) ≡ true
+    pub mark : x.discard ≡ true
+
+  next_is : (j : KernelState) (x : Call) → IsSound j → next_unawaited t j ≡ Some x → IsNext j x
+  next_is j x s is =
+      let u = unawaited_is (front j.calls (Answers t)) x is in
+      let f = front_live j.calls (Answers t) x u.0 in
+      record { live = ap (call_at j.calls) (s.calls.each f.0 x f.1).number ∙ f.1; at = f.2; mark = u.1 }
+
+  drops_next : (p : List Entry) (j : KernelState) (x : Call) → IsRest p j → next_unawaited t j ≡ Some x → IsRest (told_after (drop_answer t j x).entries p) (drop_answer t j x).state
+  drops_next p j x h is = record {
+    fine = sound_drop j t x h.fine;
+    left = λ n c there. elim (chosen x.number.0 n None (call_at j.calls n) (Some c) (sym (at_remove j.calls.records x.number.0 n) ∙ there)) [ inl e ↦ absurd (cc e.1) | inr e ↦ h.left n c e.1 ];
+    kept = λ n c there. elim (h.kept n c there) [ inl live ↦ stays n c there live (cases_eq x.number.0 n) | inr gone ↦ inr (none_stays j.calls x.number.0 n gone.0, gone.1) ];
+    drops = drops_both t k p (Dropped x.number t ∷ []) h.drops ((refl, x, whole, hangup), tt);
+  } where
+    it : IsNext j x
+    it = next_is j x h.fine is
+
+    whole : call_at k.calls x.number.0 ≡ Some x
+    whole = h.left x.number.0 x it.live
+
+    hangup : IsHangupAnswer t x
+    hangup = record { place = at_answers t x.place it.at; hangup = is_hangup x.number.0 x whole it.mark }
+
+    stays : (n : ℕ) (c : Call) → call_at k.calls n ≡ Some c → call_at j.calls n ≡ Some c → (x.number.0 ≡ n) ⊎ (x.number.0 ≡ n → ⊥) → (call_at (without_call j.calls x.number.0) n ≡ Some c) ⊎ ((call_at (without_call j.calls x.number.0) n ≡ None) × IsHangupAnswer t c)
+    stays n c there live (inl e) =
+        let same : x ≡ c = same_call x c (sym it.live ∙ ap (call_at j.calls) e ∙ live) in
+        inr (gone_here j.calls x.number.0 n e, subst (IsHangupAnswer t) same hangup)
+    stays n c there live (inr ne) = inl (gone_other j.calls x.number.0 n ne ∙ live)
+
+  abbrev rest : KernelState
+  rest = (drop_unawaited t k).state
+
+  dropped : IsRest (drop_unawaited t k).entries rest
+  dropped = drain_tells (List Entry) told_after none_after both_after (next_unawaited t) (drop_answer t) IsRest drops_next (len k.calls.records) [] k
+      (record { fine = sound; left = λ n c is. is; kept = λ n c is. inl is; drops = tt })
+
+  -- then none stands first
+  none_next : next_unawaited t rest ≡ None
+  none_next = drain_stops (next_unawaited t) (drop_answer t) IsSound (λ c. same_place c.place (Answers t))
+      (λ j x s is. sound_drop j t x s)
+      (λ j x s is. let it = next_is j x s is in let sum = rw it.at at (count-without_call (λ c. same_place c.place (Answers t)) j.calls x.number.0 x it.live) in omega arith)
+      (len k.calls.records) k sound (count-len (λ c. same_place c.place (Answers t)) k.calls.records)
+
+  -- the first answer and the first call of what is left
+
+  -- an awaited answer stands there still
+  awaited_left : (n : ℕ) (c : Call) → call_at k.calls n ≡ Some c → IsAwaited t c → call_at rest.calls n ≡ Some c
+  awaited_left n c is a = elim (dropped.kept n c is) [ inl there ↦ there | inr gone ↦ absurd (a.wanted (gone.1).hangup) ]
+
+  incoming_left : (n : ℕ) (c : Call) → call_at k.calls n ≡ Some c → c.place ≡ Incoming t → call_at rest.calls n ≡ Some c
+  incoming_left n c is at = elim (dropped.kept n c is) [ inl there ↦ there | inr gone ↦ absurd (not_both_places t c.place at (gone.1).place) ]
+
+  -- the first answer is awaited
+  front_awaited : (x : Call) → front rest.calls (Answers t) ≡ Some x → (call_at k.calls x.number.0 ≡ Some x) × IsAwaited t x
+  front_awaited x is =
+      let f = front_live rest.calls (Answers t) x is in
+      let there = dropped.left f.0 x f.1 in
+      let mark : x.discard ≡ false = awaited_is x (sym (ap unawaited is) ∙ none_next) in
+      (own_number f.0 x there, record { place = at_answers t x.place f.2; wanted = no_hangup f.0 x there mark })
+
+  front_least : (place : Place) (x : Call) → front rest.calls place ≡ Some x → (n : ℕ) (c : Call) → call_at rest.calls n ≡ Some c → same_place c.place place ≡ true → x.stamp ≤ c.stamp
+  front_least place x is n c there at =
+      let f = front_live rest.calls place x is in
+      (front-is_front rest.calls place f.0 x is f.1).least x n c f.1 there at
+
+  -- two that are first are one
+  one_call : (x c : Call) → call_at k.calls x.number.0 ≡ Some x → call_at k.calls c.number.0 ≡ Some c → x.stamp ≤ c.stamp → c.stamp ≤ x.stamp → x ≡ c
+  one_call x c a b le ge =
+      let number = sound.calls.stamps_differ x.number.0 c.number.0 x c a b (omega arith) in
+      same_call x c (sym a ∙ ap (call_at k.calls) number ∙ b)
+
+  abbrev Done : Option Call → Option Call → Served
+  Done answer incoming = receive_first rest t answer incoming
+
+  first_answer : (c : Call) → IsFirst k.calls (IsAwaited t) c → front rest.calls (Answers t) ≡ Some c
+  first_answer c f = by_front (front rest.calls (Answers t)) refl where
+    by_front : (o : Option Call) → front rest.calls (Answers t) ≡ o → o ≡ Some c
+    by_front None is = absurd (false≢true (sym (no_front-has_no_calls rest.calls (Answers t) is c.number.0 c (awaited_left c.number.0 c f.live f.so)) ∙ is_answers t c.place f.so.place))
+    by_front (Some x) is =
+        let a = front_awaited x is in
+        ap Some (one_call x c a.0 f.live
+        (front_least (Answers t) x is c.number.0 c (awaited_left c.number.0 c f.live f.so) (is_answers t c.place f.so.place))
+        (f.least x.number.0 x a.0 a.1))
+
+  no_answer : HasNone k.calls (IsAwaited t) → front rest.calls (Answers t) ≡ None
+  no_answer none = by_front (front rest.calls (Answers t)) refl where
+    by_front : (o : Option Call) → front rest.calls (Answers t) ≡ o → o ≡ None
+    by_front None is = refl
+    by_front (Some x) is = let a = front_awaited x is in absurd (none x.number.0 x a.0 a.1)
+
+  front_call : (x : Call) → front rest.calls (Incoming t) ≡ Some x → (call_at k.calls x.number.0 ≡ Some x) × (x.place ≡ Incoming t)
+  front_call x is =
+      let f = front_live rest.calls (Incoming t) x is in
+      (own_number f.0 x (dropped.left f.0 x f.1), at_incoming t x.place f.2)
+
+  first_call : (c : Call) → IsFirst k.calls (λ d. d.place ≡ Incoming t) c → front rest.calls (Incoming t) ≡ Some c
+  first_call c f = by_front (front rest.calls (Incoming t)) refl where
+    by_front : (o : Option Call) → front rest.calls (Incoming t) ≡ o → o ≡ Some c
+    by_front None is = absurd (false≢true (sym (no_front-has_no_calls rest.calls (Incoming t) is c.number.0 c (incoming_left c.number.0 c f.live f.so)) ∙ is_incoming t c.place f.so))
+    by_front (Some x) is =
+        let a = front_call x is in
+        ap Some (one_call x c a.0 f.live
+        (front_least (Incoming t) x is c.number.0 c (incoming_left c.number.0 c f.live f.so) (is_incoming t c.place f.so))
+        (f.least x.number.0 x a.0 a.1))
+
+  no_call : HasNone k.calls (λ d. d.place ≡ Incoming t) → front rest.calls (Incoming t) ≡ None
+  no_call none = by_front (front rest.calls (Incoming t)) refl where
+    by_front : (o : Option Call) → front rest.calls (Incoming t) ≡ o → o ≡ None
+    by_front None is = refl
+    by_front (Some x) is = let a = front_call x is in absurd (none x.number.0 x a.0 a.1)
+
+  -- an answer of a hangup before all that are awaited is gone
+  hangup_gone : (n : ℕ) (c : Call) → call_at k.calls n ≡ Some c → IsHangupAnswer t c → ((m : ℕ) (d : Call) → call_at k.calls m ≡ Some d → IsAwaited t d → c.stamp < d.stamp) → call_at rest.calls n ≡ None
+  hangup_gone n c is h before = elim (dropped.kept n c is) [ inl there ↦ absurd (by_front there (front rest.calls (Answers t)) refl) | inr gone ↦ gone.0 ] where
+    by_front : call_at rest.calls n ≡ Some c → (o : Option Call) → front rest.calls (Answers t) ≡ o → ⊥
+    by_front there None first = false≢true (sym (no_front-has_no_calls rest.calls (Answers t) first n c there) ∙ is_answers t c.place h.place)
+    by_front there (Some x) first =
+        let a = front_awaited x first in
+        let less = before x.number.0 x a.0 a.1 in
+        let least = front_least (Answers t) x first n c there (is_answers t c.place h.place) in
+        omega arith
+
+  -- the last step takes none that is gone back
+  none_comes : (n : ℕ) (a i : Option Call) → front rest.calls (Incoming t) ≡ i → call_at rest.calls n ≡ None → call_at (receive_first rest t a i).state.calls n ≡ None
+  none_comes n (Some x) i is none = none_stays rest.calls x.number.0 n none
+  none_comes n None (Some x) is none = elim (cases_eq x.number.0 n) [
+    | inl e ↦ let a = front_call x is in absurd (none_some (call_at rest.calls n) x none (ap (call_at rest.calls) (sym e) ∙ incoming_left x.number.0 x a.0 a.1))
+    | inr ne ↦ at_insert rest.calls.records x.number.0 n (record x { place = Dispatched t; stamp = rest.calls.next_stamp }) ∙ rw (ne_eqb x.number.0 n ne) none
+  ]
+  none_comes n None None is none = none
+
+  -- the last entry drops nothing
+  last_entry : (a i : Option Call) → DropsHangupsOnly t k (receive_first rest t a i).entries
+  last_entry (Some x) i = (tt, tt)
+  last_entry None (Some x) = (tt, tt)
+  last_entry None None = tt
+
+  tells_answer : (c : Call) (a i : Option Call) → a ≡ Some c → TellsAnswer c (receive_first rest t a i).outcome
+  tells_answer c None i is = absurd (cc is)
+  tells_answer c (Some x) i is = subst (λ (y : Call). TellsAnswer y (outcome.Answered x.number x.reply)) (same_call x c is) (refl, λ _. refl)
+
+  tells_call : (c : Call) (a i : Option Call) → a ≡ None → i ≡ Some c → TellsCall c (receive_first rest t a i).outcome
+  tells_call c (Some x) i none is = absurd (cc none)
+  tells_call c None None none is = absurd (cc is)
+  tells_call c None (Some x) none is = subst (λ (y : Call). TellsCall y (outcome.Received x.number x.msg x.label)) (same_call x c is) (refl, refl, λ _. refl)
+
+  is_empty : (a i : Option Call) → (receive_first rest t a i).outcome ≡ outcome.Empty → (a ≡ None) × (i ≡ None)
+  is_empty (Some x) i e = absurd (cc e)
+  is_empty None (Some x) e = absurd (cc e)
+  is_empty None None e = (refl, refl)
+
+  pub receive_is_lawful : IsLawfulReceive t k (receive k t)
+  receive_is_lawful =
+      let a : Option Call = front rest.calls (Answers t) in
+      let i : Option Call = front rest.calls (Incoming t) in
+      record {
+        drops = drops_both t k (drop_unawaited t k).entries (receive_first rest t a i).entries dropped.drops (last_entry a i);
+        dropped = λ n c is h before. none_comes n a i refl (hangup_gone n c is h before);
+        answer = λ c f. tells_answer c a i (first_answer c f);
+        call = λ c none f. tells_call c a i (no_answer none) (first_call c f);
+        nothing = λ none nocall. rw (no_answer none, no_call nocall) refl;
+        empty = λ e. let both = is_empty a i e in (
+          λ n c is w. false≢true (sym (no_front-has_no_calls rest.calls (Answers t) both.0 n c (awaited_left n c is w)) ∙ is_answers t c.place w.place),
+          λ n c is at. false≢true (sym (no_front-has_no_calls rest.calls (Incoming t) both.1 n c (incoming_left n c is at)) ∙ is_incoming t c.place at),
+        );
+      }

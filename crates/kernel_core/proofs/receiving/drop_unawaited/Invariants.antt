@@ -1,0 +1,15 @@
+use Rattle.std.proofs.Common.{◌-◌, ◌*◌}
+use Rattle.cleanup.specs.Joins.{drop_answer}
+use Rattle.cleanup.specs.State.{live_calls, drain}
+use Rattle.cleanup.specs.Rooms.{UsesRoom}
+use Rattle.cleanup.specs.Serving.{Completes}
+use Rattle.kernel_core.specs.Receiving.{next_unawaited, drop_unawaited}
+use Rattle.kernel_core.proofs.receiving.drop_unawaited.Given as goal
+
+-- what was dropped and what is still to be dropped make the whole
+abbrev pub invariant-loop : goal.invariant-loop
+invariant-loop l =
+    record {
+      step : Completes l.board l.fn.out l.out (drain (next_unawaited l.who) (drop_answer l.who) (live_calls l.fn.board.state - l.counter) l.board.state) (drop_unawaited l.who l.fn.board.state);
+      room : UsesRoom l.fn.board l.board l.fn.out l.out 0 0 (2 * l.counter);
+    }
