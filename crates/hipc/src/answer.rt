@@ -80,7 +80,8 @@ pub fn replay_bytes<K: Sink>(alloc: Global, script: &[u8], schedule: &[u8], sink
         Part (DueForBytes script.now schedule.now) (K.written sink.old) (K.written sink.new) }
     ensures memory { result ≡ Memory → Keeps (K.written sink.old) (K.written sink.new)
         ⊎ Part (DueForBytes script.now schedule.now) (K.written sink.old) (K.written sink.new) }
-    // WriteFailed comes exactly where the sink's count rose, want of memory aside.
+    // Where the sink's count of faults rose, it is WriteFailed, or NoMemory; and WriteFailed comes
+    // only there, or from a sink that was spent before the call.
     ensures write_failed { result ≡ WriteFailed → Rose (K.faults sink.old) (K.faults sink.new) }
     ensures risen { K.faults sink.old < K.faults sink.new →
         (result ≡ WriteFailed) ⊎ (result ≡ Memory) }

@@ -118,7 +118,8 @@ pub fn run<S: Shelf, K: Sink>(
     ensures memory { result ≡ Memory → Keeps (K.written sink.old) (K.written sink.new) ⊎ Part
         (Due (texts words.now) (S.files shelf.old) (S.failed shelf.old) (S.failed shelf.new))
         (K.written sink.old) (K.written sink.new) }
-    // WriteFailed comes exactly where the sink's count rose, want of memory aside.
+    // Where the sink's count of faults rose, it is WriteFailed, or NoMemory; and WriteFailed comes
+    // only there, or from a sink that was spent before the call.
     ensures write_failed { result ≡ WriteFailed → Rose (K.faults sink.old) (K.faults sink.new) }
     ensures risen { K.faults sink.old < K.faults sink.new →
         (result ≡ WriteFailed) ⊎ (result ≡ Memory) }

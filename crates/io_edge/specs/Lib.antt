@@ -1,4 +1,5 @@
 pub mod Edge
 pub mod Memory
+pub mod Output
 pub mod Stops
 pub mod Stored

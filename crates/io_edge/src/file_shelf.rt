@@ -1,14 +1,12 @@
 //! Real files. It tells no content.
 ghost use Rattle.std.specs.Prelude.{◌≡◌, ◌≤◌, [], None, length, IfOk};
 
-use crate::{LoadFault, Shelf};
+use crate::{LoadFault, Shelf, read_most};
 use std::alloc::Global;
-use std::fs;
-use std::io::{ErrorKind, Read};
+use std::io::ErrorKind;
 use std::marker::Model;
 use std::rt::Files;
-
-const CHUNK: usize = 4096;
+use std::{fs, io};
 
 /// The files of the system. Contracts see the names whose load failed.
 #[derive(Drop)]
@@ -38,29 +36,11 @@ impl<R: Files> FileShelf<R> {
     }
 }
 
-// The first bytes of a reader, at most so many. A read of 0 bytes is its end.
-pub(crate) fn read_most<F: Read>(
-    alloc: Global,
-    file: &mut F,
-    most: usize,
-) -> Result<Vec<u8>, LoadFault>
+// The first `most` bytes of the named file, or all where it is shorter.
+fn open_and_read<R: Files>(rt: &R, alloc: Global, name: &str, most: usize) -> io::Result<Vec<u8>>
     ensures { IfOk result (λ bytes. length bytes.items ≤ most) }
 {
-    let mut bytes = Vec::new(alloc);
-    let mut chunk = [0u8; CHUNK];
-    for _ in 0..u64::MAX {
-        let want = CHUNK.min(most - bytes.len());
-        if want == 0 {
-            return Ok(bytes);
-        }
-        match file.read(&mut chunk[..want]) {
-            Ok(0) => return Ok(bytes),
-            Ok(count) => bytes.extend_from_slice(&chunk[..count])?,
-            Err(e) if e.kind() == ErrorKind::Interrupted => {}
-            Err(_) => return Err(LoadFault::Failed),
-        }
-    }
-    Err(LoadFault::Failed)
+    read_most(alloc, fs::open(rt, name)?, most)
 }
 
 impl<R: Files> Shelf for FileShelf<R> {
@@ -72,13 +52,13 @@ impl<R: Files> Shelf for FileShelf<R> {
         // Room for the name first, so that a failure can always be kept.
         let entry = String::from_str(self.alloc, name)?;
         self.failed.reserve(1)?;
-        let loaded = match fs::open(&self.rt, name) {
-            Ok(mut file) => read_most(alloc, &mut file, most),
-            Err(_) => Err(LoadFault::Failed),
-        };
-        if let Err(LoadFault::Failed) = &loaded {
-            self.failed.push(entry).unwrap();
+        match open_and_read(&self.rt, alloc, name, most) {
+            Ok(bytes) => Ok(bytes),
+            Err(e) if e.kind() == ErrorKind::OutOfMemory => Err(LoadFault::NoMemory),
+            Err(_) => {
+                self.failed.push(entry).unwrap();
+                Err(LoadFault::Failed)
+            }
         }
-        loaded
     }
 }

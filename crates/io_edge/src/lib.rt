@@ -1,5 +1,6 @@
 //! The edge of the program: files that are loaded whole, and a sink for text.
-//! Each is a trait with a written meaning, a form in memory, and a thin form over the real thing.
+//! Each is a trait with a written meaning, a form in memory, and a thin form over the real thing,
+//! which reads to the end and writes whole by functions over any reader and any writer.
 #![tactic(auto)]
 
 mod file_shelf;
@@ -8,6 +9,7 @@ mod mem_sink;
 mod out_sink;
 mod shelf;
 mod sink;
+mod stream;
 #[cfg(test)]
 mod tests;
 
@@ -17,3 +19,4 @@ pub use mem_sink::MemSink;
 pub use out_sink::OutSink;
 pub use shelf::{LoadFault, Shelf};
 pub use sink::{PutFailed, Sink};
+pub use stream::{read_most, write_whole};

@@ -1,11 +1,11 @@
-//! A sink over any writer of std, as standard output. It tells no content.
-ghost use Rattle.std.specs.Prelude.{◌≡◌, None};
+//! A sink over any writer of std, as standard output. It tells what its writer tells.
+ghost use Rattle.std.specs.Prelude.{◌≡◌};
 
-use crate::{PutFailed, Sink};
+use crate::{PutFailed, Sink, write_whole};
 use std::io::Write;
 use std::marker::Model;
 
-/// A sink that counts the pieces that its writer did not take whole. Contracts see the count.
+/// A sink that counts the pieces that its writer did not take whole.
 #[derive(Drop)]
 pub struct OutSink<W: Write> {
     out: W,
@@ -13,30 +13,29 @@ pub struct OutSink<W: Write> {
 }
 
 impl<W: Write> Model for OutSink<W> {
-    ghost use Rattle.std.specs.Prelude.{ℕ};
+    ghost use Rattle.io_edge.specs.Output.{Output};
 
-    ghost Value = { ℕ };
+    ghost Value = { Output };
 
-    ghost view = { λ sink. sink.faults };
+    ghost view = { λ sink. record { contents = W.contents sink.out; faults = sink.faults } };
 }
 
 impl<W: Write> OutSink<W> {
     pub fn new(out: W) -> OutSink<W>
-        ensures { result ≡ 0 }
+        ensures { result ≡ record { contents = W.contents out; faults = 0 } }
     {
         OutSink { out, faults: 0 }
     }
 }
 
 impl<W: Write> Sink for OutSink<W> {
-    ghost written = { λ _. None };
+    ghost written = { λ sink. sink.contents };
 
-    ghost faults = { λ faults. faults };
+    ghost faults = { λ sink. sink.faults };
 
     fn put(&mut self, piece: &[u8]) -> Result<(), PutFailed> {
         let faults = self.faults;
-        // It goes on after a short or an interrupted write; a write of 0 bytes is a fault.
-        match self.out.write_all(piece) {
+        match write_whole(&mut self.out, piece) {
             Ok(()) => Ok(()),
             Err(_) => {
                 self.faults = faults.saturating_add(1);

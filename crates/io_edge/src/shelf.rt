@@ -35,7 +35,8 @@ impl<T: Drop> From<AllocFailed<T>> for LoadFault {
 
 /// A place that has files under names.
 pub trait Shelf {
-    /// The files, each a name and its bytes, where the shelf tells them. The first of a name counts.
+    /// The files, each a name and its bytes, where the shelf tells them. Of one name the first
+    /// counts.
     ghost files: { Self → Option (List (List ℕ × List ℕ)) };
 
     /// The names whose load failed, in the order of the loads.

@@ -15,7 +15,8 @@ pub trait Sink {
     /// The bytes that were written, where the sink tells them.
     ghost written: { Self → Option (List ℕ) };
 
-    /// How often a put failed. It stays at the last value of a `u64`.
+    /// How often a put failed. The count stays at the last value of a `u64`; a sink whose count
+    /// stands there is spent, and a put of it that fails leaves the count as it is.
     ghost faults: { Self → ℕ };
 
     /// Writes a piece at the end; after `PutFailed` a prefix of it was written.

@@ -1,6 +1,5 @@
 //! The calls that want memory where there is enough of it, and reads and writes that are cut short.
-use crate::file_shelf::read_most;
-use crate::{FileShelf, LoadFault, MemShelf, MemSink, OutSink, PutFailed, Shelf, Sink};
+use crate::{FileShelf, LoadFault, MemShelf, MemSink, OutSink, PutFailed, Shelf, Sink, read_most};
 use std::io;
 use std::io::{ErrorKind, Read, Write};
 use std::test::Fail;
@@ -67,25 +66,23 @@ impl Read for SlowReader {
     }
 }
 
+fn slow_reader(broken: u32) -> SlowReader {
+    SlowReader {
+        given: 0,
+        calls: 0,
+        broken,
+    }
+}
+
 #[test]
 fn an_interrupted_read_is_tried_again(rt: HostRuntime) -> Result<(), Fail> {
     let alloc = rt.alloc();
-    for (most, broken, read) in [(100, 0, 7), (7, 0, 7), (3, 0, 3), (0, 0, 0)] {
-        let mut reader = SlowReader {
-            given: 0,
-            calls: 0,
-            broken,
-        };
-        let bytes = read_most(alloc, &mut reader, most)?;
+    for (most, read) in [(100, 7), (7, 7), (3, 3), (0, 0)] {
+        let bytes = read_most(alloc, slow_reader(0), most)?;
         assert_eq!(rt; bytes.as_slice(), &TEXT[..read]);
     }
-    let mut reader = SlowReader {
-        given: 0,
-        calls: 0,
-        broken: 3,
-    };
-    let fault = read_most(alloc, &mut reader, 100).err();
-    assert_eq!(rt; fault, Some(LoadFault::Failed));
+    let fault = read_most(alloc, slow_reader(3), 100).err();
+    assert!(rt; fault.is_some_and(|e| e.kind() == ErrorKind::TimedOut));
     Ok(())
 }
 
