@@ -40,7 +40,7 @@ slammed t Slammed = Slammed
 
 -- the rows after a write
 
-written_here : (rows : List (List PhoneState)) (a b : ℕ) (s : PhoneState) → IsSome (state_at rows a b) → state_at (with_state_at rows a b s) a b ≡ Some s
+pub written_here : (rows : List (List PhoneState)) (a b : ℕ) (s : PhoneState) → IsSome (state_at rows a b) → state_at (with_state_at rows a b s) a b ≡ Some s
 written_here rows a b s h =
     let now = value_of (state_at (with_state_at rows a b s) a b) (phone_kept rows a b a b s h) in
     elim (state_changed_at rows a b a b s now.0 now.1) [ inl e ↦ now.1 ∙ ap Some (sym e.2) | inr e ↦ absurd (e.0 (refl, refl)) ]
@@ -51,7 +51,7 @@ none_is o h e = let g = rw e at h in cc
 is_some : {A : Type 0} (o : Option A) (x : A) → o ≡ Some x → IsSome o
 is_some o x e = rw e refl
 
-written_elsewhere : (rows : List (List PhoneState)) (a b t p : ℕ) (s : PhoneState) → ((t ≡ a) × (p ≡ b) → ⊥) → state_at (with_state_at rows a b s) t p ≡ state_at rows t p
+pub written_elsewhere : (rows : List (List PhoneState)) (a b t p : ℕ) (s : PhoneState) → ((t ≡ a) × (p ≡ b) → ⊥) → state_at (with_state_at rows a b s) t p ≡ state_at rows t p
 written_elsewhere rows a b t p s ne = by_state (state_at rows t p) (state_at (with_state_at rows a b s) t p) refl refl where
   by_state : (old new : Option PhoneState) → state_at rows t p ≡ old → state_at (with_state_at rows a b s) t p ≡ new → new ≡ old
   by_state None None is now = refl

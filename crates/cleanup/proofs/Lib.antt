@@ -14,6 +14,7 @@ pub mod KilledCalls
 pub mod Histories
 pub mod KillOrder
 pub mod KillLaws
+pub mod Limits
 pub mod KillExample
 pub mod Keeping
 pub mod Endings

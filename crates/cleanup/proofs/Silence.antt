@@ -55,7 +55,7 @@ sound_hang_up k t p (Some (Connected u)) is s alive =
     (kept_calls k (enqueue k.calls (hangup_call k t p u)) s
     (sound_enqueue k.tasks k.calls (hangup_call k t p u) s.calls refl (s.tasks.leads t.0 p u is) (refl, alive) (is_some (phone_at k t p) (Connected u) is) refl))
 
-hang_up_ends : (marks : List Bool) (t : TaskNo) (k : KernelState) (p : ℕ) → alive_in marks t.0 ≡ true → IsEnding marks k → IsEnding marks (hang_up_at t k p).state
+pub hang_up_ends : (marks : List Bool) (t : TaskNo) (k : KernelState) (p : ℕ) → alive_in marks t.0 ≡ true → IsEnding marks k → IsEnding marks (hang_up_at t k p).state
 hang_up_ends marks t k p alive h = by_state (phone_at k t p) refl where
   by_state : (o : Option PhoneState) → phone_at k t p ≡ o → IsEnding marks (hang_up k t p o).state
   by_state None is = h

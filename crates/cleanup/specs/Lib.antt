@@ -5,5 +5,6 @@ pub mod Serving
 pub mod Joins
 pub mod Kill
 pub mod KillLaws
+pub mod Limits
 pub mod Board
 pub mod Rooms

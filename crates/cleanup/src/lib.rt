@@ -17,4 +17,4 @@ mod phones;
 pub use board::Switchboard;
 pub use counts::label;
 pub use ending::end_task;
-pub use laws::kills_leave_nothing;
+pub use laws::{active_calls_are_few, kills_leave_nothing};

@@ -1,12 +1,20 @@
 //! The laws of calls, for the entries of any events.
-ghost use Rattle.std.specs.Prelude.{List};
+ghost use Rattle.std.specs.Prelude.{List, ℕ, ◌≡◌, ◌<◌};
 ghost use Rattle.ipc_ids.specs.declared.numbers.TaskNo.{TaskNo};
+ghost use Rattle.ipc_ids.specs.declared.numbers.CallNo.{CallNo};
+ghost use Rattle.ipc_ids.specs.declared.message.Msg.{Msg};
+ghost use Rattle.ipc_ids.specs.declared.message.Request.{Request};
+ghost use Rattle.ipc_ids.specs.declared.message.Outcome.TheVariants.{Accepted};
+ghost use Rattle.answerbox.specs.Calls.{active_calls};
 ghost use Rattle.ipc_ids.specs.declared.entry.Entry.{Entry};
 ghost use Rattle.ipc_ids.specs.Laws.{LivesAreLawful, AnsweredAtMostOnce, KillEndsHeldCalls};
-ghost use Rattle.cleanup.specs.State.{KernelState};
+ghost use Rattle.cleanup.specs.State.{KernelState, label_of};
+ghost use Rattle.cleanup.specs.Limits.{IsWithinLimits};
 ghost use Rattle.cleanup.specs.Sound.{IsSound};
 ghost use Rattle.kernel_core.specs.History.{HistoryFits};
+ghost use Rattle.kernel_core.specs.Calling.{call};
 ghost use Rattle.kernel_core.specs.Receiving.{receive};
+ghost use Rattle.kernel_core.specs.Serve.{serve};
 ghost use Rattle.kernel_core.specs.ReceiveLaws.{IsLawfulReceive};
 
 /// A history that fits a state of the kernel keeps the laws of calls: so the entries of any system
@@ -23,5 +31,18 @@ pub fn receives_are_lawful()
     ensures {
         (k : KernelState) (t : TaskNo) → IsSound k
         → IsLawfulReceive t k (receive k t)
+    }
+{}
+
+/// A call is accepted only over a phone with fewer than 64 active ones, and every request keeps the
+/// limits of all phones.
+pub fn calls_stay_within_limits()
+    ensures accepted {
+        (k : KernelState) (t : TaskNo) (p : ℕ) (msg : Msg) (n : CallNo)
+        → (call k t p msg).outcome ≡ Accepted n → active_calls k.calls (label_of t p) < 64
+    }
+    ensures kept {
+        (k : KernelState) (t : TaskNo) (asked : Request) → IsSound k
+        → IsWithinLimits k → IsWithinLimits (serve k t asked).state
     }
 {}

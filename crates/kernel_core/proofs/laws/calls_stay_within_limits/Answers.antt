@@ -1,0 +1,8 @@
+use Rattle.kernel_core.proofs.ServedLimits.{accepted_few, serve_within}
+use Rattle.kernel_core.proofs.laws.calls_stay_within_limits.Goals as goal
+
+pub returns-clause-accepted : goal.returns-clause-accepted
+returns-clause-accepted c = accepted_few
+
+pub returns-clause-kept : goal.returns-clause-kept
+returns-clause-kept c = serve_within
