@@ -10,9 +10,9 @@ use Rattle.script_reader.specs.declared.plan.TaskPlan.{TaskPlan}
 use Rattle.script_reader.specs.declared.plan.Wire.{Wire}
 use Rattle.script_reader.specs.declared.draft.LastTask.{LastTask}
 use Rattle.script_reader.specs.declared.draft.Draft.{Draft}
-use Rattle.script_reader.specs.Drafts.{last_plan, plan_of, IsWhole}
-use Rattle.script_reader.specs.Operations.{◌>>=◌}
-use Rattle.script_reader.specs.Plans.{on_last, task_with_op, with_op, Follows, place_of, task_names, limit_at, is_wired}
+use Rattle.script_reader.specs.Draft.{last_plan, plan_of, IsWhole, on_last, task_with_op, with_op, Follows, limit_at, is_wired}
+use Rattle.script_reader.specs.Operation.{◌>>=◌}
+use Rattle.script_reader.specs.Names.{place_of, task_names}
 use Rattle.script_reader.specs.Sound.{IsRawTask}
 use Rattle.script_reader.proofs.Soundness.{with_task_sound, with_wire_sound, with_last_sound, names_same, leads_within}
 

@@ -1,5 +1,6 @@
 pub mod Arguments
 pub mod DraftSteps
+pub mod EventTasks
 pub mod Numbers
 pub mod Places
 pub mod ReaderAnswers

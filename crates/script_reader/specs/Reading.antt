@@ -10,10 +10,9 @@ use Rattle.script_reader.specs.declared.fault.ScriptFault.TheVariants as scripts
 use Rattle.script_reader.specs.declared.fault.ScheduleFault.{ScheduleFault}
 use Rattle.script_reader.specs.declared.fault.ScheduleFault.TheVariants as schedules
 use Rattle.script_reader.specs.Text.{lines}
-use Rattle.script_reader.specs.Plan.{Plan}
-use Rattle.script_reader.specs.Plans.{nothing}
-use Rattle.script_reader.specs.Lines.{after_line}
-use Rattle.script_reader.specs.Schedules.{after_event}
+use Rattle.script_reader.specs.Plan.{Plan, nothing}
+use Rattle.script_reader.specs.Line.{after_line}
+use Rattle.script_reader.specs.Schedule.{after_event}
 
 -- the line with this number, and then the others
 abbrev pub at_line : {A : Type 0} → ℕ → Result A Reason → (A → Result A (ℕ × Reason)) → Result A (ℕ × Reason)

@@ -1,9 +1,10 @@
 //! A script that is still read: its last task may get more operations.
 ghost use Rattle.std.specs.Prelude.{◌≡◌, ◌≤◌, ◌++◌, None, IfOk, OnOk};
-ghost use Rattle.script_reader.specs.Drafts.{last_plan, last_plans, plan_of, IsStep, IsWhole};
-ghost use Rattle.script_reader.specs.Plans.{nothing, is_ns, is_wired, limit_at, with_task, with_wire, with_op, task_with_op, Follows};
+ghost use Rattle.script_reader.specs.Draft.{last_plan, last_plans, plan_of, IsStep, IsWhole, is_wired, limit_at, with_task, with_wire, with_op, task_with_op, Follows};
+ghost use Rattle.script_reader.specs.Names.{is_ns};
+ghost use Rattle.script_reader.specs.Plan.{nothing};
 ghost use Rattle.script_reader.specs.Ranges.{KeepsRanges};
-ghost use Rattle.script_reader.specs.Sound.{IsRawTask};
+ghost use Rattle.script_reader.specs.Sound.{IsLimit, IsRawTask};
 
 use crate::fault::{LineFault, Reason};
 use crate::name::Name;
@@ -110,7 +111,7 @@ impl Draft {
         }
     }
 
-    #[tactic(auto, unfolding(crate::specs::Plans::with_task))]
+    #[tactic(auto, unfolding(crate::specs::Draft::with_task))]
     pub fn add_task(
         &mut self,
         alloc: Global,
@@ -118,8 +119,7 @@ impl Draft {
         kind: Kind,
         limit: u32,
     ) -> Result<(), LineFault>
-        requires some_phones { 1 ≤ limit }
-        requires few_phones { limit ≤ 64 }
+        requires limit { IsLimit limit }
         requires whole { IsWhole self.old }
         ensures value { IsStep result self.old self.new (λ plan. with_task plan name kind limit) }
         ensures whole { OnOk result (IsWhole self.new) }
@@ -142,7 +142,7 @@ impl Draft {
     }
 
     /// The phones of the task at a place, 0 where there is no task.
-    #[tactic(auto, unfolding(crate::specs::Plans::limit_at))]
+    #[tactic(auto, unfolding(crate::specs::Draft::limit_at))]
     fn limit_at(&self, place: usize) -> u32
         ensures { result ≡ limit_at (plan_of self.now).tasks place }
     {
@@ -155,10 +155,11 @@ impl Draft {
         }
     }
 
-    #[tactic(auto, unfolding(crate::specs::Plans::with_wire))]
+    #[tactic(auto, unfolding(crate::specs::Draft::with_wire))]
     pub fn add_wire(&mut self, from: &[u8], phone: u64, to: &[u8]) -> Result<(), LineFault>
         requires whole { IsWhole self.old }
-        ensures value { IsStep result self.old self.new (λ p. with_wire p from.now phone to.now) }
+        ensures value { IsStep result self.old self.new
+            (λ plan. with_wire plan from.now phone to.now) }
         ensures whole { OnOk result (IsWhole self.new) }
     {
         let from = self.names.place_of(from).ok_or(Reason::Fault)?;
@@ -177,7 +178,7 @@ impl Draft {
     }
 
     /// Gives the last task one more operation.
-    #[tactic(auto, unfolding(crate::specs::Plans::with_op))]
+    #[tactic(auto, unfolding(crate::specs::Draft::with_op))]
     pub fn add_op(&mut self, op: Op) -> Result<(), LineFault>
         requires ranges { KeepsRanges op }
         requires whole { IsWhole self.old }

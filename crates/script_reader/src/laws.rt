@@ -3,11 +3,10 @@ ghost use Rattle.std.specs.Prelude.{◌≡◌, ◌↔◌, ℕ, List, [], Ok, Err
 ghost use Rattle.ipc_ids.specs.declared.message.Event.{Event};
 ghost use Rattle.script_reader.specs.declared.fault.Reason.{Reason};
 ghost use Rattle.script_reader.specs.Grammar.{Spells, IsFirstFault};
-ghost use Rattle.script_reader.specs.Lines.{after_line};
-ghost use Rattle.script_reader.specs.Plan.{Plan};
-ghost use Rattle.script_reader.specs.Plans.{nothing};
+ghost use Rattle.script_reader.specs.Line.{after_line};
+ghost use Rattle.script_reader.specs.Plan.{Plan, nothing};
 ghost use Rattle.script_reader.specs.Reading.{script_of, schedule_of};
-ghost use Rattle.script_reader.specs.Schedules.{after_event};
+ghost use Rattle.script_reader.specs.Schedule.{after_event};
 
 /// What `script_of` and `schedule_of` compute is what bytes spell, and else their first fault.
 pub fn readings_are_what_bytes_spell()

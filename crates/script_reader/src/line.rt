@@ -1,9 +1,10 @@
 //! What one line adds to a script.
-ghost use Rattle.std.specs.Prelude.{◌≡◌, ◌≤◌, IfSome, IfOk, OnOk};
+ghost use Rattle.std.specs.Prelude.{◌≡◌, IfSome, IfOk, OnOk};
 ghost use Rattle.std.specs.Option.{ForSome};
 ghost use Rattle.script_reader.specs.Text.{texts};
-ghost use Rattle.script_reader.specs.Lines.{kind_of, limit_of, task_with, task_of, wire_of, task, wire, operation, after_words, after_line};
-ghost use Rattle.script_reader.specs.Drafts.{IsStep, IsWhole};
+ghost use Rattle.script_reader.specs.Line.{kind_of, limit_of, task_with, task_of, wire_of, task, wire, operation, after_words, after_line};
+ghost use Rattle.script_reader.specs.Draft.{IsStep, IsWhole};
+ghost use Rattle.script_reader.specs.Sound.{IsLimit};
 
 use crate::draft::Draft;
 use crate::fault::{LineFault, Reason};
@@ -25,10 +26,10 @@ fn kind_of(word: &[u8]) -> Option<Kind>
 }
 
 /// A number of phones, from 1 to 64.
-#[tactic(auto, unfolding(crate::specs::Lines::limit_of))]
+#[tactic(auto, unfolding(crate::specs::Line::limit_of))]
 fn limit_of(word: &[u8]) -> Option<u32>
     ensures value { result ≡ limit_of word.now }
-    ensures within { IfSome result (λ limit. (1 ≤ limit) × (limit ≤ 64)) }
+    ensures within { IfSome result IsLimit }
 {
     let limit = number(word)?;
     if 1 <= limit && limit <= u64::from(MOST_PHONES) {
@@ -38,11 +39,11 @@ fn limit_of(word: &[u8]) -> Option<u32>
     }
 }
 
-#[tactic(auto, unfolding(crate::specs::Lines::task_with))]
+#[tactic(auto, unfolding(crate::specs::Line::task_with))]
 fn task_with(name: &[u8], kind: &[u8], limit: Option<u32>) -> Result<(Name, Kind, u32), Reason>
-    requires { ForSome limit (λ n. (1 ≤ n) × (n ≤ 64)) }
+    requires { ForSome limit IsLimit }
     ensures value { result ≡ task_with name.now kind.now limit }
-    ensures within { IfOk result (λ task. (1 ≤ task.2) × (task.2 ≤ 64)) }
+    ensures within { IfOk result (λ task. IsLimit task.2) }
 {
     let name = Name::from_slice(name).ok_or(Reason::Fault)?;
     let kind = kind_of(kind).ok_or(Reason::Fault)?;
@@ -51,10 +52,10 @@ fn task_with(name: &[u8], kind: &[u8], limit: Option<u32>) -> Result<(Name, Kind
 }
 
 /// `NAME raw`, or `NAME raw N`
-#[tactic(auto, unfolding(crate::specs::Lines::task_of))]
+#[tactic(auto, unfolding(crate::specs::Line::task_of))]
 fn task_of(words: &[&[u8]]) -> Result<(Name, Kind, u32), Reason>
     ensures value { result ≡ task_of (texts words.now) }
-    ensures within { IfOk result (λ task. (1 ≤ task.2) × (task.2 ≤ 64)) }
+    ensures within { IfOk result (λ task. IsLimit task.2) }
 {
     match words {
         [name, kind] => task_with(*name, *kind, Some(MOST_PHONES)),
@@ -64,7 +65,7 @@ fn task_of(words: &[&[u8]]) -> Result<(Name, Kind, u32), Reason>
 }
 
 /// `NAME N NAME`
-#[tactic(auto, unfolding(crate::specs::Lines::wire_of))]
+#[tactic(auto, unfolding(crate::specs::Line::wire_of))]
 fn wire_of(words: &[&[u8]]) -> Result<(Name, u64, Name), Reason>
     ensures { result ≡ wire_of (texts words.now) }
 {
@@ -79,7 +80,7 @@ fn wire_of(words: &[&[u8]]) -> Result<(Name, u64, Name), Reason>
     }
 }
 
-#[tactic(auto, unfolding(crate::specs::Lines::task))]
+#[tactic(auto, unfolding(crate::specs::Line::task))]
 fn add_task(draft: &mut Draft, alloc: Global, words: &[&[u8]]) -> Result<(), LineFault>
     requires { IsWhole draft.old }
     ensures value { IsStep result draft.old draft.new (λ plan. task plan (texts words.now)) }
@@ -89,7 +90,7 @@ fn add_task(draft: &mut Draft, alloc: Global, words: &[&[u8]]) -> Result<(), Lin
     draft.add_task(alloc, name, kind, limit)
 }
 
-#[tactic(auto, unfolding(crate::specs::Lines::wire))]
+#[tactic(auto, unfolding(crate::specs::Line::wire))]
 fn add_wire(draft: &mut Draft, words: &[&[u8]]) -> Result<(), LineFault>
     requires { IsWhole draft.old }
     ensures value { IsStep result draft.old draft.new (λ plan. wire plan (texts words.now)) }
@@ -99,10 +100,11 @@ fn add_wire(draft: &mut Draft, words: &[&[u8]]) -> Result<(), LineFault>
     draft.add_wire(from.as_slice(), phone, to.as_slice())
 }
 
-#[tactic(auto, unfolding(crate::specs::Lines::operation))]
+#[tactic(auto, unfolding(crate::specs::Line::operation))]
 fn add_operation(draft: &mut Draft, verb: OpVerb, words: &[&[u8]]) -> Result<(), LineFault>
     requires { IsWhole draft.old }
-    ensures value { IsStep result draft.old draft.new (λ p. operation p verb (texts words.now)) }
+    ensures value { IsStep result draft.old draft.new
+        (λ plan. operation plan verb (texts words.now)) }
     ensures whole { OnOk result (IsWhole draft.new) }
 {
     let op = op_of(verb, words)?;
@@ -126,7 +128,7 @@ fn add_words(draft: &mut Draft, alloc: Global, words: &[&[u8]]) -> Result<(), Li
 }
 
 /// Adds what the line says.
-#[tactic(auto, unfolding(crate::specs::Lines::after_line))]
+#[tactic(auto, unfolding(crate::specs::Line::after_line))]
 pub fn add_line(draft: &mut Draft, alloc: Global, line: &[u8]) -> Result<(), LineFault>
     requires { IsWhole draft.old }
     ensures value { IsStep result draft.old draft.new (λ plan. after_line plan line.now) }

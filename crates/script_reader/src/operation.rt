@@ -2,14 +2,14 @@
 ghost use Rattle.std.specs.Prelude.{◌≡◌, ◌≤◌, ◌<◌, length, IfOk, IfSome, All};
 ghost use Rattle.script_reader.specs.Ranges.{IsInRange, KeepsRanges};
 ghost use Rattle.script_reader.specs.Text.{texts};
-ghost use Rattle.script_reader.specs.Operations.{arguments, two_and_arguments, call_of, answer_of, forward_of, receive_of, set_of, jump_of, hangup_of, two_and_place, jump_equal_of, jump_differ_of, op_of};
+ghost use Rattle.script_reader.specs.Operation.{arguments, two_and_arguments, call_op, answer_op, forward_op, receive_op, set_op, jump_op, hangup_op, two_and_place, jump_equal_op, jump_differ_op, op_of};
 
 use crate::fault::Reason;
 use crate::word::{OpVerb, mode_of, number_below, register, value};
 use ipc_ids::{Op, Value};
 
 /// Up to five arguments, with 0 for those that are left out.
-#[tactic(auto, unfolding(crate::specs::Operations::arguments))]
+#[tactic(auto, unfolding(crate::specs::Operation::arguments))]
 fn arguments(words: &[&[u8]]) -> Option<[Value; 5]>
     requires { length words.now ≤ 5 }
     ensures value { result ≡ arguments (texts words.now) }
@@ -23,7 +23,7 @@ fn arguments(words: &[&[u8]]) -> Option<[Value; 5]>
 }
 
 /// Two values, and up to five arguments.
-#[tactic(auto, unfolding(crate::specs::Operations::two_and_arguments))]
+#[tactic(auto, unfolding(crate::specs::Operation::two_and_arguments))]
 fn two_and_arguments(words: &[&[u8]]) -> Result<(Value, Value, [Value; 5]), Reason>
     ensures value { result ≡ two_and_arguments (texts words.now) }
     ensures ranges { IfOk result (λ x. IsInRange x.0 × IsInRange x.1 × All IsInRange x.2) }
@@ -39,9 +39,9 @@ fn two_and_arguments(words: &[&[u8]]) -> Result<(Value, Value, [Value; 5]), Reas
     }
 }
 
-#[tactic(auto, unfolding(crate::specs::Operations::call_of))]
-fn call_of(words: &[&[u8]]) -> Result<Op, Reason>
-    ensures value { result ≡ call_of (texts words.now) }
+#[tactic(auto, unfolding(crate::specs::Operation::call_op))]
+fn call_op(words: &[&[u8]]) -> Result<Op, Reason>
+    ensures value { result ≡ call_op (texts words.now) }
     ensures ranges { IfOk result KeepsRanges }
 {
     let (phone, method, args) = two_and_arguments(words)?;
@@ -52,18 +52,18 @@ fn call_of(words: &[&[u8]]) -> Result<Op, Reason>
     })
 }
 
-#[tactic(auto, unfolding(crate::specs::Operations::answer_of))]
-fn answer_of(words: &[&[u8]]) -> Result<Op, Reason>
-    ensures value { result ≡ answer_of (texts words.now) }
+#[tactic(auto, unfolding(crate::specs::Operation::answer_op))]
+fn answer_op(words: &[&[u8]]) -> Result<Op, Reason>
+    ensures value { result ≡ answer_op (texts words.now) }
     ensures ranges { IfOk result KeepsRanges }
 {
     let (call, code, args) = two_and_arguments(words)?;
     Ok(Op::Answer { call, code, args })
 }
 
-#[tactic(auto, unfolding(crate::specs::Operations::receive_of))]
-fn receive_of(words: &[&[u8]]) -> Result<Op, Reason>
-    ensures value { result ≡ receive_of (texts words.now) }
+#[tactic(auto, unfolding(crate::specs::Operation::receive_op))]
+fn receive_op(words: &[&[u8]]) -> Result<Op, Reason>
+    ensures value { result ≡ receive_op (texts words.now) }
     ensures ranges { IfOk result KeepsRanges }
 {
     match words {
@@ -73,9 +73,9 @@ fn receive_of(words: &[&[u8]]) -> Result<Op, Reason>
 }
 
 /// Without a change, or with a method and up to five arguments.
-#[tactic(auto, unfolding(crate::specs::Operations::forward_of))]
-fn forward_of(words: &[&[u8]]) -> Result<Op, Reason>
-    ensures value { result ≡ forward_of (texts words.now) }
+#[tactic(auto, unfolding(crate::specs::Operation::forward_op))]
+fn forward_op(words: &[&[u8]]) -> Result<Op, Reason>
+    ensures value { result ≡ forward_op (texts words.now) }
     ensures ranges { IfOk result KeepsRanges }
 {
     match words {
@@ -103,9 +103,9 @@ fn forward_of(words: &[&[u8]]) -> Result<Op, Reason>
     }
 }
 
-#[tactic(auto, unfolding(crate::specs::Operations::hangup_of))]
-fn hangup_of(words: &[&[u8]]) -> Result<Op, Reason>
-    ensures value { result ≡ hangup_of (texts words.now) }
+#[tactic(auto, unfolding(crate::specs::Operation::hangup_op))]
+fn hangup_op(words: &[&[u8]]) -> Result<Op, Reason>
+    ensures value { result ≡ hangup_op (texts words.now) }
     ensures ranges { IfOk result KeepsRanges }
 {
     match words {
@@ -114,9 +114,9 @@ fn hangup_of(words: &[&[u8]]) -> Result<Op, Reason>
     }
 }
 
-#[tactic(auto, unfolding(crate::specs::Operations::set_of))]
-fn set_of(words: &[&[u8]]) -> Result<Op, Reason>
-    ensures value { result ≡ set_of (texts words.now) }
+#[tactic(auto, unfolding(crate::specs::Operation::set_op))]
+fn set_op(words: &[&[u8]]) -> Result<Op, Reason>
+    ensures value { result ≡ set_op (texts words.now) }
     ensures ranges { IfOk result KeepsRanges }
 {
     match words {
@@ -132,9 +132,9 @@ fn set_of(words: &[&[u8]]) -> Result<Op, Reason>
     }
 }
 
-#[tactic(auto, unfolding(crate::specs::Operations::jump_of))]
-fn jump_of(words: &[&[u8]]) -> Result<Op, Reason>
-    ensures value { result ≡ jump_of (texts words.now) }
+#[tactic(auto, unfolding(crate::specs::Operation::jump_op))]
+fn jump_op(words: &[&[u8]]) -> Result<Op, Reason>
+    ensures value { result ≡ jump_op (texts words.now) }
     ensures ranges { IfOk result KeepsRanges }
 {
     match words {
@@ -144,7 +144,7 @@ fn jump_of(words: &[&[u8]]) -> Result<Op, Reason>
 }
 
 /// Two values, and a place.
-#[tactic(auto, unfolding(crate::specs::Operations::two_and_place))]
+#[tactic(auto, unfolding(crate::specs::Operation::two_and_place))]
 fn two_and_place(words: &[&[u8]]) -> Result<(Value, Value, u32), Reason>
     ensures value { result ≡ two_and_place (texts words.now) }
     ensures ranges { IfOk result (λ x. IsInRange x.0 × IsInRange x.1 × (x.2 < 65536)) }
@@ -160,18 +160,18 @@ fn two_and_place(words: &[&[u8]]) -> Result<(Value, Value, u32), Reason>
     }
 }
 
-#[tactic(auto, unfolding(crate::specs::Operations::jump_equal_of))]
-fn jump_equal_of(words: &[&[u8]]) -> Result<Op, Reason>
-    ensures value { result ≡ jump_equal_of (texts words.now) }
+#[tactic(auto, unfolding(crate::specs::Operation::jump_equal_op))]
+fn jump_equal_op(words: &[&[u8]]) -> Result<Op, Reason>
+    ensures value { result ≡ jump_equal_op (texts words.now) }
     ensures ranges { IfOk result KeepsRanges }
 {
     let (left, right, to) = two_and_place(words)?;
     Ok(Op::JumpEqual { left, right, to })
 }
 
-#[tactic(auto, unfolding(crate::specs::Operations::jump_differ_of))]
-fn jump_differ_of(words: &[&[u8]]) -> Result<Op, Reason>
-    ensures value { result ≡ jump_differ_of (texts words.now) }
+#[tactic(auto, unfolding(crate::specs::Operation::jump_differ_op))]
+fn jump_differ_op(words: &[&[u8]]) -> Result<Op, Reason>
+    ensures value { result ≡ jump_differ_op (texts words.now) }
     ensures ranges { IfOk result KeepsRanges }
 {
     let (left, right, to) = two_and_place(words)?;
@@ -184,14 +184,14 @@ pub fn op_of(verb: OpVerb, words: &[&[u8]]) -> Result<Op, Reason>
     ensures ranges { IfOk result KeepsRanges }
 {
     match verb {
-        OpVerb::Call => call_of(words),
-        OpVerb::Receive => receive_of(words),
-        OpVerb::Answer => answer_of(words),
-        OpVerb::Forward => forward_of(words),
-        OpVerb::Hangup => hangup_of(words),
-        OpVerb::Set => set_of(words),
-        OpVerb::Jump => jump_of(words),
-        OpVerb::JumpEqual => jump_equal_of(words),
-        OpVerb::JumpDiffer => jump_differ_of(words),
+        OpVerb::Call => call_op(words),
+        OpVerb::Receive => receive_op(words),
+        OpVerb::Answer => answer_op(words),
+        OpVerb::Forward => forward_op(words),
+        OpVerb::Hangup => hangup_op(words),
+        OpVerb::Set => set_op(words),
+        OpVerb::Jump => jump_op(words),
+        OpVerb::JumpEqual => jump_equal_op(words),
+        OpVerb::JumpDiffer => jump_differ_op(words),
     }
 }

@@ -2,10 +2,9 @@
 ghost use Rattle.std.specs.Prelude.{◌≡◌, ◌≢◌, ℕ, Ok, Err, OnOk};
 ghost use Rattle.script_reader.specs.declared.fault.Reason.{Reason};
 ghost use Rattle.script_reader.specs.Text.{texts};
-ghost use Rattle.script_reader.specs.Plan.{Plan};
-ghost use Rattle.script_reader.specs.Plans.{nothing};
-ghost use Rattle.script_reader.specs.Lines.{after_line};
-ghost use Rattle.script_reader.specs.Drafts.{plan_of, IsWhole};
+ghost use Rattle.script_reader.specs.Plan.{Plan, nothing};
+ghost use Rattle.script_reader.specs.Line.{after_line};
+ghost use Rattle.script_reader.specs.Draft.{plan_of, IsWhole};
 ghost use Rattle.script_reader.specs.Grammar.{Spells, IsFirstFault};
 ghost use Rattle.script_reader.specs.Reading.{lines_from, script_of, fault_in_script, Reads, Agrees};
 

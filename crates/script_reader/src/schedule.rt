@@ -1,10 +1,10 @@
 //! Reads a schedule, line by line.
-ghost use Rattle.std.specs.Prelude.{◌≡◌, ◌≢◌, ◌≤◌, ℕ, List, [], ◌++◌, length, replicate, Ok, Err, IfOk, IsOkAnd, OnOk};
+ghost use Rattle.std.specs.Prelude.{◌≡◌, ◌≢◌, ◌≤◌, ℕ, List, [], ◌++◌, length, replicate, Ok, Err, All, IfOk, IsOkAnd};
 ghost use Rattle.ipc_ids.specs.declared.message.Event.{Event};
 ghost use Rattle.script_reader.specs.declared.fault.Reason.{Reason};
 ghost use Rattle.script_reader.specs.Text.{texts};
-ghost use Rattle.script_reader.specs.Plans.{Follows};
-ghost use Rattle.script_reader.specs.Schedules.{event_verb_of, count_of, with_events, step_with, step_of, kill_of, hangup_of, events_of, after_event_words, after_event_line, after_event};
+ghost use Rattle.script_reader.specs.Draft.{Follows};
+ghost use Rattle.script_reader.specs.Schedule.{IsOnTaskOf, event_verb_of, count_of, with_events, step_with, step_of, kill_of, hangup_of, events_of, after_event_words, after_event_line, after_event};
 ghost use Rattle.script_reader.specs.Grammar.{Spells, IsFirstFault};
 ghost use Rattle.script_reader.specs.Reading.{lines_from, reading, schedule_of, events_in, fault_in_schedule, Reads, Agrees};
 
@@ -49,19 +49,18 @@ fn push_times(events: &mut Vec<Event>, event: Event, count: u64) -> Result<(), L
 }
 
 /// Adds an event so many times, if there is room for it.
-#[tactic(auto, unfolding(crate::specs::Schedules::with_events))]
+#[tactic(auto, unfolding(crate::specs::Schedule::with_events))]
 fn add_events(events: &mut Vec<Event>, event: Event, count: u64) -> Result<(), LineFault>
-    ensures value { Follows result events.new.items (with_events events.old.items event count) }
-    ensures few { OnOk result (length events.new.items ≤ 65536) }
+    ensures { Follows result events.new.items (with_events events.old.items event count) }
 {
-    if count > MOST_EVENTS || events.len() as u64 + count > MOST_EVENTS {
+    if count > MOST_EVENTS || events.len() as u64 > MOST_EVENTS - count {
         return Err(LineFault::Bad(Reason::Fault));
     }
     push_times(events, event, count)
 }
 
 /// `x N`, where N is from 1 to 65,536
-#[tactic(auto, unfolding(crate::specs::Schedules::count_of))]
+#[tactic(auto, unfolding(crate::specs::Schedule::count_of))]
 fn count_of(times: &[u8], word: &[u8]) -> Option<u64>
     ensures { result ≡ count_of times.now word.now }
 {
@@ -73,7 +72,7 @@ fn count_of(times: &[u8], word: &[u8]) -> Option<u64>
     }
 }
 
-#[tactic(auto, unfolding(crate::specs::Schedules::step_with))]
+#[tactic(auto, unfolding(crate::specs::Schedule::step_with))]
 fn step_with(names: &Names, name: &[u8], count: Option<u64>) -> Result<(Event, u64), Reason>
     ensures { result ≡ step_with names.now name.now count }
 {
@@ -84,7 +83,7 @@ fn step_with(names: &Names, name: &[u8], count: Option<u64>) -> Result<(Event, u
 }
 
 /// `NAME`, or `NAME x N`
-#[tactic(auto, unfolding(crate::specs::Schedules::step_of))]
+#[tactic(auto, unfolding(crate::specs::Schedule::step_of))]
 fn step_of(names: &Names, words: &[&[u8]]) -> Result<(Event, u64), Reason>
     ensures { result ≡ step_of names.now (texts words.now) }
 {
@@ -96,7 +95,7 @@ fn step_of(names: &Names, words: &[&[u8]]) -> Result<(Event, u64), Reason>
 }
 
 /// `NAME`
-#[tactic(auto, unfolding(crate::specs::Schedules::kill_of))]
+#[tactic(auto, unfolding(crate::specs::Schedule::kill_of))]
 fn kill_of(names: &Names, words: &[&[u8]]) -> Result<(Event, u64), Reason>
     ensures { result ≡ kill_of names.now (texts words.now) }
 {
@@ -111,7 +110,7 @@ fn kill_of(names: &Names, words: &[&[u8]]) -> Result<(Event, u64), Reason>
 }
 
 /// `NAME N`
-#[tactic(auto, unfolding(crate::specs::Schedules::hangup_of))]
+#[tactic(auto, unfolding(crate::specs::Schedule::hangup_of))]
 fn hangup_of(names: &Names, words: &[&[u8]]) -> Result<(Event, u64), Reason>
     ensures { result ≡ hangup_of names.now (texts words.now) }
 {
@@ -143,10 +142,8 @@ fn events_of(
 }
 
 fn add_words(names: &Names, events: &mut Vec<Event>, words: &[&[u8]]) -> Result<(), LineFault>
-    requires { length events.old.items ≤ 65536 }
-    ensures value { Follows result events.new.items
+    ensures { Follows result events.new.items
         (after_event_words names.now events.old.items (texts words.now)) }
-    ensures few { OnOk result (length events.new.items ≤ 65536) }
 {
     let [first, others @ ..] = words else {
         return Ok(());
@@ -155,16 +152,15 @@ fn add_words(names: &Names, events: &mut Vec<Event>, words: &[&[u8]]) -> Result<
     add_events(events, event, count)
 }
 
-#[tactic(auto, unfolding(crate::specs::Schedules::after_event_line))]
+#[tactic(auto, unfolding(crate::specs::Schedule::after_event_line))]
 fn add_line(
     names: &Names,
     events: &mut Vec<Event>,
     alloc: Global,
     line: &[u8],
 ) -> Result<(), LineFault>
-    requires { length events.old.items ≤ 65536 }
-    ensures value { Follows result events.new.items (after_event_line names.now events.old.items line.now) }
-    ensures few { OnOk result (length events.new.items ≤ 65536) }
+    ensures { Follows result events.new.items
+        (after_event_line names.now events.old.items line.now) }
 {
     if !all_allowed(line) {
         return Err(LineFault::Bad(Reason::Fault));
@@ -179,10 +175,8 @@ fn add_lines(
     alloc: Global,
     lines: &[&[u8]],
 ) -> Result<(), ScheduleFault>
-    requires { length events.old.items ≤ 65536 }
-    ensures value { Reads fault_in_schedule result events.new.items
+    ensures { Reads fault_in_schedule result events.new.items
         (lines_from (after_event_line names.now) 1 events.old.items (texts lines.now)) }
-    ensures few { OnOk result (length events.new.items ≤ 65536) }
 {
     for (index, line) in lines.iter().enumerate() {
         match add_line(names, events, alloc, *line) {
@@ -201,9 +195,8 @@ fn add_lines(
 
 #[tactic(auto, unfolding(crate::specs::Reading::reading))]
 fn read(alloc: Global, bytes: &[u8], names: &Names) -> Result<Vec<Event>, ScheduleFault>
-    ensures value { Agrees fault_in_schedule (events_in result)
+    ensures { Agrees fault_in_schedule (events_in result)
         (reading (after_event_line names.now) [] bytes.now) }
-    ensures few { IfOk result (λ events. length events.items ≤ 65536) }
 {
     if bytes.len() > MOST_BYTES {
         return Err(ScheduleFault::Bad {
@@ -218,14 +211,14 @@ fn read(alloc: Global, bytes: &[u8], names: &Names) -> Result<Vec<Event>, Schedu
 }
 
 fn read_for(alloc: Global, bytes: &[u8], script: &Script) -> Result<Vec<Event>, ScheduleFault>
-    ensures value { Agrees fault_in_schedule (events_in result) (schedule_of script.now bytes.now) }
-    ensures few { IfOk result (λ events. length events.items ≤ 65536) }
+    ensures { Agrees fault_in_schedule (events_in result) (schedule_of script.now bytes.now) }
 {
     let names = names_of(alloc, script.tasks.as_slice())?;
     read(alloc, bytes, &names)
 }
 
-/// The events that the bytes of a file spell, for the tasks of a script.
+/// The events that the bytes of a file spell, for the tasks of a script: at most 65,536, each on a
+/// task of the script.
 ///
 /// # Errors
 ///
@@ -238,6 +231,7 @@ pub fn read_schedule(
 ) -> Result<Vec<Event>, ScheduleFault>
     ensures value { Agrees fault_in_schedule (events_in result) (schedule_of script.now bytes.now) }
     ensures few { IfOk result (λ events. length events.items ≤ 65536) }
+    ensures tasks { IfOk result (λ events. All (IsOnTaskOf script.now) events.items) }
     ensures read { IfOk result (λ got. Spells (after_event script.now) [] bytes.now got.items) }
     ensures spelled { (events : List Event) → Spells (after_event script.now) [] bytes.now events
         → result ≢ Err ScheduleFault.NoMemory → IsOkAnd result (λ got. got.items ≡ events) }

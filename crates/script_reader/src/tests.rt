@@ -1,6 +1,8 @@
 //! Whole files, compared field by field, and what each fault's line is.
-ghost use Rattle.std.specs.Prelude.{◌<◌, ◌≤◌, length, All};
+ghost use Rattle.std.specs.Prelude.{◌≢◌, ◌<◌, ◌≤◌, length, All};
+ghost use Rattle.script_reader.specs.Names.{ns_name};
 ghost use Rattle.script_reader.specs.Ranges.{KeepsRanges};
+ghost use Rattle.script_reader.specs.Schedule.{IsOnTaskOf};
 
 use crate::{Kind, Reason, ScheduleFault, Script, ScriptFault, read_schedule, read_script};
 use ipc_ids::{Event, Mode, Op, TaskNo, Value};
@@ -27,6 +29,14 @@ jumpne r1 W 0x2";
 const SCHEDULE: &[u8] =
     b"step client#once\n\nstep s_9 x 2\nkill s_9\n\thangup s_9 18446744073709551615 \n";
 
+/// What a consumer of a script relies on: no task has the name of the naming service.
+fn name(script: &Script, index: usize) -> &[u8]
+    requires { index < length script.now.tasks }
+    ensures { result.now ≢ ns_name }
+{
+    script.tasks.as_slice()[index].name.as_slice()
+}
+
 /// What a consumer of a script relies on: what a task does is there and in range.
 fn operations(script: &Script, index: usize) -> &[Op]
     requires { index < length script.now.tasks }
@@ -45,6 +55,16 @@ fn limit_behind(script: &Script, index: usize) -> u32
 {
     let from = script.wires.as_slice()[index].from.0 - 1;
     script.tasks.as_slice()[from as usize].limit
+}
+
+/// What a replay relies on: the task of an event is there.
+fn name_behind(script: &Script, event: Event) -> &[u8]
+    requires { IsOnTaskOf script.now event }
+{
+    let task = match event {
+        Event::Step(task) | Event::Kill(task) | Event::Hangup(task, _) => task,
+    };
+    script.tasks.as_slice()[task.0 as usize - 1].name.as_slice()
 }
 
 fn number(number: u64) -> Value {
@@ -71,10 +91,10 @@ fn tasks_and_wires_are_read(rt: HostRuntime) {
     let script = read_script(rt.alloc(), SCRIPT).expect(&rt, "a script");
     let tasks = script.tasks.as_slice();
     assert_eq!(rt; tasks.len(), 2);
-    assert_eq!(rt; tasks[0].name.as_slice(), b"client".as_slice());
+    assert_eq!(rt; name(&script, 0), b"client".as_slice());
     assert_eq!(rt; tasks[0].kind, Kind::Raw);
     assert_eq!(rt; tasks[0].limit, 2);
-    assert_eq!(rt; tasks[1].name.as_slice(), b"s_9".as_slice());
+    assert_eq!(rt; name(&script, 1), b"s_9".as_slice());
     assert_eq!(rt; tasks[1].limit, 64);
     assert_eq!(rt; operations(&script, 0).len(), 5);
     assert_eq!(rt; operations(&script, 1).len(), 6);
@@ -259,6 +279,10 @@ fn events_are_read(rt: HostRuntime) {
         Event::Hangup(TaskNo(2), u64::MAX),
     ];
     assert_eq!(rt; events.as_slice(), wanted.as_slice());
+    let names: [&[u8]; 5] = [b"client", b"s_9", b"s_9", b"s_9", b"s_9"];
+    for (event, name) in events.iter().zip(names.iter()) {
+        assert_eq!(rt; name_behind(&script, *event), *name);
+    }
 }
 
 fn spaces(rt: &HostRuntime, count: usize) -> Result<Vec<u8>, Fail> {

@@ -1,7 +1,7 @@
 use Rattle.std.proofs.Common.{[]}
-use Rattle.script_reader.specs.Lines.{after_line}
-use Rattle.script_reader.specs.Plans.{nothing}
-use Rattle.script_reader.specs.Schedules.{after_event}
+use Rattle.script_reader.specs.Line.{after_line}
+use Rattle.script_reader.specs.Plan.{nothing}
+use Rattle.script_reader.specs.Schedule.{after_event}
 use Rattle.script_reader.proofs.Readings.{spells, spelled, has_fault, fault_is}
 use Rattle.script_reader.proofs.laws.readings_are_what_bytes_spell.Goals as goal
 

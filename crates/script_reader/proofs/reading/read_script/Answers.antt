@@ -1,5 +1,5 @@
-use Rattle.script_reader.specs.Plans.{nothing}
-use Rattle.script_reader.specs.Lines.{after_line}
+use Rattle.script_reader.specs.Plan.{nothing}
+use Rattle.script_reader.specs.Line.{after_line}
 use Rattle.script_reader.proofs.ReaderAnswers.{script_is_spelled, script_spelled, script_fault, script_at_fault}
 use Rattle.script_reader.proofs.reading.read_script.Goals as goal
 

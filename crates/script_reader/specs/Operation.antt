@@ -9,7 +9,7 @@ use Rattle.script_reader.specs.declared.fault.Reason.{Reason}
 use Rattle.script_reader.specs.declared.fault.Reason.TheVariants.{Fault}
 use Rattle.script_reader.specs.declared.word.OpVerb.{OpVerb}
 use Rattle.script_reader.specs.declared.word.OpVerb.TheVariants as verbs
-use Rattle.script_reader.specs.Words.{value, register, mode_of, number_below}
+use Rattle.script_reader.specs.Word.{value, register, mode_of, number_below}
 
 -- a step that may be at fault
 infixl 10 ◌>>=◌
@@ -46,26 +46,26 @@ two_and_arguments (first ∷ []) = Err Fault
 two_and_arguments [] = Err Fault
 
 -- phone, method, arguments
-unfoldable pub call_of : List (List ℕ) → Result Op Reason
-call_of words = two_and_arguments words >>= λ (phone, method, args). Ok (ops.Call phone method args)
+unfoldable pub call_op : List (List ℕ) → Result Op Reason
+call_op words = two_and_arguments words >>= λ (phone, method, args). Ok (ops.Call phone method args)
 
 -- call, code, arguments
-unfoldable pub answer_of : List (List ℕ) → Result Op Reason
-answer_of words = two_and_arguments words >>= λ (call, code, args). Ok (ops.Answer call code args)
+unfoldable pub answer_op : List (List ℕ) → Result Op Reason
+answer_op words = two_and_arguments words >>= λ (call, code, args). Ok (ops.Answer call code args)
 
 -- no words
-unfoldable pub receive_of : List (List ℕ) → Result Op Reason
-receive_of [] = Ok ops.Receive
-receive_of (_ ∷ _) = Err Fault
+unfoldable pub receive_op : List (List ℕ) → Result Op Reason
+receive_op [] = Ok ops.Receive
+receive_op (_ ∷ _) = Err Fault
 
 -- V V MODE, or V V MODE V [V up to five]
-unfoldable pub forward_of : List (List ℕ) → Result Op Reason
-forward_of (call ∷ phone ∷ mode ∷ []) = do
+unfoldable pub forward_op : List (List ℕ) → Result Op Reason
+forward_op (call ∷ phone ∷ mode ∷ []) = do
   call ← needed (value call)
   phone ← needed (value phone)
   mode ← needed (mode_of mode)
   Ok (ops.Forward call phone mode)
-forward_of (call ∷ phone ∷ mode ∷ method ∷ others) =
+forward_op (call ∷ phone ∷ mode ∷ method ∷ others) =
     if nat_le (length others) 5 then (do
       call ← needed (value call)
       phone ← needed (value phone)
@@ -74,25 +74,25 @@ forward_of (call ∷ phone ∷ mode ∷ method ∷ others) =
       args ← needed (arguments others)
       Ok (ops.ForwardWith call phone mode method args))
     else Err Fault
-forward_of _ = Err Fault
+forward_op _ = Err Fault
 
 -- V
-unfoldable pub hangup_of : List (List ℕ) → Result Op Reason
-hangup_of (phone ∷ []) = needed (value phone) >>= λ phone. Ok (ops.Hangup phone)
-hangup_of _ = Err Fault
+unfoldable pub hangup_op : List (List ℕ) → Result Op Reason
+hangup_op (phone ∷ []) = needed (value phone) >>= λ phone. Ok (ops.Hangup phone)
+hangup_op _ = Err Fault
 
 -- R V
-unfoldable pub set_of : List (List ℕ) → Result Op Reason
-set_of (target ∷ source ∷ []) = do
+unfoldable pub set_op : List (List ℕ) → Result Op Reason
+set_op (target ∷ source ∷ []) = do
   target ← needed (register target)
   source ← needed (value source)
   Ok (ops.Set target source)
-set_of _ = Err Fault
+set_op _ = Err Fault
 
 -- K
-unfoldable pub jump_of : List (List ℕ) → Result Op Reason
-jump_of (to ∷ []) = needed (number_below 65536 to) >>= λ to. Ok (ops.Jump to)
-jump_of _ = Err Fault
+unfoldable pub jump_op : List (List ℕ) → Result Op Reason
+jump_op (to ∷ []) = needed (number_below 65536 to) >>= λ to. Ok (ops.Jump to)
+jump_op _ = Err Fault
 
 -- V V K
 unfoldable pub two_and_place : List (List ℕ) → Result (Value × Value × ℕ) Reason
@@ -103,20 +103,20 @@ two_and_place (left ∷ right ∷ to ∷ []) = do
   Ok (left, right, to)
 two_and_place _ = Err Fault
 
-unfoldable pub jump_equal_of : List (List ℕ) → Result Op Reason
-jump_equal_of words = two_and_place words >>= λ (left, right, to). Ok (ops.JumpEqual left right to)
+unfoldable pub jump_equal_op : List (List ℕ) → Result Op Reason
+jump_equal_op words = two_and_place words >>= λ (left, right, to). Ok (ops.JumpEqual left right to)
 
-unfoldable pub jump_differ_of : List (List ℕ) → Result Op Reason
-jump_differ_of words = two_and_place words >>= λ (left, right, to). Ok (ops.JumpDiffer left right to)
+unfoldable pub jump_differ_op : List (List ℕ) → Result Op Reason
+jump_differ_op words = two_and_place words >>= λ (left, right, to). Ok (ops.JumpDiffer left right to)
 
 -- the form of each first word
 abbrev pub op_of : OpVerb → List (List ℕ) → Result Op Reason
-op_of verbs.Call words = call_of words
-op_of verbs.Receive words = receive_of words
-op_of verbs.Answer words = answer_of words
-op_of verbs.Forward words = forward_of words
-op_of verbs.Hangup words = hangup_of words
-op_of verbs.Set words = set_of words
-op_of verbs.Jump words = jump_of words
-op_of verbs.JumpEqual words = jump_equal_of words
-op_of verbs.JumpDiffer words = jump_differ_of words
+op_of verbs.Call words = call_op words
+op_of verbs.Receive words = receive_op words
+op_of verbs.Answer words = answer_op words
+op_of verbs.Forward words = forward_op words
+op_of verbs.Hangup words = hangup_op words
+op_of verbs.Set words = set_op words
+op_of verbs.Jump words = jump_op words
+op_of verbs.JumpEqual words = jump_equal_op words
+op_of verbs.JumpDiffer words = jump_differ_op words

@@ -1,10 +1,8 @@
--- What a line adds to a script.
-use Rattle.std.specs.Prelude.{◌≡◌, ℕ, ◌+◌, List, [], ◌∷◌, ◌++◌, length, map, ⊤, Bool, false, ◌||◌, ◌&&◌, ◌==◌, nat_le, Option, option_map, Result, Ok, Err, position, is_some, slice_get, if◌then◌else◌, codes}
+-- A script that is still read, as the script of the lines so far, and what a line adds to it.
+use Rattle.std.specs.Prelude.{◌≡◌, ℕ, ◌+◌, List, [], ◌∷◌, ◌++◌, length, ⊤, Bool, false, ◌||◌, ◌&&◌, ◌==◌, nat_le, Option, Some, None, Result, Ok, Err, is_some, slice_get, if◌then◌else◌}
 use Rattle.std.specs.List.{list_any}
 use Rattle.std.specs.Option.{ok_or, option_map_or}
-use Rattle.std.specs.Str.{bytes_eq}
 use Rattle.ipc_ids.specs.Tables.{most_tasks, most_operations}
-use Rattle.ipc_ids.specs.declared.numbers.TaskNo.{TaskNo}
 use Rattle.ipc_ids.specs.declared.op.Op.{Op}
 use Rattle.ipc_ids.specs.declared.op.Body.{Body}
 use Rattle.script_reader.specs.declared.fault.Reason.{Reason}
@@ -14,23 +12,12 @@ use Rattle.script_reader.specs.declared.fault.LineFault.TheVariants.{Bad, NoMemo
 use Rattle.script_reader.specs.declared.plan.Kind.{Kind}
 use Rattle.script_reader.specs.declared.plan.TaskPlan.{TaskPlan}
 use Rattle.script_reader.specs.declared.plan.Wire.{Wire}
-use Rattle.script_reader.specs.Operations.{◌>>=◌}
+use Rattle.script_reader.specs.declared.draft.LastTask.{LastTask}
+use Rattle.script_reader.specs.declared.draft.Draft.{Draft}
+use Rattle.script_reader.specs.Names.{task_names, place_of, is_ns}
+use Rattle.script_reader.specs.Operation.{◌>>=◌}
 use Rattle.script_reader.specs.Plan.{Plan}
-
--- the script of no lines
-abbrev pub nothing : Plan
-nothing = record { tasks = []; wires = [] }
-
-abbrev pub task_names : List TaskPlan → List (List ℕ)
-task_names tasks = map (λ task. task.name) tasks
-
--- where a name stands
-abbrev pub place_of : List (List ℕ) → List ℕ → Option ℕ
-place_of names name = position (λ known. bytes_eq name known) names
-
--- the task at a place has the number after it
-unfoldable pub task_named : List (List ℕ) → List ℕ → Option TaskNo
-task_named names name = option_map (λ place. record { 0 = place + 1 }) (place_of names name)
+use Rattle.script_reader.specs.Sound.{IsSound}
 
 -- how many phones the task at a place has
 unfoldable pub limit_at : List TaskPlan → ℕ → ℕ
@@ -39,10 +26,6 @@ limit_at tasks place = option_map_or (λ task. task.limit) (slice_get tasks plac
 -- the phone at this number of the task with this number leads somewhere
 abbrev pub is_wired : List Wire → ℕ → ℕ → Bool
 is_wired wires from phone = list_any (λ wire. wire.from.0 == from && wire.phone.0 == phone) wires
-
--- the name that no task line gives
-abbrev pub is_ns : List ℕ → Bool
-is_ns name = bytes_eq name (codes "ns")
 
 -- the one body of a raw task
 abbrev pub one_body : List Op → List Body
@@ -93,3 +76,30 @@ abbrev pub Follows : {A : Type 0} → Result ⊤ LineFault → A → Result A Re
 Follows (Ok _) new said = said ≡ Ok new
 Follows (Err (Bad reason)) new said = said ≡ Err reason
 Follows (Err NoMemory) new said = ⊤
+
+-- the last task, with the operations that it has so far
+abbrev pub last_plan : LastTask → TaskPlan
+last_plan last =
+    record { name = last.name; kind = last.kind; limit = last.limit; bodies = one_body last.ops }
+
+abbrev pub last_plans : Option LastTask → List TaskPlan
+last_plans None = []
+last_plans (Some last) = last_plan last ∷ []
+
+abbrev pub plan_of : Draft → Plan
+plan_of draft = record { tasks = draft.done ++ last_plans draft.last; wires = draft.wires }
+
+-- what a call made of a draft is the line's step, unless memory ran out
+abbrev pub IsStep : Result ⊤ LineFault → Draft → Draft → (Plan → Result Plan Reason) → Type 0
+IsStep result old new step = Follows result (plan_of new) (step (plan_of old))
+
+-- without a last task there is none
+abbrev pub HasLast : Option LastTask → List TaskPlan → Type 0
+HasLast None done = done ≡ []
+HasLast (Some last) done = ⊤
+
+pub record IsWhole (draft : Draft) : Type 0 where
+  -- the table has the names of the tasks
+  pub names : draft.names ≡ task_names (plan_of draft).tasks
+  pub last : HasLast draft.last draft.done
+  pub sound : IsSound (plan_of draft)

@@ -11,10 +11,10 @@ use Rattle.script_reader.specs.declared.word.OpVerb.{OpVerb}
 use Rattle.script_reader.specs.declared.plan.Kind.{Kind}
 use Rattle.script_reader.specs.declared.plan.Kind.TheVariants.{Raw}
 use Rattle.script_reader.specs.Text.{is_allowed, words}
-use Rattle.script_reader.specs.Words.{look_up, verb_of, number, name_of}
-use Rattle.script_reader.specs.Operations.{◌>>=◌, needed, op_of}
+use Rattle.script_reader.specs.Word.{look_up, verb_of, number, name_of}
+use Rattle.script_reader.specs.Operation.{◌>>=◌, needed, op_of}
 use Rattle.script_reader.specs.Plan.{Plan}
-use Rattle.script_reader.specs.Plans.{with_task, with_wire, with_op}
+use Rattle.script_reader.specs.Draft.{with_task, with_wire, with_op}
 
 abbrev pub kinds : List (List ℕ × Kind)
 kinds = (codes "raw", Raw) ∷ []

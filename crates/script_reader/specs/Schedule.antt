@@ -4,6 +4,7 @@ use Rattle.std.specs.List.{list_all}
 use Rattle.std.specs.Option.{option_and_then, ok_or}
 use Rattle.std.specs.Str.{bytes_eq}
 use Rattle.ipc_ids.specs.Tables.{most_events}
+use Rattle.ipc_ids.specs.declared.numbers.TaskNo.{TaskNo}
 use Rattle.ipc_ids.specs.declared.message.Event.{Event}
 use Rattle.ipc_ids.specs.declared.message.Event.TheVariants as events
 use Rattle.script_reader.specs.declared.fault.Reason.{Reason}
@@ -11,10 +12,21 @@ use Rattle.script_reader.specs.declared.fault.Reason.TheVariants.{Fault}
 use Rattle.script_reader.specs.declared.schedule.EventVerb.{EventVerb}
 use Rattle.script_reader.specs.declared.schedule.EventVerb.TheVariants.{Step, Kill, Hangup}
 use Rattle.script_reader.specs.Text.{is_allowed, words}
-use Rattle.script_reader.specs.Words.{look_up, number, name_of}
-use Rattle.script_reader.specs.Operations.{◌>>=◌, needed}
+use Rattle.script_reader.specs.Word.{look_up, number, name_of}
+use Rattle.script_reader.specs.Operation.{◌>>=◌, needed}
 use Rattle.script_reader.specs.Plan.{Plan}
-use Rattle.script_reader.specs.Plans.{task_names, task_named}
+use Rattle.script_reader.specs.Sound.{IsTask}
+use Rattle.script_reader.specs.Names.{task_names, task_named}
+
+-- the task that an event is on
+abbrev pub task_of_event : Event → TaskNo
+task_of_event (events.Step task) = task
+task_of_event (events.Kill task) = task
+task_of_event (events.Hangup task phone) = task
+
+-- the event is on a task of the script
+abbrev pub IsOnTaskOf : Plan → Event → Type 0
+IsOnTaskOf script event = IsTask (length script.tasks) (task_of_event event).0
 
 -- the first words of a schedule's lines
 abbrev pub event_verbs : List (List ℕ × EventVerb)
