@@ -1,5 +1,5 @@
 -- The calls of a caller, told by what the map has at each number.
-use Rattle.std.proofs.Common.{◌≡◌, ℕ, ◌+◌, ◌<◌, ◌≤◌, Bool, true, false, cond, ◌&&◌, List, [], ◌∷◌, Option, None, Some, refl, sym, ◌∙◌, arith, T}
+use Rattle.std.proofs.Common.{◌≡◌, ℕ, ◌≤◌, Bool, true, false, cond, ◌&&◌, List, [], ◌∷◌, Option, None, Some, refl, sym, ◌∙◌, arith, T}
 use Rattle.std.specs.Prelude.{nat_le}
 use Rattle.std.specs.Ordering.{nat_cmp, is_eq}
 use Rattle.std.specs.FinMap.{find, is_sorted, entries, entries_sorted, get-entries}
@@ -7,7 +7,7 @@ use Rattle.std.specs.FinMap.Entries.{below_all}
 use Rattle.std.proofs.lemmas.Bool.Decides.{nat_tests}
 use Rattle.call_slab.specs.declared.call.Call.{Call}
 use Rattle.ipc_ids.specs.declared.numbers.TaskNo.{TaskNo}
-use Rattle.answerbox.specs.Calls.{CallTable, call_at, is_caller, first_from, calls_of, next_of}
+use Rattle.answerbox.specs.Calls.{CallTable, call_at, is_caller, first_from, calls_of}
 use Rattle.answerbox.proofs.Fronts.{first, second, greater, ties, not_tied, key_same}
 
 -- a call of the entries that t made and whose number is at least low
@@ -60,13 +60,3 @@ calls_of_live q t c is =
 
 pub calls_of_none : (q : CallTable) (t : TaskNo) (k : ℕ) (c : Call) → calls_of q t ≡ None → call_at q k ≡ Some c → is_caller t c.caller ≡ false
 calls_of_none q t k c none is = none_found t 0 (entries q.records) k c none (sym (get-entries q.records k) ∙ is) (omega arith)
-
--- what the next call of the same caller is, and that there is none
-pub next_of_live : (q : CallTable) (n : ℕ) (b c : Call) (t : TaskNo) → call_at q n ≡ Some b → b.caller ≡ Some t → next_of q n ≡ Some c → IsCallFrom t (n + 1) (call_at q) c
-next_of_live q n b c t at from is =
-    let h = found t (n + 1) (entries q.records) c (entries_sorted q.records) (rw (at, from) at is) in
-    record { number = h.number; is = get-entries q.records h.number ∙ h.is; made = h.made; from = h.from }
-
-pub next_of_none : (q : CallTable) (n : ℕ) (b : Call) (t : TaskNo) (k : ℕ) (c : Call) → call_at q n ≡ Some b → b.caller ≡ Some t → next_of q n ≡ None → n < k → call_at q k ≡ Some c → is_caller t c.caller ≡ false
-next_of_none q n b t k c at from none above is =
-    none_found t (n + 1) (entries q.records) k c (rw (at, from) at none) (sym (get-entries q.records k) ∙ is) (omega arith)

@@ -1,5 +1,5 @@
 -- How many live calls pass a test, after each change of the calls.
-use Rattle.std.proofs.Common.{◌≡◌, ℕ, suc, ◌≤◌, length, ◌+◌, Bool, true, false, cond, ◌&&◌, List, [], ◌∷◌, Option, None, Some, refl, ap, sym, ◌∙◌, arith}
+use Rattle.std.proofs.Common.{◌≡◌, ℕ, suc, ◌≤◌, length, ◌+◌, Bool, true, false, cond, List, [], ◌∷◌, Option, None, Some, refl, ap, sym, ◌∙◌, arith}
 use Rattle.std.specs.Ordering.{nat_cmp, eq_by_cmp, is_eq}
 use Rattle.std.specs.Cmp.{nat_cmp_total}
 use Rattle.std.specs.declared.cmp.Ordering.{Ordering}
@@ -10,7 +10,7 @@ use Rattle.std.proofs.lemmas.Bool.Decides.{nat_tests}
 use Rattle.call_slab.specs.declared.call.Call.{Call}
 use Rattle.call_slab.specs.declared.call.Place.{Place}
 use Rattle.ipc_ids.specs.declared.numbers.Label.{Label}
-use Rattle.answerbox.specs.Calls.{CallTable, call_at, enqueue, without_call, with_record, put_at, with_place, with_change, without_caller, count_of, is_active_on, same_label, active_calls}
+use Rattle.answerbox.specs.Calls.{CallTable, call_at, enqueue, without_call, with_record, put_at, count_of, is_active_on, active_calls}
 
 placed : (o : Ordering) (n : ℕ) (c : Call) (p : Call → Bool) (e : ℕ × Call) (es rest : List (ℕ × Call)) → is_eq o ≡ false → count_of p rest ≡ cond (p c) 1 0 + count_of p es → count_of p (by_order o ((n, c) ∷ e ∷ es) ((e.0, c) ∷ es) (e ∷ rest)) ≡ cond (p c) 1 0 + count_of p (e ∷ es)
 placed Less n c p e es rest apart h = refl
@@ -109,12 +109,6 @@ count-with_record test q c d is = count-replace test q.records d.number.0 c d is
 pub count-put_at : (test : Call → Bool) (q : CallTable) (c d : Call) (place : Place) → call_at q d.number.0 ≡ Some c → cond (test c) 1 0 + count_of test (entries (put_at q d place).records) ≡ cond (test (record d { place = place; stamp = q.next_stamp })) 1 0 + count_of test (entries q.records)
 count-put_at test q c d place is = count-replace test q.records d.number.0 c (record d { place = place; stamp = q.next_stamp }) is
 
-pub count-with_place : (test : Call → Bool) (q : CallTable) (n : ℕ) (c : Call) (place : Place) → call_at q n ≡ Some c → c.number.0 ≡ n → cond (test c) 1 0 + count_of test (entries (with_place q n place).records) ≡ cond (test (record c { place = place; stamp = q.next_stamp })) 1 0 + count_of test (entries q.records)
-count-with_place test q n c place is same = rw is (count-put_at test q c c place (ap (call_at q) same ∙ is))
-
-pub count-with_change : (test : Call → Bool) (q : CallTable) (n : ℕ) (c : Call) (change : Call → Call) → call_at q n ≡ Some c → (change c).number.0 ≡ n → cond (test c) 1 0 + count_of test (entries (with_change q n change).records) ≡ cond (test (change c)) 1 0 + count_of test (entries q.records)
-count-with_change test q n c change is same = rw is (count-with_record test q c (change c) (ap (call_at q) same ∙ is))
-
 at_least_one : (b : Bool) (x y : ℕ) → b ≡ true → x ≡ cond b 1 0 + y → 1 ≤ x
 at_least_one true x y e h = omega arith
 at_least_one false x y e h = absurd (cc e)
@@ -131,26 +125,6 @@ count_stays x y before after h e = omega arith
 -- a call is active or not wherever it stands
 pub active-put_at : (q : CallTable) (c d : Call) (place : Place) (label : Label) → call_at q d.number.0 ≡ Some c → is_active_on label d ≡ is_active_on label c → active_calls (put_at q d place) label ≡ active_calls q label
 active-put_at q c d place label is same = count_stays (cond (is_active_on label c) 1 0) (cond (is_active_on label d) 1 0) _ _ (count-put_at (is_active_on label) q c d place is) (ap (λ (b : Bool). cond b 1 0) same)
-
-pub active-with_place : (q : CallTable) (n : ℕ) (c : Call) (place : Place) (label : Label) → call_at q n ≡ Some c → c.number.0 ≡ n → active_calls (with_place q n place) label ≡ active_calls q label
-active-with_place q n c place label is same = rw is (active-put_at q c c place label (ap (call_at q) same ∙ is) refl)
-
--- a change that leaves the caller and the phone leaves what is active
-pub active-with_change : (q : CallTable) (n : ℕ) (c : Call) (change : Call → Call) (label : Label) → call_at q n ≡ Some c → (change c).number.0 ≡ n → is_active_on label (change c) ≡ is_active_on label c → active_calls (with_change q n change) label ≡ active_calls q label
-active-with_change q n c change label is number same = count_stays (cond (is_active_on label c) 1 0) (cond (is_active_on label (change c)) 1 0) _ _ (count-with_change (is_active_on label) q n c change is number) (ap (λ (b : Bool). cond b 1 0) same)
-
-never : (b : Bool) → (b && false) ≡ false
-never true = refl
-never false = refl
-
-not_counted : (x y z : ℕ) (b : Bool) → b ≡ false → x + y ≡ cond b 1 0 + z → x + y ≡ z
-not_counted x y z true e h = absurd (cc e)
-not_counted x y z false e h = omega arith
-
--- a call whose caller has ended is not active
-pub active-without_caller : (q : CallTable) (n : ℕ) (c : Call) (label : Label) → call_at q n ≡ Some c → c.number.0 ≡ n → cond (is_active_on label c) 1 0 + active_calls (without_caller q n) label ≡ active_calls q label
-active-without_caller q n c label is number =
-    not_counted _ _ _ _ (never (same_label c.from label)) (count-with_change (is_active_on label) q n c (λ d. record d { caller = None }) is number)
 
 pub active-enqueue : (q : CallTable) (c : Call) (label : Label) → call_at q c.number.0 ≡ None → active_calls (enqueue q c) label ≡ cond (is_active_on label c) 1 0 + active_calls q label
 active-enqueue q c label free = count-enqueue (is_active_on label) q c free

@@ -13,11 +13,6 @@ use Rattle.answerbox.specs.Places.{IsFrontOf, HasNoCalls}
 abbrev pick : Place → Option Call → Call → Option Call
 pick place best c = if same_place c.place place then sooner best c else best
 
--- each entry at the place is number n, or came later
-abbrev Later : ℕ → Call → Place → List (ℕ × Call) → Type 0
-Later n c place [] = Unit {0}
-Later n c place (e ∷ es) = (same_place e.1.place place ≡ true → (e.0 ≡ n) ⊎ (c.stamp < e.1.stamp)) × Later n c place es
-
 pub second : (a b : Bool) → T (a && b) → T b
 second true b p = p
 second false b p = absurd p
@@ -29,70 +24,11 @@ first false b p = p
 lt_of : (a b : ℕ) → T (is_lt (nat_cmp a b)) → a < b
 lt_of a b h = grind (arith, nat_tests)
 
-not_less : (m n : ℕ) (x y : Option Call) → n < m → cond (nat_lt m n) x y ≡ y
-not_less m n x y h = grind (arith, nat_tests)
-
-is_less : (m n : ℕ) (x y : Option Call) → m < n → cond (nat_lt m n) x y ≡ x
-is_less m n x y h = grind (arith, nat_tests)
-
--- a step of the search, where the best so far stays
-stays : (place : Place) (c d : Call) → (same_place d.place place ≡ true → c.stamp < d.stamp) → pick place (Some c) d ≡ Some c
-stays place c d h =
-    elim (same_place d.place place) as (λ b. (b ≡ true → c.stamp < d.stamp) → cond b (sooner (Some c) d) (Some c) ≡ Some c) [
-      | true ↦ λ g. not_less d.stamp c.stamp (Some d) (Some c) (g refl)
-      | false ↦ λ g. refl
-    ] h
-
-past : (place : Place) (n : ℕ) (c : Call) (es : List (ℕ × Call)) → T (below_all nat_cmp n es) → Later n c place es → fold (pick place) (Some c) (map (λ e. e.1) es) ≡ Some c
-past place n c [] b l = refl
-past place n c (e ∷ es) b l =
-    let apart : n < e.0 = lt_of n e.0 (first _ _ b) in
-    ap (λ o. fold (pick place) o (map (λ (x : ℕ × Call). x.1) es)) (stays place c e.1 (λ at. ⊎_elim (λ (same : e.0 ≡ n). absurd (omega arith)) (λ (g : c.stamp < e.1.stamp). g) (l.0 at)))
-    ∙ past place n c es (second _ _ b) l.1
-
--- nothing so far, or a call that came later
-abbrev Worse : Call → Option Call → Type 0
-Worse c None = Unit {0}
-Worse c (Some b) = c.stamp < b.stamp
-
-taken : (c : Call) (o : Option Call) → Worse c o → sooner o c ≡ Some c
-taken c None w = refl
-taken c (Some b) w = is_less c.stamp b.stamp (Some c) (Some b) w
-
-worse_sooner : (c d : Call) (o : Option Call) → Worse c o → c.stamp < d.stamp → Worse c (sooner o d)
-worse_sooner c d None w h = h
-worse_sooner c d (Some b) w h = elim (nat_lt d.stamp b.stamp) as (λ t. Worse c (cond t (Some d) (Some b))) [ true ↦ h | false ↦ w ]
-
-worse_pick : (place : Place) (c d : Call) (o : Option Call) → Worse c o → (same_place d.place place ≡ true → c.stamp < d.stamp) → Worse c (pick place o d)
-worse_pick place c d o w h =
-    elim (same_place d.place place) as (λ b. (b ≡ true → c.stamp < d.stamp) → Worse c (cond b (sooner o d) o)) [
-      | true ↦ λ g. worse_sooner c d o w (g refl)
-      | false ↦ λ g. w
-    ] h
-
-key_apart : (n k : ℕ) → is_eq (nat_cmp n k) ≡ false → k ≡ n → ⊥
-key_apart n k h e = grind (arith, nat_tests)
-
 pub key_same : (n k : ℕ) → is_eq (nat_cmp n k) ≡ true → k ≡ n
 key_same n k h = grind (arith, nat_tests)
 
 some_same : (c d : Call) → Some c ≡ Some d → c ≡ d
 some_same c d e = cc
-
-reached : (place : Place) (n : ℕ) (c : Call) (es : List (ℕ × Call)) (o : Option Call) → T (is_sorted nat_cmp es) → find nat_cmp n es ≡ Some c → same_place c.place place ≡ true → Later n c place es → Worse c o → fold (pick place) o (map (λ e. e.1) es) ≡ Some c
-reached place n c [] o s f at l w = absurd (cc f)
-reached place n c (e ∷ es) o s f at l w =
-    elim (is_eq (nat_cmp n e.0)) as (λ b. is_eq (nat_cmp n e.0) ≡ b → cond b (Some e.1) (find nat_cmp n es) ≡ Some c → fold (pick place) (pick place o e.1) (map (λ (x : ℕ × Call). x.1) es) ≡ Some c) [
-      | true ↦ λ t g.
-          let same : e.1 ≡ c = some_same e.1 c g in
-          let key : e.0 ≡ n = key_same n e.0 t in
-          let head : T (below_all nat_cmp e.0 es) = first _ _ s in
-          let start : pick place o e.1 ≡ Some c = rw (same, at) (taken c o w) in
-          ap (λ x. fold (pick place) x (map (λ (y : ℕ × Call). y.1) es)) start
-          ∙ past place n c es (rw key at head) l.1
-      | false ↦ λ t g.
-          reached place n c es (pick place o e.1) (second _ _ s) g at l.1 (worse_pick place c e.1 o w (λ here. ⊎_elim (λ (k : e.0 ≡ n). absurd (key_apart n e.0 t k)) (λ (h : c.stamp < e.1.stamp). h) (l.0 here)))
-    ] refl f
 
 -- what stands after an entry has a greater number
 pub greater : (n : ℕ) (es : List (ℕ × Call)) (k : ℕ) (d : Call) → T (below_all nat_cmp n es) → find nat_cmp k es ≡ Some d → n < k
@@ -109,18 +45,6 @@ ties n = grind (arith, nat_tests)
 
 pub not_tied : (k n : ℕ) → n < k → is_eq (nat_cmp k n) ≡ false
 not_tied k n h = grind (arith, nat_tests)
-
-later : (n : ℕ) (c : Call) (place : Place) (es : List (ℕ × Call)) → T (is_sorted nat_cmp es) → ((k : ℕ) (d : Call) → find nat_cmp k es ≡ Some d → same_place d.place place ≡ true → (k ≡ n) ⊎ (c.stamp < d.stamp)) → Later n c place es
-later n c place [] s h = tt
-later n c place (e ∷ es) s h =
-    let head : T (below_all nat_cmp e.0 es) = first _ _ s in
-    (h e.0 e.1 (rw (ties e.0)), later n c place es (second _ _ s) (λ k d f. h k d (rw (not_tied k e.0 (greater e.0 es k d head f)) f)))
-
--- the call at a place that came before each other there is the front
-pub front_is : (q : CallTable) (place : Place) (n : ℕ) (c : Call) → call_at q n ≡ Some c → same_place c.place place ≡ true → ((k : ℕ) (d : Call) → call_at q k ≡ Some d → same_place d.place place ≡ true → (k ≡ n) ⊎ (c.stamp < d.stamp)) → front q place ≡ Some c
-front_is q place n c is at h =
-    let s = entries_sorted q.records in
-    reached place n c (entries q.records) None s (sym (get-entries q.records n) ∙ is) at (later n c place (entries q.records) s (λ k d f. h k d (get-entries q.records k ∙ f))) tt
 
 idle : (place : Place) (d : Call) (o : Option Call) → same_place d.place place ≡ false → pick place o d ≡ o
 idle place d o h = rw h

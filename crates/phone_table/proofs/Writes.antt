@@ -1,6 +1,6 @@
 -- What a row is after one phone of it was written, and what a pass over its phones finds.
-use Rattle.std.proofs.Common.{◌≡◌, ℕ, ◌+◌, ◌-◌, ◌<◌, ◌≤◌, List, [], ◌∷◌, length, get_or, map, drop, replicate, take, Some, refl, ap, arith, zero, suc}
-use Rattle.std.specs.Prelude.{slice_get, slice_index, if◌then◌else◌}
+use Rattle.std.proofs.Common.{◌≡◌, ℕ, ◌-◌, ◌≤◌, List, [], ◌∷◌, length, get_or, map, replicate, take, Some, refl, ap, arith, zero, suc}
+use Rattle.std.specs.Prelude.{slice_get, slice_index}
 use Rattle.std.proofs.Math.ListN.{set}
 use Rattle.std.specs.List.{refill}
 use Rattle.std.proofs.lemmas.List.{map-set, take-replicate, append-nil, length-set}
@@ -9,9 +9,8 @@ use Rattle.std.proofs.lemmas.Option.{slice_get_read, slice_get-map}
 use Rattle.std.proofs.lemmas.Bool.{ne_eqb}
 use Rattle.ipc_ids.specs.declared.message.PhoneState.{PhoneState}
 use Rattle.phone_table.specs.declared.phones.Phone.{Phone}
-use Rattle.phone_table.specs.Phones.{Row, with_phone, with_count, row_at, is_usable, first_usable_from}
-use Rattle.phone_table.specs.Usable.{usable_at}
-use Rattle.phone_table.specs.Views.{states_of, counts_of, row_of, rows_of}
+use Rattle.phone_table.specs.Phones.{Row, with_phone, with_count, row_at}
+use Rattle.phone_table.specs.Views.{row_of, rows_of}
 
 refilled : (phones written : List Phone) → length written ≡ length phones → refill (length phones) phones written ≡ written
 refilled phones written same = rw (same, drop-length phones, append-nil written, ← same) (take-length written)
@@ -25,22 +24,6 @@ pub count_written : (phones : List Phone) (p : ℕ) (blank : Phone) (count : ℕ
 count_written phones p blank count =
     let written : Phone = record { state = (get_or phones p blank).state; count = count } in
     rw (refilled phones (set phones p written) (length-set phones p written), map-set (λ (x : Phone). x.count) phones p written, map-set_same (λ (x : Phone). x.state) phones p written blank refl) refl
-
--- what is left at phone i is that phone and what is left after it
-pub next_phone : (phones : List Phone) (i : ℕ) (phone : Phone) → i < length phones → phone ≡ get_or phones i phone → drop i phones ≡ phone ∷ drop (suc i) phones
-next_phone [] i phone h is = absurd (omega (arith, h))
-next_phone (x ∷ phones) zero phone h is = rw is refl
-next_phone (x ∷ phones) (suc i) phone h is = next_phone phones i phone (omega (arith, h)) is
-
-pub phone_passed : (phones : List Phone) (i : ℕ) (phone : Phone) → i < length phones → phone ≡ get_or phones i phone → first_usable_from i (states_of (drop i phones)) (counts_of (drop i phones)) ≡ (if is_usable phone.state phone.count then Some i else first_usable_from (i + 1) (states_of (drop (i + 1) phones)) (counts_of (drop (i + 1) phones)))
-phone_passed phones i phone h is =
-    let next : i + 1 ≡ suc i = omega arith in
-    rw (next_phone phones i phone h is, next) refl
-
-pub usable_there : (phones : List Phone) (i : ℕ) (phone : Phone) → i < length phones → phone ≡ get_or phones i phone → usable_at (row_of phones) i ≡ is_usable phone.state phone.count
-usable_there [] i phone h is = absurd (omega (arith, h))
-usable_there (x ∷ phones) zero phone h is = rw is refl
-usable_there (x ∷ phones) (suc i) phone h is = usable_there phones i phone (omega (arith, h)) is
 
 pub counted : (counts : List ℕ) (p count : ℕ) → slice_get counts p ≡ Some count → slice_index counts p ≡ count
 counted [] p count h = absurd (cc h)

@@ -28,7 +28,7 @@ impl Phone {
         count: 0,
     };
 
-    /// Whether the phone may be handed out.
+    /// Whether the phone may be handed out: it is free, or hung up without an active call.
     fn is_usable(&self) -> bool
         ensures { result ≡ is_usable self.now.state self.now.count }
     {
@@ -58,7 +58,7 @@ impl Model for Phones {
 }
 
 impl Phones {
-    /// So many free phones, without calls.
+    /// A task's phones, 1 to 64, all free and without calls.
     pub fn new(limit: u32) -> Phones
         requires some { 1 ≤ limit }
         requires few { limit ≤ 64 }
@@ -88,24 +88,24 @@ impl Phones {
         self.phones[p.0 as usize].count
     }
 
-    /// The phone has one active call more.
+    /// Counts one active call more on the phone.
     pub fn count_up(&mut self, p: PhoneNo)
         requires in_range { p.0 < length self.old.states }
         requires few { slice_index self.old.counts p.0 < 2 ^ 31 }
         ensures { self.new ≡ with_count self.old p.0 (slice_index self.old.counts p.0 + 1) }
     {
         let count = self.active(p);
-        self.put_count(p.0 as usize, count + 1);
+        self.put_count(p, count + 1);
     }
 
-    /// The phone has one active call less.
+    /// Counts one active call less on the phone.
     pub fn count_down(&mut self, p: PhoneNo)
         requires in_range { p.0 < length self.old.states }
         requires positive { 0 < slice_index self.old.counts p.0 }
         ensures { self.new ≡ with_count self.old p.0 (slice_index self.old.counts p.0 - 1) }
     {
         let count = self.active(p);
-        self.put_count(p.0 as usize, count - 1);
+        self.put_count(p, count - 1);
     }
 
     /// The usable phone of the least number; `None` where no phone is usable.
@@ -122,85 +122,88 @@ impl Phones {
         None
     }
 
-    /// A usable phone waits from now on for whom it is to lead to.
+    /// Keeps a usable phone for a connection that is still to be made.
     pub fn reserve(&mut self, p: PhoneNo)
         requires in_range { p.0 < length self.old.states }
         requires usable { usable_at self.old p.0 ≡ true }
         ensures { self.new ≡ with_phone self.old p.0 PhoneState.Connecting }
     {
-        self.put_state(p.0 as usize, PhoneState::Connecting);
+        self.put_state(p, PhoneState::Connecting);
     }
 
-    /// A phone that waited leads to that task from now on.
+    /// Connects a kept phone to that task.
     pub fn connect(&mut self, p: PhoneNo, to: TaskNo)
         requires waits { slice_get self.old.states p.0 ≡ Some PhoneState.Connecting }
         ensures { self.new ≡ with_phone self.old p.0 (PhoneState.Connected to) }
     {
-        self.put_state(p.0 as usize, PhoneState::Connected(to));
+        self.put_state(p, PhoneState::Connected(to));
     }
 
-    /// A phone that waited is free again.
+    /// Frees a kept phone, which no connection came to.
     pub fn free(&mut self, p: PhoneNo)
         requires waits { slice_get self.old.states p.0 ≡ Some PhoneState.Connecting }
         ensures { self.new ≡ with_phone self.old p.0 PhoneState.Free }
     {
-        self.put_state(p.0 as usize, PhoneState::Free);
+        self.put_state(p, PhoneState::Free);
     }
 
-    /// The task to which a phone leads is gone.
+    /// Slams a connected phone, whose task has ended.
     pub fn slam(&mut self, p: PhoneNo)
         requires leads { IsConnected (slice_get self.old.states p.0) }
         ensures { self.new ≡ with_phone self.old p.0 PhoneState.Slammed }
     {
-        self.put_state(p.0 as usize, PhoneState::Slammed);
+        self.put_state(p, PhoneState::Slammed);
     }
 
-    /// A free phone leads to that task from now on.
+    /// Connects a free phone to that task.
     pub fn wire(&mut self, p: PhoneNo, to: TaskNo)
         requires free { slice_get self.old.states p.0 ≡ Some PhoneState.Free }
         ensures { self.new ≡ with_phone self.old p.0 (PhoneState.Connected to) }
     {
         let wired = PhoneState::Connected(to);
-        self.put_state(p.0 as usize, wired);
+        self.put_state(p, wired);
     }
 
-    /// Hangs the phone up, where it leads or led to a task, and says whom to tell.
+    /// Hangs up a phone that is connected or slammed, and says whom to tell.
     ///
     /// # Errors
     ///
-    /// `ENOENT` where the task has no such phone, `EINVAL` where it is free, waits or is hung up.
+    /// `ENOENT` where the task has no such phone; `EINVAL` where it is free, kept or hung up.
     pub fn hangup(&mut self, p: u64) -> Result<Hung, Code>
         ensures answer { result ≡ hangup_answer (slice_get self.old.states p) }
-        ensures row { self.new ≡ after_hangup self.old p (hangup_answer (slice_get self.old.states p)) }
+        ensures row { self.new ≡ after_hangup self.old p result }
         ensures few { OnOk result (p < 64) }
     {
-        match self.state(p) {
-            None => Err(Code::ENOENT),
-            Some(PhoneState::Connected(to)) => {
-                self.put_state(p as usize, PhoneState::HungUp);
+        let Some(state) = self.state(p) else {
+            return Err(Code::ENOENT);
+        };
+        let phone = PhoneNo(p as u32);
+        match state {
+            PhoneState::Connected(to) => {
+                self.put_state(phone, PhoneState::HungUp);
                 Ok(Hung::Sent(to))
             }
-            Some(PhoneState::Slammed) => {
-                self.put_state(p as usize, PhoneState::HungUp);
+            PhoneState::Slammed => {
+                self.put_state(phone, PhoneState::HungUp);
                 Ok(Hung::Silent)
             }
-            Some(_) => Err(Code::EINVAL),
+            PhoneState::Free | PhoneState::Connecting | PhoneState::HungUp => Err(Code::EINVAL),
         }
     }
 
-    /// The phone has this state.
-    fn put_state(&mut self, p: usize, state: PhoneState)
-        requires { p < length self.old.states }
-        ensures { self.new ≡ with_phone self.old p state }
+    /// Gives the phone this state.
+    fn put_state(&mut self, p: PhoneNo, state: PhoneState)
+        requires { p.0 < length self.old.states }
+        ensures { self.new ≡ with_phone self.old p.0 state }
     {
-        self.phones[p].state = state;
+        self.phones[p.0 as usize].state = state;
     }
 
-    /// The phone has so many active calls.
-    fn put_count(&mut self, p: usize, count: u32)
-        requires { p < length self.old.states }
-        ensures { self.new ≡ with_count self.old p count }
+    /// Gives the phone this number of active calls.
+    fn put_count(&mut self, p: PhoneNo, count: u32)
+        requires { p.0 < length self.old.states }
+        ensures { self.new ≡ with_count self.old p.0 count }
     {
-        self.phones[p].count = count;
+        self.phones[p.0 as usize].count = count;
     }
 }
