@@ -4,7 +4,7 @@ use Rattle.std.specs.Prelude.{◌==◌, if◌then◌else◌, IsSome, slice_get}
 use Rattle.std.specs.Option.{option_map_or}
 use Rattle.std.specs.Ordering.{nat_cmp}
 use Rattle.std.proofs.lemmas.Bool.{cases_eq, eqb-true, eq-eqb, ne_eqb, false≢true}
-use Rattle.std.specs.FinMap.{len, len-empty, entries}
+use Rattle.std.specs.FinMap.{len-empty, entries}
 use Rattle.ipc_ids.specs.declared.numbers.TaskNo.{TaskNo}
 use Rattle.ipc_ids.specs.declared.numbers.Label.{Label}
 use Rattle.ipc_ids.specs.declared.message.PhoneState.{PhoneState}
@@ -17,11 +17,10 @@ use Rattle.call_slab.specs.declared.call.Place.TheVariants.{Incoming, Dispatched
 use Rattle.answerbox.specs.Calls.{CallTable, no_calls, call_at, enqueue, put_at, without_call, with_record, count_of, is_caller, same_label, is_active_on, active_calls}
 use Rattle.answerbox.proofs.Counts.{count-len, count-enqueue, count-without_call, count-with_record, count-put_at}
 use Rattle.phone_table.specs.Phones.{Row, state_at, is_usable, first_usable, first_usable_from}
-use Rattle.cleanup.specs.State.{KernelState, Transition, start, is_alive, phone_at, label_of, with_state_at, with_phone, with_calls, with_task}
+use Rattle.cleanup.specs.State.{KernelState, Transition, live_calls, start, is_alive, phone_at, label_of, with_state_at, with_phone, with_calls, with_task}
 use Rattle.cleanup.specs.Counts.{label_at}
 use Rattle.cleanup.specs.Sound.{IsSound}
-use Rattle.cleanup.specs.Settling.{bare_reply, settle, settle_for, lives, drop_answer, forget_call}
-use Rattle.cleanup.specs.HangingUp.{hangup_call, hang_up}
+use Rattle.cleanup.specs.Joins.{bare_reply, settle, settle_for, lives, drop_answer, forget_call, hangup_call, hang_up}
 use Rattle.cleanup.specs.Kill.{width, mark_ended, hang_up_at, slam, slam_at, first_at, first_call_of, settle_call, kill}
 use Rattle.cleanup.specs.Limits.{is_hangup, awaited_calls, hangup_calls, IsIdle, IsWithinLimits, IsRowOf}
 use Rattle.cleanup.proofs.Rows.{some_of}
@@ -311,11 +310,11 @@ record AndWithin (I : KernelState → Type 0) (j : KernelState) : Type 0 where
   pub fact : I j
   pub within : IsWithinLimits j
 
-pub within_kill : (k : KernelState) (t : TaskNo) → IsSound k → is_alive k t ≡ true → len k.calls.records < k.calls.next_number → IsWithinLimits k → IsWithinLimits (kill k t).state
-within_kill k t sound alive few h =
+pub within_kill : (k : KernelState) (t : TaskNo) → IsSound k → is_alive k t ≡ true → IsWithinLimits k → IsWithinLimits (kill k t).state
+within_kill k t sound alive h =
     let marks : List Bool = k.tasks.alive in
     let first : KernelState = mark_ended k t in
-    let s0 : IsEnding marks first = record { sound = sound; few = few } in
+    let s0 : IsEnding marks first = record { sound = sound } in
     let h0 : AndWithin (IsEnding marks) first = record { fact = s0; within = record { awaited = h.awaited; hangups = h.hangups; hung_up = h.hung_up; idle = h.idle } } in
     let h1 : AndWithin (IsEnding marks) (after_hangups t k) = each_keeps (hang_up_at t) (AndWithin (IsEnding marks))
         (λ j p s. record { fact = hang_up_ends marks t j p alive s.fact; within = within_hang_up j t p (phone_at j t p) refl s.within (next_free (with_marks marks j).tasks j.calls s.fact.sound.calls) })
@@ -324,19 +323,19 @@ within_kill k t sound alive few h =
     let s2 : IsAlone marks t (after_slams t k) = phones_slammed marks t (after_hangups t k) (own_phones_hung_up marks t first alive s0) in
     let h3 : AndWithin (IsAlone marks t) (after_incoming t k) = drain_keeps (first_at (Incoming t)) settle_call (AndWithin (IsAlone marks t))
         (λ j c s is. record { fact = incoming_alone marks t j c s.fact is; within = within_settle j c (bare_reply ehangup) None s.within (front_at marks j (Incoming t) c s.fact.silent.ending is).0 })
-        (after_slams t k).calls.next_number (after_slams t k) (record { fact = s2; within = h2 }) in
+        (live_calls (after_slams t k)) (after_slams t k) (record { fact = s2; within = h2 }) in
     let s3 : IsUncalled marks t (after_incoming t k) = incoming_settled marks t (after_slams t k) s2 in
     let h4 : AndWithin (IsUncalled marks t) (after_dispatched t k) = drain_keeps (first_at (Dispatched t)) settle_call (AndWithin (IsUncalled marks t))
         (λ j c s is. record { fact = dispatched_uncalled marks t j c s.fact is; within = within_settle j c (bare_reply ehangup) None s.within (front_at marks j (Dispatched t) c s.fact.alone.silent.ending is).0 })
-        (after_incoming t k).calls.next_number (after_incoming t k) (record { fact = s3; within = h3.within }) in
+        (live_calls (after_incoming t k)) (after_incoming t k) (record { fact = s3; within = h3.within }) in
     let s4 : IsWithoutHeld marks t (after_dispatched t k) = dispatched_settled marks t (after_incoming t k) s3 in
     let h5 : AndWithin (IsWithoutHeld marks t) (after_answers t k) = drain_keeps (first_at (Answers t)) (drop_answer t) (AndWithin (IsWithoutHeld marks t))
         (λ j c s is. record { fact = drop_idle marks t j c s.fact is; within = within_over j c s.within (front_at marks j (Answers t) c s.fact.uncalled.alone.silent.ending is).0 })
-        (after_dispatched t k).calls.next_number (after_dispatched t k) (record { fact = s4; within = h4.within }) in
+        (live_calls (after_dispatched t k)) (after_dispatched t k) (record { fact = s4; within = h4.within }) in
     let s5 : IsUnanswered marks t (after_answers t k) = answers_dropped marks t (after_dispatched t k) s4 in
     let h6 : AndWithin (IsUnanswered marks t) (kill k t).state = drain_keeps (first_call_of t) forget_call (AndWithin (IsUnanswered marks t))
         (λ j c s is. record { fact = forget_unanswered marks t j c s.fact is; within = within_forget j c s.within (call_from marks t j c s.fact.idle.uncalled.alone.silent.ending is).0 })
-        (after_answers t k).calls.next_number (after_answers t k) (record { fact = s5; within = h5.within }) in
+        (live_calls (after_answers t k)) (after_answers t k) (record { fact = s5; within = h5.within }) in
     h6.within
 
 -- a phone that is handed out

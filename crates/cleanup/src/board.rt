@@ -175,7 +175,7 @@ impl Switchboard {
     pub fn next_number(&self) -> CallNo
         ensures number { result.0 ≡ self.now.state.calls.next_number }
         ensures free { call_at self.now.state.calls self.now.state.calls.next_number ≡ None }
-        ensures few { live_calls self.now.state < result.0 }
+        ensures few { live_calls self.now.state < self.now.state.calls.next_number }
     {
         self.boxes.next_number()
     }

@@ -1,6 +1,5 @@
 //! The laws of a kill, over sound states, and of the active calls of a phone.
-ghost use Rattle.std.specs.Prelude.{◌≡◌, ℕ, ◌<◌, ◌≤◌, true, Some};
-ghost use Rattle.std.specs.FinMap.{len};
+ghost use Rattle.std.specs.Prelude.{◌≡◌, ℕ, ◌≤◌, true, Some};
 ghost use Rattle.ipc_ids.specs.declared.numbers.TaskNo.{TaskNo};
 ghost use Rattle.cleanup.specs.State.{KernelState, is_alive};
 ghost use Rattle.cleanup.specs.Sound.{IsSound};
@@ -44,7 +43,7 @@ pub fn active_calls_are_few()
         → first_usable row ≡ Some p → active_calls k.calls (label_of t p) ≡ 0
     }
     ensures kill {
-        (k : KernelState) (t : TaskNo) → IsSound k → is_alive k t ≡ true → len k.calls.records < k.calls.next_number
+        (k : KernelState) (t : TaskNo) → IsSound k → is_alive k t ≡ true
         → IsWithinLimits k → IsWithinLimits (kill k t).state
     }
 {}

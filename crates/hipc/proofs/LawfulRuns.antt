@@ -33,7 +33,7 @@ tasks_fit k (task ∷ tasks) fits = tasks_fit (with_task k task.limit) tasks (ta
 wires_fit : (k : KernelState) (wires : List Wire) → AreOpen k wires → HistoryFits [] k → HistoryFits [] (with_wires k wires)
 wires_fit k [] ready fits = fits
 wires_fit k (wire ∷ wires) ready fits =
-    wires_fit (with_wire k wire) wires ready.1 (wire_fits [] k wire.from wire.phone.0 wire.to fits ready.0.from ready.0.to)
+    wires_fit (with_wire k wire) wires ready.1 (wire_fits [] k wire.from wire.phone.0 wire.to fits ready.0.from ready.0.to ready.0.free)
 
 -- the state after an event
 abbrev Reaches : List Entry → RunTransition → Type 0

@@ -1,5 +1,5 @@
 -- A kill keeps what the history tells of the state.
-use Rattle.std.proofs.Common.{ℕ, suc, zero, ◌≡◌, ◌<◌, ◌+◌, ◌-◌, ◌⊎◌, Bool, true, false, not, Option, Some, None, List, [], ◌∷◌, ◌++◌, length, refl, sym, ◌∙◌, ap, subst, inl, inr, arith, set}
+use Rattle.std.proofs.Common.{ℕ, suc, zero, ◌≡◌, ◌+◌, ◌-◌, ◌⊎◌, Bool, true, false, not, Option, Some, None, List, [], ◌∷◌, ◌++◌, length, refl, sym, ◌∙◌, ap, subst, inl, inr, arith, set}
 use Rattle.std.specs.Prelude.{◌==◌, if◌then◌else◌, slice_get, unwrap_or}
 use Rattle.std.proofs.lemmas.Bool.{eqb-true, cases_eq, eq-eqb, ne_eqb, false≢true}
 use Rattle.std.specs.FinMap.{len}
@@ -26,6 +26,8 @@ use Rattle.cleanup.proofs.Histories.{then_tells, each_tells, drain_tells}
 use Rattle.cleanup.proofs.Silence.{IsEnding, own_phones_hung_up, phones_slammed}
 use Rattle.cleanup.proofs.Queues.{IsUnanswered, incoming_settled, dispatched_settled, answers_dropped, forget_unanswered, call_from, forget_step}
 use Rattle.cleanup.proofs.Killing.{sound_kill, after_hangups, after_slams, after_incoming, after_dispatched, ended_here, alive_elsewhere, kill_leaves_nothing, HasNothingOf}
+use Rattle.cleanup.proofs.Limits.{within_kill}
+use Rattle.kernel_core.proofs.ServedLimits.{within_event}
 use Rattle.kernel_core.specs.Serve.{kill_event}
 use Rattle.kernel_core.specs.History.{is_ended, life_at, IsGone, PastFits, HistoryFits, killed_entries}
 use Rattle.kernel_core.proofs.InEvent.{and_then, and_then-append, IsTask, CallerFits, IsHome, Agrees, InEvent, by_test, noted, is_told, front_at, phone_told, settled, dropped}
@@ -260,5 +262,6 @@ kill_fits h k t fits alive =
     let after = sound_kill k t fits.sound alive in
     record {
       sound = record { calls = after.calls; tasks = after.tasks };
+      limits = within_event (kill k t).state (within_kill k t fits.sound alive fits.limits);
       told = rw (past-append h (killed_entries t (kill_event k t))) (fits_later _ (kill k t).state (past_kills (past h) k fits.told fits.sound t alive));
     }

@@ -1,6 +1,6 @@
 -- A receive keeps its laws.
 use Rattle.std.proofs.Common.{◌≡◌, ℕ, zero, suc, ◌<◌, ◌≤◌, Bool, true, false, ◌⊎◌, inl, inr, Option, None, Some, List, [], ◌∷◌, ◌++◌, append_assoc, refl, ap, sym, subst, ◌∙◌, arith}
-use Rattle.std.specs.Prelude.{◌==◌, if◌then◌else◌}
+use Rattle.std.specs.Prelude.{if◌then◌else◌}
 use Rattle.std.specs.Option.{option_map_or}
 use Rattle.std.proofs.lemmas.Bool.{cases_eq, eqb-true, eq-eqb, ne_eqb, false≢true}
 use Rattle.std.specs.FinMap.{len, entries}
@@ -12,7 +12,7 @@ use Rattle.ipc_ids.specs.Methods.{phone_hungup}
 use Rattle.call_slab.specs.declared.call.Call.{Call}
 use Rattle.call_slab.specs.declared.call.Place.{Place}
 use Rattle.call_slab.specs.declared.call.Place.TheVariants.{Incoming, Dispatched, Answers}
-use Rattle.answerbox.specs.Calls.{CallTable, call_at, same_place, front, without_call, put_at, count_of}
+use Rattle.answerbox.specs.Calls.{CallTable, call_at, same_place, front, without_call, count_of}
 use Rattle.answerbox.proofs.Counts.{count-len, count-without_call}
 use Rattle.answerbox.proofs.Fronts.{front_live, front-is_front, no_front-has_no_calls}
 use Rattle.cleanup.specs.State.{KernelState, Transition, nothing, then_do, drain}
@@ -20,10 +20,9 @@ use Rattle.cleanup.specs.Sound.{IsSound}
 use Rattle.cleanup.specs.Joins.{drop_answer, receive_first}
 use Rattle.cleanup.specs.Serving.{Served}
 use Rattle.cleanup.proofs.Lookups.{at_insert, at_remove, chosen, same_call}
-use Rattle.cleanup.proofs.Repeats.{by_test}
 use Rattle.cleanup.proofs.Histories.{drain_tells}
 use Rattle.cleanup.proofs.Queues.{sound_drop}
-use Rattle.kernel_core.specs.Receiving.{unawaited, next_unawaited, drop_unawaited, receive_now, receive}
+use Rattle.kernel_core.specs.Receiving.{unawaited, next_unawaited, drop_unawaited, receive}
 use Rattle.kernel_core.specs.ReceiveLaws.{IsAwaited, IsHangupAnswer, IsFirst, HasNone, TellsAnswer, TellsCall, DropsHangupsOnly, IsLawfulReceive}
 
 -- the steps of a repetition come to an end: where each takes one call out of those that pass a test, and there are no

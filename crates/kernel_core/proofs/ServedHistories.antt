@@ -3,6 +3,7 @@ use Rattle.std.proofs.Common.{ℕ, ◌≡◌, Bool, true, false, not, Option, So
 use Rattle.std.specs.Prelude.{◌==◌, ◌-◌, if◌then◌else◌, slice_get, unwrap_or}
 use Rattle.std.specs.Option.{option_map_or}
 use Rattle.std.proofs.lemmas.Bool.{cases_eq, eq-eqb, ne_eqb, false≢true}
+use Rattle.std.specs.FinMap.{len}
 use Rattle.ipc_ids.specs.declared.numbers.TaskNo.{TaskNo}
 use Rattle.ipc_ids.specs.declared.numbers.Code.{Code}
 use Rattle.ipc_ids.specs.declared.message.Msg.{Msg}
@@ -35,6 +36,7 @@ use Rattle.cleanup.specs.Sound.{IsSound, IsPlaced, IsCaller}
 use Rattle.cleanup.proofs.Lookups.{at_insert, at_remove}
 use Rattle.cleanup.proofs.Histories.{drain_tells}
 use Rattle.cleanup.specs.Serving.{Served}
+use Rattle.kernel_core.proofs.ServedLimits.{serve_within}
 use Rattle.kernel_core.specs.Calling.{call_through, call_tested, call_over}
 use Rattle.kernel_core.specs.Receiving.{receive_now, unawaited, next_unawaited, drop_unawaited}
 use Rattle.kernel_core.specs.Answering.{held_call, answer_held}
@@ -324,5 +326,6 @@ past_serves p k fits sound t asked alive =
 pub serve_fits : (h : List Entry) (k : KernelState) (t : TaskNo) (asked : Request) → HistoryFits h k → is_alive k t ≡ true → HistoryFits (h ++ served_entries t asked (serve k t asked)) (serve k t asked).state
 serve_fits h k t asked fits alive = record {
   sound = sound_serve k t asked fits.sound alive;
+  limits = serve_within k t asked fits.sound fits.limits;
   told = rw (past-append h (served_entries t asked (serve k t asked))) (past_serves (past h) k fits.told fits.sound t asked alive);
 }

@@ -27,11 +27,10 @@ use Rattle.forwarding.specs.declared.passing.Forwarded.{Forwarded}
 use Rattle.forwarding.specs.declared.passing.ForwardFault.{ForwardFault}
 use Rattle.forwarding.specs.declared.passing.ForwardFault.TheVariants.{NotHeld, NotForwardable, NotConnected}
 use Rattle.forwarding.specs.Routes.{forward_answer, call_after, table_after}
-use Rattle.cleanup.specs.State.{KernelState, is_alive, phone_at, with_calls, with_event, label_of}
+use Rattle.cleanup.specs.State.{KernelState, live_calls, is_alive, phone_at, with_calls, with_event, label_of}
 use Rattle.cleanup.specs.Sound.{IsSound}
-use Rattle.cleanup.specs.Settling.{bare_reply, drop_answer}
-use Rattle.cleanup.specs.HangingUp.{new_call}
-use Rattle.cleanup.specs.Serving.{Served, receive_first}
+use Rattle.cleanup.specs.Joins.{bare_reply, drop_answer, new_call, receive_first}
+use Rattle.cleanup.specs.Serving.{Served}
 use Rattle.cleanup.specs.Limits.{is_hangup, IsIdle, IsWithinLimits}
 use Rattle.cleanup.proofs.Repeats.{by_test, drain_keeps}
 use Rattle.cleanup.proofs.Silence.{next_free}
@@ -39,8 +38,8 @@ use Rattle.cleanup.proofs.Queues.{IsLive, sound_drop}
 use Rattle.cleanup.proofs.Limits.{within_call, within_over, within_put, within_settle, within_hang_up}
 use Rattle.kernel_core.specs.Calling.{call_through, call_tested, call_over, call}
 use Rattle.kernel_core.specs.Receiving.{unawaited, next_unawaited, drop_unawaited, receive_now}
-use Rattle.kernel_core.specs.Answering.{held_by, answer_held}
-use Rattle.kernel_core.specs.Forwarding.{failed_forward, passing_on, forward_told}
+use Rattle.kernel_core.specs.Answering.{held_call, answer_held}
+use Rattle.kernel_core.specs.Forward.{failed_forward, passing_on, forward_told}
 use Rattle.kernel_core.specs.HangingUp.{hangup_over}
 use Rattle.kernel_core.specs.Serve.{serve, serve_request}
 use Rattle.kernel_core.proofs.Passing.{leads_of, passes}
@@ -111,7 +110,7 @@ module _ (t : TaskNo) (k : KernelState) (h : IsSound k) (w : IsWithinLimits k) w
   received None (Some c) first second = within_put k c c (Dispatched t) w (front_at k (Incoming t) c h second) refl refl refl
   received None None first second = w
 
-  answered : (n : ℕ) (reply : Reply) (o : Option Call) → call_at k.calls n ≡ o → Keeps (answer_held k t reply (held_by t o))
+  answered : (n : ℕ) (reply : Reply) (o : Option Call) → call_at k.calls n ≡ o → Keeps (answer_held k t reply (held_call t o))
   answered n reply None is = w
   answered n reply (Some c) is = by_test (λ (o : Option Call). Keeps (answer_held k t reply o)) (same_place c.place (Dispatched t)) (Some c) None (λ _. within_settle k c reply (Some t) w (ap (call_at k.calls) (h.calls.each n c is).number ∙ is)) (λ _. w)
 
@@ -157,7 +156,7 @@ unawaited_front (Some d) c e = by_discard d.discard e where
 drops_fine : (t : TaskNo) (k : KernelState) → IsFine k → IsFine (drop_unawaited t k).state
 drops_fine t k h = drain_keeps (next_unawaited t) (drop_answer t) IsFine
     (λ j c s is. record { sound = sound_drop j t c s.sound; within = within_over j c s.within (front_at j (Answers t) c s.sound (unawaited_front (front j.calls (Answers t)) c is)) })
-    k.calls.next_number k h
+    (live_calls k) k h
 
 serves_within : (k : KernelState) (t : TaskNo) (asked : Request) → IsSound k → IsWithinLimits k → IsWithinLimits (serve_request k t asked).state
 serves_within k t (request.Call p msg) h w = called t k h w p msg (phone_at k t p) refl

@@ -1,5 +1,5 @@
 -- Each request keeps a sound state sound, by the definitions alone.
-use Rattle.std.proofs.Common.{◌≡◌, ℕ, ◌+◌, ◌<◌, ◌≤◌, Bool, true, false, Option, None, Some, Result, Ok, Err, List, refl, ap, sym, ◌∙◌, arith, nat_lt, nat_le}
+use Rattle.std.proofs.Common.{◌≡◌, ℕ, Bool, true, false, Option, None, Some, Result, Ok, Err, List, refl, ap, sym, ◌∙◌, arith, nat_lt, nat_le}
 use Rattle.std.specs.Prelude.{◌==◌, if◌then◌else◌, IsSome}
 use Rattle.std.proofs.lemmas.Bool.{ne_eqb}
 use Rattle.std.proofs.lemmas.Bool.Decides.{nat_tests}
@@ -27,14 +27,13 @@ use Rattle.forwarding.specs.declared.passing.ForwardFault.TheVariants.{NotHeld, 
 use Rattle.forwarding.specs.Routes.{forward_answer, call_after, table_after}
 use Rattle.cleanup.specs.State.{KernelState, Transition, is_alive, phone_at, with_calls, with_phone, with_event, label_of}
 use Rattle.cleanup.specs.Sound.{IsPlaced, IsCaller, IsSound}
-use Rattle.cleanup.specs.Joins.{bare_reply, settle, settle_for, lives, drop_answer, new_call, hangup_call, hang_up, receive_first}
+use Rattle.cleanup.specs.Joins.{bare_reply, settle, settle_for, lives, drop_answer, new_call, hang_up, receive_first}
 use Rattle.cleanup.proofs.Soundness.{sound_enqueue, sound_put, sound_without, kept_calls}
 use Rattle.cleanup.proofs.Repeats.{by_test, drain_keeps}
 use Rattle.cleanup.proofs.Silence.{sound_hang_up}
-use Rattle.cleanup.proofs.Queues.{fewer_calls, as_many_calls}
 use Rattle.cleanup.specs.Serving.{Served}
 use Rattle.kernel_core.specs.Calling.{call_through, call_tested, call_over}
-use Rattle.kernel_core.specs.Receiving.{receive_now, unawaited, next_unawaited, drop_unawaited}
+use Rattle.kernel_core.specs.Receiving.{unawaited, next_unawaited, drop_unawaited}
 use Rattle.kernel_core.specs.Answering.{held_call, answer_held}
 use Rattle.kernel_core.specs.Forward.{failed_forward, passing_on, forward_told}
 use Rattle.kernel_core.specs.HangingUp.{hangup_over}

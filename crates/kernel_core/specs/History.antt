@@ -15,6 +15,7 @@ use Rattle.call_slab.specs.declared.call.Place.TheVariants as place
 use Rattle.answerbox.specs.Calls.{call_at}
 use Rattle.cleanup.specs.State.{KernelState, Transition}
 use Rattle.cleanup.specs.Sound.{IsSound}
+use Rattle.cleanup.specs.Limits.{IsWithinLimits}
 use Rattle.cleanup.specs.Serving.{Served}
 
 -- whether this is the number of a task that has ended; tasks are numbered from 1
@@ -61,9 +62,10 @@ pub record PastFits (p : List Tale) (k : KernelState) : Type 0 where
   pub ended : (t : ℕ) → is_killed t p ≡ is_ended k.tasks.alive t
   pub calls : (n : ℕ) → TellsOf p n (call_at k.calls n)
 
--- the state is sound, and the entries so far fit it
+-- the state is sound, its phones are within their limits, and the entries so far fit it
 pub record HistoryFits (h : List Entry) (k : KernelState) : Type 0 where
   pub sound : IsSound k
+  pub limits : IsWithinLimits k
   pub told : PastFits (past h) k
 
 -- the entries of a request: its head, what it did, and its outcome

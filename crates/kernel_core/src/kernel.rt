@@ -144,6 +144,7 @@ impl Kernel {
         ensures history { OnOk result ((h : List Entry) → HistoryFits h self.old
             → HistoryFits (h ++ killed_entries who (kill_event self.old who)) self.new) }
     {
+        let _next = self.board.next_number();
         self.board.end(who, out)?;
         self.board.count_event();
         Ok(())

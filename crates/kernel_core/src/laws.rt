@@ -1,5 +1,5 @@
 //! The laws of calls, for the entries of any events.
-ghost use Rattle.std.specs.Prelude.{List, ℕ, ◌≡◌, ◌<◌};
+ghost use Rattle.std.specs.Prelude.{List, ℕ, ◌≡◌, ◌<◌, ◌≤◌};
 ghost use Rattle.ipc_ids.specs.declared.numbers.TaskNo.{TaskNo};
 ghost use Rattle.ipc_ids.specs.declared.numbers.CallNo.{CallNo};
 ghost use Rattle.ipc_ids.specs.declared.message.Msg.{Msg};
@@ -9,6 +9,7 @@ ghost use Rattle.answerbox.specs.Calls.{active_calls};
 ghost use Rattle.ipc_ids.specs.declared.entry.Entry.{Entry};
 ghost use Rattle.ipc_ids.specs.Laws.{LivesAreLawful, AnsweredAtMostOnce, KillEndsHeldCalls};
 ghost use Rattle.cleanup.specs.State.{KernelState, label_of};
+ghost use Rattle.cleanup.specs.Counts.{label_at};
 ghost use Rattle.cleanup.specs.Limits.{IsWithinLimits};
 ghost use Rattle.cleanup.specs.Sound.{IsSound};
 ghost use Rattle.kernel_core.specs.History.{HistoryFits};
@@ -34,8 +35,8 @@ pub fn receives_are_lawful()
     }
 {}
 
-/// A call is accepted only over a phone with fewer than 64 active ones, and every request keeps the
-/// limits of all phones.
+/// A call is accepted only over a phone with fewer than 64 active ones, every request keeps the
+/// limits of all phones, and so no phone ever has more than 65 active calls.
 pub fn calls_stay_within_limits()
     ensures accepted {
         (k : KernelState) (t : TaskNo) (p : ℕ) (msg : Msg) (n : CallNo)
@@ -44,5 +45,9 @@ pub fn calls_stay_within_limits()
     ensures kept {
         (k : KernelState) (t : TaskNo) (asked : Request) → IsSound k
         → IsWithinLimits k → IsWithinLimits (serve k t asked).state
+    }
+    ensures most {
+        (h : List Entry) (k : KernelState) (t p : ℕ) → HistoryFits h k
+        → active_calls k.calls (label_at t p) ≤ 65
     }
 {}
