@@ -55,10 +55,6 @@ nobody place (e ∷ es) s h =
     let head : T (below_all nat_cmp e.0 es) = first _ _ s in
     ap (λ o. fold (pick place) o (map (λ (x : ℕ × Call). x.1) es)) (idle place e.1 None (h e.0 e.1 (rw (ties e.0)))) ∙ (nobody place es (second _ _ s) (λ k d f. h k d (rw (not_tied k e.0 (greater e.0 es k d head f)) f)))
 
--- a place where no call stands has no front
-pub front_is_none : (q : CallTable) (place : Place) → ((k : ℕ) (d : Call) → call_at q k ≡ Some d → same_place d.place place ≡ false) → front q place ≡ None
-front_is_none q place h = nobody place (entries q.records) (entries_sorted q.records) (λ k d f. h k d (get-entries q.records k ∙ f))
-
 sooner_of : (o : Option Call) (d c : Call) → sooner o d ≡ Some c → (o ≡ Some c) ⊎ ((d ≡ c) × (true ≡ true))
 sooner_of None d c g = inr (some_same d c g, refl)
 sooner_of (Some b) d c g =

@@ -1,4 +1,4 @@
-//! The record of a call, as `call_t` of HelenOS's kernel/generic/src/ipc, and the queues of an answerbox.
+//! The record of a call, as `call_t` of HelenOS, and the queues of an answerbox.
 
 use ipc_ids::{Buffer, CallNo, Label, Msg, Reply, TaskNo};
 

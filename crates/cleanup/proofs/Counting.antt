@@ -83,10 +83,6 @@ counted_without counts q n c s is = by_caller (is_caller c.from.task c.caller) r
 pub counted_put : (counts : List (List ℕ)) (q : CallTable) (c d : Call) (place : Place) → IsCounted counts q → call_at q d.number.0 ≡ Some c → ((l : Label) → is_active_on l d ≡ is_active_on l c) → IsCounted counts (put_at q d place)
 counted_put counts q c d place s is same t p n h = s t p n h ∙ sym (active-put_at q c d place (label_at t p) is (same (label_at t p)))
 
--- no more active calls than calls
-pub count_few : (counts : List (List ℕ)) (q : CallTable) (t p n : ℕ) → IsCounted counts q → count_at counts t p ≡ Some n → n ≤ len q.records
-count_few counts q t p n s is = let m = s t p n is in let l = active-len q (label_at t p) in omega arith
-
 -- a live call is counted at its phone unless its caller has ended
 pub count_positive : (counts : List (List ℕ)) (q : CallTable) (m n : ℕ) (c : Call) → IsCounted counts q → call_at q m ≡ Some c → count_at counts c.from.task.0 c.from.phone.0 ≡ Some n → is_caller c.from.task c.caller ≡ true → 1 ≤ n
 count_positive counts q m n c s is count own =

@@ -19,7 +19,7 @@ use Rattle.cleanup.proofs.Lookups.{at_insert, at_remove, same_call}
 use Rattle.cleanup.proofs.Repeats.{by_test, each_keeps, drain_keeps}
 use Rattle.cleanup.proofs.Silence.{IsEnding, IsAlone, slams_keep, own_phones_hung_up, phones_slammed}
 use Rattle.cleanup.proofs.Queues.{IsLive, IsUncalled, IsIdle, IsUnanswered, stands_at, is_call_of, front_at, call_from, forget_step, forget_unanswered, incoming_alone, incoming_settled, dispatched_uncalled, dispatched_settled, drop_idle, answers_dropped}
-use Rattle.cleanup.proofs.Killing.{IsSteady, HasNothingOf, kill_leaves_nothing, ended_here, alive_elsewhere, hang_up_steady, slam_steady, settle_steady, after_hangups, after_slams, after_incoming, after_dispatched, after_answers}
+use Rattle.cleanup.proofs.Killing.{KeepsTheRest, HasNothingOf, kill_leaves_nothing, ended_here, alive_elsewhere, hang_up_steady, slam_steady, settle_steady, after_hangups, after_slams, after_incoming, after_dispatched, after_answers}
 
 -- a call stands at a task as one that waits or is held
 abbrev pub IsWith : TaskNo → Call → Type 0
@@ -92,7 +92,7 @@ module _ (k : KernelState) (t : TaskNo) (sound : IsSound k) (alive : is_alive k 
   Comes j = Becomes t c (call_at j.calls n)
 
   -- of the callers that were alive, only t has ended
-  caller_gone : (j : KernelState) → IsSteady now_dead j → (u : TaskNo) → c.caller ≡ Some u → is_alive j u ≡ false → u.0 ≡ t.0
+  caller_gone : (j : KernelState) → KeepsTheRest now_dead j → (u : TaskNo) → c.caller ≡ Some u → is_alive j u ≡ false → u.0 ≡ t.0
   caller_gone j s u from dead = elim (cases_eq u.0 t.0) [
     | inl e ↦ e
     | inr ne ↦
@@ -100,7 +100,7 @@ module _ (k : KernelState) (t : TaskNo) (sound : IsSound k) (alive : is_alive k 
         absurd (false≢true (sym dead ∙ ap (λ (m : List Bool). alive_in m u.0) s.alive ∙ alive_elsewhere k.tasks.alive t.0 alive u.0 ne ∙ was.1))
   ]
 
-  caller_other : (j : KernelState) → IsSteady now_dead j → (u : TaskNo) → is_alive j u ≡ true → u.0 ≡ t.0 → ⊥
+  caller_other : (j : KernelState) → KeepsTheRest now_dead j → (u : TaskNo) → is_alive j u ≡ true → u.0 ≡ t.0 → ⊥
   caller_other j s u lives e = false≢true (sym (ended_here k.tasks.alive t.0 alive) ∙ ap (alive_in now_dead.tasks.alive) (sym e) ∙ sym (ap (λ (m : List Bool). alive_in m u.0) s.alive) ∙ lives)
 
   -- the kernel answers a call
@@ -110,7 +110,7 @@ module _ (k : KernelState) (t : TaskNo) (sound : IsSound k) (alive : is_alive k 
   settle_other j d (Some u) false ne h = subst (Becomes t c) (sym (gone_other j.calls d.number.0 n ne)) h
   settle_other j d (Some u) true ne h = subst (Becomes t c) (sym (put_other j.calls d.number.0 n (record d { reply = bare_reply ehangup; place = Answers u; stamp = j.calls.next_stamp }) ne)) h
 
-  settle_it : (j : KernelState) → IsSteady now_dead j → c.number.0 ≡ n → IsWith t c → (o : Option TaskNo) (b : Bool) → c.caller ≡ o → lives j o ≡ b → Comes (settle_for j c (bare_reply ehangup) None o b).state
+  settle_it : (j : KernelState) → KeepsTheRest now_dead j → c.number.0 ≡ n → IsWith t c → (o : Option TaskNo) (b : Bool) → c.caller ≡ o → lives j o ≡ b → Comes (settle_for j c (bare_reply ehangup) None o b).state
   settle_it j s e w None b from l = inr (inr (inl (record { at_task = inl w; alone = λ u f. absurd (none_some u (sym from ∙ f)); over = gone_here j.calls c.number.0 n e })))
   settle_it j s e w (Some u) false from l = inr (inr (inl (record {
     at_task = inl w;
@@ -126,7 +126,7 @@ module _ (k : KernelState) (t : TaskNo) (sound : IsSound k) (alive : is_alive k 
     answer = put_here j.calls c.number.0 n (record c { reply = bare_reply ehangup; place = Answers u; stamp = j.calls.next_stamp }) e;
   }))
 
-  settle_comes : (j : KernelState) (d : Call) → IsSteady now_dead j → IsLive j d → IsWith t d → Comes j → Comes (settle_call j d).state
+  settle_comes : (j : KernelState) (d : Call) → KeepsTheRest now_dead j → IsLive j d → IsWith t d → Comes j → Comes (settle_call j d).state
   settle_comes j d s live w h = elim (cases_eq d.number.0 n) [ inl e ↦ here e (ap (call_at j.calls) (sym e) ∙ live) h | inr ne ↦ settle_other j d d.caller (lives j d.caller) ne h ] where
     here : d.number.0 ≡ n → call_at j.calls n ≡ Some d → Comes j → Comes (settle_call j d).state
     here e there (inl was) =
@@ -206,18 +206,18 @@ module _ (k : KernelState) (t : TaskNo) (sound : IsSound k) (alive : is_alive k 
       let h2 : (after_slams t k).calls ≡ (after_hangups t k).calls = slams_keep t (λ j. j.calls ≡ (after_hangups t k).calls) (λ u p j h. slam_calls (after_hangups t k).calls u j p (phone_at j u p) h) (after_hangups t k) refl in
       ap (λ (q : CallTable). call_at q n) h2 ∙ h1.there
 
-  steady_phones : IsSteady now_dead (after_slams t k)
+  steady_phones : KeepsTheRest now_dead (after_slams t k)
   steady_phones =
-      let h1 : IsSteady now_dead (after_hangups t k) = each_keeps (hang_up_at t) (IsSteady now_dead) (λ j p s. hang_up_steady now_dead t j p (phone_at j t p) s) (width k.tasks.phones t.0) 0 now_dead (record { alive = refl; memory = refl; events = refl }) in
-      slams_keep t (IsSteady now_dead) (λ u p j s. slam_steady now_dead t u j p (phone_at j u p) s) (after_hangups t k) h1
+      let h1 : KeepsTheRest now_dead (after_hangups t k) = each_keeps (hang_up_at t) (KeepsTheRest now_dead) (λ j p s. hang_up_steady now_dead t j p (phone_at j t p) s) (width k.tasks.phones t.0) 0 now_dead (record { alive = refl; memory = refl; events = refl }) in
+      slams_keep t (KeepsTheRest now_dead) (λ u p j s. slam_steady now_dead t u j p (phone_at j u p) s) (after_hangups t k) h1
 
   -- what holds of the calls, that the same tasks are alive, and what the call has become
   record IsOn (I : KernelState → Type 0) (j : KernelState) : Type 0 where
     pub calls : I j
-    pub steady : IsSteady now_dead j
+    pub steady : KeepsTheRest now_dead j
     pub comes : Comes j
 
-  settled_steady : (j : KernelState) (d : Call) → IsSteady now_dead j → IsSteady now_dead (settle_call j d).state
+  settled_steady : (j : KernelState) (d : Call) → KeepsTheRest now_dead j → KeepsTheRest now_dead (settle_call j d).state
   settled_steady j d s = settle_steady now_dead j d (bare_reply ehangup) d.caller (lives j d.caller) s
 
   abbrev marks : List Bool

@@ -41,9 +41,6 @@ after_answers t k = (drop_answers t (after_dispatched t k)).state
 abbrev pub after_kill : TaskNo → KernelState → KernelState
 after_kill t k = (forget_calls_elsewhere t (after_answers t k)).state
 
-pub kill_parts : (k : KernelState) (t : TaskNo) → (kill k t).state ≡ after_kill t k
-kill_parts k t = refl
-
 -- the marks of who is alive, where that of task t is taken away
 
 get_set_same : (xs : List Bool) (i : ℕ) (v x : Bool) → slice_get xs i ≡ Some x → slice_get (set xs i v) i ≡ Some v
@@ -81,12 +78,12 @@ module _ (marks : List Bool) (t : ℕ) (alive : alive_in marks t ≡ true) where
   alive_elsewhere u ne = elim (cases_eq u 0) [ inl e ↦ rw (eq-eqb u 0 e) | inr nz ↦ rw (ne_eqb u 0 nz, get_set_other marks (t - 1) (u - 1) false (apart u ne nz)) ]
 
 -- a kill leaves who is alive but for t, the memory, and the number of events
-pub record IsSteady (k j : KernelState) : Type 0 where
+pub record KeepsTheRest (k j : KernelState) : Type 0 where
   pub alive : j.tasks.alive ≡ k.tasks.alive
   pub memory : j.memory ≡ k.memory
   pub events : j.events ≡ k.events
 
-pub hang_up_steady : (k : KernelState) (t : TaskNo) (j : KernelState) (p : ℕ) (o : Option PhoneState) → IsSteady k j → IsSteady k (hang_up j t p o).state
+pub hang_up_steady : (k : KernelState) (t : TaskNo) (j : KernelState) (p : ℕ) (o : Option PhoneState) → KeepsTheRest k j → KeepsTheRest k (hang_up j t p o).state
 hang_up_steady k t j p None h = h
 hang_up_steady k t j p (Some Free) h = h
 hang_up_steady k t j p (Some Connecting) h = h
@@ -94,31 +91,31 @@ hang_up_steady k t j p (Some HungUp) h = h
 hang_up_steady k t j p (Some Slammed) h = record { alive = h.alive; memory = h.memory; events = h.events }
 hang_up_steady k t j p (Some (Connected u)) h = record { alive = h.alive; memory = h.memory; events = h.events }
 
-pub slam_steady : (k : KernelState) (t u : TaskNo) (j : KernelState) (p : ℕ) (o : Option PhoneState) → IsSteady k j → IsSteady k (slam t u j p o).state
+pub slam_steady : (k : KernelState) (t u : TaskNo) (j : KernelState) (p : ℕ) (o : Option PhoneState) → KeepsTheRest k j → KeepsTheRest k (slam t u j p o).state
 slam_steady k t u j p None h = h
 slam_steady k t u j p (Some Free) h = h
 slam_steady k t u j p (Some Connecting) h = h
 slam_steady k t u j p (Some HungUp) h = h
 slam_steady k t u j p (Some Slammed) h = h
-slam_steady k t u j p (Some (Connected v)) h = by_test (λ (s : Transition). IsSteady k s.state) (v.0 == t.0) _ _ (λ _. record { alive = h.alive; memory = h.memory; events = h.events }) (λ _. h)
+slam_steady k t u j p (Some (Connected v)) h = by_test (λ (s : Transition). KeepsTheRest k s.state) (v.0 == t.0) _ _ (λ _. record { alive = h.alive; memory = h.memory; events = h.events }) (λ _. h)
 
-pub settle_steady : (k j : KernelState) (c : Call) (reply : Reply) (o : Option TaskNo) (b : Bool) → IsSteady k j → IsSteady k (settle_for j c reply None o b).state
+pub settle_steady : (k j : KernelState) (c : Call) (reply : Reply) (o : Option TaskNo) (b : Bool) → KeepsTheRest k j → KeepsTheRest k (settle_for j c reply None o b).state
 settle_steady k j c reply None b h = record { alive = h.alive; memory = h.memory; events = h.events }
 settle_steady k j c reply (Some u) false h = record { alive = h.alive; memory = h.memory; events = h.events }
 settle_steady k j c reply (Some u) true h = record { alive = h.alive; memory = h.memory; events = h.events }
 
-settles_steady : (place : Place) (k j : KernelState) → IsSteady k j → IsSteady k (settle_calls_at place j).state
-settles_steady place k j h = drain_keeps (first_at place) settle_call (IsSteady k) (λ i c s is. settle_steady k i c (bare_reply Rattle.ipc_ids.specs.Codes.ehangup) c.caller (lives i c.caller) s) (len j.calls.records) j h
+settles_steady : (place : Place) (k j : KernelState) → KeepsTheRest k j → KeepsTheRest k (settle_calls_at place j).state
+settles_steady place k j h = drain_keeps (first_at place) settle_call (KeepsTheRest k) (λ i c s is. settle_steady k i c (bare_reply Rattle.ipc_ids.specs.Codes.ehangup) c.caller (lives i c.caller) s) (len j.calls.records) j h
 
-pub kill_steady : (k : KernelState) (t : TaskNo) → IsSteady (mark_ended k t) (kill k t).state
+pub kill_steady : (k : KernelState) (t : TaskNo) → KeepsTheRest (mark_ended k t) (kill k t).state
 kill_steady k t =
     let k0 : KernelState = mark_ended k t in
-    let h1 : IsSteady k0 (after_hangups t k) = each_keeps (hang_up_at t) (IsSteady k0) (λ j p s. hang_up_steady k0 t j p (phone_at j t p) s) (width k.tasks.phones t.0) 0 k0 (record { alive = refl; memory = refl; events = refl }) in
-    let h2 : IsSteady k0 (after_slams t k) = slams_keep t (IsSteady k0) (λ u p j s. slam_steady k0 t u j p (phone_at j u p) s) (after_hangups t k) h1 in
-    let h3 : IsSteady k0 (after_incoming t k) = settles_steady (Incoming t) k0 (after_slams t k) h2 in
-    let h4 : IsSteady k0 (after_dispatched t k) = settles_steady (Dispatched t) k0 (after_incoming t k) h3 in
-    let h5 : IsSteady k0 (after_answers t k) = drain_keeps (first_at (Answers t)) (drop_answer t) (IsSteady k0) (λ j c s is. record { alive = s.alive; memory = s.memory; events = s.events }) (len (after_dispatched t k).calls.records) (after_dispatched t k) h4 in
-    drain_keeps (first_call_of t) forget_call (IsSteady k0) (λ j c s is. record { alive = s.alive; memory = s.memory; events = s.events }) (len (after_answers t k).calls.records) (after_answers t k) h5
+    let h1 : KeepsTheRest k0 (after_hangups t k) = each_keeps (hang_up_at t) (KeepsTheRest k0) (λ j p s. hang_up_steady k0 t j p (phone_at j t p) s) (width k.tasks.phones t.0) 0 k0 (record { alive = refl; memory = refl; events = refl }) in
+    let h2 : KeepsTheRest k0 (after_slams t k) = slams_keep t (KeepsTheRest k0) (λ u p j s. slam_steady k0 t u j p (phone_at j u p) s) (after_hangups t k) h1 in
+    let h3 : KeepsTheRest k0 (after_incoming t k) = settles_steady (Incoming t) k0 (after_slams t k) h2 in
+    let h4 : KeepsTheRest k0 (after_dispatched t k) = settles_steady (Dispatched t) k0 (after_incoming t k) h3 in
+    let h5 : KeepsTheRest k0 (after_answers t k) = drain_keeps (first_at (Answers t)) (drop_answer t) (KeepsTheRest k0) (λ j c s is. record { alive = s.alive; memory = s.memory; events = s.events }) (len (after_dispatched t k).calls.records) (after_dispatched t k) h4 in
+    drain_keeps (first_call_of t) forget_call (KeepsTheRest k0) (λ j c s is. record { alive = s.alive; memory = s.memory; events = s.events }) (len (after_answers t k).calls.records) (after_answers t k) h5
 
 -- what a kill leaves, by the marks from before
 pub killed : (k : KernelState) (t : TaskNo) → IsSound k → is_alive k t ≡ true → IsForgotten k.tasks.alive t (kill k t).state
@@ -206,15 +203,3 @@ kill_leaves_nothing k t s alive = let h = killed k t s alive in record {
 -- the marks change at t alone
 pub kill_marks : (k : KernelState) (t : TaskNo) → (kill k t).state.tasks.alive ≡ set k.tasks.alive (t.0 - 1) false
 kill_marks k t = (kill_steady k t).alive
-
-pub killed_task : (k : KernelState) (t : TaskNo) → is_alive k t ≡ true → is_alive (kill k t).state t ≡ false
-killed_task k t alive = ap (λ (marks : List Bool). alive_in marks t.0) (kill_marks k t) ∙ ended_here k.tasks.alive t.0 alive
-
-pub other_task : (k : KernelState) (t u : TaskNo) → is_alive k t ≡ true → (u.0 ≡ t.0 → ⊥) → is_alive (kill k t).state u ≡ is_alive k u
-other_task k t u alive ne = ap (λ (marks : List Bool). alive_in marks u.0) (kill_marks k t) ∙ alive_elsewhere k.tasks.alive t.0 alive u.0 ne
-
-pub kill_memory : (k : KernelState) (t : TaskNo) → (kill k t).state.memory ≡ k.memory
-kill_memory k t = (kill_steady k t).memory
-
-pub kill_events : (k : KernelState) (t : TaskNo) → (kill k t).state.events ≡ k.events
-kill_events k t = (kill_steady k t).events

@@ -1,9 +1,8 @@
 -- Each step leaves few active calls on each phone.
 use Rattle.std.proofs.Common.{◌≡◌, ℕ, zero, suc, ◌+◌, ◌-◌, ◌<◌, ◌≤◌, Bool, true, false, cond, not, ◌&&◌, ◌⊎◌, inl, inr, Option, None, Some, List, [], ◌∷◌, ◌++◌, replicate, refl, ap, sym, subst, ◌∙◌, arith}
 use Rattle.std.specs.Prelude.{◌==◌, if◌then◌else◌, IsSome, slice_get}
-use Rattle.std.specs.Option.{option_map_or}
 use Rattle.std.specs.Ordering.{nat_cmp}
-use Rattle.std.proofs.lemmas.Bool.{cases_eq, eqb-true, eq-eqb, ne_eqb, false≢true}
+use Rattle.std.proofs.lemmas.Bool.{cases_eq, eqb-true}
 use Rattle.std.specs.FinMap.{len-empty, entries}
 use Rattle.ipc_ids.specs.declared.numbers.TaskNo.{TaskNo}
 use Rattle.ipc_ids.specs.declared.numbers.Label.{Label}
@@ -21,7 +20,7 @@ use Rattle.cleanup.specs.State.{KernelState, Transition, live_calls, start, is_a
 use Rattle.cleanup.specs.Counts.{label_at}
 use Rattle.cleanup.specs.Sound.{IsSound}
 use Rattle.cleanup.specs.Joins.{bare_reply, settle, settle_for, lives, drop_answer, forget_call, hangup_call, hang_up}
-use Rattle.cleanup.specs.Kill.{width, mark_ended, hang_up_at, slam, slam_at, first_at, first_call_of, settle_call, kill}
+use Rattle.cleanup.specs.Kill.{width, mark_ended, hang_up_at, slam, first_at, first_call_of, settle_call, kill}
 use Rattle.cleanup.specs.Limits.{is_hangup, awaited_calls, hangup_calls, IsIdle, IsWithinLimits, IsRowOf}
 use Rattle.cleanup.proofs.Rows.{some_of}
 use Rattle.cleanup.proofs.Soundness.{value_of, row_append}

@@ -1,15 +1,11 @@
 -- A step of a loop, and what is left of it.
-use Rattle.std.proofs.Common.{◌≡◌, ℕ, zero, suc, ◌+◌, ◌-◌, ◌<◌, Option, Some, None, List, ◌++◌, refl, ap, ◌∙◌, sym, append_assoc, arith}
+use Rattle.std.proofs.Common.{◌≡◌, ℕ, suc, ◌+◌, ◌-◌, ◌<◌, Option, Some, List, ◌++◌, refl, ap, ◌∙◌, sym, append_assoc, arith}
 use Rattle.ipc_ids.specs.declared.entry.Entry.{Entry}
 use Rattle.call_slab.specs.declared.call.Call.{Call}
-use Rattle.cleanup.specs.State.{KernelState, Transition, then_do, drain, each, nothing}
+use Rattle.cleanup.specs.State.{KernelState, Transition, then_do, drain, each}
 
 drain_step : (next : KernelState → Option Call) (step : KernelState → Call → Transition) (n : ℕ) (k : KernelState) (c : Call) → next k ≡ Some c → drain next step (suc n) k ≡ then_do (step k c) (drain next step n)
 drain_step next step n k c is = rw is
-
-pub drain_end : (next : KernelState → Option Call) (step : KernelState → Call → Transition) (n : ℕ) (k : KernelState) → next k ≡ None → drain next step n k ≡ nothing k
-drain_end next step zero k is = refl
-drain_end next step (suc n) k is = rw is
 
 module _ (next : KernelState → Option Call) (step : KernelState → Call → Transition) (most counter : ℕ) (k k' : KernelState) (c : Call) (whole : Transition) (before now after : List Entry) (lt : counter < most) (is : next k ≡ Some c) (to : k' ≡ (step k c).state) (tell : after ≡ now ++ (step k c).entries) where
   one : drain next step (most - counter) k ≡ then_do (step k c) (drain next step (most - (counter + 1)))

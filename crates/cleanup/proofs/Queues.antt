@@ -17,7 +17,7 @@ use Rattle.answerbox.proofs.Steps.{with_change-record}
 use Rattle.answerbox.proofs.Callers.{calls_of_live, calls_of_none}
 use Rattle.cleanup.specs.State.{Tasks, KernelState, with_calls}
 use Rattle.cleanup.specs.Sound.{IsPlaced, IsSoundCall, AreSoundCalls, IsSound}
-use Rattle.cleanup.specs.Joins.{bare_reply, settle, settle_for, lives, drop_answer, forget_call}
+use Rattle.cleanup.specs.Joins.{bare_reply, settle_for, lives, drop_answer, forget_call}
 use Rattle.cleanup.specs.Kill.{first_at, first_call_of, settle_call, settle_incoming, settle_dispatched, drop_answers, forget_calls_elsewhere}
 use Rattle.cleanup.proofs.Lookups.{at_insert, at_remove, chosen, same_call}
 use Rattle.cleanup.proofs.Soundness.{sound_put, sound_without, kept_calls}
@@ -71,9 +71,6 @@ sound_settle_for k n c reply by None b s is from = kept_calls k (without_call k.
 sound_settle_for k n c reply by (Some u) false s is from = kept_calls k (without_call k.calls c.number.0) s (sound_without k.tasks k.calls c.number.0 s.calls)
 sound_settle_for k n c reply by (Some u) true s is from =
     kept_calls k (put_at k.calls (record c { reply = reply }) (Answers u)) s (sound_put k.tasks k.calls n c (record c { reply = reply }) (Answers u) s.calls is refl refl refl refl refl from)
-
-pub sound_settle : (k : KernelState) (n : ℕ) (c : Call) (reply : Reply) (by : Option TaskNo) → IsSound k → call_at k.calls n ≡ Some c → IsSound (settle k c reply by).state
-sound_settle k n c reply by s is = sound_settle_for k n c reply by c.caller (lives k c.caller) s is refl
 
 -- an answer is dropped
 pub sound_drop : (k : KernelState) (t : TaskNo) (c : Call) → IsSound k → IsSound (drop_answer t k c).state

@@ -31,12 +31,6 @@ module _ (step : KernelState → ℕ → Transition) (Good : KernelState → ℕ
     | inr ne ↦ each_does n (i + 1) (step k i).state m (inl (let a = h.0 in let b = h.1 in (omega arith, omega arith)))
   ]
 
--- a size that a step raises by one at most
-module _ (step : KernelState → ℕ → Transition) (size : KernelState → ℕ) (rises : (k : KernelState) (i : ℕ) → size (step k i).state ≤ size k + 1) where
-  pub each_rises : (n i : ℕ) (k : KernelState) → size (each step n i k).state ≤ size k + n
-  each_rises zero i k = omega arith
-  each_rises (suc n) i k = let now = rises k i in let later = each_rises n (i + 1) (step k i).state in omega arith
-
 -- no live call passes the test
 abbrev pub NoneIs : (Call → Bool) → KernelState → Type 0
 NoneIs test k = (n : ℕ) (c : Call) → call_at k.calls n ≡ Some c → test c ≡ false

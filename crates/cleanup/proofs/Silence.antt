@@ -5,8 +5,6 @@ use Rattle.std.specs.Prelude.{◌==◌, IsSome}
 use Rattle.std.specs.Option.{option_map_or}
 use Rattle.std.proofs.lemmas.Option.{slice_get_past}
 use Rattle.std.proofs.lemmas.Bool.{cases_eq, cases_lt, eqb-true, eq-eqb, ne_eqb, false≢true}
-use Rattle.std.specs.Cmp.{nat_cmp_total}
-use Rattle.std.specs.FinMap.{len, len-insert}
 use Rattle.ipc_ids.specs.declared.numbers.TaskNo.{TaskNo}
 use Rattle.ipc_ids.specs.declared.message.PhoneState.{PhoneState}
 use Rattle.ipc_ids.specs.declared.message.PhoneState.TheVariants.{Free, Connecting, Connected, HungUp, Slammed}
@@ -35,10 +33,6 @@ next_free tasks q s = by_call (call_at q q.next_number) refl where
   by_call : (o : Option Call) → call_at q q.next_number ≡ o → o ≡ None
   by_call None is = refl
   by_call (Some c) is = absurd (let l = (s.each q.next_number c is).below in omega arith)
-
--- a new call is one more
-pub more_calls : (q : CallTable) (c : Call) → call_at q c.number.0 ≡ None → len (enqueue q c).records ≡ len q.records + 1
-more_calls q c free = rw (len-insert nat_cmp_total q.records c.number.0 (record c { stamp = q.next_stamp }), free) (omega arith)
 
 is_some : {A : Type 0} (o : Option A) (x : A) → o ≡ Some x → IsSome o
 is_some o x e = rw e refl

@@ -21,8 +21,8 @@ use Rattle.phone_table.specs.Phones.{row_at, state_at, count_at, hangup_answer}
 use Rattle.phone_table.specs.Usable.{IsConnected}
 use Rattle.phone_table.specs.declared.hung.Hung.{Hung}
 use Rattle.phone_table.specs.declared.hung.Hung.TheVariants.{Sent, Silent}
-use Rattle.cleanup.specs.Board.{hung_rows, IsSwitched, IsAdded, TellsAdded, LeadsToAdded}
-use Rattle.cleanup.specs.State.{KernelState, is_alive, label_of, with_state_at}
+use Rattle.cleanup.specs.Board.{hung_rows, IsSwitched, TellsAdded, LeadsToAdded}
+use Rattle.cleanup.specs.State.{KernelState, label_of, with_state_at}
 use Rattle.cleanup.proofs.Soundness.{phone_kept, value_of, get_last, row_append, row_before}
 use Rattle.cleanup.specs.Counts.{HasCounts}
 use Rattle.cleanup.proofs.Lookups.{record_of}
@@ -30,7 +30,7 @@ use Rattle.cleanup.proofs.Rows.{state_changed_at, some_of}
 use Rattle.cleanup.proofs.Recounting.{some_and}
 use Rattle.cleanup.proofs.Counting.{counted_none, counted_task}
 use Rattle.cleanup.proofs.Keeping.{counts_put, counts_phone}
-use Rattle.cleanup.proofs.Endings.{length_rows, sent_to, within}
+use Rattle.cleanup.proofs.Endings.{length_rows, sent_to}
 
 -- calls and counts change
 pub switched_calls : {alive : List Bool} {phones : List (List PhoneState)} {counts : List (List ℕ)} {calls : CallTable} {tasks : ℕ} (counts' : List (List ℕ)) (calls' : CallTable) → IsSwitched alive phones counts calls tasks → HasCounts phones counts' calls' → IsSwitched alive phones counts' calls' tasks
@@ -197,10 +197,3 @@ switched_task {alive} {phones} {counts} {calls} limit tasks' s paired enough few
     few = s.has_counts.few;
   };
 }
-
--- a task that is alive was added
-pub alive_added : (k : KernelState) (t : TaskNo) → is_alive k t ≡ true → IsAdded k t
-alive_added k t h = elim (cases_eq t.0 0) [
-  | inl e ↦ absurd (let g = rw (eq-eqb t.0 0 e) at h in cc)
-  | inr ne ↦ record { from_one = omega arith; task = within k.tasks.alive t.0 h }
-]

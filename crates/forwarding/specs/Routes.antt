@@ -1,14 +1,15 @@
 -- What a forward answers, and the calls after it.
-use Rattle.std.specs.Prelude.{ℕ, if◌then◌else◌, Option, None, Some, Result, Ok, Err}
+use Rattle.std.specs.Prelude.{◌≡◌, ℕ, if◌then◌else◌, Option, None, Some, Result, Ok, Err}
 use Rattle.std.specs.Option.{option_map_or}
 use Rattle.ipc_ids.specs.declared.message.Msg.{Msg}
 use Rattle.ipc_ids.specs.declared.message.Mode.{Mode}
 use Rattle.ipc_ids.specs.declared.message.PhoneState.{PhoneState}
 use Rattle.ipc_ids.specs.declared.message.PhoneState.TheVariants.{Free, Connecting, Connected, HungUp, Slammed}
+use Rattle.ipc_ids.specs.declared.numbers.Label.{Label}
 use Rattle.ipc_ids.specs.declared.numbers.TaskNo.{TaskNo}
 use Rattle.call_slab.specs.declared.call.Call.{Call}
 use Rattle.call_slab.specs.declared.call.Place.TheVariants.{Incoming}
-use Rattle.answerbox.specs.Calls.{CallTable, call_at, put_at}
+use Rattle.answerbox.specs.Calls.{CallTable, call_at, put_at, active_calls}
 use Rattle.forwarding.specs.declared.passing.Forwarded.{Forwarded}
 use Rattle.forwarding.specs.declared.passing.ForwardFault.{ForwardFault}
 use Rattle.forwarding.specs.declared.passing.ForwardFault.TheVariants.{NotHeld, NotForwardable, NotConnected}
@@ -46,3 +47,7 @@ abbrev pub table_after : CallTable → TaskNo → ℕ → Mode → Option Msg �
 table_after calls by through mode change (Err fault) = calls
 table_after calls by through mode change (Ok forwarded) =
     option_map_or (λ c. put_at calls (call_after by through mode change c) (Incoming forwarded.to)) (call_at calls forwarded.call.0) calls
+
+-- each phone has as many active calls as before
+abbrev pub KeepsActive : CallTable → CallTable → Type 0
+KeepsActive old new = (phone : Label) → active_calls new phone ≡ active_calls old phone

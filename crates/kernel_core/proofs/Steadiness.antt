@@ -24,9 +24,6 @@ steady_task k limit s = record { sound = kept_task k limit s.sound; numbers = s.
 pub steady_wire : (k : KernelState) (t : TaskNo) (p : ℕ) (u : TaskNo) → IsSteady k → is_alive k t ≡ true → is_alive k u ≡ true → IsSteady (with_phone k t p (Connected u))
 steady_wire k t p u s alive target = record { sound = kept_wired k t p u s.sound alive target; numbers = s.numbers; stamps = s.stamps }
 
-pub sound_event : (k : KernelState) → IsSound k → IsSound (with_event k)
-sound_event k s = record { calls = s.calls; tasks = s.tasks }
-
 pub sound_kill_event : (k : KernelState) (t : TaskNo) → IsSteady k → is_alive k t ≡ true → IsSound (kill_event k t).state
 sound_kill_event k t s alive = let after = sound_kill k t s.sound alive in record { calls = after.calls; tasks = after.tasks }
 

@@ -3,10 +3,10 @@ use Rattle.cleanup.proofs.phones.hang_phone.Goals as goal
 
 pub returns-clause-states : goal.returns-clause-states
 returns-clause-states c =
-    rw (c.hangup.ensures.row, ← c.hangup.ensures.answer)
+    rw c.hangup.ensures.row
     (hung_states c.args.phones.now.states c.args.t.0 c.args.phone c.row_mut.result.now c.hangup.result c.row_mut.ensures.states)
 
 pub returns-clause-counts : goal.returns-clause-counts
 returns-clause-counts c =
-    rw (c.hangup.ensures.row, ← c.hangup.ensures.answer)
+    rw c.hangup.ensures.row
     (hung_counts c.args.phones.now.counts c.args.t.0 c.args.phone c.row_mut.result.now c.hangup.result c.row_mut.ensures.counts)

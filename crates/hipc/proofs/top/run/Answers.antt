@@ -26,7 +26,4 @@ returns-in-Some-clause-memory g c = λ m.
 
 pub returns-in-None-clause-part : goal.returns-in-None-clause-part
 returns-in-None-clause-part g c = λ w.
-    let files = g.S.Shelf.files c.args.shelf.now in
-    let failed = g.S.Shelf.failed c.args.shelf.now in
-    let due = words_none (texts c.args.words.now) files failed failed c.in-None.ensures in
-    (Usage, usage_line, due, c.tell.ensures.part w)
+    (Usage, usage_line, search (words_none, c.in-None.ensures), c.tell.ensures.part w)
