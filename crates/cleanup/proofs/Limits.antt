@@ -13,7 +13,7 @@ use Rattle.ipc_ids.specs.Codes.{ehangup}
 use Rattle.call_slab.specs.declared.call.Call.{Call}
 use Rattle.call_slab.specs.declared.call.Place.{Place}
 use Rattle.call_slab.specs.declared.call.Place.TheVariants.{Incoming, Dispatched, Answers}
-use Rattle.answerbox.specs.Calls.{CallTable, no_calls, call_at, enqueue, put_at, without_call, with_record, count_of, is_caller, same_label, is_active_on, active_calls}
+use Rattle.answerbox.specs.Calls.{is_hangup, CallTable, no_calls, call_at, enqueue, put_at, without_call, with_record, count_of, is_caller, same_label, is_active_on, active_calls}
 use Rattle.answerbox.proofs.Counts.{count-len, count-enqueue, count-without_call, count-with_record, count-put_at}
 use Rattle.phone_table.specs.Phones.{Row, state_at, is_usable, first_usable, first_usable_from}
 use Rattle.cleanup.specs.State.{KernelState, Transition, live_calls, start, is_alive, phone_at, label_of, with_state_at, with_phone, with_calls, with_task}
@@ -21,7 +21,7 @@ use Rattle.cleanup.specs.Counts.{label_at}
 use Rattle.cleanup.specs.Sound.{IsSound}
 use Rattle.cleanup.specs.Joins.{bare_reply, settle, settle_for, lives, drop_answer, forget_call, hangup_call, hang_up}
 use Rattle.cleanup.specs.Kill.{width, mark_ended, hang_up_at, slam, first_at, first_call_of, settle_call, kill}
-use Rattle.cleanup.specs.Limits.{is_hangup, awaited_calls, hangup_calls, IsIdle, IsWithinLimits, IsRowOf}
+use Rattle.cleanup.specs.Limits.{awaited_calls, hangup_calls, IsIdle, IsWithinLimits, IsRowOf}
 use Rattle.cleanup.proofs.Rows.{some_of}
 use Rattle.cleanup.proofs.Soundness.{value_of, row_append}
 use Rattle.cleanup.proofs.Repeats.{by_test, each_keeps, drain_keeps}

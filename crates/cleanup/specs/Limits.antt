@@ -5,16 +5,11 @@ use Rattle.ipc_ids.specs.declared.numbers.TaskNo.{TaskNo}
 use Rattle.ipc_ids.specs.declared.numbers.Label.{Label}
 use Rattle.ipc_ids.specs.declared.message.PhoneState.{PhoneState}
 use Rattle.ipc_ids.specs.declared.message.PhoneState.TheVariants.{Free, Connecting, Connected, HungUp, Slammed}
-use Rattle.ipc_ids.specs.Methods.{phone_hungup}
 use Rattle.call_slab.specs.declared.call.Call.{Call}
-use Rattle.answerbox.specs.Calls.{CallTable, count_of, is_active_on, active_calls}
+use Rattle.answerbox.specs.Calls.{CallTable, is_hangup, count_of, is_active_on, active_calls}
 use Rattle.phone_table.specs.Phones.{Row, state_at}
 use Rattle.cleanup.specs.State.{KernelState, phone_at, label_of}
 use Rattle.cleanup.specs.Counts.{label_at}
-
--- whether the call tells of a hangup
-abbrev pub is_hangup : Call → Bool
-is_hangup c = c.request.method == phone_hungup
 
 -- how many live calls are active on this phone and wait for an answer
 abbrev pub awaited_calls : CallTable → Label → ℕ

@@ -7,7 +7,7 @@ ghost use Rattle.cleanup.specs.State.{state_from, start, is_alive, phone_at, liv
 ghost use Rattle.call_slab.specs.declared.call.Place.TheVariants.{Incoming, Dispatched, Answers};
 ghost use Rattle.cleanup.specs.Joins.{new_call};
 ghost use Rattle.cleanup.specs.Counts.{HasCounts};
-ghost use Rattle.cleanup.specs.Board.{IsCallOf, IsSwitched, IsAdded, IsNewCall, HasPlaces, LeadsToAdded, TellsAdded, with_hung};
+ghost use Rattle.cleanup.specs.Board.{IsCallOf, IsLimit, IsSwitched, IsAdded, IsNewCall, HasPlaces, LeadsToAdded, TellsAdded, with_hung};
 ghost use Rattle.phone_table.specs.Usable.{IsConnected};
 ghost use Rattle.cleanup.specs.Kill.{width, mark_ended};
 ghost use Rattle.cleanup.specs.Rooms.{KeepsRoom};
@@ -96,8 +96,7 @@ impl Switchboard {
 
     /// Adds a task with so many free phones.
     pub fn add_task(&mut self, limit: u32) -> Result<TaskNo, NoMemory>
-        requires some { 1 ≤ limit }
-        requires few_phones { limit ≤ 64 }
+        requires limit { IsLimit limit }
         requires few_tasks { length self.old.state.tasks.alive < 64 }
         requires no_call { self.old.state.calls.next_number ≤ 1 }
         ensures ok { OnOk result (self.new.state ≡ with_task self.old.state limit) }

@@ -1,5 +1,5 @@
 -- Which calls may be passed on, and what the next receiver sees of them.
-use Rattle.std.specs.Prelude.{ℕ, ⊤, ◌≤◌, ◌==◌, Bool, false, not, ◌&&◌, if◌then◌else◌, Option, None, Some, nat_lt}
+use Rattle.std.specs.Prelude.{ℕ, ⊤, ◌≤◌, Bool, false, not, ◌&&◌, if◌then◌else◌, Option, None, Some, nat_lt}
 use Rattle.ipc_ids.specs.declared.message.Msg.{Msg}
 use Rattle.ipc_ids.specs.declared.message.Mode.{Mode}
 use Rattle.ipc_ids.specs.declared.message.Mode.TheVariants.{Plain, Route}
@@ -10,15 +10,11 @@ use Rattle.ipc_ids.specs.declared.numbers.TaskNo.{TaskNo}
 use Rattle.ipc_ids.specs.Tables.{first_user_method}
 use Rattle.call_slab.specs.declared.call.Call.{Call}
 use Rattle.call_slab.specs.declared.call.Place.TheVariants.{Dispatched}
-use Rattle.answerbox.specs.Calls.{same_place}
+use Rattle.answerbox.specs.Calls.{is_hangup, same_place}
 
 -- the task has received the call and not answered it
 abbrev pub is_held : TaskNo → Call → Bool
 is_held by c = same_place c.place (Dispatched by)
-
--- the call tells a hangup
-abbrev pub is_hangup : Call → Bool
-is_hangup c = c.request.method == 0
 
 -- the call was made with a method of the users' own
 abbrev pub is_user_call : Call → Bool

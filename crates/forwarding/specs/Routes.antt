@@ -29,14 +29,14 @@ abbrev pub receiver_of : TaskNo → Option PhoneState → Option Msg → Call �
 receiver_of by phone change c =
     if is_held by c then (if is_forwardable change c then callee_of phone else Err NotForwardable) else Err NotHeld
 
-abbrev pub answer_of : ℕ → Result TaskNo ForwardFault → Result Forwarded ForwardFault
-answer_of n (Err fault) = Err fault
-answer_of n (Ok to) = Ok (record { call = record { 0 = n }; to = to })
+abbrev pub as_forwarded : ℕ → Result TaskNo ForwardFault → Result Forwarded ForwardFault
+as_forwarded n (Err fault) = Err fault
+as_forwarded n (Ok to) = Ok (record { call = record { 0 = n }; to = to })
 
 -- what the task is answered that wants to pass on call n over a phone in this state
 abbrev pub forward_answer : CallTable → TaskNo → Option PhoneState → ℕ → Option Msg → Result Forwarded ForwardFault
 forward_answer calls by phone n change =
-    answer_of n (option_map_or (receiver_of by phone change) (call_at calls n) (Err NotHeld))
+    as_forwarded n (option_map_or (receiver_of by phone change) (call_at calls n) (Err NotHeld))
 
 -- the record as the next receiver sees it
 abbrev pub call_after : TaskNo → ℕ → Mode → Option Msg → Call → Call

@@ -14,7 +14,7 @@ use Rattle.script_reader.specs.declared.plan.Wire.{Wire}
 use Rattle.script_reader.specs.Plan.{Plan}
 use Rattle.script_reader.specs.Sound as script
 use Rattle.cleanup.specs.State.{KernelState, start, is_alive, with_task}
-use Rattle.kernel_core.specs.Serve.{serve, kill_event}
+use Rattle.kernel_core.specs.Kernel.{serve, kill_event}
 use Rattle.kernel_core.specs.History.{HistoryFits, served_entries, killed_entries, gone_entries}
 use Rattle.kernel_core.proofs.ServedHistories.{serve_fits}
 use Rattle.kernel_core.proofs.KilledHistories.{kill_fits}

@@ -6,7 +6,7 @@ use Rattle.ipc_ids.specs.declared.numbers.TaskNo.{TaskNo}
 use Rattle.ipc_ids.specs.declared.message.Request.{Request}
 use Rattle.ipc_ids.specs.declared.message.Outcome.{Outcome}
 use Rattle.cleanup.specs.State.{KernelState, is_alive}
-use Rattle.kernel_core.specs.Serve.{serve}
+use Rattle.kernel_core.specs.Kernel.{serve}
 use Rattle.hipc.specs.Raw.{RawState, wanted, after}
 use Rattle.hipc.specs.Run.{RunState, program_at, step_by, step}
 

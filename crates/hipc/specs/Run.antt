@@ -16,7 +16,7 @@ use Rattle.script_reader.specs.Plan.{Plan}
 use Rattle.cleanup.specs.State.{KernelState, Transition, is_alive, with_task}
 use Rattle.cleanup.specs.Serving.{Served}
 use Rattle.cleanup.specs.State as kernel
-use Rattle.kernel_core.specs.Serve.{serve, kill_event}
+use Rattle.kernel_core.specs.Kernel.{serve, kill_event}
 use Rattle.kernel_core.specs.History.{served_entries, killed_entries, gone_entries}
 use Rattle.hipc.specs.Wiring.{with_wire}
 use Rattle.hipc.specs.Raw.{RawState, started, wanted, after}

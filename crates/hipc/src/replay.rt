@@ -3,7 +3,7 @@ ghost use Rattle.std.specs.Prelude.{◌≡◌, ◌+◌, ◌^◌, ◌<◌, ◌≤
 ghost use Rattle.std.specs.Prelude.{All, IfOk, OnOk, OnErr, IfSome, option_map};
 ghost use Rattle.cleanup.specs.State.{is_alive};
 ghost use Rattle.kernel_core.specs.History.{served_entries};
-ghost use Rattle.kernel_core.specs.Serve.{serve};
+ghost use Rattle.kernel_core.specs.Kernel.{serve};
 ghost use Rattle.script_reader.specs.Sound.{IsRawTask};
 ghost use Rattle.hipc.specs.Raw.{wanted};
 ghost use Rattle.hipc.specs.Run.{with_tasks, with_wires, ops_of, program_of, run};

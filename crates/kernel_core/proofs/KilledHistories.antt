@@ -28,7 +28,7 @@ use Rattle.cleanup.proofs.Queues.{IsUnanswered, incoming_settled, dispatched_set
 use Rattle.cleanup.proofs.Killing.{sound_kill, after_hangups, after_slams, after_incoming, after_dispatched, ended_here, alive_elsewhere, kill_leaves_nothing, HasNothingOf}
 use Rattle.cleanup.proofs.Limits.{within_kill}
 use Rattle.kernel_core.proofs.ServedLimits.{within_event}
-use Rattle.kernel_core.specs.Serve.{kill_event}
+use Rattle.kernel_core.specs.Kernel.{kill_event}
 use Rattle.kernel_core.specs.History.{is_ended, life_at, IsGone, PastFits, HistoryFits, killed_entries}
 use Rattle.kernel_core.proofs.InEvent.{and_then, and_then-append, IsTask, CallerFits, IsHome, Agrees, InEvent, by_test, noted, is_told, front_at, phone_told, settled, dropped}
 use Rattle.kernel_core.proofs.ServedHistories.{hang_up_told, alive_is, core_of, leads_to_alive, fits_of, fits_later}

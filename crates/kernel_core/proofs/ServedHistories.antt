@@ -29,7 +29,7 @@ use Rattle.answerbox.specs.Calls.{call_at, same_place, put_at, without_call, fro
 use Rattle.forwarding.specs.declared.passing.ForwardFault.{ForwardFault}
 use Rattle.forwarding.specs.declared.passing.ForwardFault.TheVariants.{NotHeld}
 use Rattle.forwarding.specs.Forwarding.{is_held, is_forwardable}
-use Rattle.forwarding.specs.Routes.{callee_of, receiver_of, answer_of, call_after}
+use Rattle.forwarding.specs.Routes.{callee_of, receiver_of, as_forwarded, call_after}
 use Rattle.cleanup.specs.State.{KernelState, Transition, with_event, phone_at, label_of, alive_in, is_alive}
 use Rattle.cleanup.specs.Joins.{bare_reply, drop_answer, new_call, hangup_call, hang_up, answer_at_once, receive_first}
 use Rattle.cleanup.specs.Sound.{IsSound, IsPlaced, IsCaller}
@@ -42,7 +42,8 @@ use Rattle.kernel_core.specs.Receiving.{receive_now, unawaited, next_unawaited, 
 use Rattle.kernel_core.specs.Answering.{held_call, answer_held}
 use Rattle.kernel_core.specs.HangingUp.{hangup_over}
 use Rattle.kernel_core.specs.Forward.{failed_forward, forward_told}
-use Rattle.kernel_core.specs.Serve.{serve_request, serve}
+use Rattle.kernel_core.specs.Request.{serve_request}
+use Rattle.kernel_core.specs.Kernel.{serve}
 use Rattle.kernel_core.proofs.Serving.{sound_serve}
 use Rattle.kernel_core.specs.History.{is_ended, life_at, IsTold, TellsOf, PastFits, HistoryFits, served_entries}
 use Rattle.kernel_core.proofs.InEvent.{and_then, and_then-append, IsTask, CallerFits, IsHome, Agrees, Core, InEvent, by_test, same_place-true, noted, is_told, own, front_at, phone_told}
@@ -153,7 +154,7 @@ module _ (t : TaskNo) (r : Ask) (p : List Tale) (k : KernelState) (inside : InEv
       (λ dead. (dead, inr (inr (rw (← number, ← is) inside.now))))
       (λ live. inr (refl, rw (← number, ← is) inside.now, live))
 
-  passed_told : (n q : ℕ) (mode : Mode) (change : Option Msg) (c : Call) → r ≡ Forward n → call_at k.calls n ≡ Some c → c.place ≡ place.Dispatched t → (s : Option PhoneState) → phone_at k t q ≡ s → Is (forward_told k t q mode change (Some c) (answer_of n (callee_of s)))
+  passed_told : (n q : ℕ) (mode : Mode) (change : Option Msg) (c : Call) → r ≡ Forward n → call_at k.calls n ≡ Some c → c.place ≡ place.Dispatched t → (s : Option PhoneState) → phone_at k t q ≡ s → Is (forward_told k t q mode change (Some c) (as_forwarded n (callee_of s)))
   passed_told n q mode change c is h at (Some (phone.Connected v)) l =
       let it = is_told (Step t.0 r) p k inside n c h in
       let d : Call = record (call_after t q mode change c) { place = place.Incoming v; stamp = k.calls.next_stamp } in
@@ -168,12 +169,12 @@ module _ (t : TaskNo) (r : Ask) (p : List Tale) (k : KernelState) (inside : InEv
   passed_told n q mode change c is h at (Some phone.HungUp) l = stopped n enoent c is h at
   passed_told n q mode change c is h at (Some phone.Slammed) l = stopped n enoent c is h at
 
-  forwarded_told : (n q : ℕ) (mode : Mode) (change : Option Msg) (o : Option Call) → r ≡ Forward n → call_at k.calls n ≡ o → Is (forward_told k t q mode change o (answer_of n (option_map_or (receiver_of t (phone_at k t q) change) o (Err NotHeld))))
+  forwarded_told : (n q : ℕ) (mode : Mode) (change : Option Msg) (o : Option Call) → r ≡ Forward n → call_at k.calls n ≡ o → Is (forward_told k t q mode change o (as_forwarded n (option_map_or (receiver_of t (phone_at k t q) change) o (Err NotHeld))))
   forwarded_told n q mode change None is h = inside
   forwarded_told n q mode change (Some c) is h =
-      by_test (λ (x : Result TaskNo ForwardFault). Is (forward_told k t q mode change (Some c) (answer_of n x))) (is_held t c) _ _
+      by_test (λ (x : Result TaskNo ForwardFault). Is (forward_told k t q mode change (Some c) (as_forwarded n x))) (is_held t c) _ _
       (λ mine. let at = same_place-true c.place (place.Dispatched t) mine in
-      by_test (λ (x : Result TaskNo ForwardFault). Is (forward_told k t q mode change (Some c) (answer_of n x))) (is_forwardable change c) _ _
+      by_test (λ (x : Result TaskNo ForwardFault). Is (forward_told k t q mode change (Some c) (as_forwarded n x))) (is_forwardable change c) _ _
       (λ _. passed_told n q mode change c is h at (phone_at k t q) refl)
       (λ _. stopped n eperm c is h at))
       (λ _. inside)

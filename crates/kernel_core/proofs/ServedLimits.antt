@@ -21,7 +21,7 @@ use Rattle.ipc_ids.specs.Tables.{most_active}
 use Rattle.call_slab.specs.declared.call.Call.{Call}
 use Rattle.call_slab.specs.declared.call.Place.{Place}
 use Rattle.call_slab.specs.declared.call.Place.TheVariants.{Incoming, Dispatched, Answers}
-use Rattle.answerbox.specs.Calls.{call_at, front, enqueue, same_place, active_calls}
+use Rattle.answerbox.specs.Calls.{is_hangup, call_at, front, enqueue, same_place, active_calls}
 use Rattle.answerbox.proofs.Fronts.{front_live}
 use Rattle.forwarding.specs.declared.passing.Forwarded.{Forwarded}
 use Rattle.forwarding.specs.declared.passing.ForwardFault.{ForwardFault}
@@ -31,7 +31,7 @@ use Rattle.cleanup.specs.State.{KernelState, live_calls, is_alive, phone_at, wit
 use Rattle.cleanup.specs.Sound.{IsSound}
 use Rattle.cleanup.specs.Joins.{bare_reply, drop_answer, new_call, receive_first}
 use Rattle.cleanup.specs.Serving.{Served}
-use Rattle.cleanup.specs.Limits.{is_hangup, IsIdle, IsWithinLimits}
+use Rattle.cleanup.specs.Limits.{IsIdle, IsWithinLimits}
 use Rattle.cleanup.proofs.Repeats.{by_test, drain_keeps}
 use Rattle.cleanup.proofs.Silence.{next_free}
 use Rattle.cleanup.proofs.Queues.{IsLive, sound_drop}
@@ -41,7 +41,8 @@ use Rattle.kernel_core.specs.Receiving.{unawaited, next_unawaited, drop_unawaite
 use Rattle.kernel_core.specs.Answering.{held_call, answer_held}
 use Rattle.kernel_core.specs.Forward.{failed_forward, passing_on, forward_told}
 use Rattle.kernel_core.specs.HangingUp.{hangup_over}
-use Rattle.kernel_core.specs.Serve.{serve, serve_request}
+use Rattle.kernel_core.specs.Kernel.{serve}
+use Rattle.kernel_core.specs.Request.{serve_request}
 use Rattle.kernel_core.proofs.Passing.{leads_of, passes}
 
 -- a call is accepted

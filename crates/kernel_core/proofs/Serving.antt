@@ -37,7 +37,8 @@ use Rattle.kernel_core.specs.Receiving.{unawaited, next_unawaited, drop_unawaite
 use Rattle.kernel_core.specs.Answering.{held_call, answer_held}
 use Rattle.kernel_core.specs.Forward.{failed_forward, passing_on, forward_told}
 use Rattle.kernel_core.specs.HangingUp.{hangup_over}
-use Rattle.kernel_core.specs.Serve.{serve, serve_request}
+use Rattle.kernel_core.specs.Kernel.{serve}
+use Rattle.kernel_core.specs.Request.{serve_request}
 use Rattle.kernel_core.proofs.Passing.{leads_of, passes}
 
 -- the steps

@@ -10,9 +10,9 @@ use Rattle.cleanup.proofs.Soundness.{sound_start, kept_task, kept_wired}
 use Rattle.cleanup.proofs.Killing.{sound_kill}
 use Rattle.answerbox.proofs.Counts.{active-len}
 use Rattle.cleanup.specs.Board.{FewActive}
-use Rattle.kernel_core.specs.Kept.{IsSteady}
+use Rattle.kernel_core.specs.Kernel.{IsSteady, serve, kill_event}
 use Rattle.cleanup.specs.Kill.{kill}
-use Rattle.kernel_core.specs.Serve.{serve_request, serve, kill_event}
+use Rattle.kernel_core.specs.Request.{serve_request}
 use Rattle.kernel_core.proofs.Serving.{sound_serve}
 
 pub steady_start : IsSteady start

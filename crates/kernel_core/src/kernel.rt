@@ -2,8 +2,9 @@
 ghost use Rattle.ipc_ids.specs.declared.entry.Entry.{Entry};
 ghost use Rattle.std.specs.Prelude.{List, [], ◌≡◌, ◌+◌, ◌^◌, ◌<◌, ◌≤◌, ◌++◌, true, Some, IfOk, OnOk, OnErr, length};
 ghost use Rattle.cleanup.specs.State.{start, is_alive, phone_at, with_task, with_phone};
+ghost use Rattle.cleanup.specs.Board.{IsLimit};
 ghost use Rattle.cleanup.specs.Sound.{IsSound};
-ghost use Rattle.kernel_core.specs.Serve.{serve, kill_event};
+ghost use Rattle.kernel_core.specs.Kernel.{serve, kill_event};
 ghost use Rattle.kernel_core.specs.History.{HistoryFits, served_entries, killed_entries};
 
 use crate::request::{room_of, serve_request};
@@ -22,7 +23,7 @@ impl Model for Kernel {
     ghost use Rattle.call_slab.specs.contracts.call.Call as call;
     ghost use Rattle.ipc_ids.specs.contracts.message.PhoneState as phone;
     ghost use Rattle.cleanup.specs.State.{KernelState, state_code};
-    ghost use Rattle.kernel_core.specs.Kept.{IsSteady};
+    ghost use Rattle.kernel_core.specs.Kernel.{IsSteady};
 
     ghost Value = { KernelState };
 
@@ -51,8 +52,7 @@ impl Kernel {
     ///
     /// `NoMemory` where no memory was found.
     pub fn add_task(&mut self, limit: u32) -> Result<TaskNo, NoMemory>
-        requires some { 1 ≤ limit }
-        requires few_phones { limit ≤ 64 }
+        requires limit { IsLimit limit }
         requires few_tasks { length self.old.tasks.alive < 64 }
         requires no_event { self.old.events ≡ 0 }
         ensures state { OnOk result (self.new ≡ with_task self.old limit) }

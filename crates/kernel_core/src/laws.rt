@@ -15,7 +15,7 @@ ghost use Rattle.cleanup.specs.Sound.{IsSound};
 ghost use Rattle.kernel_core.specs.History.{HistoryFits};
 ghost use Rattle.kernel_core.specs.Calling.{call};
 ghost use Rattle.kernel_core.specs.Receiving.{receive};
-ghost use Rattle.kernel_core.specs.Serve.{serve};
+ghost use Rattle.kernel_core.specs.Kernel.{serve};
 ghost use Rattle.kernel_core.specs.ReceiveLaws.{IsLawfulReceive};
 
 /// A history that fits a state of the kernel keeps the laws of calls: so the entries of any system

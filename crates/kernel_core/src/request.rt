@@ -4,7 +4,7 @@ ghost use Rattle.cleanup.specs.State.{live_calls};
 ghost use Rattle.cleanup.specs.Board.{IsAdded, FewActive};
 ghost use Rattle.cleanup.specs.Rooms.{HasRoom, UsesRoom};
 ghost use Rattle.cleanup.specs.Serving.{ServesOrLeaves};
-ghost use Rattle.kernel_core.specs.Serve.{serve_request as serve_request_of, most_calls, most_entries};
+ghost use Rattle.kernel_core.specs.Request.{serve_request as serve_request_of, most_calls, most_entries};
 
 use crate::answering::answer;
 use crate::calling::call;

@@ -1,6 +1,6 @@
 use Rattle.std.proofs.Common.{sym, subst, ◌++◌}
 use Rattle.cleanup.specs.State.{KernelState}
-use Rattle.kernel_core.specs.Serve.{serve}
+use Rattle.kernel_core.specs.Kernel.{serve}
 use Rattle.kernel_core.specs.History.{HistoryFits, served_entries}
 use Rattle.kernel_core.proofs.Steadiness.{few_active, steady_served, served_after}
 use Rattle.kernel_core.proofs.ServedHistories.{serve_fits}

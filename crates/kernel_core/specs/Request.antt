@@ -1,11 +1,10 @@
--- The events: a system call of task t, and a kill of it.
+-- What each request of task t does, and the room that it needs.
 use Rattle.std.specs.Prelude.{ℕ, ◌+◌, ◌*◌, []}
 use Rattle.ipc_ids.specs.declared.numbers.TaskNo.{TaskNo}
 use Rattle.ipc_ids.specs.declared.message.Request.{Request}
 use Rattle.ipc_ids.specs.declared.message.Request.TheVariants.{Call, Receive, Answer, Forward, Hangup, Nothing}
 use Rattle.ipc_ids.specs.declared.message.Outcome.TheVariants.{Done}
-use Rattle.cleanup.specs.State.{KernelState, Transition, live_calls, with_event}
-use Rattle.cleanup.specs.Kill.{kill}
+use Rattle.cleanup.specs.State.{KernelState, live_calls}
 use Rattle.cleanup.specs.Serving.{Served}
 use Rattle.kernel_core.specs.Calling.{call}
 use Rattle.kernel_core.specs.Receiving.{receive}
@@ -39,14 +38,3 @@ most_entries k (Answer n reply) = 2
 most_entries k (Forward n p mode change) = 2
 most_entries k (Hangup p) = 3
 most_entries k Nothing = 0
-
--- one event more
-abbrev pub and_event : Served → Served
-and_event served = record { state = with_event served.state; outcome = served.outcome; entries = served.entries }
-
-abbrev pub serve : KernelState → TaskNo → Request → Served
-serve k t request = and_event (serve_request k t request)
-
--- a task that is alive is killed
-abbrev pub kill_event : KernelState → TaskNo → Transition
-kill_event k t = record { state = with_event (kill k t).state; entries = (kill k t).entries }
