@@ -89,8 +89,8 @@ def read_as(forms, text):
 
 def events_of(text):
     """The events of a trace's text; raises Unreadable for the first line that is none, or that stands out of place."""
-    events = []
-    for number, line in enumerate(text.removesuffix("\n").split("\n") if text else [], 1):
+    events, lines = [], text.split("\n")
+    for number, line in enumerate(lines[:-1] if not lines[-1] else lines, 1):
         head = read_as(HEAD_FORMS, line)
         if head:
             events.append(Event(head))
