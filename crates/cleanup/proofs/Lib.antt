@@ -22,3 +22,4 @@ pub mod Switched
 pub mod Turns
 pub mod SoundBoards
 pub mod Live
+pub mod Marks

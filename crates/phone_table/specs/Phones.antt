@@ -1,5 +1,5 @@
 -- The states of phones, with the numbers of their active calls, and what may be done with them.
-use Rattle.std.specs.Prelude.{ℕ, ◌≡◌, ◌≤◌, ◌+◌, ◌-◌, ◌==◌, Bool, true, false, if◌then◌else◌, List, [], ◌∷◌, ◌++◌, Option, None, Some, Result, Ok, Err, slice_get, slice_set, length, option_and_then, replicate}
+use Rattle.std.specs.Prelude.{ℕ, ◌≡◌, ◌≤◌, ◌+◌, ◌-◌, ◌==◌, Bool, true, false, if◌then◌else◌, List, [], ◌∷◌, ◌++◌, Option, None, Some, IsSome, Result, Ok, Err, slice_get, slice_set, length, option_and_then, replicate}
 use Rattle.ipc_ids.specs.declared.numbers.Code.{Code}
 use Rattle.ipc_ids.specs.declared.message.PhoneState.{PhoneState}
 use Rattle.ipc_ids.specs.declared.message.PhoneState.TheVariants.{Free, Connecting, Connected, HungUp, Slammed}
@@ -77,6 +77,10 @@ state_at rows t p = option_and_then (λ row. slice_get row p) (row_at rows t)
 -- how many active calls are counted on phone p of task t, where t has it
 abbrev pub count_at : List (List ℕ) → ℕ → ℕ → Option ℕ
 count_at rows t p = option_and_then (λ row. slice_get row p) (row_at rows t)
+
+-- each phone has its count
+abbrev pub AreCounted : Rows → Type 0
+AreCounted rows = (t p : ℕ) → IsSome (state_at rows.states t p) → IsSome (count_at rows.counts t p)
 
 -- the phones of task t are these
 abbrev pub with_row : Rows → ℕ → Row → Rows

@@ -69,6 +69,14 @@ impl Phones {
         Phones { phones }
     }
 
+    /// How many phones the task has, each with its count.
+    pub fn len(&self) -> u64
+        ensures states { result ≡ length self.now.states }
+        ensures counts { result ≡ length self.now.counts }
+    {
+        self.phones.len() as u64
+    }
+
     /// The state of a phone; `None` where the task has no such phone.
     pub fn state(&self, p: u64) -> Option<PhoneState>
         ensures state { result ≡ slice_get self.now.states p }
