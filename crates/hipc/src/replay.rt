@@ -164,7 +164,9 @@ fn serve_request(
     requires few_events { kernel.old.events < 2 ^ 24 }
     ensures state { OnOk result (kernel.new ≡ (serve kernel.old task request.now).state) }
     ensures outcome { IfOk result (λ o. o ≡ (serve kernel.old task request.now).outcome) }
-    ensures entries { OnOk result (Tells out.old out.new (served_entries task request.now (serve kernel.old task request.now))) }
+    ensures entries { OnOk result
+        (Tells out.old out.new
+        (served_entries task request.now (serve kernel.old task request.now))) }
     ensures events { OnOk result (kernel.new.events ≡ kernel.old.events + 1) }
 {
     out.reserve(1)?;

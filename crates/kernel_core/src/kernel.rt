@@ -105,14 +105,17 @@ impl Kernel {
         requires alive { is_alive self.old who ≡ true }
         requires few_events { self.old.events < 2 ^ 24 }
         ensures state { OnOk result (self.new ≡ (serve self.old who request.now).state) }
-        ensures outcome { IfOk result (λ outcome. outcome ≡ (serve self.old who request.now).outcome) }
-        ensures entries { OnOk result (out.new.entries ≡ out.old.entries ++ (serve self.old who request.now).entries) }
+        ensures outcome { IfOk result (λ outcome. outcome
+            ≡ (serve self.old who request.now).outcome) }
+        ensures entries { OnOk result (out.new.entries
+            ≡ out.old.entries ++ (serve self.old who request.now).entries) }
         ensures events { OnOk result (self.new.events ≡ self.old.events + 1) }
         ensures unchanged { OnErr result (self.new ≡ self.old) }
         ensures trace_unchanged { OnErr result (out.new.entries ≡ out.old.entries) }
         ensures sound { IsSound self.new }
         ensures history { OnOk result ((h : List Entry) → HistoryFits h self.old
-            → HistoryFits (h ++ served_entries who request.now (serve self.old who request.now)) self.new) }
+            → HistoryFits (h ++ served_entries who request.now
+                (serve self.old who request.now)) self.new) }
     {
         let _next = self.board.next_number();
         let (calls, entries) = room_of(&self.board, request);
@@ -136,7 +139,8 @@ impl Kernel {
         requires alive { is_alive self.old who ≡ true }
         requires few_events { self.old.events < 2 ^ 24 }
         ensures state { OnOk result (self.new ≡ (kill_event self.old who).state) }
-        ensures entries { OnOk result (out.new.entries ≡ out.old.entries ++ (kill_event self.old who).entries) }
+        ensures entries { OnOk result (out.new.entries
+            ≡ out.old.entries ++ (kill_event self.old who).entries) }
         ensures events { OnOk result (self.new.events ≡ self.old.events + 1) }
         ensures unchanged { OnErr result (self.new ≡ self.old) }
         ensures trace_unchanged { OnErr result (out.new.entries ≡ out.old.entries) }
