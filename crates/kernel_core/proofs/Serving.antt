@@ -14,7 +14,8 @@ use Rattle.ipc_ids.specs.declared.message.PhoneState.TheVariants.{Free, Connecti
 use Rattle.ipc_ids.specs.declared.message.Request.{Request}
 use Rattle.ipc_ids.specs.declared.message.Request.TheVariants as R
 use Rattle.ipc_ids.specs.Codes.{ehangup, enoent, eforward}
-use Rattle.ipc_ids.specs.Tables.{first_user_method, most_active}
+use Rattle.ipc_ids.specs.Methods.{first_user_method}
+use Rattle.ipc_ids.specs.Tables.{most_active}
 use Rattle.call_slab.specs.declared.call.Call.{Call}
 use Rattle.call_slab.specs.declared.call.Place.{Place}
 use Rattle.call_slab.specs.declared.call.Place.TheVariants.{Incoming, Dispatched, Answers}
