@@ -6,4 +6,5 @@ pub mod Joins
 pub mod Kill
 pub mod KillLaws
 pub mod Board
+pub mod Ending
 pub mod Rooms
