@@ -26,7 +26,7 @@ use Rattle.cleanup.proofs.Keeping.{each_with, each_without}
 use Rattle.cleanup.proofs.Silence.{with_marks}
 
 -- this caller has the same mark in both
-abbrev SameMark : List Bool → List Bool → Option TaskNo → Type 0
+abbrev pub SameMark : List Bool → List Bool → Option TaskNo → Type 0
 SameMark a b None = ⊤
 SameMark a b (Some u) = alive_in a u.0 ≡ alive_in b u.0
 
@@ -36,7 +36,7 @@ pub record Agree (marks : List Bool) (t : TaskNo) (k : KernelState) : Type 0 whe
   pub callers : (n : ℕ) (c : Call) → call_at k.calls n ≡ Some c → SameMark k.tasks.alive marks c.caller
 
 -- the same transition of a state with these marks
-abbrev remarked : List Bool → Transition → Transition
+abbrev pub remarked : List Bool → Transition → Transition
 remarked marks s = record { state = with_marks marks s.state; entries = s.entries }
 
 -- a step does the same with these marks, and leaves them agreeing

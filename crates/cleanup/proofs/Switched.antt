@@ -34,14 +34,13 @@ use Rattle.cleanup.proofs.Endings.{length_rows, sent_to}
 
 -- calls and counts change
 pub switched_calls : {alive : List Bool} {phones : List (List PhoneState)} {counts : List (List ℕ)} {calls : CallTable} {tasks : ℕ} (counts' : List (List ℕ)) (calls' : CallTable) → IsSwitched alive phones counts calls tasks → HasCounts phones counts' calls' → IsSwitched alive phones counts' calls' tasks
-switched_calls counts' calls' s h = record { paired = s.paired; places = s.places; few = s.few; leads = s.leads; has_counts = h }
+switched_calls counts' calls' s h = record { paired = s.paired; places = s.places; leads = s.leads; has_counts = h }
 
 -- a phone that is there gets a state in which it leads to no task
 pub switched_phone : {alive : List Bool} {phones : List (List PhoneState)} {counts : List (List ℕ)} {calls : CallTable} {tasks : ℕ} (a b : ℕ) (state : PhoneState) → IsSwitched alive phones counts calls tasks → IsSome (state_at phones a b) → ((u : TaskNo) → state ≡ Connected u → ⊥) → IsSwitched alive (with_state_at phones a b state) counts calls tasks
 switched_phone {alive} {phones} {counts} {calls} a b state s there quiet = record {
   paired = length_rows phones a b state ∙ s.paired;
   places = s.places;
-  few = s.few;
   leads = λ t p u is. elim (state_changed_at phones a b t p state (Connected u) is) [ inl e ↦ absurd (quiet u e.2) | inr e ↦ s.leads t p u e.1 ];
   has_counts = counts_phone phones counts calls a b state s.has_counts there;
 }
@@ -119,7 +118,6 @@ pub switched_wired : {alive : List Bool} {phones : List (List PhoneState)} {coun
 switched_wired {alive} {phones} {counts} {calls} a b to s there added = record {
   paired = length_rows phones a b (Connected to) ∙ s.paired;
   places = s.places;
-  few = s.few;
   leads = λ t p u is. elim (state_changed_at phones a b t p (Connected to) (Connected u) is) [ inl e ↦ subst (λ (v : TaskNo). v.0 ≤ length alive) (same_end to u e.2) added | inr e ↦ s.leads t p u e.1 ];
   has_counts = counts_phone phones counts calls a b (Connected to) s.has_counts there;
 }
@@ -132,7 +130,6 @@ pub switched_start : IsSwitched [] [] [] no_calls 0
 switched_start = record {
   paired = refl;
   places = omega arith;
-  few = omega arith;
   leads = λ t p u is. absurd (nowhere t p (Connected u) is);
   has_counts = record {
     numbered = λ n c is. absurd (let g = sym (call_at-no_calls n) ∙ is in cc);
@@ -178,11 +175,10 @@ there_before rows row t p h =
     let r = some_of (row_at rows t) (λ x. slice_get x p) f.0 f.1 in
     rw (row_before rows row t r.0 r.1, r.2) refl
 
-pub switched_task : {alive : List Bool} {phones : List (List PhoneState)} {counts : List (List ℕ)} {calls : CallTable} {tasks : ℕ} (limit tasks' : ℕ) → IsSwitched alive phones counts calls tasks → length counts ≡ length phones → length alive + 1 ≤ tasks' → length alive < 64 → calls.next_number ≤ 1 → IsSwitched (alive ++ true ∷ []) (phones ++ replicate limit Free ∷ []) (counts ++ replicate limit 0 ∷ []) calls tasks'
-switched_task {alive} {phones} {counts} {calls} limit tasks' s paired enough few first = record {
+pub switched_task : {alive : List Bool} {phones : List (List PhoneState)} {counts : List (List ℕ)} {calls : CallTable} {tasks : ℕ} (limit tasks' : ℕ) → IsSwitched alive phones counts calls tasks → length counts ≡ length phones → length alive + 1 ≤ tasks' → calls.next_number ≤ 1 → IsSwitched (alive ++ true ∷ []) (phones ++ replicate limit Free ∷ []) (counts ++ replicate limit 0 ∷ []) calls tasks'
+switched_task {alive} {phones} {counts} {calls} limit tasks' s paired enough first = record {
   paired = rw (length-append, length-append) (let e = s.paired in omega arith);
   places = rw length-append (omega (arith, enough));
-  few = rw length-append (omega (arith, few));
   leads = λ t p u is.
   let row = some_of (row_at (phones ++ replicate limit Free ∷ []) t) (λ r. slice_get r p) (Connected u) is in
   elim (row_append phones (replicate limit Free) t row.0 row.1) [

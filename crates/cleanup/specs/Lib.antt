@@ -7,4 +7,5 @@ pub mod Kill
 pub mod KillLaws
 pub mod Limits
 pub mod Board
+pub mod Ending
 pub mod Rooms

@@ -89,6 +89,7 @@ impl Switchboard {
         ensures phones { result.0.states ≡ self.state.tasks.phones }
         ensures calls { result.1.calls ≡ self.state.calls }
         ensures counts { HasCounts result.0.states result.0.counts result.1.calls }
+        ensures places { length self.state.tasks.alive ≤ result.1.tasks }
     {
         let Switchboard { phones, boxes, .. } = self;
         (phones, boxes)
@@ -317,7 +318,6 @@ impl Switchboard {
     pub fn tasks(&self) -> u64
         ensures tasks { result ≡ length self.now.state.tasks.alive }
         ensures phones { result ≡ length self.now.state.tasks.phones }
-        ensures few { result ≤ 64 }
     {
         self.phones.tasks()
     }

@@ -1,5 +1,5 @@
 //! The end of a task, part by part.
-ghost use Rattle.std.specs.Prelude.{◌≡◌, ◌+◌, ◌*◌, ◌^◌, ◌<◌, ◌≤◌, OnOk, OnErr, length};
+ghost use Rattle.std.specs.Prelude.{◌≡◌, ◌+◌, ◌*◌, ◌^◌, ◌<◌, ◌≤◌, IfOk, OnOk, OnErr, length};
 ghost use Rattle.answerbox.specs.Calls.{task_of};
 ghost use Rattle.cleanup.specs.State.{live_calls};
 ghost use Rattle.cleanup.specs.Kill.{kill, end_parts, hang_up_own_phones, slam_phones_to, slam_other, slam_phones_of, settle_calls_at, drop_answers, forget_calls_elsewhere};
@@ -34,19 +34,9 @@ impl Switchboard {
     {
         let _next = self.next_number();
         self.reserve(MOST_PHONES)?;
-        out.reserve(self.most_entries())?;
+        out.reserve(most_entries(self.live(), self.tasks() as usize)?)?;
         self.end_reserved(who, out);
         Ok(())
-    }
-
-    /// How many entries the end of a task makes at most: three for each of its phones, one for each
-    /// phone that leads to it, and for each call two in each of three parts and one in the last.
-    fn most_entries(&self) -> usize
-        requires { live_calls self.now.state < 2 ^ 61 }
-        ensures { result ≡ 7 * live_calls self.now.state + 64 * length self.now.state.tasks.alive +
-            640 }
-    {
-        7 * self.live() + MOST_PHONES * self.tasks() as usize + 10 * MOST_PHONES
     }
 
     /// The same, where there is room for all of it.
@@ -113,7 +103,7 @@ impl Switchboard {
     /// that task.
     fn slam_other(&mut self, who: TaskNo, i: u64, out: &mut Trace)
         requires added { i < length self.old.state.tasks.alive }
-        requires few { i < 64 }
+        requires few { i + 1 < 2 ^ 64 }
         requires room { HasRoom self.old out.old 0 0 64 }
         ensures step { Does self.new out.old out.new (slam_other who self.old.state i) }
         ensures room { UsesRoom self.old self.new out.old out.new 0 0 64 }
@@ -182,5 +172,24 @@ impl Switchboard {
                 None => return,
             }
         }
+    }
+}
+
+/// How many entries the end of a task makes at most: three for each of its phones, one for each
+/// phone that leads to it, and for each call two in each of three parts and one in the last.
+///
+/// # Errors
+///
+/// `NoMemory` where no memory has room for so many.
+pub(crate) fn most_entries(calls: usize, tasks: usize) -> Result<usize, NoMemory>
+    requires { calls < 2 ^ 61 }
+    ensures { IfOk result (λ n. n ≡ 7 * calls + 64 * tasks + 640) }
+{
+    match MOST_PHONES.checked_mul(tasks) {
+        Some(slams) => match slams.checked_add(7 * calls + 10 * MOST_PHONES) {
+            Some(entries) => Ok(entries),
+            None => Err(NoMemory),
+        },
+        None => Err(NoMemory),
     }
 }

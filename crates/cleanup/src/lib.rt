@@ -13,6 +13,8 @@ mod joins;
 mod kill;
 mod laws;
 mod phones;
+#[cfg(test)]
+mod tests;
 
 pub use board::Switchboard;
 pub use counts::label;

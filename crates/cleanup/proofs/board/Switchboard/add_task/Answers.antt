@@ -11,4 +11,4 @@ invariant_of-self-in-Ok-add c =
     let items = ap length c.reserve.ensures.items in
     let reserved = c.reserve.new.self.ok.0 in
     rw (c.push_reserved.ensures.items, c.reserve.ensures.items, c.in-Ok-add.ensures.ok, c.new.ensures, c.add_place.ensures.calls)
-    (switched_task c.args.limit c.add_place.new.boxes.tasks c.self.invariant.0 c.tasks.ensures.counts (omega (arith, places.enough, more, had, items, reserved)) (rw (← c.self.view_is) at c.requires.few_tasks) (rw (← c.self.view_is) at c.requires.no_call), record { covers = rw length-append (omega (arith, more, had, items, reserved)); enough = places.enough; no_more = rw length-append (omega (arith, places.no_more, had, items, reserved)) })
+    (switched_task c.args.limit c.add_place.new.boxes.tasks c.self.invariant.0 c.tasks.ensures.counts (omega (arith, places.enough, more, had, items, reserved)) (rw (← c.self.view_is) at c.requires.no_call), record { covers = rw length-append (omega (arith, more, had, items, reserved)); enough = places.enough; no_more = rw length-append (omega (arith, places.no_more, had, items, reserved)) })

@@ -1,0 +1,58 @@
+use Rattle.std.proofs.Common.{◌≡◌, ap, refl, sym, ◌∙◌, ◌++◌, arith}
+use Rattle.ipc_ids.specs.declared.entry.Entry.{Entry}
+use Rattle.answerbox.specs.Calls.{CallTable}
+use Rattle.cleanup.specs.State.{KernelState, Transition, state_from}
+use Rattle.cleanup.specs.Kill.{end_parts, kill}
+use Rattle.cleanup.proofs.Marks.{remarked}
+use Rattle.cleanup.proofs.SoundBoards.{same_end, as_many_marks, switched, few_from, whole}
+use Rattle.cleanup.proofs.ending.end_task.Given as given
+use Rattle.cleanup.proofs.ending.end_task.Goals as goal
+
+pub of-board-requires : goal.of-board-requires
+of-board-requires g c =
+    let phones = c.args.phones.now in
+    let boxes = c.args.boxes.now in
+    record {
+      switched = rw (c.in_ok-marks.ensures, c.tasks-tasks.ensures.tasks, c.replace.ensures.value, c.replace-2.ensures.value, c.reserve.ensures.calls, c.reserve.ensures.tasks)
+          (switched g.alive c.args.who phones.states boxes.calls c.requires.0 c.requires.1.0 phones.counts boxes.tasks c.requires.1.1.0.counted c.check_counts.ensures c.next_number-next.ensures.few c.requires.1.1.1.1);
+    }
+
+pub end_reserved-requires-clause-few_active : goal.end_reserved-requires-clause-few_active
+end_reserved-requires-clause-few_active g c =
+    let phones = c.args.phones.now in
+    rw (c.of-board.ensures.state, c.replace-2.ensures.value, c.reserve.ensures.calls)
+    (few_from g.alive c.args.who phones.states c.args.boxes.now.calls c.requires.0 c.requires.1.0 phones.counts c.requires.1.1.0 c.check_counts.ensures)
+
+module _ (g : given.Over) (c : goal.After-drop-boxes g) where
+  board : c.of-board.result.state ≡ whole g.alive c.args.who c.args.phones.now.states c.args.boxes.now.calls c.requires.0 c.requires.1.0
+  board = rw (c.of-board.ensures.state, c.in_ok-marks.ensures, c.tasks-tasks.ensures.tasks, c.replace.ensures.value, c.replace-2.ensures.value, c.reserve.ensures.calls) refl
+
+  same : remarked g.alive (kill c.of-board.result.state c.args.who) ≡ end_parts c.args.who (state_from g.alive c.args.phones.now.states c.args.boxes.now.calls 0)
+  same = same_end g.alive c.args.who c.args.phones.now.states c.args.boxes.now.calls c.requires.0 c.requires.1.0 c.of-board.result.state board
+
+pub returns-clause-calls : goal.returns-clause-calls
+returns-clause-calls g c =
+    c.into_parts-rows.ensures.calls ∙ ap (λ (k : KernelState). k.calls) c.end_reserved.ensures.step.state ∙ ap (λ (s : Transition). s.state.calls) (same g c)
+
+pub returns-clause-phones : goal.returns-clause-phones
+returns-clause-phones g c =
+    c.into_parts-rows.ensures.phones ∙ ap (λ (k : KernelState). k.tasks.phones) c.end_reserved.ensures.step.state ∙ ap (λ (s : Transition). s.state.tasks.phones) (same g c)
+
+pub returns-clause-entries : goal.returns-clause-entries
+returns-clause-entries g c =
+    rw (c.end_reserved.ensures.step.entries, c.reserve-2.ensures.entries) (ap (λ (s : Transition). c.args.out.now.entries ++ s.entries) (same g c))
+
+pub returns-clause-used : goal.returns-clause-used
+returns-clause-used g c =
+    let used = c.end_reserved.ensures in
+    let calls = c.into_parts-rows.ensures.calls in
+    let before = ap (λ (k : KernelState). k.calls) (board g c) in
+    let numbers = ap (λ (q : CallTable). q.next_number) calls in
+    let stamps = ap (λ (q : CallTable). q.next_stamp) calls in
+    let marks = ap (λ (k : KernelState). k.tasks.alive) used.step.state in
+    let many = as_many_marks g.alive c.args.who c.args.phones.now.states c.args.boxes.now.calls c.requires.0 c.requires.1.0 c.of-board.result.state (board g c) in
+    record {
+      places = rw (← many, ← marks) c.into_parts-rows.ensures.places;
+      numbers = rw (numbers) (rw before at used.numbers);
+      stamps = rw (stamps) (rw before at used.stamps);
+    }

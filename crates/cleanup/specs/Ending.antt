@@ -1,0 +1,38 @@
+-- What the end of a task asks of the phones and calls that it is given, and what it leaves of them.
+use Rattle.std.specs.Prelude.{◌≡◌, ℕ, ◌+◌, ◌*◌, ◌^◌, ◌<◌, ◌≤◌, Bool, true, false, List, Some, length, replicate}
+use Rattle.std.specs.FinMap.{len}
+use Rattle.ipc_ids.specs.declared.numbers.TaskNo.{TaskNo}
+use Rattle.answerbox.specs.Calls.{CallTable, BoxesState}
+use Rattle.phone_table.specs.Phones.{Rows, count_at}
+use Rattle.cleanup.specs.State.{KernelState, alive_in, state_from}
+use Rattle.cleanup.specs.Counts.{IsCounted}
+
+-- the task is one of those with marks, and is marked as ended
+pub record IsJustEnded (alive : List Bool) (who : TaskNo) : Type 0 where
+  pub marked : alive_in alive who.0 ≡ false
+  pub from_one : 1 ≤ who.0
+  pub task : who.0 ≤ length alive
+
+-- the state that marks, phones and calls stand for
+abbrev pub state_of : List Bool → Rows → BoxesState → KernelState
+state_of alive phones boxes = state_from alive phones.states boxes.calls 0
+
+-- the counts are those of the active calls, and none is near its limit
+pub record HasFewActive (counts : List (List ℕ)) (calls : CallTable) : Type 0 where
+  pub counted : IsCounted counts calls
+  pub few : (t p n : ℕ) → count_at counts t p ≡ Some n → n < 2 ^ 31
+
+-- there are numbers and stamps enough
+pub record HasNumbers (calls : CallTable) : Type 0 where
+  pub numbers : calls.next_number < 2 ^ 61
+  pub stamps : calls.next_stamp < 2 ^ 61
+
+-- the numbers and stamps that were used, and that each task has its places
+pub record UsesNumbers (tasks : ℕ) (old new : BoxesState) : Type 0 where
+  pub places : tasks ≤ new.tasks
+  pub numbers : new.calls.next_number ≤ old.calls.next_number + 64
+  pub stamps : new.calls.next_stamp ≤ old.calls.next_stamp + 2 * len old.calls.records + 192
+
+-- so many tasks that are alive
+abbrev pub all_alive : ℕ → List Bool
+all_alive n = replicate n true
