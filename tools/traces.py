@@ -10,6 +10,7 @@ NUMBER = r"\d+"
 TASK = r"t[1-9]\d*"
 PHONE = TASK + r"\.\d+"
 CODE = r"(?:EOK|ENOENT|EPERM|EEXIST|EINVAL|ELIMIT|EHANGUP|EFORWARD|EBUSY|ENOMEM|[1-9]\d+)"
+NAME = re.compile(r"[a-z][a-z0-9_]{0,14}\Z")
 FIVE = NUMBER + f"(?: {NUMBER})" + "{4}"
 
 # Each form of a line, by the name of its kind, with the parts that the tools use.
@@ -110,7 +111,7 @@ def names_of(script):
     """The names of a script's tasks by their words in a trace, as t1."""
     words = [line.partition("#")[0].split() for line in script.split("\n")]
     names = [line[1] for line in words if len(line) > 1 and line[0] == "task"]
-    return {f"t{number}": name for number, name in enumerate(names, 1)}
+    return {f"t{number}": name for number, name in enumerate(names, 1) if NAME.match(name)}
 
 
 def text_of(tool, name):
