@@ -17,7 +17,7 @@ use Rattle.phone_table.specs.Phones.{state_at}
 use Rattle.cleanup.specs.State.{KernelState, Transition, alive_in, is_alive, phone_at}
 use Rattle.cleanup.specs.Sound.{IsPlaced, IsCaller, IsQuiet, IsSound}
 use Rattle.cleanup.specs.Joins.{bare_reply, settle_for, lives, drop_answer, forget_call, hang_up}
-use Rattle.cleanup.specs.Kill.{width, mark_ended, hang_up_at, hang_up_own_phones, slam, slam_phones_to, first_at, first_call_of, settle_call, settle_calls_at, settle_incoming, settle_dispatched, drop_answers, forget_calls_elsewhere, kill}
+use Rattle.cleanup.specs.Kill.{width, mark_ended, hang_up_at, hang_up_own_phones, slam, slam_phones_to, first_at, first_call_of, settle_call, settle_calls_at, settle_incoming, settle_dispatched, drop_answers, kill}
 use Rattle.cleanup.proofs.Repeats.{by_test, each_keeps, drain_keeps}
 use Rattle.cleanup.proofs.Silence.{with_marks, IsEnding, own_phones_hung_up, phones_slammed, slams_keep}
 use Rattle.cleanup.proofs.Queues.{IsForgotten, incoming_settled, dispatched_settled, answers_dropped, calls_forgotten}

@@ -1,6 +1,5 @@
 -- The call parts of a kill: no call waits at the task, is held by it or answers it, and none is its own.
 use Rattle.std.proofs.Common.{◌≡◌, ℕ, suc, ◌+◌, Bool, true, false, ◌⊎◌, inl, inr, Option, None, Some, List, refl, ap, sym, subst, ◌∙◌, arith}
-use Rattle.std.specs.Prelude.{◌==◌}
 use Rattle.std.proofs.lemmas.Bool.{false≢true}
 use Rattle.std.specs.Cmp.{nat_cmp_total}
 use Rattle.std.specs.FinMap.{len, len-insert, get, insert, remove, get-remove, entries}
@@ -183,7 +182,6 @@ forget_none : (test : Call → Bool) (k : KernelState) (c : Call) → IsLive k c
 forget_none test k c is h fails = subst (NoneIs test) (sym (forget_step k c is)) (insert_none test k c.number.0 (forgotten c) h fails)
 
 -- the parts
-
 
 -- no call waits at t
 pub record IsUncalled (marks : List Bool) (t : TaskNo) (k : KernelState) : Type 0 where

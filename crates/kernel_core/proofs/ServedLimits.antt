@@ -1,7 +1,6 @@
 -- A request leaves few active calls on each phone, and a call is accepted only where there are fewer than 64.
-use Rattle.std.proofs.Common.{◌≡◌, ℕ, ◌<◌, Bool, true, false, Option, None, Some, Result, Ok, Err, refl, ap, sym, subst, ◌∙◌, arith, nat_lt, nat_le}
-use Rattle.std.specs.Prelude.{◌==◌, if◌then◌else◌, ⊤}
-use Rattle.std.proofs.lemmas.Bool.{ne_eqb}
+use Rattle.std.proofs.Common.{◌≡◌, ℕ, ◌<◌, false, Option, None, Some, Result, Ok, Err, refl, ap, sym, subst, ◌∙◌, arith, nat_lt, nat_le}
+use Rattle.std.specs.Prelude.{⊤}
 use Rattle.std.proofs.lemmas.Bool.Decides.{nat_tests}
 use Rattle.ipc_ids.specs.declared.numbers.TaskNo.{TaskNo}
 use Rattle.ipc_ids.specs.declared.numbers.CallNo.{CallNo}
@@ -21,23 +20,22 @@ use Rattle.ipc_ids.specs.Tables.{most_active}
 use Rattle.call_slab.specs.declared.call.Call.{Call}
 use Rattle.call_slab.specs.declared.call.Place.{Place}
 use Rattle.call_slab.specs.declared.call.Place.TheVariants.{Incoming, Dispatched, Answers}
-use Rattle.answerbox.specs.Calls.{is_hangup, call_at, front, enqueue, same_place, active_calls}
-use Rattle.answerbox.proofs.Fronts.{front_live}
+use Rattle.answerbox.specs.Calls.{call_at, front, enqueue, same_place, active_calls}
 use Rattle.forwarding.specs.declared.passing.Forwarded.{Forwarded}
 use Rattle.forwarding.specs.declared.passing.ForwardFault.{ForwardFault}
 use Rattle.forwarding.specs.declared.passing.ForwardFault.TheVariants.{NotHeld, NotForwardable, NotConnected}
 use Rattle.forwarding.specs.Routes.{forward_answer, call_after, table_after}
-use Rattle.cleanup.specs.State.{KernelState, live_calls, is_alive, phone_at, with_calls, with_event, label_of}
+use Rattle.cleanup.specs.State.{KernelState, live_calls, phone_at, with_calls, with_event, label_of}
 use Rattle.cleanup.specs.Sound.{IsSound}
 use Rattle.cleanup.specs.Joins.{bare_reply, drop_answer, new_call, receive_first}
 use Rattle.cleanup.specs.Serving.{Served}
 use Rattle.cleanup.specs.Limits.{IsIdle, IsWithinLimits}
 use Rattle.cleanup.proofs.Repeats.{by_test, drain_keeps}
 use Rattle.cleanup.proofs.Silence.{next_free}
-use Rattle.cleanup.proofs.Queues.{IsLive, sound_drop}
+use Rattle.cleanup.proofs.Queues.{sound_drop}
 use Rattle.cleanup.proofs.Limits.{within_call, within_over, within_put, within_settle, within_hang_up}
 use Rattle.kernel_core.specs.Calling.{call_through, call_tested, call_over, call}
-use Rattle.kernel_core.specs.Receiving.{unawaited, next_unawaited, drop_unawaited, receive_now}
+use Rattle.kernel_core.specs.Receiving.{next_unawaited, drop_unawaited}
 use Rattle.kernel_core.specs.Answering.{held_call, answer_held}
 use Rattle.kernel_core.specs.Forward.{failed_forward, passing_on, forward_told}
 use Rattle.kernel_core.specs.HangingUp.{hangup_over}

@@ -26,7 +26,7 @@ use Rattle.forwarding.specs.declared.passing.Forwarded.{Forwarded}
 use Rattle.forwarding.specs.declared.passing.ForwardFault.{ForwardFault}
 use Rattle.forwarding.specs.declared.passing.ForwardFault.TheVariants.{NotHeld, NotForwardable, NotConnected}
 use Rattle.forwarding.specs.Routes.{forward_answer, call_after, table_after}
-use Rattle.cleanup.specs.State.{KernelState, Transition, is_alive, phone_at, with_calls, with_phone, with_event, label_of}
+use Rattle.cleanup.specs.State.{KernelState, is_alive, phone_at, with_calls, label_of}
 use Rattle.cleanup.specs.Sound.{IsPlaced, IsCaller, IsSound}
 use Rattle.cleanup.specs.Joins.{bare_reply, settle, settle_for, lives, drop_answer, new_call, hang_up, receive_first}
 use Rattle.cleanup.proofs.Soundness.{sound_enqueue, sound_put, sound_without, kept_calls}
