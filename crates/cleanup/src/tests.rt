@@ -43,7 +43,13 @@ fn a_hangup_that_a_task_tells_itself_vanishes(rt: HostRuntime) -> Result<(), Fai
 
 #[test]
 fn a_held_call_of_another_task_is_answered(rt: HostRuntime) -> Result<(), Fail> {
-    let (who, from) = (TaskNo(1), Label { task: TaskNo(2), phone: PhoneNo(0) });
+    let (who, from) = (
+        TaskNo(1),
+        Label {
+            task: TaskNo(2),
+            phone: PhoneNo(0),
+        },
+    );
     let mut boxes = Boxes::new(rt.alloc());
     boxes.add_task()?;
     boxes.add_task()?;
@@ -51,7 +57,10 @@ fn a_held_call_of_another_task_is_answered(rt: HostRuntime) -> Result<(), Fail> 
     let mut phones = PhoneRows::new(rt.alloc());
     phones.add(Phones::new(1))?;
     phones.add(Phones::new(1))?;
-    let msg = Msg { method: 1024, args: [1, 2, 3, 4, 5] };
+    let msg = Msg {
+        method: 1024,
+        args: [1, 2, 3, 4, 5],
+    };
     boxes.enqueue(Call {
         number: CallNo(1),
         caller: Some(from.task),
@@ -72,7 +81,14 @@ fn a_held_call_of_another_task_is_answered(rt: HostRuntime) -> Result<(), Fail> 
     assert!(rt;
         matches!(
             out.entries(),
-            [Entry::Answered { call: CallNo(1), reply: Reply { code: Code::EHANGUP, .. }, by: None }]
+            [Entry::Answered {
+                call: CallNo(1),
+                reply: Reply {
+                    code: Code::EHANGUP,
+                    ..
+                },
+                by: None
+            }]
         )
     );
     assert_eq!(rt; boxes.front(Place::Answers(from.task)), Some(CallNo(1)));

@@ -115,7 +115,7 @@ impl Kernel {
         ensures sound { IsSound self.new }
         ensures history { OnOk result ((h : List Entry) → HistoryFits h self.old
             → HistoryFits (h ++ served_entries who request.now
-                (serve self.old who request.now)) self.new) }
+            (serve self.old who request.now)) self.new) }
     {
         let _next = self.board.next_number();
         let (calls, entries) = room_of(&self.board, request);
