@@ -24,13 +24,19 @@ fn a_hangup_that_a_task_tells_itself_vanishes(rt: HostRuntime) -> Result<(), Fai
             [
                 Entry::Accepted {
                     call: CallNo(1),
+                    from: Label {
+                        task: TaskNo(1),
+                        phone: PhoneNo(0),
+                    },
                     method: 0,
                     to: Some(TaskNo(1)),
-                    ..
                 },
                 Entry::PhoneIs {
+                    phone: Label {
+                        task: TaskNo(1),
+                        phone: PhoneNo(0),
+                    },
                     state: PhoneState::HungUp,
-                    ..
                 },
                 Entry::Vanished(CallNo(1)),
             ]
@@ -43,15 +49,26 @@ fn a_hangup_that_a_task_tells_itself_vanishes(rt: HostRuntime) -> Result<(), Fai
 
 #[test]
 fn a_held_call_of_another_task_is_answered(rt: HostRuntime) -> Result<(), Fail> {
-    let (who, from) = (TaskNo(1), Label { task: TaskNo(2), phone: PhoneNo(0) });
+    let (who, from) = (
+        TaskNo(1),
+        Label {
+            task: TaskNo(2),
+            phone: PhoneNo(0),
+        },
+    );
     let mut boxes = Boxes::new(rt.alloc());
     boxes.add_task()?;
     boxes.add_task()?;
     boxes.reserve(1)?;
     let mut phones = PhoneRows::new(rt.alloc());
     phones.add(Phones::new(1))?;
-    phones.add(Phones::new(1))?;
-    let msg = Msg { method: 1024, args: [1, 2, 3, 4, 5] };
+    let mut row = Phones::new(1);
+    row.count_up(from.phone);
+    phones.add(row)?;
+    let msg = Msg {
+        method: 1024,
+        args: [1, 2, 3, 4, 5],
+    };
     boxes.enqueue(Call {
         number: CallNo(1),
         caller: Some(from.task),
@@ -66,13 +83,19 @@ fn a_held_call_of_another_task_is_answered(rt: HostRuntime) -> Result<(), Fail> 
         place: Place::Dispatched(who),
         stamp: 0,
     });
-    phones.row_mut(from.task).count_up(from.phone);
     let mut out = Trace::new(rt.alloc());
     end_task(who, &mut boxes, &mut phones, &mut out)?;
     assert!(rt;
         matches!(
             out.entries(),
-            [Entry::Answered { call: CallNo(1), reply: Reply { code: Code::EHANGUP, .. }, by: None }]
+            [Entry::Answered {
+                call: CallNo(1),
+                reply: Reply {
+                    code: Code::EHANGUP,
+                    args: [0, 0, 0, 0, 0]
+                },
+                by: None
+            }]
         )
     );
     assert_eq!(rt; boxes.front(Place::Answers(from.task)), Some(CallNo(1)));
