@@ -24,19 +24,13 @@ fn a_hangup_that_a_task_tells_itself_vanishes(rt: HostRuntime) -> Result<(), Fai
             [
                 Entry::Accepted {
                     call: CallNo(1),
-                    from: Label {
-                        task: TaskNo(1),
-                        phone: PhoneNo(0),
-                    },
                     method: 0,
                     to: Some(TaskNo(1)),
+                    ..
                 },
                 Entry::PhoneIs {
-                    phone: Label {
-                        task: TaskNo(1),
-                        phone: PhoneNo(0),
-                    },
                     state: PhoneState::HungUp,
+                    ..
                 },
                 Entry::Vanished(CallNo(1)),
             ]
@@ -92,7 +86,7 @@ fn a_held_call_of_another_task_is_answered(rt: HostRuntime) -> Result<(), Fail> 
                 call: CallNo(1),
                 reply: Reply {
                     code: Code::EHANGUP,
-                    args: [0, 0, 0, 0, 0]
+                    ..
                 },
                 by: None
             }]
