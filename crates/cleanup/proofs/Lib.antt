@@ -23,3 +23,4 @@ pub mod Turns
 pub mod SoundBoards
 pub mod Live
 pub mod Marks
+pub mod EndExamples

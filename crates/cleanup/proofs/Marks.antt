@@ -1,11 +1,9 @@
 -- The parts of an end of a task read the marks only for the callers of live calls: marks that agree on these, and on
 -- the task, give the same.
-use Rattle.std.proofs.Common.{◌≡◌, ℕ, zero, suc, ◌+◌, ◌-◌, ◌≤◌, ◌<◌, Bool, true, false, Option, None, Some, List, ◌++◌, [], ◌∷◌, length, replicate, refl, ap, sym, ◌∙◌, arith, set, inl, inr}
-use Rattle.std.specs.Prelude.{◌==◌, ⊤, if◌then◌else◌, slice_get, unwrap_or}
+use Rattle.std.proofs.Common.{◌≡◌, ℕ, zero, suc, ◌+◌, Bool, true, false, Option, None, Some, List, ◌++◌, [], ◌∷◌, length, refl, ap, sym, ◌∙◌}
+use Rattle.std.specs.Prelude.{◌==◌, ⊤, if◌then◌else◌}
 use Rattle.std.specs.Option.{option_map_or}
-use Rattle.std.proofs.lemmas.Bool.{cases_eq, eq-eqb, ne_eqb}
 use Rattle.ipc_ids.specs.declared.numbers.TaskNo.{TaskNo}
-use Rattle.ipc_ids.specs.declared.numbers.Label.{Label}
 use Rattle.ipc_ids.specs.declared.message.PhoneState.{PhoneState}
 use Rattle.ipc_ids.specs.declared.message.PhoneState.TheVariants.{Free, Connecting, Connected, HungUp, Slammed}
 use Rattle.ipc_ids.specs.declared.entry.Entry.TheVariants.{PhoneIs}
@@ -15,12 +13,9 @@ use Rattle.call_slab.specs.declared.call.Place.{Place}
 use Rattle.call_slab.specs.declared.call.Place.TheVariants.{Incoming, Dispatched, Answers}
 use Rattle.answerbox.specs.Calls.{CallTable, call_at, enqueue, put_at, without_call, with_record}
 use Rattle.answerbox.proofs.Fronts.{front_live}
-use Rattle.phone_table.specs.Phones.{row_at}
-use Rattle.phone_table.proofs.Lookups.{row_at_set}
-use Rattle.cleanup.specs.State.{KernelState, Transition, alive_in, is_alive, state_from, phone_at, with_phone, label_of, live_calls, nothing, then_do, drain, each}
-use Rattle.cleanup.specs.Sound.{IsCaller, IsSound}
+use Rattle.cleanup.specs.State.{KernelState, Transition, alive_in, phone_at, with_phone, label_of, live_calls, nothing, then_do, drain, each}
 use Rattle.cleanup.specs.Joins.{bare_reply, lives, settle_for, drop_answer, forget_call, hang_up, hangup_call}
-use Rattle.cleanup.specs.Kill.{task_no, width, mark_ended, hang_up_at, hang_up_own_phones, slam, slam_at, slam_phones_of, slam_other, slam_phones_to, first_at, settle_call, settle_calls_at, settle_incoming, settle_dispatched, drop_answers, first_call_of, forget_calls_elsewhere, end_parts, kill}
+use Rattle.cleanup.specs.Kill.{task_no, width, hang_up_at, hang_up_own_phones, slam, slam_at, slam_phones_of, slam_other, slam_phones_to, first_at, settle_call, settle_calls_at, settle_incoming, settle_dispatched, drop_answers, first_call_of, forget_calls_elsewhere, end_parts}
 use Rattle.cleanup.proofs.Lookups.{at_insert}
 use Rattle.cleanup.proofs.Keeping.{each_with, each_without}
 use Rattle.cleanup.proofs.Silence.{with_marks}

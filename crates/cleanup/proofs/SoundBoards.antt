@@ -1,19 +1,19 @@
 -- A task that was just marked as ended, in what was sound before: with all marks set it is a switchboard's, and the
 -- parts of its end do the same.
-use Rattle.std.proofs.Common.{◌≡◌, ℕ, zero, suc, ◌+◌, ◌-◌, ◌^◌, ◌<◌, ◌≤◌, T, Bool, true, false, ◌&&◌, inl, inr, Option, None, Some, List, [], ◌∷◌, length, replicate, refl, ap, sym, ◌∙◌, subst, arith, set}
+use Rattle.std.proofs.Common.{◌≡◌, ℕ, zero, suc, ◌-◌, ◌^◌, ◌<◌, ◌≤◌, T, Bool, true, false, inl, inr, Option, None, Some, List, [], ◌∷◌, length, replicate, refl, ap, sym, ◌∙◌, arith, set}
 use Rattle.std.proofs.Math.ListN.{length-set}
 use Rattle.std.proofs.lemmas.List.{length-replicate}
 use Rattle.std.specs.Prelude.{◌==◌, IsSome, if◌then◌else◌, slice_get, unwrap_or}
 use Rattle.std.specs.Ordering.{nat_cmp}
 use Rattle.std.specs.FinMap.{len, find, is_sorted, entries, entries_sorted, get-entries}
-use Rattle.std.proofs.lemmas.Bool.{cases_eq, eq-eqb, eqb-true, ne_eqb, false≢true}
+use Rattle.std.proofs.lemmas.Bool.{cases_eq, eq-eqb, ne_eqb, false≢true}
 use Rattle.ipc_ids.specs.declared.numbers.TaskNo.{TaskNo}
 use Rattle.ipc_ids.specs.declared.numbers.Label.{Label}
 use Rattle.ipc_ids.specs.declared.message.PhoneState.{PhoneState}
 use Rattle.call_slab.specs.declared.call.Call.{Call}
 use Rattle.answerbox.specs.Calls.{CallTable, call_at, count_of, active_calls, is_active_on}
 use Rattle.answerbox.proofs.Fronts.{first, second, greater, ties, not_tied}
-use Rattle.phone_table.specs.Phones.{Rows, AreCounted, row_at, state_at, count_at}
+use Rattle.phone_table.specs.Phones.{AreCounted, row_at, state_at, count_at}
 use Rattle.phone_table.proofs.Lookups.{row_at_set}
 use Rattle.cleanup.specs.State.{KernelState, alive_in, state_from, label_of}
 use Rattle.cleanup.specs.Sound.{IsCaller, IsSound}

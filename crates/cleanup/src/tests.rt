@@ -56,7 +56,9 @@ fn a_held_call_of_another_task_is_answered(rt: HostRuntime) -> Result<(), Fail> 
     boxes.reserve(1)?;
     let mut phones = PhoneRows::new(rt.alloc());
     phones.add(Phones::new(1))?;
-    phones.add(Phones::new(1))?;
+    let mut row = Phones::new(1);
+    row.count_up(from.phone);
+    phones.add(row)?;
     let msg = Msg {
         method: 1024,
         args: [1, 2, 3, 4, 5],
@@ -75,7 +77,6 @@ fn a_held_call_of_another_task_is_answered(rt: HostRuntime) -> Result<(), Fail> 
         place: Place::Dispatched(who),
         stamp: 0,
     });
-    phones.row_mut(from.task).count_up(from.phone);
     let mut out = Trace::new(rt.alloc());
     end_task(who, &mut boxes, &mut phones, &mut out)?;
     assert!(rt;

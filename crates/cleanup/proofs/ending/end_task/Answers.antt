@@ -1,5 +1,4 @@
-use Rattle.std.proofs.Common.{◌≡◌, ap, refl, sym, ◌∙◌, ◌++◌, arith}
-use Rattle.ipc_ids.specs.declared.entry.Entry.{Entry}
+use Rattle.std.proofs.Common.{◌≡◌, ap, refl, ◌∙◌, ◌++◌}
 use Rattle.answerbox.specs.Calls.{CallTable}
 use Rattle.cleanup.specs.State.{KernelState, Transition, state_from}
 use Rattle.cleanup.specs.Kill.{end_parts, kill}
