@@ -1,6 +1,6 @@
--- What the table of calls has at each number after a change.
-use Rattle.std.proofs.Common.{◌≡◌, ℕ, cond, ◌⊎◌, inl, inr, Option, None, Some, refl, ap, ◌∙◌, arith}
-use Rattle.std.specs.Prelude.{◌==◌, if◌then◌else◌, IsSome}
+-- What the table of calls has at each number after a change, and a list at each index.
+use Rattle.std.proofs.Common.{◌≡◌, ℕ, zero, suc, ◌+◌, ◌-◌, ◌<◌, ◌≤◌, cond, ◌⊎◌, inl, inr, List, [], ◌∷◌, length, set, Option, None, Some, refl, ap, ◌∙◌, arith}
+use Rattle.std.specs.Prelude.{◌==◌, if◌then◌else◌, IsSome, slice_get}
 use Rattle.std.specs.Ordering.{nat_cmp, eq_by_cmp}
 use Rattle.std.specs.Cmp.{nat_cmp_total}
 use Rattle.std.specs.FinMap.{FinMap, get, insert, remove, get-insert, get-remove}
@@ -8,6 +8,7 @@ use Rattle.std.proofs.lemmas.Bool.Decides.{nat_tests}
 use Rattle.std.proofs.lemmas.Bool.{cases_eq, eq-eqb, ne_eqb}
 use Rattle.call_slab.specs.declared.call.Call.{Call}
 use Rattle.answerbox.specs.Calls.{CallTable, call_at, without_call}
+use Rattle.phone_table.specs.Phones.{row_at}
 
 same_test : (q n : ℕ) → eq_by_cmp nat_cmp q n ≡ (n == q)
 same_test q n = elim (cases_eq n q) [ inl e ↦ grind (arith, nat_tests, eq-eqb) | inr ne ↦ grind (arith, nat_tests, ne_eqb) ]
@@ -43,3 +44,22 @@ gone_here q m n e = at_remove q.records m n ∙ rw (eq-eqb m n e) refl
 
 pub gone_other : (q : CallTable) (m n : ℕ) → (m ≡ n → ⊥) → call_at (without_call q m) n ≡ call_at q n
 gone_other q m n ne = at_remove q.records m n ∙ rw (ne_eqb m n ne) refl
+
+-- a list, and a table by task, where one item was replaced
+suc_eqb : (i j : ℕ) → (suc i == suc j) ≡ (i == j)
+suc_eqb i j = elim (cases_eq i j) [ inl e ↦ rw (eq-eqb i j e, eq-eqb (suc i) (suc j) (ap suc e)) refl | inr ne ↦ rw (ne_eqb i j ne, ne_eqb (suc i) (suc j) (λ e. ne (omega arith))) refl ]
+
+get_set : {A : Type 0} (xs : List A) (i j : ℕ) (x : A) → i < length xs → slice_get (set xs i x) j ≡ (if j == i then Some x else slice_get xs j)
+get_set [] i j x h = absurd (omega (arith, h))
+get_set (y ∷ xs) zero zero x h = refl
+get_set (y ∷ xs) zero (suc j) x h = rw (ne_eqb (suc j) 0 (λ e. omega arith)) refl
+get_set (y ∷ xs) (suc i) zero x h = rw (ne_eqb 0 (suc i) (λ e. omega arith)) refl
+get_set (y ∷ xs) (suc i) (suc j) x h = rw (suc_eqb j i) (get_set xs i j x (omega (arith, h)))
+
+pub row_at_set : {A : Type 0} (rows : List A) (t u : ℕ) (row : A) → 1 ≤ t → t ≤ length rows → row_at (set rows (t - 1) row) u ≡ (if u == t then Some row else row_at rows u)
+row_at_set rows zero u row some added = absurd (omega (arith, some))
+row_at_set rows (suc t) zero row some added = rw (ne_eqb 0 (suc t) (λ e. omega arith)) refl
+row_at_set rows (suc t) (suc u) row some added =
+    let last : suc t - 1 ≡ t = omega arith in
+    let back : suc u - 1 ≡ u = omega arith in
+    rw (suc_eqb u t, ne_eqb (suc u) 0 (λ e. omega arith), last, back) (get_set rows t u row (omega (arith, added)))

@@ -14,7 +14,7 @@ use Rattle.call_slab.specs.declared.call.Call.{Call}
 use Rattle.answerbox.specs.Calls.{CallTable, call_at, count_of, active_calls, is_active_on}
 use Rattle.answerbox.proofs.Fronts.{first, second, greater, ties, not_tied}
 use Rattle.phone_table.specs.Phones.{AreCounted, row_at, state_at, count_at}
-use Rattle.phone_table.proofs.Lookups.{row_at_set}
+use Rattle.cleanup.proofs.Lookups.{row_at_set}
 use Rattle.cleanup.specs.State.{KernelState, alive_in, state_from, label_of}
 use Rattle.cleanup.specs.Sound.{IsCaller, IsSound}
 use Rattle.cleanup.specs.Counts.{IsCounted}

@@ -30,6 +30,7 @@ uses_both s t = record {
   calls = omega (arith, s.calls, t.calls);
   entries = omega (arith, s.entries, t.entries);
   alive = t.alive ∙ s.alive;
+  places = t.places ∙ s.places;
   events = t.events ∙ s.events;
 }
 
@@ -42,5 +43,6 @@ uses_less s f g h = record {
   calls = omega (arith, s.calls, f);
   entries = omega (arith, s.entries, h);
   alive = s.alive;
+  places = s.places;
   events = s.events;
 }

@@ -27,9 +27,9 @@ pub record HasNumbers (calls : CallTable) : Type 0 where
   pub numbers : calls.next_number < 2 ^ 61
   pub stamps : calls.next_stamp < 2 ^ 61
 
--- the numbers and stamps that were used, and that each task has its places
-pub record UsesNumbers (tasks : ℕ) (old new : BoxesState) : Type 0 where
-  pub places : tasks ≤ new.tasks
+-- the numbers and stamps that were used, and that the tasks with places are the same
+pub record UsesNumbers (old new : BoxesState) : Type 0 where
+  pub places : new.tasks ≡ old.tasks
   pub numbers : new.calls.next_number ≤ old.calls.next_number + 64
   pub stamps : new.calls.next_stamp ≤ old.calls.next_stamp + 2 * len old.calls.records + 192
 

@@ -40,10 +40,12 @@ pub record KernelState : Type 0 where
   pub memory : Memory
   pub events : ℕ
 
--- what a switchboard stands for: the state, and for how many more calls there is room
+-- what a switchboard stands for: the state, for how many more calls there is room, and how many
+-- tasks have places in the boxes
 pub record BoardState : Type 0 where
   pub state : KernelState
   pub spare : ℕ
+  pub places : ℕ
 
 -- the state after a step, and the entries that tell of it
 pub record Transition : Type 0 where
@@ -145,4 +147,4 @@ state_code phone call =
     code_by (Tasks × (CallTable × (Memory × ℕ))) (coded× (tasks_code phone) (coded× (table_code call) (coded× memory_code coded_ℕ))) (λ k. (k.tasks, (k.calls, (k.memory, k.events)))) (λ p. record { tasks = p.0; calls = p.1.0; memory = p.1.1.0; events = p.1.1.1 }) (λ _. refl)
 
 abbrev pub board_code : Coded PhoneState → Coded Call → Coded BoardState
-board_code phone call = code_by (KernelState × ℕ) (coded× (state_code phone call) coded_ℕ) (λ b. (b.state, b.spare)) (λ p. record { state = p.0; spare = p.1 }) (λ _. refl)
+board_code phone call = code_by (KernelState × (ℕ × ℕ)) (coded× (state_code phone call) (coded× coded_ℕ coded_ℕ)) (λ b. (b.state, (b.spare, b.places))) (λ p. record { state = p.0; spare = p.1.0; places = p.1.1 }) (λ _. refl)

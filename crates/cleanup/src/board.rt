@@ -48,6 +48,7 @@ impl Model for Switchboard {
       state = state_from a.alive.items a.phones.states a.boxes.calls
           a.events;
       spare = a.boxes.spare;
+      places = a.boxes.tasks;
     } };
 
     ghost invariant = { λ a. IsSwitched a.alive.items a.phones.states a.phones.counts a.boxes.calls
@@ -74,6 +75,7 @@ impl Switchboard {
             boxes.tasks }
         ensures state { result.state ≡ state_from alive.items phones.states boxes.calls 0 }
         ensures spare { result.spare ≡ boxes.spare }
+        ensures places { result.places ≡ boxes.tasks }
     {
         let places = alive.len() as u64;
         Switchboard {
@@ -90,7 +92,7 @@ impl Switchboard {
         ensures phones { result.0.states ≡ self.state.tasks.phones }
         ensures calls { result.1.calls ≡ self.state.calls }
         ensures counts { HasCounts result.0.states result.0.counts result.1.calls }
-        ensures places { length self.state.tasks.alive ≤ result.1.tasks }
+        ensures places { result.1.tasks ≡ self.places }
     {
         let Switchboard { phones, boxes, .. } = self;
         (phones, boxes)

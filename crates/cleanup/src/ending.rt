@@ -1,7 +1,7 @@
 //! The end of a task, for who has its phones and calls alone.
 ghost use Rattle.std.specs.Prelude.{◌≡◌, ◌-◌, ◌≤◌, ◌++◌, Bool, true, List, IfOk, OnOk, OnErr, length, slice_set};
 ghost use Rattle.cleanup.specs.Sound.{IsSound};
-ghost use Rattle.cleanup.specs.Counts.{IsCounted};
+ghost use Rattle.cleanup.specs.Counts.{HasCounts};
 ghost use Rattle.cleanup.specs.Kill.{end_parts};
 ghost use Rattle.cleanup.specs.Ending.{IsJustEnded, HasFewActive, HasNumbers, UsesNumbers, state_of, all_alive};
 
@@ -41,8 +41,8 @@ pub fn end_task(
         ≡ (end_parts who (state_of alive phones.old boxes.old)).state.tasks.phones) }
     ensures entries { OnOk result (out.new.entries
         ≡ out.old.entries ++ (end_parts who (state_of alive phones.old boxes.old)).entries) }
-    ensures counted { OnOk result (IsCounted phones.new.counts boxes.new.calls) }
-    ensures used { UsesNumbers (length alive) boxes.old boxes.new }
+    ensures counts { OnOk result (HasCounts phones.new.states phones.new.counts boxes.new.calls) }
+    ensures used { UsesNumbers boxes.old boxes.new }
     ensures calls_unchanged { OnErr result (boxes.new.calls ≡ boxes.old.calls) }
     ensures phones_unchanged { OnErr result (phones.new ≡ phones.old) }
     ensures trace_unchanged { OnErr result (out.new.entries ≡ out.old.entries) }

@@ -50,6 +50,7 @@ impl Switchboard {
         ensures stamps { self.new.state.calls.next_stamp ≤ self.old.state.calls.next_stamp + 2 *
             live_calls self.old.state + 192 }
         ensures events { self.new.state.events ≡ self.old.state.events }
+        ensures places { self.new.places ≡ self.old.places }
     {
         self.mark_ended(who);
         self.do_parts(who, out);

@@ -3,7 +3,7 @@ use Rattle.answerbox.specs.Calls.{CallTable}
 use Rattle.cleanup.specs.State.{KernelState, Transition, state_from}
 use Rattle.cleanup.specs.Kill.{end_parts, kill}
 use Rattle.cleanup.proofs.Marks.{remarked}
-use Rattle.cleanup.proofs.SoundBoards.{same_end, as_many_marks, switched, few_from, whole}
+use Rattle.cleanup.proofs.SoundBoards.{same_end, switched, few_from, whole}
 use Rattle.cleanup.proofs.ending.end_task.Given as given
 use Rattle.cleanup.proofs.ending.end_task.Goals as goal
 
@@ -48,10 +48,8 @@ returns-clause-used g c =
     let before = ap (λ (k : KernelState). k.calls) (board g c) in
     let numbers = ap (λ (q : CallTable). q.next_number) calls in
     let stamps = ap (λ (q : CallTable). q.next_stamp) calls in
-    let marks = ap (λ (k : KernelState). k.tasks.alive) used.step.state in
-    let many = as_many_marks g.alive c.args.who c.args.phones.now.states c.args.boxes.now.calls c.requires.0 c.requires.1.0 c.of-board.result.state (board g c) in
     record {
-      places = rw (← many, ← marks) c.into_parts-rows.ensures.places;
+      places = rw (c.into_parts-rows.ensures.places, used.places, c.of-board.ensures.places, c.replace-2.ensures.value, c.reserve.ensures.tasks) refl;
       numbers = rw (numbers) (rw before at used.numbers);
       stamps = rw (stamps) (rw before at used.stamps);
     }

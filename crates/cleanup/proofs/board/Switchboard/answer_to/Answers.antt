@@ -26,4 +26,4 @@ returns-clause-room c =
     let i = c.self.inside in
     let own : IsCallOf (call_at i.boxes.calls c.args.call.0) c.args.caller = rw (← c.self.view_is) at c.requires.called in
     let l = live_answered i.phones.states i.phones.counts i.boxes.calls c.args.call.0 c.self.invariant.0.has_counts (rw (call_of (call_at i.boxes.calls c.args.call.0) c.args.caller own).1 refl) c.args.reply (Answers c.args.caller) in
-    rw (← c.self.view_is, c.answer.ensures.calls) (record { live = omega (arith, l); calls = omega (arith, c.answer.ensures.spare) })
+    rw (← c.self.view_is, c.answer.ensures.calls) (record { live = omega (arith, l); calls = omega (arith, c.answer.ensures.spare); places = c.answer.ensures.tasks })

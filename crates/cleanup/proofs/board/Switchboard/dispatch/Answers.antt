@@ -14,4 +14,4 @@ pub returns-clause-room : goal.returns-clause-room
 returns-clause-room c =
     let i = c.self.inside in
     let l = live_place i.phones.states i.phones.counts i.boxes.calls c.args.call.0 c.self.invariant.0.has_counts (rw (← c.self.view_is) at c.requires.live) (Dispatched c.args.by) in
-    rw (← c.self.view_is, c.move_to.ensures.calls) (record { live = omega (arith, l); calls = omega (arith, c.move_to.ensures.spare) })
+    rw (← c.self.view_is, c.move_to.ensures.calls) (record { live = omega (arith, l); calls = omega (arith, c.move_to.ensures.spare); places = c.move_to.ensures.tasks })

@@ -25,4 +25,4 @@ returns-clause-room c =
     let i = c.self.inside in
     let new : IsNewCall (inner i) c.args.call = rw (← c.self.view_is) at c.requires.new_call in
     let l = live_enqueue i.boxes.calls c.args.call (ap (call_at i.boxes.calls) new.number ∙ c.next_number-number.ensures.free) in
-    rw (← c.self.view_is, c.enqueue.ensures.calls) (record { live = omega (arith, l); calls = omega (arith, c.enqueue.ensures.spare) })
+    rw (← c.self.view_is, c.enqueue.ensures.calls) (record { live = omega (arith, l); calls = omega (arith, c.enqueue.ensures.spare); places = c.enqueue.ensures.tasks })

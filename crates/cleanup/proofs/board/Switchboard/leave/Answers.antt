@@ -19,4 +19,4 @@ pub returns-clause-room : goal.returns-clause-room
 returns-clause-room c =
     let i = c.self.inside in
     let l = live_without i.boxes.calls c.args.call.0 (rw (← c.self.view_is) at c.requires.live) in
-    rw (← c.self.view_is, c.leave-call.ensures.calls) (record { live = omega (arith, l); calls = omega (arith, c.leave-call.ensures.spare) })
+    rw (← c.self.view_is, c.leave-call.ensures.calls) (record { live = omega (arith, l); calls = omega (arith, c.leave-call.ensures.spare); places = c.leave-call.ensures.tasks })

@@ -23,4 +23,4 @@ pub returns-clause-room : goal.returns-clause-room
 returns-clause-room c =
     let i = c.self.inside in
     let l = live_caller i.phones.states i.phones.counts i.boxes.calls c.args.call.0 c.self.invariant.0.has_counts (rw (← c.self.view_is) at c.requires.live) in
-    rw (← c.self.view_is, c.forget.ensures.calls) (record { live = omega (arith, l); calls = omega (arith, c.forget.ensures.spare) })
+    rw (← c.self.view_is, c.forget.ensures.calls) (record { live = omega (arith, l); calls = omega (arith, c.forget.ensures.spare); places = c.forget.ensures.tasks })

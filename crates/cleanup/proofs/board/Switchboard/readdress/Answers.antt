@@ -14,4 +14,4 @@ pub returns-clause-room : goal.returns-clause-room
 returns-clause-room c =
     let i = c.self.inside in
     let l = live_readdressed i.phones.states i.phones.counts i.boxes.calls c.args.call.0 c.self.invariant.0.has_counts (rw (← c.self.view_is) at c.requires.live) c.args.msg c.args.label (Incoming c.args.to) in
-    rw (← c.self.view_is, c.readdress.ensures.calls) (record { live = omega (arith, l); calls = omega (arith, c.readdress.ensures.spare) })
+    rw (← c.self.view_is, c.readdress.ensures.calls) (record { live = omega (arith, l); calls = omega (arith, c.readdress.ensures.spare); places = c.readdress.ensures.tasks })
