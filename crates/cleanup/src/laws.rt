@@ -32,7 +32,8 @@ pub fn active_calls_are_few()
     ensures most { (k : KernelState) (t p : ℕ) → IsWithinLimits k
         → active_calls k.calls (label_at t p) ≤ 65 }
     ensures handed_out { (k : KernelState) (t : TaskNo) (row : Row) (p : ℕ)
-        → IsWithinLimits k → IsRowOf k t row → first_usable row ≡ Some p → active_calls k.calls (label_of t p) ≡ 0 }
+        → IsWithinLimits k → IsRowOf k t row → first_usable row ≡ Some p
+        → active_calls k.calls (label_of t p) ≡ 0 }
     ensures kill { (k : KernelState) (t : TaskNo) → IsSound k → is_alive k t ≡ true
         → IsWithinLimits k → IsWithinLimits (kill k t).state }
 {}
