@@ -13,17 +13,18 @@ use Rattle.answerbox.specs.Calls.{CallTable, enqueue, no_calls}
 use Rattle.answerbox.proofs.Steps.{call_at-no_calls}
 use Rattle.cleanup.specs.State.{KernelState, start, state_from, with_task}
 use Rattle.cleanup.specs.Sound.{IsSound}
-use Rattle.cleanup.specs.Counts.{IsCounted}
+use Rattle.cleanup.specs.Counts.{IsCounted, label_at}
 use Rattle.cleanup.specs.Ending.{IsJustEnded, HasFewActive}
 use Rattle.cleanup.proofs.Soundness.{sound_start, sound_enqueue, kept_task, kept_wired, kept_calls}
-use Rattle.cleanup.proofs.Counting.{counted_none, counted_task, counted_enqueue, count_few}
-use Rattle.cleanup.proofs.Silence.{more_calls}
+use Rattle.cleanup.proofs.Counting.{counted_none, counted_task, counted_enqueue}
+use Rattle.answerbox.proofs.Counts.{active-len}
+use Rattle.cleanup.proofs.Live.{live_enqueue}
 
 abbrev pub one : TaskNo
 one = record { 0 = 1 }
 
 few_active : (counts : List (List ℕ)) (calls : CallTable) → IsCounted counts calls → len calls.records < 2 ^ 31 → HasFewActive counts calls
-few_active counts calls s few = record { counted = s; few = λ t p n is. let most = count_few counts calls t p n s is in omega (arith, most, few) }
+few_active counts calls s few = record { counted = s; few = λ t p n is. let same = s t p n is in let most = active-len calls (label_at t p) in omega (arith, same, most, few) }
 
 -- one task, whose first of two phones leads to itself, and no calls
 
@@ -93,6 +94,6 @@ module _ (reply : Reply) (buffer : List ℕ) where
   pub held_few : HasFewActive one_count its_calls
   held_few =
       let free = call_at-no_calls 1 in
-      let more = more_calls no_calls (held reply buffer) free in
+      let more = live_enqueue no_calls (held reply buffer) free in
       let none = len-empty nat_cmp Call in
       few_active one_count its_calls (counted_enqueue ((0 ∷ []) ∷ (0 ∷ []) ∷ []) no_calls (held reply buffer) no_active free refl) (omega (arith, more, none))
