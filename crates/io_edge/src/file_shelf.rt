@@ -25,6 +25,7 @@ impl<R: Files> Model for FileShelf<R> {
 }
 
 impl<R: Files> FileShelf<R> {
+    /// The files that `rt` reaches, before any load.
     pub fn new(rt: R, alloc: Global) -> FileShelf<R>
         ensures { result ≡ [] }
     {

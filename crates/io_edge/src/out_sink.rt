@@ -21,6 +21,7 @@ impl<W: Write> Model for OutSink<W> {
 }
 
 impl<W: Write> OutSink<W> {
+    /// A sink over this writer, before any put.
     pub fn new(out: W) -> OutSink<W>
         ensures { result ≡ record { contents = W.contents out; faults = 0 } }
     {
