@@ -1,9 +1,20 @@
 -- What each step keeps of a history and the state that it fits, where a history takes the entries of a step.
-use Rattle.std.proofs.Common.{◌≡◌, ℕ, zero, suc, ◌+◌, Option, None, Some, List, [], ◌++◌, refl, sym, subst}
+use Rattle.std.proofs.Common.{◌≡◌, ℕ, zero, suc, ◌+◌, Option, None, Some, List, [], ◌++◌, refl, sym, subst, ◌∷◌, ap, append_assoc}
 use Rattle.std.specs.Option.{option_map_or}
 use Rattle.ipc_ids.specs.declared.entry.Entry.{Entry}
 use Rattle.call_slab.specs.declared.call.Call.{Call}
 use Rattle.cleanup.specs.State.{KernelState, Transition, nothing, then_do, drain, each}
+
+-- entries as a history of their own: those before, and then these
+abbrev pub told_after : List Entry → List Entry → List Entry
+told_after es p = p ++ es
+
+pub none_after : (p : List Entry) → told_after [] p ≡ p
+none_after [] = refl
+none_after (e ∷ p) = ap (λ x. e ∷ x) (none_after p)
+
+pub both_after : (es fs : List Entry) (p : List Entry) → told_after (es ++ fs) p ≡ told_after fs (told_after es p)
+both_after es fs p = sym (append_assoc p es fs)
 
 module _ (H : Type 0) (tell : List Entry → H → H) (tell_none : (p : H) → tell [] p ≡ p) (tell_both : (es fs : List Entry) (p : H) → tell (es ++ fs) p ≡ tell fs (tell es p)) where
   -- a step, and then another

@@ -11,8 +11,8 @@ use Rattle.answerbox.specs.Calls.{same_place, is_caller, task_of}
 use Rattle.cleanup.specs.State.{KernelState, is_alive}
 use Rattle.cleanup.specs.Sound.{IsSound}
 use Rattle.cleanup.specs.Kill.{kill}
-use Rattle.cleanup.specs.KillLaws.{LeavesNothingOf, IsOpen, ClosesPhones, IsWith, ClosesCalls}
-use Rattle.cleanup.proofs.Killing.{kill_leaves_nothing}
+use Rattle.cleanup.specs.KillLaws.{EndsTask, LeavesNothingOf, IsOpen, ClosesPhones, IsWith, ClosesCalls}
+use Rattle.cleanup.proofs.Killing.{kill_leaves_nothing, killed_task, other_task}
 use Rattle.cleanup.proofs.KilledCalls.{kill_answers, kill_ends, kill_orphans, kill_spares, IsWith as StandsWith}
 use Rattle.cleanup.proofs.KilledPhones.{hung, slammed, kill_own_phone, kill_other_phone}
 
@@ -77,6 +77,9 @@ slammed_other t (Connected u) ne = rw (ne_eqb u.0 t.0 (λ e. ne (ap Connected (s
 slammed_other t HungUp ne = refl
 slammed_other t Slammed ne = refl
 
+pub kill_ends_task : (k : KernelState) (t : TaskNo) → is_alive k t ≡ true → EndsTask t k (kill k t).state
+kill_ends_task k t alive = record { ended = killed_task k t alive; others = λ u ne. other_task k t u alive ne }
+
 module _ (k : KernelState) (t : TaskNo) (sound : IsSound k) (alive : is_alive k t ≡ true) where
   pub kill_leaves_nothing_of : LeavesNothingOf t (kill k t).state
   kill_leaves_nothing_of =
@@ -96,8 +99,8 @@ module _ (k : KernelState) (t : TaskNo) (sound : IsSound k) (alive : is_alive k 
 
   pub kill_closes_calls : ClosesCalls t k (kill k t).state
   kill_closes_calls = record {
-    answered = λ n c u is at from ne. let a = kill_answers k t sound alive n c is u (with_test t c.place at) from ne in rw (a.1) (from, refl, refl);
+    answered = λ n c u is at from ne. let a = kill_answers k t sound alive n c is u (with_test t c.place at) from ne in rw (a.1) ((refl, refl, refl), from, refl, refl);
     over = λ n c is at only. kill_ends k t sound alive n c is (at_test t c at) only;
-    forgotten = λ n c is away from. rw (kill_orphans k t sound alive n c is (λ w. away (task_test t c w)) (is_its_caller t c.caller from)) (refl, refl);
+    forgotten = λ n c is away from. rw (kill_orphans k t sound alive n c is (λ w. away (task_test t c w)) (is_its_caller t c.caller from)) ((refl, refl, refl), refl, refl);
     others = λ n c is away other. kill_spares k t sound alive n c is (λ w. away (task_test t c w)) (not_its_caller t c.caller other);
   }

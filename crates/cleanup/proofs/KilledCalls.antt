@@ -1,8 +1,8 @@
 -- Each call after a kill: what became of it.
 use Rattle.std.proofs.Common.{◌≡◌, ℕ, ◌<◌, Bool, true, false, ◌⊎◌, inl, inr, Option, None, Some, List, refl, ap, sym, subst, ◌∙◌, arith}
 use Rattle.std.specs.Prelude.{◌==◌}
-use Rattle.std.proofs.lemmas.Bool.{cases_eq, eqb-true, eq-eqb, ne_eqb, false≢true}
-use Rattle.std.specs.FinMap.{len, get, insert}
+use Rattle.std.proofs.lemmas.Bool.{cases_eq, eqb-true, false≢true}
+use Rattle.std.specs.FinMap.{len}
 use Rattle.ipc_ids.specs.declared.numbers.TaskNo.{TaskNo}
 use Rattle.ipc_ids.specs.declared.message.PhoneState.{PhoneState}
 use Rattle.ipc_ids.specs.declared.message.PhoneState.TheVariants.{Free, Connecting, Connected, HungUp, Slammed}
@@ -10,12 +10,12 @@ use Rattle.ipc_ids.specs.Codes.{ehangup}
 use Rattle.call_slab.specs.declared.call.Call.{Call}
 use Rattle.call_slab.specs.declared.call.Place.{Place}
 use Rattle.call_slab.specs.declared.call.Place.TheVariants.{Incoming, Dispatched, Answers}
-use Rattle.answerbox.specs.Calls.{CallTable, call_at, same_place, is_caller, without_call, with_record}
+use Rattle.answerbox.specs.Calls.{CallTable, call_at, same_place, is_caller, with_record}
 use Rattle.cleanup.specs.State.{Tasks, KernelState, Transition, alive_in, is_alive, phone_at, with_calls}
 use Rattle.cleanup.specs.Sound.{IsPlaced, IsCaller, IsSound}
 use Rattle.cleanup.specs.Joins.{bare_reply, settle_for, lives, drop_answer, forget_call, hangup_call, hang_up}
 use Rattle.cleanup.specs.Kill.{width, mark_ended, hang_up_at, slam, first_at, first_call_of, settle_call, kill}
-use Rattle.cleanup.proofs.Lookups.{at_insert, at_remove, same_call}
+use Rattle.cleanup.proofs.Lookups.{same_call, put_here, put_other, gone_here, gone_other}
 use Rattle.cleanup.proofs.Repeats.{by_test, each_keeps, drain_keeps}
 use Rattle.cleanup.proofs.Silence.{IsEnding, IsAlone, slams_keep, own_phones_hung_up, phones_slammed}
 use Rattle.cleanup.proofs.Queues.{IsLive, IsUncalled, IsIdle, IsUnanswered, stands_at, is_call_of, front_at, call_from, forget_step, forget_unanswered, incoming_alone, incoming_settled, dispatched_uncalled, dispatched_settled, drop_idle, answers_dropped}
@@ -48,20 +48,6 @@ pub record IsOrphaned (t : TaskNo) (c : Call) (now : Option Call) : Type 0 where
 -- what may become of a call while t ends
 abbrev pub Becomes : TaskNo → Call → Option Call → Type 0
 Becomes t c now = (now ≡ Some c) ⊎ (IsAnswered t c now ⊎ (IsOver t c now ⊎ IsOrphaned t c now))
-
--- the table after a step, at the number of the step and at another
-
-put_here : (q : CallTable) (m n : ℕ) (d : Call) → m ≡ n → get (insert q.records m d) n ≡ Some d
-put_here q m n d e = at_insert q.records m n d ∙ rw (eq-eqb m n e) refl
-
-pub put_other : (q : CallTable) (m n : ℕ) (d : Call) → (m ≡ n → ⊥) → get (insert q.records m d) n ≡ call_at q n
-put_other q m n d ne = at_insert q.records m n d ∙ rw (ne_eqb m n ne) refl
-
-gone_here : (q : CallTable) (m n : ℕ) → m ≡ n → call_at (without_call q m) n ≡ None
-gone_here q m n e = at_remove q.records m n ∙ rw (eq-eqb m n e) refl
-
-pub gone_other : (q : CallTable) (m n : ℕ) → (m ≡ n → ⊥) → call_at (without_call q m) n ≡ call_at q n
-gone_other q m n ne = at_remove q.records m n ∙ rw (ne_eqb m n ne) refl
 
 none_some : {A : Type 0} (x : A) → None ≡ Some x → ⊥
 none_some x e = cc

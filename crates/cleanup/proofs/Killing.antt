@@ -17,7 +17,7 @@ use Rattle.phone_table.specs.Phones.{state_at}
 use Rattle.cleanup.specs.State.{KernelState, Transition, alive_in, is_alive, phone_at}
 use Rattle.cleanup.specs.Sound.{IsPlaced, IsCaller, IsQuiet, IsSound}
 use Rattle.cleanup.specs.Joins.{bare_reply, settle_for, lives, drop_answer, forget_call, hang_up}
-use Rattle.cleanup.specs.Kill.{width, mark_ended, hang_up_at, hang_up_own_phones, slam, slam_phones_to, first_at, first_call_of, settle_call, settle_calls_at, settle_incoming, settle_dispatched, drop_answers, forget_calls_elsewhere, kill}
+use Rattle.cleanup.specs.Kill.{width, mark_ended, hang_up_at, hang_up_own_phones, slam, slam_phones_to, first_at, first_call_of, settle_call, settle_calls_at, settle_incoming, settle_dispatched, drop_answers, kill}
 use Rattle.cleanup.proofs.Repeats.{by_test, each_keeps, drain_keeps}
 use Rattle.cleanup.proofs.Silence.{with_marks, IsEnding, own_phones_hung_up, phones_slammed, slams_keep}
 use Rattle.cleanup.proofs.Queues.{IsForgotten, incoming_settled, dispatched_settled, answers_dropped, calls_forgotten}
@@ -37,9 +37,6 @@ after_dispatched t k = (settle_dispatched t (after_incoming t k)).state
 
 abbrev pub after_answers : TaskNo → KernelState → KernelState
 after_answers t k = (drop_answers t (after_dispatched t k)).state
-
-abbrev pub after_kill : TaskNo → KernelState → KernelState
-after_kill t k = (forget_calls_elsewhere t (after_answers t k)).state
 
 -- the marks of who is alive, where that of task t is taken away
 
@@ -203,3 +200,9 @@ kill_leaves_nothing k t s alive = let h = killed k t s alive in record {
 -- the marks change at t alone
 pub kill_marks : (k : KernelState) (t : TaskNo) → (kill k t).state.tasks.alive ≡ set k.tasks.alive (t.0 - 1) false
 kill_marks k t = (kill_steady k t).alive
+
+pub killed_task : (k : KernelState) (t : TaskNo) → is_alive k t ≡ true → is_alive (kill k t).state t ≡ false
+killed_task k t alive = ap (λ (marks : List Bool). alive_in marks t.0) (kill_marks k t) ∙ ended_here k.tasks.alive t.0 alive
+
+pub other_task : (k : KernelState) (t u : TaskNo) → is_alive k t ≡ true → (u.0 ≡ t.0 → ⊥) → is_alive (kill k t).state u ≡ is_alive k u
+other_task k t u alive ne = ap (λ (marks : List Bool). alive_in marks u.0) (kill_marks k t) ∙ alive_elsewhere k.tasks.alive t.0 alive u.0 ne

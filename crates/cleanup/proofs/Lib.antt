@@ -5,7 +5,6 @@ pub mod Soundness
 pub mod Counting
 pub mod Recounting
 pub mod Repeats
-pub mod Absence
 pub mod Silence
 pub mod Queues
 pub mod Killing

@@ -23,7 +23,6 @@ use Rattle.cleanup.specs.Joins.{bare_reply, settle, settle_for, lives, drop_answ
 use Rattle.cleanup.specs.Kill.{width, mark_ended, hang_up_at, slam, first_at, first_call_of, settle_call, kill}
 use Rattle.cleanup.specs.Limits.{awaited_calls, hangup_calls, IsIdle, IsWithinLimits, IsRowOf}
 use Rattle.cleanup.proofs.Rows.{some_of}
-use Rattle.cleanup.proofs.Soundness.{value_of, row_append}
 use Rattle.cleanup.proofs.Repeats.{by_test, each_keeps, drain_keeps}
 use Rattle.cleanup.proofs.Silence.{with_marks, next_free, hang_up_ends, IsEnding, IsAlone, own_phones_hung_up, phones_slammed, slams_keep}
 use Rattle.cleanup.proofs.Queues.{IsLive, IsUncalled, IsIdle as IsWithoutHeld, IsUnanswered, front_at, call_from, forget_step, forget_unanswered, incoming_alone, incoming_settled, dispatched_uncalled, dispatched_settled, drop_idle, answers_dropped}
@@ -316,25 +315,25 @@ within_kill k t sound alive h =
     let s0 : IsEnding marks first = record { sound = sound } in
     let h0 : AndWithin (IsEnding marks) first = record { fact = s0; within = record { awaited = h.awaited; hangups = h.hangups; hung_up = h.hung_up; idle = h.idle } } in
     let h1 : AndWithin (IsEnding marks) (after_hangups t k) = each_keeps (hang_up_at t) (AndWithin (IsEnding marks))
-        (λ j p s. record { fact = hang_up_ends marks t j p alive s.fact; within = within_hang_up j t p (phone_at j t p) refl s.within (next_free (with_marks marks j).tasks j.calls s.fact.sound.calls) })
-        (width k.tasks.phones t.0) 0 first h0 in
+    (λ j p s. record { fact = hang_up_ends marks t j p alive s.fact; within = within_hang_up j t p (phone_at j t p) refl s.within (next_free (with_marks marks j).tasks j.calls s.fact.sound.calls) })
+    (width k.tasks.phones t.0) 0 first h0 in
     let h2 : IsWithinLimits (after_slams t k) = slams_keep t IsWithinLimits (λ u p j s. within_slam t u j p (phone_at j u p) refl s) (after_hangups t k) h1.within in
     let s2 : IsAlone marks t (after_slams t k) = phones_slammed marks t (after_hangups t k) (own_phones_hung_up marks t first alive s0) in
     let h3 : AndWithin (IsAlone marks t) (after_incoming t k) = drain_keeps (first_at (Incoming t)) settle_call (AndWithin (IsAlone marks t))
-        (λ j c s is. record { fact = incoming_alone marks t j c s.fact is; within = within_settle j c (bare_reply ehangup) None s.within (front_at marks j (Incoming t) c s.fact.silent.ending is).0 })
-        (live_calls (after_slams t k)) (after_slams t k) (record { fact = s2; within = h2 }) in
+    (λ j c s is. record { fact = incoming_alone marks t j c s.fact is; within = within_settle j c (bare_reply ehangup) None s.within (front_at marks j (Incoming t) c s.fact.silent.ending is).0 })
+    (live_calls (after_slams t k)) (after_slams t k) (record { fact = s2; within = h2 }) in
     let s3 : IsUncalled marks t (after_incoming t k) = incoming_settled marks t (after_slams t k) s2 in
     let h4 : AndWithin (IsUncalled marks t) (after_dispatched t k) = drain_keeps (first_at (Dispatched t)) settle_call (AndWithin (IsUncalled marks t))
-        (λ j c s is. record { fact = dispatched_uncalled marks t j c s.fact is; within = within_settle j c (bare_reply ehangup) None s.within (front_at marks j (Dispatched t) c s.fact.alone.silent.ending is).0 })
-        (live_calls (after_incoming t k)) (after_incoming t k) (record { fact = s3; within = h3.within }) in
+    (λ j c s is. record { fact = dispatched_uncalled marks t j c s.fact is; within = within_settle j c (bare_reply ehangup) None s.within (front_at marks j (Dispatched t) c s.fact.alone.silent.ending is).0 })
+    (live_calls (after_incoming t k)) (after_incoming t k) (record { fact = s3; within = h3.within }) in
     let s4 : IsWithoutHeld marks t (after_dispatched t k) = dispatched_settled marks t (after_incoming t k) s3 in
     let h5 : AndWithin (IsWithoutHeld marks t) (after_answers t k) = drain_keeps (first_at (Answers t)) (drop_answer t) (AndWithin (IsWithoutHeld marks t))
-        (λ j c s is. record { fact = drop_idle marks t j c s.fact is; within = within_over j c s.within (front_at marks j (Answers t) c s.fact.uncalled.alone.silent.ending is).0 })
-        (live_calls (after_dispatched t k)) (after_dispatched t k) (record { fact = s4; within = h4.within }) in
+    (λ j c s is. record { fact = drop_idle marks t j c s.fact is; within = within_over j c s.within (front_at marks j (Answers t) c s.fact.uncalled.alone.silent.ending is).0 })
+    (live_calls (after_dispatched t k)) (after_dispatched t k) (record { fact = s4; within = h4.within }) in
     let s5 : IsUnanswered marks t (after_answers t k) = answers_dropped marks t (after_dispatched t k) s4 in
     let h6 : AndWithin (IsUnanswered marks t) (kill k t).state = drain_keeps (first_call_of t) forget_call (AndWithin (IsUnanswered marks t))
-        (λ j c s is. record { fact = forget_unanswered marks t j c s.fact is; within = within_forget j c s.within (call_from marks t j c s.fact.idle.uncalled.alone.silent.ending is).0 })
-        (live_calls (after_answers t k)) (after_answers t k) (record { fact = s5; within = h5.within }) in
+    (λ j c s is. record { fact = forget_unanswered marks t j c s.fact is; within = within_forget j c s.within (call_from marks t j c s.fact.idle.uncalled.alone.silent.ending is).0 })
+    (live_calls (after_answers t k)) (after_answers t k) (record { fact = s5; within = h5.within }) in
     h6.within
 
 -- a phone that is handed out

@@ -7,6 +7,7 @@ use Rattle.std.specs.FinMap.{FinMap, get, insert, remove, get-insert, get-remove
 use Rattle.std.proofs.lemmas.Bool.Decides.{nat_tests}
 use Rattle.std.proofs.lemmas.Bool.{cases_eq, eq-eqb, ne_eqb}
 use Rattle.call_slab.specs.declared.call.Call.{Call}
+use Rattle.answerbox.specs.Calls.{CallTable, call_at, without_call}
 
 same_test : (q n : ℕ) → eq_by_cmp nat_cmp q n ≡ (n == q)
 same_test q n = elim (cases_eq n q) [ inl e ↦ grind (arith, nat_tests, eq-eqb) | inr ne ↦ grind (arith, nat_tests, ne_eqb) ]
@@ -28,3 +29,17 @@ same_call c d e = cc
 pub record_of : (o : Option Call) → IsSome o → (c : Call) × (o ≡ Some c)
 record_of None h = absurd (cc h)
 record_of (Some c) h = (c, refl)
+
+-- the table after a step, at the number of the step and at another
+
+pub put_here : (q : CallTable) (m n : ℕ) (d : Call) → m ≡ n → get (insert q.records m d) n ≡ Some d
+put_here q m n d e = at_insert q.records m n d ∙ rw (eq-eqb m n e) refl
+
+pub put_other : (q : CallTable) (m n : ℕ) (d : Call) → (m ≡ n → ⊥) → get (insert q.records m d) n ≡ call_at q n
+put_other q m n d ne = at_insert q.records m n d ∙ rw (ne_eqb m n ne) refl
+
+pub gone_here : (q : CallTable) (m n : ℕ) → m ≡ n → call_at (without_call q m) n ≡ None
+gone_here q m n e = at_remove q.records m n ∙ rw (eq-eqb m n e) refl
+
+pub gone_other : (q : CallTable) (m n : ℕ) → (m ≡ n → ⊥) → call_at (without_call q m) n ≡ call_at q n
+gone_other q m n ne = at_remove q.records m n ∙ rw (ne_eqb m n ne) refl

@@ -1,6 +1,5 @@
 -- The call parts of a kill: no call waits at the task, is held by it or answers it, and none is its own.
 use Rattle.std.proofs.Common.{◌≡◌, ℕ, suc, ◌+◌, Bool, true, false, ◌⊎◌, inl, inr, Option, None, Some, List, refl, ap, sym, subst, ◌∙◌, arith}
-use Rattle.std.specs.Prelude.{◌==◌}
 use Rattle.std.proofs.lemmas.Bool.{false≢true}
 use Rattle.std.specs.Cmp.{nat_cmp_total}
 use Rattle.std.specs.FinMap.{len, len-insert, get, insert, remove, get-remove, entries}
@@ -12,7 +11,7 @@ use Rattle.call_slab.specs.declared.call.Place.{Place}
 use Rattle.call_slab.specs.declared.call.Place.TheVariants.{Incoming, Dispatched, Answers}
 use Rattle.answerbox.specs.Calls.{CallTable, call_at, front, calls_of, same_place, is_caller, put_at, without_call, with_record, count_of}
 use Rattle.answerbox.proofs.Counts.{insert-remove, ties, count-len, count-without_call, count-replace}
-use Rattle.answerbox.proofs.Fronts.{front_live}
+use Rattle.answerbox.proofs.Fronts.{front_live, no_front-has_no_calls}
 use Rattle.answerbox.proofs.Steps.{with_change-record}
 use Rattle.answerbox.proofs.Callers.{calls_of_live, calls_of_none}
 use Rattle.cleanup.specs.State.{Tasks, KernelState, with_calls}
@@ -22,7 +21,6 @@ use Rattle.cleanup.specs.Kill.{first_at, first_call_of, settle_call, settle_inco
 use Rattle.cleanup.proofs.Lookups.{at_insert, at_remove, chosen, same_call}
 use Rattle.cleanup.proofs.Soundness.{sound_put, sound_without, kept_calls}
 use Rattle.cleanup.proofs.Repeats.{NoneIs, drain_keeps, drain_empties}
-use Rattle.cleanup.proofs.Absence.{split, front_none}
 use Rattle.cleanup.proofs.Silence.{with_marks, IsEnding, IsAlone}
 
 -- how many calls are live
@@ -168,10 +166,10 @@ forget_less test k c is passes fails =
 -- where no call passes, none does after a step to one that fails
 
 over_none : (test : Call → Bool) (k : KernelState) (m : ℕ) → NoneIs test k → NoneIs test (with_calls k (without_call k.calls m))
-over_none test k m h n c is = elim (split (m == n) None (call_at k.calls n) c (sym (at_remove k.calls.records m n) ∙ is)) [ inl e ↦ absurd (cc e) | inr e ↦ h n c e ]
+over_none test k m h n c is = elim (chosen m n None (call_at k.calls n) (Some c) (sym (at_remove k.calls.records m n) ∙ is)) [ inl e ↦ absurd (cc e.1) | inr e ↦ h n c e.1 ]
 
 insert_none : (test : Call → Bool) (k : KernelState) (m : ℕ) (d : Call) → NoneIs test k → test d ≡ false → (n : ℕ) (c : Call) → get (insert k.calls.records m d) n ≡ Some c → test c ≡ false
-insert_none test k m d h fails n c is = elim (split (m == n) (Some d) (call_at k.calls n) c (sym (at_insert k.calls.records m n d) ∙ is)) [ inl e ↦ ap test (sym (same_call d c e)) ∙ fails | inr e ↦ h n c e ]
+insert_none test k m d h fails n c is = elim (chosen m n (Some d) (call_at k.calls n) (Some c) (sym (at_insert k.calls.records m n d) ∙ is)) [ inl e ↦ ap test (sym (same_call d c e.1)) ∙ fails | inr e ↦ h n c e.1 ]
 
 settle_none : (test : Call → Bool) (k : KernelState) (c : Call) → NoneIs test k → ((u : TaskNo) → test (answered k c u) ≡ false) → NoneIs test (settle_call k c).state
 settle_none test k c h fails = by_caller c.caller (lives k c.caller) where
@@ -185,7 +183,6 @@ forget_none test k c is h fails = subst (NoneIs test) (sym (forget_step k c is))
 
 -- the parts
 
-
 -- no call waits at t
 pub record IsUncalled (marks : List Bool) (t : TaskNo) (k : KernelState) : Type 0 where
   pub alone : IsAlone marks t k
@@ -197,7 +194,7 @@ incoming_alone marks t k c h is = settle_alone marks t k c h (front_at marks k (
 pub incoming_settled : (marks : List Bool) (t : TaskNo) (k : KernelState) → IsAlone marks t k → IsUncalled marks t (settle_incoming t k).state
 incoming_settled marks t k h = record {
   alone = drain_keeps (first_at (Incoming t)) settle_call (IsAlone marks t) (incoming_alone marks t) (len k.calls.records) k h;
-  incoming = drain_empties (first_at (Incoming t)) settle_call (IsAlone marks t) (incoming_alone marks t) (stands_at (Incoming t)) (λ j e. front_none j.calls (Incoming t) e)
+  incoming = drain_empties (first_at (Incoming t)) settle_call (IsAlone marks t) (incoming_alone marks t) (stands_at (Incoming t)) (λ j e. no_front-has_no_calls j.calls (Incoming t) e)
       (λ j c i is. let f = front_at marks j (Incoming t) c i.silent.ending is in settle_less (stands_at (Incoming t)) j c f.0 f.1 (λ u. refl))
       (len k.calls.records) k h (count-len (stands_at (Incoming t)) k.calls.records);
 }
@@ -216,7 +213,7 @@ dispatched_uncalled marks t k c h is = record {
 pub dispatched_settled : (marks : List Bool) (t : TaskNo) (k : KernelState) → IsUncalled marks t k → IsIdle marks t (settle_dispatched t k).state
 dispatched_settled marks t k h = record {
   uncalled = drain_keeps (first_at (Dispatched t)) settle_call (IsUncalled marks t) (dispatched_uncalled marks t) (len k.calls.records) k h;
-  dispatched = drain_empties (first_at (Dispatched t)) settle_call (IsUncalled marks t) (dispatched_uncalled marks t) (stands_at (Dispatched t)) (λ j e. front_none j.calls (Dispatched t) e)
+  dispatched = drain_empties (first_at (Dispatched t)) settle_call (IsUncalled marks t) (dispatched_uncalled marks t) (stands_at (Dispatched t)) (λ j e. no_front-has_no_calls j.calls (Dispatched t) e)
       (λ j c i is. let f = front_at marks j (Dispatched t) c i.alone.silent.ending is in settle_less (stands_at (Dispatched t)) j c f.0 f.1 (λ u. refl))
       (len k.calls.records) k h (count-len (stands_at (Dispatched t)) k.calls.records);
 }
@@ -238,7 +235,7 @@ drop_idle marks t k c h is = record {
 pub answers_dropped : (marks : List Bool) (t : TaskNo) (k : KernelState) → IsIdle marks t k → IsUnanswered marks t (drop_answers t k).state
 answers_dropped marks t k h = record {
   idle = drain_keeps (first_at (Answers t)) (drop_answer t) (IsIdle marks t) (drop_idle marks t) (len k.calls.records) k h;
-  answers = drain_empties (first_at (Answers t)) (drop_answer t) (IsIdle marks t) (drop_idle marks t) (stands_at (Answers t)) (λ j e. front_none j.calls (Answers t) e)
+  answers = drain_empties (first_at (Answers t)) (drop_answer t) (IsIdle marks t) (drop_idle marks t) (stands_at (Answers t)) (λ j e. no_front-has_no_calls j.calls (Answers t) e)
       (λ j c i is. let f = front_at marks j (Answers t) c i.uncalled.alone.silent.ending is in over_less (stands_at (Answers t)) j c f.0 f.1)
       (len k.calls.records) k h (count-len (stands_at (Answers t)) k.calls.records);
 }

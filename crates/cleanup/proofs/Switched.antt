@@ -184,11 +184,11 @@ switched_task {alive} {phones} {counts} {calls} limit tasks' s paired enough few
   places = rw length-append (omega (arith, enough));
   few = rw length-append (omega (arith, few));
   leads = λ t p u is.
-  let row = some_of (row_at (phones ++ replicate limit Free ∷ []) t) (λ r. slice_get r p) (Connected u) is in
-  elim (row_append phones (replicate limit Free) t row.0 row.1) [
-    | inl e ↦ let l = s.leads t p u (rw e row.2) in rw length-append (omega (arith, l))
-    | inr e ↦ absurd (free_leads_nowhere limit p u (rw (e.1) row.2))
-  ];
+      let row = some_of (row_at (phones ++ replicate limit Free ∷ []) t) (λ r. slice_get r p) (Connected u) is in
+      elim (row_append phones (replicate limit Free) t row.0 row.1) [
+        | inl e ↦ let l = s.leads t p u (rw e row.2) in rw length-append (omega (arith, l))
+        | inr e ↦ absurd (free_leads_nowhere limit p u (rw (e.1) row.2))
+      ];
   has_counts = record {
     numbered = s.has_counts.numbered;
     over_phone = λ n c is. there_before phones (replicate limit Free) c.from.task.0 c.from.phone.0 (s.has_counts.over_phone n c is);

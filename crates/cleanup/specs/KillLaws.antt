@@ -1,5 +1,5 @@
 -- What a kill of task t comes to, in the words of calls, phones and entries.
-use Rattle.std.specs.Prelude.{◌≡◌, ℕ, ◌⊎◌, ◌++◌, ⊤, List, [], ◌∷◌, Option, None, Some}
+use Rattle.std.specs.Prelude.{◌≡◌, ℕ, ◌⊎◌, ◌++◌, false, ⊤, List, [], ◌∷◌, Option, None, Some}
 use Rattle.ipc_ids.specs.declared.numbers.TaskNo.{TaskNo}
 use Rattle.ipc_ids.specs.declared.message.PhoneState.{PhoneState}
 use Rattle.ipc_ids.specs.declared.message.PhoneState.TheVariants.{Free, Connecting, Connected, HungUp, Slammed}
@@ -11,8 +11,13 @@ use Rattle.call_slab.specs.declared.call.Place.{Place}
 use Rattle.call_slab.specs.declared.call.Place.TheVariants.{Incoming, Dispatched, Answers}
 use Rattle.answerbox.specs.Calls.{call_at, task_of}
 use Rattle.phone_table.specs.Phones.{state_at}
-use Rattle.cleanup.specs.State.{KernelState, phone_at}
+use Rattle.cleanup.specs.State.{KernelState, is_alive, phone_at}
 use Rattle.cleanup.specs.Joins.{bare_reply}
+
+-- task t has ended, and each other task is alive just where it was
+pub record EndsTask (t : TaskNo) (before after : KernelState) : Type 0 where
+  pub ended : is_alive after t ≡ false
+  pub others : (u : TaskNo) → (u.0 ≡ t.0 → ⊥) → is_alive after u ≡ is_alive before u
 
 -- nothing is left of task t: no call stands at it, none is its own, and no phone leads to it
 pub record LeavesNothingOf (t : TaskNo) (k : KernelState) : Type 0 where
@@ -33,7 +38,8 @@ HasEnd n (e ∷ es) = Ends n e ⊎ HasEnd n es
 
 -- an end of call m comes before each end of call n
 abbrev pub EndsBefore : ℕ → ℕ → List Entry → Type 0
-EndsBefore m n es = (one two : List Entry) (e : Entry) → es ≡ one ++ (e ∷ two) → Ends n e → HasEnd m one
+EndsBefore m n es =
+    (one two : List Entry) (e : Entry) → es ≡ one ++ (e ∷ two) → Ends n e → HasEnd m one
 
 -- each call that waits at t in the state k ends before each that t holds
 abbrev pub EndsWaitingFirst : TaskNo → KernelState → List Entry → Type 0
@@ -68,27 +74,32 @@ IsWith t (Incoming u) = u.0 ≡ t.0
 IsWith t (Dispatched u) = u.0 ≡ t.0
 IsWith t (Answers u) = ⊥
 
--- the call is answered by the kernel, and its caller u has the answer
-abbrev pub HasHangup : TaskNo → Option Call → Type 0
-HasHangup u None = ⊥
-HasHangup u (Some c) = (c.caller ≡ Some u) × (c.place ≡ Answers u) × (c.reply ≡ bare_reply ehangup)
+-- the record d is of the same call as c
+abbrev pub IsStill : Call → Call → Type 0
+IsStill c d = (d.number ≡ c.number) × (d.from ≡ c.from) × (d.request ≡ c.request)
 
--- the call stands where it stood, and has no caller
-abbrev pub HasNoCaller : Place → Option Call → Type 0
-HasNoCaller place None = ⊥
-HasNoCaller place (Some c) = (c.caller ≡ None) × (c.place ≡ place)
+-- call c is answered by the kernel, and its caller u has the answer
+abbrev pub HasHangup : Call → TaskNo → Option Call → Type 0
+HasHangup c u None = ⊥
+HasHangup c u (Some d) =
+    IsStill c d × (d.caller ≡ Some u) × (d.place ≡ Answers u) × (d.reply ≡ bare_reply ehangup)
+
+-- call c stands where it stood, and has no caller
+abbrev pub HasNoCaller : Call → Option Call → Type 0
+HasNoCaller c None = ⊥
+HasNoCaller c (Some d) = IsStill c d × (d.caller ≡ None) × (d.place ≡ c.place)
 
 -- what becomes of each call while t ends, from one state to another
 pub record ClosesCalls (t : TaskNo) (before after : KernelState) : Type 0 where
   -- one that t had, and that another task made, is answered
-  pub answered : (n : ℕ) (c : Call) (u : TaskNo) → call_at before.calls n ≡ Some c → IsWith t c.place →
-      c.caller ≡ Some u → (u.0 ≡ t.0 → ⊥) → HasHangup u (call_at after.calls n)
+  pub answered : (n : ℕ) (c : Call) (u : TaskNo) → call_at before.calls n ≡ Some c →
+      IsWith t c.place → c.caller ≡ Some u → (u.0 ≡ t.0 → ⊥) → HasHangup c u (call_at after.calls n)
   -- one that stood at t, and whose answer no other task waits for, is over
   pub over : (n : ℕ) (c : Call) → call_at before.calls n ≡ Some c → task_of c.place ≡ t.0 →
       ((u : TaskNo) → c.caller ≡ Some u → u.0 ≡ t.0) → call_at after.calls n ≡ None
   -- one of t that stood elsewhere goes on without it
-  pub forgotten : (n : ℕ) (c : Call) → call_at before.calls n ≡ Some c → (task_of c.place ≡ t.0 → ⊥) →
-      c.caller ≡ Some t → HasNoCaller c.place (call_at after.calls n)
+  pub forgotten : (n : ℕ) (c : Call) → call_at before.calls n ≡ Some c →
+      (task_of c.place ≡ t.0 → ⊥) → c.caller ≡ Some t → HasNoCaller c (call_at after.calls n)
   -- and each other call stays as it is
   pub others : (n : ℕ) (c : Call) → call_at before.calls n ≡ Some c → (task_of c.place ≡ t.0 → ⊥) →
       (c.caller ≡ Some t → ⊥) → call_at after.calls n ≡ Some c

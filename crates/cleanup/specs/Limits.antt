@@ -1,11 +1,10 @@
 -- How many calls are active on each phone at most, the hangups among them told apart.
-use Rattle.std.specs.Prelude.{◌≡◌, ℕ, ◌≤◌, ◌==◌, ◌&&◌, ⊤, Bool, not, Option, None, Some, slice_get}
+use Rattle.std.specs.Prelude.{◌≡◌, ℕ, ◌≤◌, ◌&&◌, ⊤, not, Option, None, Some, slice_get}
 use Rattle.std.specs.FinMap.{entries}
 use Rattle.ipc_ids.specs.declared.numbers.TaskNo.{TaskNo}
 use Rattle.ipc_ids.specs.declared.numbers.Label.{Label}
 use Rattle.ipc_ids.specs.declared.message.PhoneState.{PhoneState}
 use Rattle.ipc_ids.specs.declared.message.PhoneState.TheVariants.{Free, Connecting, Connected, HungUp, Slammed}
-use Rattle.call_slab.specs.declared.call.Call.{Call}
 use Rattle.answerbox.specs.Calls.{CallTable, is_hangup, count_of, is_active_on, active_calls}
 use Rattle.phone_table.specs.Phones.{Row, state_at}
 use Rattle.cleanup.specs.State.{KernelState, phone_at, label_of}

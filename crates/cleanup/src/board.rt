@@ -12,13 +12,11 @@ ghost use Rattle.phone_table.specs.Usable.{IsConnected};
 ghost use Rattle.cleanup.specs.Kill.{width, mark_ended};
 ghost use Rattle.cleanup.specs.Rooms.{KeepsRoom};
 
-use answerbox::Boxes;
-use call_slab::{Call, Place};
 use crate::counts::{count_out, count_up};
 use crate::phones::{hang_phone, slam_phone, width};
-use ipc_ids::{
-    Buffer, CallNo, Code, Label, Msg, NoMemory, PhoneNo, PhoneState, Reply, TaskNo,
-};
+use answerbox::Boxes;
+use call_slab::{Call, Place};
+use ipc_ids::{Buffer, CallNo, Code, Label, Msg, NoMemory, PhoneNo, PhoneState, Reply, TaskNo};
 use phone_table::{Hung, PhoneRows, Phones};
 use std::alloc::Global;
 use std::marker::Model;
@@ -46,8 +44,11 @@ impl Model for Switchboard {
 
     ghost coded = { board_code phone.the_row.coded call.the_row.coded };
 
-    ghost view = { λ a. record { state = state_from a.alive.items a.phones.states a.boxes.calls
-        a.events; spare = a.boxes.spare } };
+    ghost view = { λ a. record {
+      state = state_from a.alive.items a.phones.states a.boxes.calls
+          a.events;
+      spare = a.boxes.spare;
+    } };
 
     ghost invariant = { λ a. IsSwitched a.alive.items a.phones.states a.phones.counts a.boxes.calls
         a.boxes.tasks × HasPlaces (length a.alive.items) a.places a.boxes.tasks };

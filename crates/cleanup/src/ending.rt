@@ -71,13 +71,19 @@ fn all_alive(alloc: Global, n: usize) -> Result<Vec<bool>, NoMemory>
 }
 
 /// The same, where there is room for all of it.
-fn end_marked(who: TaskNo, alive: Vec<bool>, boxes: &mut Boxes, phones: &mut PhoneRows, out: &mut Trace, alloc: Global)
+fn end_marked(
+    who: TaskNo,
+    alive: Vec<bool>,
+    boxes: &mut Boxes,
+    phones: &mut PhoneRows,
+    out: &mut Trace,
+    alloc: Global,
+)
     requires from_one { 1 ≤ who.0 }
     requires task { who.0 ≤ length alive.items }
     requires switched { IsSwitched alive.items phones.old.states phones.old.counts boxes.old.calls
         boxes.old.tasks }
-    requires few_active { FewFrom (state_from alive.items phones.old.states boxes.old.calls 0) who 0
-        }
+    requires few_active { FewFrom (state_from alive.items phones.old.states boxes.old.calls 0) who 0 }
     requires few_calls { boxes.old.calls.next_number < 2 ^ 61 }
     requires few_stamps { boxes.old.calls.next_stamp < 2 ^ 61 }
     requires room { 64 ≤ boxes.old.spare }
@@ -85,8 +91,7 @@ fn end_marked(who: TaskNo, alive: Vec<bool>, boxes: &mut Boxes, phones: &mut Pho
     ensures calls { boxes.new.calls
         ≡ (kill (state_from alive.items phones.old.states boxes.old.calls 0) who).state.calls }
     ensures phones { phones.new.states
-        ≡ (kill (state_from alive.items phones.old.states boxes.old.calls 0) who).state.tasks.phones
-        }
+        ≡ (kill (state_from alive.items phones.old.states boxes.old.calls 0) who).state.tasks.phones }
     ensures entries { out.new.entries
         ≡ out.old.entries ++ (kill (state_from alive.items phones.old.states boxes.old.calls 0)
         who).entries }

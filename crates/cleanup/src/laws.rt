@@ -9,41 +9,28 @@ ghost use Rattle.cleanup.specs.State.{label_of};
 ghost use Rattle.cleanup.specs.Counts.{label_at};
 ghost use Rattle.cleanup.specs.Limits.{IsWithinLimits, IsRowOf};
 ghost use Rattle.cleanup.specs.Kill.{kill};
-ghost use Rattle.cleanup.specs.KillLaws.{LeavesNothingOf, EndsWaitingFirst, ClosesPhones, ClosesCalls};
+ghost use Rattle.cleanup.specs.KillLaws.{EndsTask, LeavesNothingOf, EndsWaitingFirst, ClosesPhones, ClosesCalls};
 
-/// A kill leaves nothing of the task, ends what waited at it before what it held, and closes its
-/// phones and its calls, and no others.
+/// A kill ends the task and no other, leaves nothing of it, ends what waited at it before what it
+/// held, and closes its phones and its calls, and no others.
 pub fn kills_leave_nothing()
-    ensures nothing {
-        (k : KernelState) (t : TaskNo) → IsSound k → is_alive k t ≡ true
-        → LeavesNothingOf t (kill k t).state
-    }
-    ensures order {
-        (k : KernelState) (t : TaskNo) → IsSound k → is_alive k t ≡ true
-        → EndsWaitingFirst t k (kill k t).entries
-    }
-    ensures phones {
-        (k : KernelState) (t : TaskNo) → IsSound k → is_alive k t ≡ true
-        → ClosesPhones t k (kill k t).state
-    }
-    ensures calls {
-        (k : KernelState) (t : TaskNo) → IsSound k → is_alive k t ≡ true
-        → ClosesCalls t k (kill k t).state
-    }
+    ensures task { (k : KernelState) (t : TaskNo) → is_alive k t ≡ true → EndsTask t k (kill k t).state }
+    ensures nothing { (k : KernelState) (t : TaskNo) → IsSound k → is_alive k t ≡ true
+        → LeavesNothingOf t (kill k t).state }
+    ensures order { (k : KernelState) (t : TaskNo) → IsSound k → is_alive k t ≡ true
+        → EndsWaitingFirst t k (kill k t).entries }
+    ensures phones { (k : KernelState) (t : TaskNo) → IsSound k → is_alive k t ≡ true
+        → ClosesPhones t k (kill k t).state }
+    ensures calls { (k : KernelState) (t : TaskNo) → IsSound k → is_alive k t ≡ true
+        → ClosesCalls t k (kill k t).state }
 {}
 
 /// Where each phone is within its limits, it has at most 65 active calls, and none where it is the
 /// one that is handed out; a kill keeps the limits.
 pub fn active_calls_are_few()
-    ensures most {
-        (k : KernelState) (t p : ℕ) → IsWithinLimits k → active_calls k.calls (label_at t p) ≤ 65
-    }
-    ensures handed_out {
-        (k : KernelState) (t : TaskNo) (row : Row) (p : ℕ) → IsWithinLimits k → IsRowOf k t row
-        → first_usable row ≡ Some p → active_calls k.calls (label_of t p) ≡ 0
-    }
-    ensures kill {
-        (k : KernelState) (t : TaskNo) → IsSound k → is_alive k t ≡ true
-        → IsWithinLimits k → IsWithinLimits (kill k t).state
-    }
+    ensures most { (k : KernelState) (t p : ℕ) → IsWithinLimits k → active_calls k.calls (label_at t p) ≤ 65 }
+    ensures handed_out { (k : KernelState) (t : TaskNo) (row : Row) (p : ℕ) → IsWithinLimits k → IsRowOf k t row
+        → first_usable row ≡ Some p → active_calls k.calls (label_of t p) ≡ 0 }
+    ensures kill { (k : KernelState) (t : TaskNo) → IsSound k → is_alive k t ≡ true
+        → IsWithinLimits k → IsWithinLimits (kill k t).state }
 {}

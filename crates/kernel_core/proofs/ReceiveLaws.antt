@@ -1,5 +1,5 @@
 -- A receive keeps its laws.
-use Rattle.std.proofs.Common.{◌≡◌, ℕ, zero, suc, ◌<◌, ◌≤◌, Bool, true, false, ◌⊎◌, inl, inr, Option, None, Some, List, [], ◌∷◌, ◌++◌, append_assoc, refl, ap, sym, subst, ◌∙◌, arith}
+use Rattle.std.proofs.Common.{◌≡◌, ℕ, zero, suc, ◌<◌, ◌≤◌, Bool, true, false, ◌⊎◌, inl, inr, Option, None, Some, List, [], ◌∷◌, ◌++◌, refl, ap, sym, subst, ◌∙◌, arith}
 use Rattle.std.specs.Prelude.{if◌then◌else◌}
 use Rattle.std.specs.Option.{option_map_or}
 use Rattle.std.proofs.lemmas.Bool.{cases_eq, eqb-true, eq-eqb, ne_eqb, false≢true}
@@ -19,8 +19,8 @@ use Rattle.cleanup.specs.State.{KernelState, Transition, nothing, then_do, drain
 use Rattle.cleanup.specs.Sound.{IsSound}
 use Rattle.cleanup.specs.Joins.{drop_answer, receive_first}
 use Rattle.cleanup.specs.Serving.{Served}
-use Rattle.cleanup.proofs.Lookups.{at_insert, at_remove, chosen, same_call}
-use Rattle.cleanup.proofs.Histories.{drain_tells}
+use Rattle.cleanup.proofs.Lookups.{at_insert, at_remove, chosen, same_call, gone_here, gone_other}
+use Rattle.cleanup.proofs.Histories.{told_after, none_after, both_after, drain_tells}
 use Rattle.cleanup.proofs.Queues.{sound_drop}
 use Rattle.kernel_core.specs.Receiving.{unawaited, next_unawaited, drop_unawaited, receive}
 use Rattle.kernel_core.specs.ReceiveLaws.{IsAwaited, IsHangupAnswer, IsFirst, HasNone, TellsAnswer, TellsCall, DropsHangupsOnly, IsLawfulReceive}
@@ -39,17 +39,6 @@ module _ (next : KernelState → Option Call) (step : KernelState → Call → T
     by_next : (n : ℕ) (k : KernelState) → I k → count_of test (entries k.calls.records) ≤ suc n → (o : Option Call) → next k ≡ o → ((j : KernelState) → I j → count_of test (entries j.calls.records) ≤ n → next (drain next step n j).state ≡ None) → next (option_map_or (λ c. then_do (step k c) (drain next step n)) o (nothing k)).state ≡ None
     by_next n k h few None is later = is
     by_next n k h few (Some c) is later = later (step k c).state (keeps k c h is) (let l = less k c h is in omega arith)
-
--- the entries before, and then these
-abbrev told_after : List Entry → List Entry → List Entry
-told_after es p = p ++ es
-
-none_after : (p : List Entry) → told_after [] p ≡ p
-none_after [] = refl
-none_after (e ∷ p) = ap (λ x. e ∷ x) (none_after p)
-
-both_after : (es fs : List Entry) (p : List Entry) → told_after (es ++ fs) p ≡ told_after fs (told_after es p)
-both_after es fs p = sym (append_assoc p es fs)
 
 drops_both : (t : TaskNo) (k : KernelState) (xs ys : List Entry) → DropsHangupsOnly t k xs → DropsHangupsOnly t k ys → DropsHangupsOnly t k (xs ++ ys)
 drops_both t k [] ys f g = g
@@ -75,12 +64,6 @@ is_incoming t place e = ap (λ (p : Place). same_place p (Incoming t)) e ∙ eq-
 
 not_both_places : (t : TaskNo) (place : Place) → place ≡ Incoming t → place ≡ Answers t → ⊥
 not_both_places t place a b = let c : Incoming t ≡ Answers t = sym a ∙ b in cc
-
-gone_here : (q : CallTable) (m n : ℕ) → m ≡ n → call_at (without_call q m) n ≡ None
-gone_here q m n e = at_remove q.records m n ∙ rw (eq-eqb m n e) refl
-
-gone_other : (q : CallTable) (m n : ℕ) → (m ≡ n → ⊥) → call_at (without_call q m) n ≡ call_at q n
-gone_other q m n ne = at_remove q.records m n ∙ rw (ne_eqb m n ne) refl
 
 none_stays : (q : CallTable) (m n : ℕ) → call_at q n ≡ None → call_at (without_call q m) n ≡ None
 none_stays q m n none = elim (cases_eq m n) [ inl e ↦ gone_here q m n e | inr ne ↦ gone_other q m n ne ∙ none ]

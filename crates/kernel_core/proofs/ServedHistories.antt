@@ -16,7 +16,8 @@ use Rattle.ipc_ids.specs.declared.entry.Entry.TheVariants as entry
 use Rattle.ipc_ids.specs.declared.message.PhoneState.{PhoneState}
 use Rattle.ipc_ids.specs.declared.message.PhoneState.TheVariants as phone
 use Rattle.ipc_ids.specs.Codes.{enoent, eperm, ehangup, eforward}
-use Rattle.ipc_ids.specs.Tables.{first_user_method, most_active}
+use Rattle.ipc_ids.specs.Methods.{first_user_method}
+use Rattle.ipc_ids.specs.Tables.{most_active}
 use Rattle.ipc_ids.specs.Tales.{Ask, Receive, Answer, Forward, Other_request, Event, Step, Kill, Accepted, Received, Forwarded, Answered, Delivered, Kernel, At_once, ask, Tale, Head, On, Other, past}
 use Rattle.ipc_ids.specs.Life.{Nowhere, Back, Incoming, Dispatched, Answers, life, is_killed, event, task_of, IsOf, Allowed}
 use Rattle.ipc_ids.specs.Lawful.{IsCleared}

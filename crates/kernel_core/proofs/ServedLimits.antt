@@ -1,7 +1,6 @@
 -- A request leaves few active calls on each phone, and a call is accepted only where there are fewer than 64.
-use Rattle.std.proofs.Common.{◌≡◌, ℕ, ◌<◌, Bool, true, false, Option, None, Some, Result, Ok, Err, refl, ap, sym, subst, ◌∙◌, arith, nat_lt, nat_le}
-use Rattle.std.specs.Prelude.{◌==◌, if◌then◌else◌, ⊤}
-use Rattle.std.proofs.lemmas.Bool.{ne_eqb}
+use Rattle.std.proofs.Common.{◌≡◌, ℕ, ◌<◌, false, Option, None, Some, Result, Ok, Err, refl, ap, sym, subst, ◌∙◌, arith, nat_lt, nat_le}
+use Rattle.std.specs.Prelude.{⊤}
 use Rattle.std.proofs.lemmas.Bool.Decides.{nat_tests}
 use Rattle.ipc_ids.specs.declared.numbers.TaskNo.{TaskNo}
 use Rattle.ipc_ids.specs.declared.numbers.CallNo.{CallNo}
@@ -21,29 +20,29 @@ use Rattle.ipc_ids.specs.Tables.{most_active}
 use Rattle.call_slab.specs.declared.call.Call.{Call}
 use Rattle.call_slab.specs.declared.call.Place.{Place}
 use Rattle.call_slab.specs.declared.call.Place.TheVariants.{Incoming, Dispatched, Answers}
-use Rattle.answerbox.specs.Calls.{is_hangup, call_at, front, enqueue, same_place, active_calls}
-use Rattle.answerbox.proofs.Fronts.{front_live}
+use Rattle.answerbox.specs.Calls.{call_at, front, enqueue, same_place, active_calls}
 use Rattle.forwarding.specs.declared.passing.Forwarded.{Forwarded}
 use Rattle.forwarding.specs.declared.passing.ForwardFault.{ForwardFault}
 use Rattle.forwarding.specs.declared.passing.ForwardFault.TheVariants.{NotHeld, NotForwardable, NotConnected}
 use Rattle.forwarding.specs.Routes.{forward_answer, call_after, table_after}
-use Rattle.cleanup.specs.State.{KernelState, live_calls, is_alive, phone_at, with_calls, with_event, label_of}
+use Rattle.cleanup.specs.State.{KernelState, live_calls, phone_at, with_calls, with_event, label_of}
 use Rattle.cleanup.specs.Sound.{IsSound}
 use Rattle.cleanup.specs.Joins.{bare_reply, drop_answer, new_call, receive_first}
 use Rattle.cleanup.specs.Serving.{Served}
 use Rattle.cleanup.specs.Limits.{IsIdle, IsWithinLimits}
 use Rattle.cleanup.proofs.Repeats.{by_test, drain_keeps}
 use Rattle.cleanup.proofs.Silence.{next_free}
-use Rattle.cleanup.proofs.Queues.{IsLive, sound_drop}
+use Rattle.cleanup.proofs.Queues.{sound_drop}
 use Rattle.cleanup.proofs.Limits.{within_call, within_over, within_put, within_settle, within_hang_up}
 use Rattle.kernel_core.specs.Calling.{call_through, call_tested, call_over, call}
-use Rattle.kernel_core.specs.Receiving.{unawaited, next_unawaited, drop_unawaited, receive_now}
+use Rattle.kernel_core.specs.Receiving.{next_unawaited, drop_unawaited}
 use Rattle.kernel_core.specs.Answering.{held_call, answer_held}
 use Rattle.kernel_core.specs.Forward.{failed_forward, passing_on, forward_told}
 use Rattle.kernel_core.specs.HangingUp.{hangup_over}
 use Rattle.kernel_core.specs.Kernel.{serve}
 use Rattle.kernel_core.specs.Request.{serve_request}
 use Rattle.kernel_core.proofs.Passing.{leads_of, passes}
+use Rattle.kernel_core.proofs.Serving.{front_at, unawaited_front, user_method}
 
 -- a call is accepted
 
@@ -73,12 +72,6 @@ module _ (k : KernelState) (t : TaskNo) (p : ℕ) (msg : Msg) where
 
 -- each request
 
-front_at : (k : KernelState) (place : Place) (c : Call) → IsSound k → front k.calls place ≡ Some c → IsLive k c
-front_at k place c h is = let f = front_live k.calls place c is in ap (call_at k.calls) (h.calls.each f.0 c f.1).number ∙ f.1
-
-users : (m : ℕ) → nat_lt m first_user_method ≡ false → (m == 0) ≡ false
-users m h = ne_eqb m 0 (λ e. grind (arith, nat_tests))
-
 module _ (t : TaskNo) (k : KernelState) (h : IsSound k) (w : IsWithinLimits k) where
   abbrev Keeps : Served → Type 0
   Keeps s = IsWithinLimits s.state
@@ -86,7 +79,7 @@ module _ (t : TaskNo) (k : KernelState) (h : IsSound k) (w : IsWithinLimits k) w
   made : (p : ℕ) (msg : Msg) (s : PhoneState) (place : Place) (reply : Reply) → phone_at k t p ≡ Some s → (IsIdle (Some s) → ⊥) → nat_lt msg.method first_user_method ≡ false → nat_le most_active (active_calls k.calls (label_of t p)) ≡ false
       → IsWithinLimits (with_calls k (enqueue k.calls (record (new_call k t p msg place) { reply = reply })))
   made p msg s place reply is busy user few =
-      within_call k (record (new_call k t p msg place) { reply = reply }) w (next_free k.tasks k.calls h.calls) (λ idle. busy (subst IsIdle is idle)) (users msg.method user) (few_of (active_calls k.calls (label_of t p)) few)
+      within_call k (record (new_call k t p msg place) { reply = reply }) w (next_free k.tasks k.calls h.calls) (λ idle. busy (subst IsIdle is idle)) (sym (user_method msg.method user)) (few_of (active_calls k.calls (label_of t p)) few)
 
   through : (p : ℕ) (msg : Msg) (s : PhoneState) → phone_at k t p ≡ Some s → nat_lt msg.method first_user_method ≡ false → nat_le most_active (active_calls k.calls (label_of t p)) ≡ false → Keeps (call_through k t p msg s)
   through p msg Free is user few = w
@@ -146,13 +139,6 @@ module _ (t : TaskNo) (k : KernelState) (h : IsSound k) (w : IsWithinLimits k) w
 record IsFine (j : KernelState) : Type 0 where
   pub sound : IsSound j
   pub within : IsWithinLimits j
-
-unawaited_front : (o : Option Call) (c : Call) → unawaited o ≡ Some c → o ≡ Some c
-unawaited_front None c e = absurd (cc e)
-unawaited_front (Some d) c e = by_discard d.discard e where
-  by_discard : (b : Bool) → (if b then Some d else None) ≡ Some c → Some d ≡ Some c
-  by_discard true g = g
-  by_discard false g = absurd (cc g)
 
 drops_fine : (t : TaskNo) (k : KernelState) → IsFine k → IsFine (drop_unawaited t k).state
 drops_fine t k h = drain_keeps (next_unawaited t) (drop_answer t) IsFine

@@ -14,7 +14,8 @@ use Rattle.ipc_ids.specs.declared.message.PhoneState.TheVariants.{Free, Connecti
 use Rattle.ipc_ids.specs.declared.message.Request.{Request}
 use Rattle.ipc_ids.specs.declared.message.Request.TheVariants as R
 use Rattle.ipc_ids.specs.Codes.{ehangup, enoent, eforward}
-use Rattle.ipc_ids.specs.Tables.{first_user_method, most_active}
+use Rattle.ipc_ids.specs.Methods.{first_user_method}
+use Rattle.ipc_ids.specs.Tables.{most_active}
 use Rattle.call_slab.specs.declared.call.Call.{Call}
 use Rattle.call_slab.specs.declared.call.Place.{Place}
 use Rattle.call_slab.specs.declared.call.Place.TheVariants.{Incoming, Dispatched, Answers}
@@ -25,11 +26,12 @@ use Rattle.forwarding.specs.declared.passing.Forwarded.{Forwarded}
 use Rattle.forwarding.specs.declared.passing.ForwardFault.{ForwardFault}
 use Rattle.forwarding.specs.declared.passing.ForwardFault.TheVariants.{NotHeld, NotForwardable, NotConnected}
 use Rattle.forwarding.specs.Routes.{forward_answer, call_after, table_after}
-use Rattle.cleanup.specs.State.{KernelState, Transition, is_alive, phone_at, with_calls, with_phone, with_event, label_of}
+use Rattle.cleanup.specs.State.{KernelState, is_alive, phone_at, with_calls, label_of}
 use Rattle.cleanup.specs.Sound.{IsPlaced, IsCaller, IsSound}
 use Rattle.cleanup.specs.Joins.{bare_reply, settle, settle_for, lives, drop_answer, new_call, hang_up, receive_first}
 use Rattle.cleanup.proofs.Soundness.{sound_enqueue, sound_put, sound_without, kept_calls}
 use Rattle.cleanup.proofs.Repeats.{by_test, drain_keeps}
+use Rattle.cleanup.proofs.Queues.{IsLive}
 use Rattle.cleanup.proofs.Silence.{sound_hang_up}
 use Rattle.cleanup.specs.Serving.{Served}
 use Rattle.kernel_core.specs.Calling.{call_through, call_tested, call_over}
@@ -46,10 +48,6 @@ use Rattle.kernel_core.proofs.Passing.{leads_of, passes}
 enqueued : (k : KernelState) (c : Call) → IsSound k → c.number.0 ≡ k.calls.next_number → IsPlaced k.tasks c.caller c.place → IsCaller k.tasks c.from c.caller → IsSome (state_at k.tasks.phones c.from.task.0 c.from.phone.0) → c.discard ≡ (c.request.method == 0) → IsSound (with_calls k (enqueue k.calls c))
 enqueued k c h number place caller phone discard =
     kept_calls k (enqueue k.calls c) h (sound_enqueue k.tasks k.calls c h.calls number place caller phone discard)
-
--- a live call under its own number
-abbrev IsLive : KernelState → Call → Type 0
-IsLive k c = call_at k.calls c.number.0 ≡ Some c
 
 own : (k : KernelState) (n : ℕ) (c : Call) → IsSound k → call_at k.calls n ≡ Some c → IsLive k c
 own k n c h is = ap (call_at k.calls) (h.calls.each n c is).number ∙ is
@@ -69,7 +67,7 @@ settled k c reply by h is = by_caller c.caller (lives k c.caller) refl where
   by_caller (Some u) false from = over k c h is
   by_caller (Some u) true from = moved k c (record c { reply = reply }) (Answers u) h is refl refl refl refl refl from
 
-front_at : (k : KernelState) (place : Place) (c : Call) → IsSound k → front k.calls place ≡ Some c → IsLive k c
+pub front_at : (k : KernelState) (place : Place) (c : Call) → IsSound k → front k.calls place ≡ Some c → IsLive k c
 front_at k place c h is = let f = front_live k.calls place c is in own k f.0 c h f.1
 
 is_some : {A : Type 0} (o : Option A) (x : A) → o ≡ Some x → IsSome o
@@ -77,7 +75,7 @@ is_some o x e = rw e refl
 
 -- the requests of a task that is alive
 
-user_method : (m : ℕ) → nat_lt m first_user_method ≡ false → false ≡ (m == 0)
+pub user_method : (m : ℕ) → nat_lt m first_user_method ≡ false → false ≡ (m == 0)
 user_method m h = sym (ne_eqb m 0 (λ e. grind (arith, nat_tests)))
 
 module _ (t : TaskNo) (k : KernelState) (alive : is_alive k t ≡ true) (h : IsSound k) where
@@ -151,7 +149,7 @@ record IsLess (k j : KernelState) : Type 0 where
   pub sound : IsSound j
   pub alive : j.tasks.alive ≡ k.tasks.alive
 
-unawaited_front : (o : Option Call) (c : Call) → unawaited o ≡ Some c → o ≡ Some c
+pub unawaited_front : (o : Option Call) (c : Call) → unawaited o ≡ Some c → o ≡ Some c
 unawaited_front None c e = absurd (cc e)
 unawaited_front (Some d) c e = by_discard d.discard e where
   by_discard : (b : Bool) → (if b then Some d else None) ≡ Some c → Some d ≡ Some c

@@ -32,7 +32,9 @@ pub(crate) fn call(
     ensures room { UsesRoom board.old board.new out.old out.new 1 1 2 }
 {
     match board.phone(who, phone) {
-        None | Some(PhoneState::Free | PhoneState::Connecting) => Ok(Outcome::Refused(Code::ENOENT)),
+        None | Some(PhoneState::Free | PhoneState::Connecting) => Ok(Outcome::Refused(
+            Code::ENOENT,
+        )),
         Some(state) => call_tested(board, label(who, phone), msg, state, out),
     }
 }

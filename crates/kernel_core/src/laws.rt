@@ -29,25 +29,17 @@ pub fn fitting_histories_keep_the_laws()
 /// A receive drops the answers of hangups that came before all others, and no other call; then it
 /// tells the first answer that is left, or else the first call that waits.
 pub fn receives_are_lawful()
-    ensures {
-        (k : KernelState) (t : TaskNo) → IsSound k
-        → IsLawfulReceive t k (receive k t)
-    }
+    ensures { (k : KernelState) (t : TaskNo) → IsSound k
+        → IsLawfulReceive t k (receive k t) }
 {}
 
 /// A call is accepted only over a phone with fewer than 64 active ones, every request keeps the
 /// limits of all phones, and so no phone ever has more than 65 active calls.
 pub fn calls_stay_within_limits()
-    ensures accepted {
-        (k : KernelState) (t : TaskNo) (p : ℕ) (msg : Msg) (n : CallNo)
-        → (call k t p msg).outcome ≡ Accepted n → active_calls k.calls (label_of t p) < 64
-    }
-    ensures kept {
-        (k : KernelState) (t : TaskNo) (asked : Request) → IsSound k
-        → IsWithinLimits k → IsWithinLimits (serve k t asked).state
-    }
-    ensures most {
-        (h : List Entry) (k : KernelState) (t p : ℕ) → HistoryFits h k
-        → active_calls k.calls (label_at t p) ≤ 65
-    }
+    ensures accepted { (k : KernelState) (t : TaskNo) (p : ℕ) (msg : Msg) (n : CallNo)
+        → (call k t p msg).outcome ≡ Accepted n → active_calls k.calls (label_of t p) < 64 }
+    ensures kept { (k : KernelState) (t : TaskNo) (asked : Request) → IsSound k
+        → IsWithinLimits k → IsWithinLimits (serve k t asked).state }
+    ensures most { (h : List Entry) (k : KernelState) (t p : ℕ) → HistoryFits h k
+        → active_calls k.calls (label_at t p) ≤ 65 }
 {}

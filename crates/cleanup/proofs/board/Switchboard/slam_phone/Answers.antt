@@ -10,4 +10,3 @@ invariant_of-self c =
     let leads : IsConnected (state_at i.phones.states c.args.t.0 c.args.phone.0) = rw (← c.self.view_is) at c.requires.leads in
     rw (c.slam_phone.ensures.states, c.slam_phone.ensures.counts)
     (switched_phone c.args.t.0 c.args.phone.0 Slammed c.self.invariant.0 (connected_there (state_at i.phones.states c.args.t.0 c.args.phone.0) leads) (λ u e. absurd (cc e)), c.self.invariant.1)
-
