@@ -107,9 +107,6 @@ module _ (alive : List Bool) (who : TaskNo) (phones : List (List PhoneState)) (c
   pub same_end : (k : KernelState) → k ≡ whole → remarked alive (kill k who) ≡ end_parts who (state_from alive phones calls 0)
   same_end k is = ap (λ (j : KernelState). remarked alive (kill j who)) is ∙ sym (blind_parts alive who (mark_ended whole who) agree).0
 
-  pub as_many_marks : (k : KernelState) → k ≡ whole → length (kill k who).state.tasks.alive ≡ length alive
-  as_many_marks k is = ap length (kill_marks k who) ∙ length-set k.tasks.alive (who.0 - 1) false ∙ ap (λ (j : KernelState). length j.tasks.alive) is ∙ all_long ∙ paired
-
   -- all that there is makes a switchboard
   pub switched : (counts : List (List ℕ)) (tasks : ℕ) → IsCounted counts calls → AreCounted (record { states = phones; counts = counts }) → len calls.records < calls.next_number → length alive ≤ tasks → IsSwitched (all_alive (length phones)) phones counts calls tasks
   switched counts tasks counted shaped few places = record {

@@ -22,7 +22,8 @@ pub fn label(task: TaskNo, phone: u64) -> Label
 /// One call more is active over that phone.
 pub(crate) fn count_up(phones: &mut PhoneRows, from: Label)
     requires there { IsSome (state_at phones.old.states from.task.0 from.phone.0) }
-    requires few { IsSomeAnd (count_at phones.old.counts from.task.0 from.phone.0) (λ n. n < 2 ^ 31) }
+    requires few { IsSomeAnd (count_at phones.old.counts from.task.0 from.phone.0)
+        (λ n. n < 2 ^ 31) }
     ensures states { phones.new.states ≡ phones.old.states }
     ensures counts { phones.new.counts
         ≡ recount (λ n. n + 1) phones.old.counts from.task.0 from.phone.0 }

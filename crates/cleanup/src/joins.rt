@@ -22,7 +22,8 @@ impl Switchboard {
     pub fn accept(&mut self, call: Call, to: Option<TaskNo>, out: &mut Trace) -> Outcome
         requires new_call { IsNewCall self.old.state call }
         requires room { HasRoom self.old out.old 1 1 2 }
-        ensures served { Serves self.new result out.old out.new (acceptance self.old.state call to) }
+        ensures served { Serves self.new result out.old out.new
+            (acceptance self.old.state call to) }
         ensures room { UsesRoom self.old self.new out.old out.new 1 1 2 }
     {
         let number = call.number;
