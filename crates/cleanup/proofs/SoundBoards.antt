@@ -22,7 +22,6 @@ use Rattle.cleanup.specs.Board.{IsSwitched, IsAdded, FewFrom}
 use Rattle.cleanup.specs.Ending.{IsJustEnded, HasFewActive, all_alive}
 use Rattle.cleanup.specs.Kill.{mark_ended, end_parts, kill}
 use Rattle.cleanup.proofs.Endings.{within}
-use Rattle.cleanup.proofs.Killing.{kill_marks}
 use Rattle.cleanup.proofs.Soundness.{value_of}
 use Rattle.cleanup.proofs.Marks.{SameMark, Agree, remarked, blind_parts}
 

@@ -1,8 +1,7 @@
 -- The run of a sound script keeps the laws of calls, under every schedule.
-use Rattle.std.proofs.Common.{◌≡◌, ◌<◌, Bool, true, false, List, [], ◌∷◌, ◌++◌, Option, None, Some, refl, subst, arith, append_assoc}
+use Rattle.std.proofs.Common.{◌≡◌, Bool, true, false, List, [], ◌∷◌, ◌++◌, Option, None, Some, refl, subst, append_assoc}
 use Rattle.std.specs.Prelude.{if◌then◌else◌, slice_get, ◌-◌}
 use Rattle.std.proofs.lemmas.List.{append-nil}
-use Rattle.std.specs.Ordering.{nat_cmp}
 use Rattle.ipc_ids.specs.declared.numbers.TaskNo.{TaskNo}
 use Rattle.ipc_ids.specs.declared.message.Request.{Request}
 use Rattle.ipc_ids.specs.declared.message.Request.TheVariants as ask
@@ -15,7 +14,7 @@ use Rattle.script_reader.specs.Plan.{Plan}
 use Rattle.script_reader.specs.Sound as script
 use Rattle.cleanup.specs.State.{KernelState, start, is_alive, with_task}
 use Rattle.kernel_core.specs.Kernel.{serve, kill_event}
-use Rattle.kernel_core.specs.History.{HistoryFits, served_entries, killed_entries, gone_entries}
+use Rattle.kernel_core.specs.History.{HistoryFits}
 use Rattle.kernel_core.proofs.ServedHistories.{serve_fits}
 use Rattle.kernel_core.proofs.KilledHistories.{kill_fits}
 use Rattle.kernel_core.proofs.WholeHistories.{start_fits, task_fits, wire_fits, gone_fits, laws_of_history}
