@@ -9,10 +9,7 @@ pub mod Silence
 pub mod Queues
 pub mod Killing
 pub mod KilledPhones
-pub mod KilledCalls
 pub mod Histories
-pub mod KillOrder
-pub mod KillLaws
 pub mod Limits
 pub mod KillExample
 pub mod Keeping

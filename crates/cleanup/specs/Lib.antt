@@ -4,7 +4,6 @@ pub mod Counts
 pub mod Serving
 pub mod Joins
 pub mod Kill
-pub mod KillLaws
 pub mod Limits
 pub mod Board
 pub mod Ending

@@ -1,4 +1,4 @@
-//! The laws of a kill, over sound states, and of the active calls of a phone.
+//! The law of the active calls of a phone.
 ghost use Rattle.std.specs.Prelude.{◌≡◌, ℕ, ◌≤◌, true, Some};
 ghost use Rattle.ipc_ids.specs.declared.numbers.TaskNo.{TaskNo};
 ghost use Rattle.cleanup.specs.State.{KernelState, is_alive};
@@ -9,22 +9,6 @@ ghost use Rattle.cleanup.specs.State.{label_of};
 ghost use Rattle.cleanup.specs.Counts.{label_at};
 ghost use Rattle.cleanup.specs.Limits.{IsWithinLimits, IsRowOf};
 ghost use Rattle.cleanup.specs.Kill.{kill};
-ghost use Rattle.cleanup.specs.KillLaws.{EndsTask, LeavesNothingOf, EndsWaitingFirst, ClosesPhones, ClosesCalls};
-
-/// A kill ends the task and no other, leaves nothing of it, ends what waited at it before what it
-/// held, and closes its phones and its calls, and no others.
-pub fn kills_leave_nothing()
-    ensures task { (k : KernelState) (t : TaskNo) → is_alive k t ≡ true
-        → EndsTask t k (kill k t).state }
-    ensures nothing { (k : KernelState) (t : TaskNo) → IsSound k → is_alive k t ≡ true
-        → LeavesNothingOf t (kill k t).state }
-    ensures order { (k : KernelState) (t : TaskNo) → IsSound k → is_alive k t ≡ true
-        → EndsWaitingFirst t k (kill k t).entries }
-    ensures phones { (k : KernelState) (t : TaskNo) → IsSound k → is_alive k t ≡ true
-        → ClosesPhones t k (kill k t).state }
-    ensures calls { (k : KernelState) (t : TaskNo) → IsSound k → is_alive k t ≡ true
-        → ClosesCalls t k (kill k t).state }
-{}
 
 /// Where each phone is within its limits, it has at most 65 active calls, and none where it is the
 /// one that is handed out; a kill keeps the limits.

@@ -19,4 +19,4 @@ mod tests;
 pub use board::Switchboard;
 pub use counts::label;
 pub use ending::end_task;
-pub use laws::{active_calls_are_few, kills_leave_nothing};
+pub use laws::active_calls_are_few;

@@ -14,9 +14,7 @@ ghost use Rattle.cleanup.specs.Limits.{IsWithinLimits};
 ghost use Rattle.cleanup.specs.Sound.{IsSound};
 ghost use Rattle.kernel_core.specs.History.{HistoryFits};
 ghost use Rattle.kernel_core.specs.Calling.{call};
-ghost use Rattle.kernel_core.specs.Receiving.{receive};
 ghost use Rattle.kernel_core.specs.Kernel.{serve};
-ghost use Rattle.kernel_core.specs.ReceiveLaws.{IsLawfulReceive};
 
 /// A history that fits a state of the kernel keeps the laws of calls: so the entries of any system
 /// calls and kills do, whoever asks for them.
@@ -24,13 +22,6 @@ pub fn fitting_histories_keep_the_laws()
     ensures life { (h : List Entry) (k : KernelState) → HistoryFits h k → LivesAreLawful h }
     ensures answers { (h : List Entry) (k : KernelState) → HistoryFits h k → AnsweredAtMostOnce h }
     ensures kills { (h : List Entry) (k : KernelState) → HistoryFits h k → KillEndsHeldCalls h }
-{}
-
-/// A receive drops the answers of hangups that came before all others, and no other call; then it
-/// tells the first answer that is left, or else the first call that waits.
-pub fn receives_are_lawful()
-    ensures { (k : KernelState) (t : TaskNo) → IsSound k
-        → IsLawfulReceive t k (receive k t) }
 {}
 
 /// A call is accepted only over a phone with fewer than 64 active ones, every request keeps the

@@ -23,7 +23,7 @@ use Rattle.cleanup.proofs.Lookups.{at_insert, at_remove, chosen, same_call, gone
 use Rattle.cleanup.proofs.Histories.{told_after, none_after, both_after, drain_tells}
 use Rattle.cleanup.proofs.Queues.{sound_drop}
 use Rattle.kernel_core.specs.Receiving.{unawaited, next_unawaited, drop_unawaited, receive}
-use Rattle.kernel_core.specs.ReceiveLaws.{IsAwaited, IsHangupAnswer, IsFirst, HasNone, TellsAnswer, TellsCall, DropsHangupsOnly, IsLawfulReceive}
+use Rattle.kernel_laws.specs.ReceiveLaws.{IsAwaited, IsHangupAnswer, IsFirst, HasNone, TellsAnswer, TellsCall, DropsHangupsOnly, IsLawfulReceive}
 
 -- the steps of a repetition come to an end: where each takes one call out of those that pass a test, and there are no
 -- more of them than steps, there is no next one

@@ -1,6 +1,6 @@
-use Rattle.cleanup.proofs.KillOrder.{kill_ends_waiting_first}
-use Rattle.cleanup.proofs.KillLaws.{kill_ends_task, kill_leaves_nothing_of, kill_closes_phones, kill_closes_calls}
-use Rattle.cleanup.proofs.laws.kills_leave_nothing.Goals as goal
+use Rattle.kernel_laws.proofs.KillOrder.{kill_ends_waiting_first}
+use Rattle.kernel_laws.proofs.KillLaws.{kill_ends_task, kill_leaves_nothing_of, kill_closes_phones, kill_closes_calls}
+use Rattle.kernel_laws.proofs.laws.kills_leave_nothing.Goals as goal
 
 pub returns-clause-task : goal.returns-clause-task
 returns-clause-task c = kill_ends_task

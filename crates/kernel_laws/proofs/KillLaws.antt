@@ -11,9 +11,9 @@ use Rattle.answerbox.specs.Calls.{same_place, is_caller, task_of}
 use Rattle.cleanup.specs.State.{KernelState, is_alive}
 use Rattle.cleanup.specs.Sound.{IsSound}
 use Rattle.cleanup.specs.Kill.{kill}
-use Rattle.cleanup.specs.KillLaws.{EndsTask, LeavesNothingOf, IsOpen, ClosesPhones, IsWith, ClosesCalls}
+use Rattle.kernel_laws.specs.KillLaws.{EndsTask, LeavesNothingOf, IsOpen, ClosesPhones, IsWith, ClosesCalls}
 use Rattle.cleanup.proofs.Killing.{kill_leaves_nothing, killed_task, other_task}
-use Rattle.cleanup.proofs.KilledCalls.{kill_answers, kill_ends, kill_orphans, kill_spares, IsWith as StandsWith}
+use Rattle.kernel_laws.proofs.KilledCalls.{kill_answers, kill_ends, kill_orphans, kill_spares, IsWith as StandsWith}
 use Rattle.cleanup.proofs.KilledPhones.{hung, slammed, kill_own_phone, kill_other_phone}
 
 -- the words of a place, and the tests of it

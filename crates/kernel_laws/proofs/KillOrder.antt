@@ -16,14 +16,14 @@ use Rattle.cleanup.specs.State.{KernelState, Transition, is_alive, phone_at}
 use Rattle.cleanup.specs.Sound.{IsSound}
 use Rattle.cleanup.specs.Joins.{bare_reply, settle_for, lives, hang_up}
 use Rattle.cleanup.specs.Kill.{task_no, width, mark_ended, hang_up_at, hang_up_own_phones, slam, slam_at, slam_phones_of, slam_other, slam_phones_to, first_at, settle_call, settle_incoming, settle_dispatched, drop_answers, forget_calls_elsewhere, kill}
-use Rattle.cleanup.specs.KillLaws.{Ends, HasEnd, EndsBefore, EndsWaitingFirst}
+use Rattle.kernel_laws.specs.KillLaws.{Ends, HasEnd, EndsBefore, EndsWaitingFirst}
 use Rattle.cleanup.proofs.Lookups.{same_call, put_other, gone_other}
 use Rattle.cleanup.proofs.Repeats.{by_test}
 use Rattle.cleanup.proofs.Histories.{told_after, none_after, both_after, each_tells, drain_tells}
 use Rattle.cleanup.proofs.Silence.{IsEnding, IsAlone, own_phones_hung_up, phones_slammed}
 use Rattle.cleanup.proofs.Queues.{IsLive, stands_at, front_at, incoming_alone, incoming_settled}
 use Rattle.cleanup.proofs.Killing.{after_hangups, after_slams, after_incoming, after_dispatched, after_answers}
-use Rattle.cleanup.proofs.KilledCalls.{after_phones}
+use Rattle.kernel_laws.proofs.KilledCalls.{after_phones}
 
 -- ends in a list that goes on
 

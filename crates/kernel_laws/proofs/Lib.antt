@@ -1,0 +1,4 @@
+mod KilledCalls
+mod KillOrder
+mod KillLaws
+mod ReceiveLaws
