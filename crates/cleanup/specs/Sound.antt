@@ -4,6 +4,7 @@ use Rattle.ipc_ids.specs.declared.numbers.TaskNo.{TaskNo}
 use Rattle.ipc_ids.specs.declared.numbers.Label.{Label}
 use Rattle.ipc_ids.specs.declared.message.PhoneState.{PhoneState}
 use Rattle.ipc_ids.specs.declared.message.PhoneState.TheVariants.{Free, Connecting, Connected, HungUp, Slammed}
+use Rattle.ipc_ids.specs.Methods.{phone_hungup}
 use Rattle.call_slab.specs.declared.call.Call.{Call}
 use Rattle.call_slab.specs.declared.call.Place.{Place}
 use Rattle.call_slab.specs.declared.call.Place.TheVariants.{Incoming, Dispatched, Answers}
@@ -31,7 +32,7 @@ pub record IsSoundCall (tasks : Tasks) (next_number next_stamp n : ℕ) (c : Cal
   pub caller : IsCaller tasks c.from c.caller
   pub phone : IsSome (state_at tasks.phones c.from.task.0 c.from.phone.0)
   -- nobody waits for the answer of a hangup, and of nothing else
-  pub discard : c.discard ≡ (c.request.method == 0)
+  pub discard : c.discard ≡ (c.request.method == phone_hungup)
 
 pub record AreSoundCalls (tasks : Tasks) (calls : CallTable) : Type 0 where
   pub each : (n : ℕ) (c : Call) → call_at calls n ≡ Some c → IsSoundCall tasks calls.next_number calls.next_stamp n c
