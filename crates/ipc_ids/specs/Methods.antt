@@ -1,5 +1,7 @@
 -- The methods of calls by their names: the kernel's own, and where users' methods begin.
-use Rattle.std.specs.Prelude.{ℕ}
+use Rattle.std.specs.Prelude.{ℕ, ◌==◌, if◌then◌else◌, nat_lt}
+use Rattle.ipc_ids.specs.declared.methods.MethodKind.{MethodKind}
+use Rattle.ipc_ids.specs.declared.methods.MethodKind.TheVariants.{PhoneHungUp, ConnectToMe, ConnectMeTo, NotBuilt, User}
 
 -- a phone that led to the receiver was hung up
 abbrev pub phone_hungup : ℕ
@@ -32,3 +34,12 @@ share_in = 6
 -- methods below this one are the system's
 abbrev pub first_user_method : ℕ
 first_user_method = 512
+
+-- the kind of the method with this number
+abbrev pub kind_of : ℕ → MethodKind
+kind_of method =
+    if method == phone_hungup then PhoneHungUp
+    else if method == connect_to_me then ConnectToMe
+    else if method == connect_me_to then ConnectMeTo
+    else if nat_lt method first_user_method then NotBuilt
+    else User

@@ -21,6 +21,7 @@ pub use buffer::Buffer;
 pub use entry::Entry;
 pub use laws::lawful_lists_keep_the_laws;
 pub use message::{Event, Mode, Msg, Outcome, PhoneState, Reply, Request};
+pub use methods::MethodKind;
 pub use numbers::{CallNo, Code, Label, PhoneNo, TaskNo};
 pub use op::{Bodies, Body, Op, Ops, Value};
 pub use trace::{NoMemory, Trace};

@@ -1,4 +1,6 @@
 //! The methods of calls by their names: the kernel's own, and where users' methods begin.
+ghost use Rattle.std.specs.Prelude.{◌≡◌};
+ghost use Rattle.ipc_ids.specs.Methods.{kind_of};
 
 /// A phone that led to the receiver was hung up. The kernel alone makes such a call.
 pub const PHONE_HUNGUP: u64 = 0;
@@ -24,3 +26,33 @@ pub const SHARE_IN: u64 = 6;
 /// The least method that means what the two tasks make of it. Those below are the system's, and
 /// those from 7 on among them have no meaning.
 pub const FIRST_USER_METHOD: u64 = 512;
+
+/// The kinds of methods, as far as the kernel tells them apart.
+#[derive(Clone, Copy, Debug, PartialEq, Eq)]
+pub enum MethodKind {
+    /// Tells that a phone was hung up.
+    PhoneHungUp,
+    /// Asks the receiver to keep a phone that leads to the caller.
+    ConnectToMe,
+    /// Asks for a phone that leads to the task that answers.
+    ConnectMeTo,
+    /// A method of the system that no call is accepted with.
+    NotBuilt,
+    /// Means what the two tasks make of it.
+    User,
+}
+
+impl MethodKind {
+    /// The kind of the method with this number.
+    pub fn of(method: u64) -> MethodKind
+        ensures { result ≡ kind_of method }
+    {
+        match method {
+            PHONE_HUNGUP => MethodKind::PhoneHungUp,
+            CONNECT_TO_ME => MethodKind::ConnectToMe,
+            CONNECT_ME_TO => MethodKind::ConnectMeTo,
+            0..FIRST_USER_METHOD => MethodKind::NotBuilt,
+            FIRST_USER_METHOD.. => MethodKind::User,
+        }
+    }
+}
