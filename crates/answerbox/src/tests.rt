@@ -61,7 +61,7 @@ fn calls_go_from_place_to_place(rt: HostRuntime) -> Result<(), Fail> {
     assert_eq!(rt; boxes.front(incoming), Some(two));
     assert_eq!(rt; boxes.front(dispatched), Some(one));
     if let Some(first) = boxes.front(dispatched) {
-        boxes.answer(first, Reply::bare(Code::ENOENT), answers);
+        boxes.answer(first, Reply::bare(Code::ENOENT), None, answers);
     }
     assert_eq!(rt; boxes.front(dispatched), None);
     if let Some(first) = boxes.front(answers) {
@@ -126,7 +126,7 @@ fn a_readdressed_call_comes_last_to_its_next_place(rt: HostRuntime) -> Result<()
         phone: PhoneNo(4),
     };
     if let Some(first) = boxes.front(Place::Incoming(receiver)) {
-        boxes.readdress(first, Msg::bare(700), label, Place::Incoming(third));
+        boxes.readdress(first, Msg::bare(700), label, None, Place::Incoming(third));
     }
     assert_eq!(rt; boxes.front(Place::Incoming(receiver)), None);
     assert_eq!(rt; boxes.front(Place::Incoming(third)), Some(two));
