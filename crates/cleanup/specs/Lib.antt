@@ -2,6 +2,7 @@ pub mod State
 pub mod Sound
 pub mod Counts
 pub mod Serving
+pub mod Kept
 pub mod Joins
 pub mod Kill
 pub mod Limits

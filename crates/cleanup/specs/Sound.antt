@@ -1,16 +1,21 @@
 -- What every state of the kernel keeps between two events.
-use Rattle.std.specs.Prelude.{◌≡◌, ℕ, ◌<◌, ◌==◌, ⊤, true, false, Option, None, Some, IsSome, length}
+use Rattle.std.specs.Prelude.{◌≡◌, ℕ, ◌<◌, ◌==◌, ⊤, true, false, List, Option, None, Some, IsSome, length}
 use Rattle.ipc_ids.specs.declared.numbers.TaskNo.{TaskNo}
 use Rattle.ipc_ids.specs.declared.numbers.Label.{Label}
+use Rattle.ipc_ids.specs.declared.numbers.Code.{Code}
 use Rattle.ipc_ids.specs.declared.message.PhoneState.{PhoneState}
 use Rattle.ipc_ids.specs.declared.message.PhoneState.TheVariants.{Free, Connecting, Connected, HungUp, Slammed}
-use Rattle.ipc_ids.specs.Methods.{phone_hungup}
+use Rattle.ipc_ids.specs.declared.methods.MethodKind.{MethodKind}
+use Rattle.ipc_ids.specs.declared.methods.MethodKind.TheVariants.{PhoneHungUp, ConnectToMe, ConnectMeTo, NotBuilt, User}
+use Rattle.ipc_ids.specs.Methods.{phone_hungup, kind_of}
 use Rattle.call_slab.specs.declared.call.Call.{Call}
 use Rattle.call_slab.specs.declared.call.Place.{Place}
 use Rattle.call_slab.specs.declared.call.Place.TheVariants.{Incoming, Dispatched, Answers}
 use Rattle.answerbox.specs.Calls.{CallTable, call_at}
 use Rattle.phone_table.specs.Phones.{state_at}
 use Rattle.cleanup.specs.State.{Tasks, KernelState, alive_in}
+use Rattle.cleanup.specs.Counts.{label_at}
+use Rattle.cleanup.specs.Kept.{AreKept, accepts, kept_by}
 
 -- a call waits at a task that is alive, and an answer at its caller
 abbrev pub IsPlaced : Tasks → Option TaskNo → Place → Type 0
@@ -23,6 +28,38 @@ abbrev pub IsCaller : Tasks → Label → Option TaskNo → Type 0
 IsCaller tasks from None = ⊤
 IsCaller tasks from (Some u) = (u ≡ from.task) × (alive_in tasks.alive u.0 ≡ true)
 
+-- a call of this kind, from this task and at this place, may have this phone reserved
+abbrev pub IsLentAt : Place → Label → Type 0
+IsLentAt (Incoming t) l = ⊥
+IsLentAt (Dispatched t) l = l.task ≡ t
+IsLentAt (Answers t) l = ⊤
+
+abbrev pub IsReservedAt : MethodKind → TaskNo → Place → Label → Type 0
+IsReservedAt PhoneHungUp from place l = ⊥
+IsReservedAt ConnectToMe from place l = IsLentAt place l
+IsReservedAt ConnectMeTo from place l = l.task ≡ from
+IsReservedAt NotBuilt from place l = ⊥
+IsReservedAt User from place l = ⊥
+
+-- a call of this kind, at this place and with this code of its reply, has a phone reserved
+abbrev pub IsOpenAt : Place → Code → Type 0
+IsOpenAt (Incoming t) code = ⊤
+IsOpenAt (Dispatched t) code = ⊤
+IsOpenAt (Answers t) code = accepts code ≡ true
+
+abbrev pub NeedsPhone : MethodKind → Place → Code → Type 0
+NeedsPhone PhoneHungUp place code = ⊥
+NeedsPhone ConnectToMe place code = ⊥
+NeedsPhone ConnectMeTo place code = IsOpenAt place code
+NeedsPhone NotBuilt place code = ⊥
+NeedsPhone User place code = ⊥
+
+-- the phone that is reserved for the call
+pub record HasSoundPhone (phones : List (List PhoneState)) (c : Call) : Type 0 where
+  pub there : (l : Label) → c.reserved ≡ Some l → IsSome (state_at phones l.task.0 l.phone.0)
+  pub owner : (l : Label) → c.reserved ≡ Some l → IsReservedAt (kind_of c.request.method) c.from.task c.place l
+  pub needed : NeedsPhone (kind_of c.request.method) c.place c.reply.code → IsSome c.reserved
+
 -- the record of the live call with number n
 pub record IsSoundCall (tasks : Tasks) (next_number next_stamp n : ℕ) (c : Call) : Type 0 where
   pub number : c.number.0 ≡ n
@@ -33,6 +70,7 @@ pub record IsSoundCall (tasks : Tasks) (next_number next_stamp n : ℕ) (c : Cal
   pub phone : IsSome (state_at tasks.phones c.from.task.0 c.from.phone.0)
   -- nobody waits for the answer of a hangup, and of nothing else
   pub discard : c.discard ≡ (c.request.method == phone_hungup)
+  pub reserved : HasSoundPhone tasks.phones c
 
 pub record AreSoundCalls (tasks : Tasks) (calls : CallTable) : Type 0 where
   pub each : (n : ℕ) (c : Call) → call_at calls n ≡ Some c → IsSoundCall tasks calls.next_number calls.next_stamp n c
@@ -53,6 +91,12 @@ pub record AreSoundTasks (tasks : Tasks) : Type 0 where
   -- the phones of a task that has ended are quiet
   pub quiet : (t p : ℕ) (state : PhoneState) → state_at tasks.phones t p ≡ Some state → alive_in tasks.alive t ≡ false → IsQuiet state
 
+-- each phone that waits for a connection is kept by a call
+pub record HaveKeepers (phones : List (List PhoneState)) (calls : CallTable) : Type 0 where
+  pub each : (t p : ℕ) → state_at phones t p ≡ Some Connecting → (n : ℕ) × (kept_by calls n ≡ Some (label_at t p))
+
 pub record IsSound (k : KernelState) : Type 0 where
   pub calls : AreSoundCalls k.tasks k.calls
   pub tasks : AreSoundTasks k.tasks
+  pub kept : AreKept k.tasks.phones k.calls
+  pub keepers : HaveKeepers k.tasks.phones k.calls

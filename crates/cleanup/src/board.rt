@@ -1,22 +1,30 @@
 //! The tasks, their phones and their calls, with room for more calls.
 ghost use Rattle.std.specs.Prelude.{◌≡◌, ℕ, ◌+◌, ◌-◌, ◌^◌, ◌<◌, ◌≤◌, true, Some, None, IsSome, IfSome, IfNone, IfOk, OnOk, OnErr, length};
 ghost use Rattle.std.specs.Option.{option_copied};
-ghost use Rattle.answerbox.specs.Calls.{call_at, task_of, enqueue, without_call, with_place, answered, readdressed, without_caller, active_calls, front, calls_of};
+ghost use Rattle.answerbox.specs.Calls.{call_at, task_of, enqueue, without_call, received, without_caller, active_calls, front, calls_of};
 ghost use Rattle.phone_table.specs.Phones.{hangup_answer};
 ghost use Rattle.cleanup.specs.State.{state_from, start, is_alive, phone_at, live_calls, with_calls, with_phone, with_task, with_event};
-ghost use Rattle.call_slab.specs.declared.call.Place.TheVariants.{Incoming, Dispatched, Answers};
-ghost use Rattle.cleanup.specs.Joins.{new_call};
+ghost use Rattle.call_slab.specs.declared.call.Place.TheVariants.{Dispatched};
+ghost use Rattle.ipc_ids.specs.Methods.{kind_of};
+ghost use Rattle.cleanup.specs.Joins.{new_call, code_of};
+ghost use Rattle.cleanup.specs.Kept.{IsLoose, MayReserve, accepts, kept_phone, lent_phone, with_kept, first_usable_of, or_refused};
 ghost use Rattle.cleanup.specs.Counts.{HasCounts};
-ghost use Rattle.cleanup.specs.Board.{IsCallOf, IsLimit, IsSwitched, IsAdded, IsNewCall, HasPlaces, LeadsToAdded, TellsAdded, with_hung};
+ghost use Rattle.cleanup.specs.Board.{IsCallOf, IsLimit, IsSwitched, IsAdded, IsHeldBy, IsNewCall, HasPlaces, LeadsToAdded, TellsAdded, with_hung, with_declined, with_passed, with_reply};
 ghost use Rattle.phone_table.specs.Usable.{IsConnected};
 ghost use Rattle.cleanup.specs.Kill.{width, mark_ended};
 ghost use Rattle.cleanup.specs.Rooms.{KeepsRoom};
 
 use crate::counts::{count_out, count_up};
-use crate::phones::{hang_phone, slam_phone, width};
+use crate::kept::{kept_phone, lent_phone, unless_freed};
+use crate::phones::{
+    connect_to_answerer, connect_to_caller, hang_phone, keep_to_receive, keep_to_send,
+    release_kept, slam_phone, width,
+};
 use answerbox::Boxes;
 use call_slab::{Call, Place};
-use ipc_ids::{Buffer, CallNo, Code, Label, Msg, NoMemory, PhoneNo, PhoneState, Reply, TaskNo};
+use ipc_ids::{
+    Buffer, CallNo, Code, Label, MethodKind, Msg, NoMemory, PhoneNo, PhoneState, Reply, TaskNo,
+};
 use phone_table::{Hung, PhoneRows, Phones};
 use std::alloc::Global;
 use std::marker::Model;
@@ -260,6 +268,7 @@ impl Switchboard {
         requires live { IsSome (call_at self.old.state.calls call.0) }
         ensures call { call_at self.old.state.calls call.0 ≡ Some result }
         ensures number { result.number ≡ call }
+        ensures loose { IsLoose self.new.state (kept_phone result) }
         ensures state { self.new.state
             ≡ with_calls self.old.state (without_call self.old.state.calls call.0) }
         ensures room { KeepsRoom self.old self.new 0 }
@@ -283,29 +292,42 @@ impl Switchboard {
         count_out(&mut self.phones, caller, from);
     }
 
-    /// The call is received by that task.
-    pub(crate) fn dispatch(&mut self, call: CallNo, by: TaskNo)
+    /// The call is received by that task as this message, with this phone reserved.
+    pub(crate) fn dispatch(
+        &mut self,
+        call: CallNo,
+        msg: Msg,
+        reserved: Option<Label>,
+        by: TaskNo,
+    )
         requires live { IsSome (call_at self.old.state.calls call.0) }
         requires added { IsAdded self.old.state by }
+        requires reserved { IfSome (call_at self.old.state.calls call.0)
+            (λ c. MayReserve self.old.state (kind_of c.request.method) c.reserved reserved) }
         requires few_stamps { self.old.state.calls.next_stamp < 2 ^ 63 }
-        ensures state { self.new.state
-            ≡ with_calls self.old.state (with_place self.old.state.calls call.0 (Dispatched by)) }
+        ensures state { self.new.state ≡ with_calls self.old.state
+            (received self.old.state.calls call.0 msg reserved (Dispatched by)) }
         ensures room { KeepsRoom self.old self.new 0 }
     {
-        self.boxes.move_to(call, Place::Dispatched(by));
+        self.boxes.receive(call, msg, reserved, Place::Dispatched(by));
     }
 
-    /// The call takes the reply to the answers of its caller.
-    pub(crate) fn answer_to(&mut self, call: CallNo, reply: Reply, caller: TaskNo)
+    /// The call takes a reply that does not accept to the answers of its caller. Returns the phone
+    /// that its holder kept for it, which no call keeps any more.
+    pub(crate) fn decline(&mut self, call: CallNo, reply: Reply, caller: TaskNo) -> Option<Label>
         requires called { IsCallOf (call_at self.old.state.calls call.0) caller }
         requires alive { is_alive self.old.state caller ≡ true }
         requires few_stamps { self.old.state.calls.next_stamp < 2 ^ 63 }
+        ensures lent { IfSome (call_at self.old.state.calls call.0) (λ c. lent_phone c ≡ result) }
+        ensures loose { IsLoose self.new.state result }
         ensures state { self.new.state
-            ≡ with_calls self.old.state
-            (answered self.old.state.calls call.0 reply (Answers caller)) }
+            ≡ with_calls self.old.state (with_declined self.old.state.calls call.0 reply caller) }
         ensures room { KeepsRoom self.old self.new 0 }
     {
-        self.boxes.answer(call, reply, Place::Answers(caller));
+        let record = self.boxes.get(call).unwrap();
+        let (lent, reserved) = (lent_phone(record), record.reserved);
+        self.boxes.answer(call, reply, unless_freed(lent, reserved), Place::Answers(caller));
+        lent
     }
 
     /// How many phones the task has.
@@ -336,26 +358,28 @@ impl Switchboard {
     }
 
     /// Hangs the phone up, where it leads or led to a task, and says whom to tell.
-    pub(crate) fn hang_phone(&mut self, t: TaskNo, phone: u64) -> Result<Hung, Code>
-        requires added { IsAdded self.old.state t }
-        ensures answer { result ≡ hangup_answer (phone_at self.old.state t phone) }
-        ensures state { self.new.state ≡ with_hung self.old.state t phone result }
+    pub(crate) fn hang_phone(&mut self, from: Label) -> Result<Hung, Code>
+        requires added { IsAdded self.old.state from.task }
+        ensures answer { result
+            ≡ hangup_answer (phone_at self.old.state from.task from.phone.0) }
+        ensures state { self.new.state
+            ≡ with_hung self.old.state from.task from.phone.0 result }
         ensures tells { TellsAdded self.new.state result }
-        ensures there { OnOk result (IsSome (phone_at self.new.state t phone)) }
-        ensures few { OnOk result (phone < 64) }
+        ensures there { OnOk result (IsSome (phone_at self.new.state from.task from.phone.0)) }
         ensures room { KeepsRoom self.old self.new 0 }
     {
-        hang_phone(t, phone, &mut self.phones)
+        hang_phone(from, &mut self.phones)
     }
 
     /// The phone, which leads to a task, is slammed.
-    pub(crate) fn slam_phone(&mut self, t: TaskNo, phone: PhoneNo)
-        requires added { IsAdded self.old.state t }
-        requires leads { IsConnected (phone_at self.old.state t phone.0) }
-        ensures state { self.new.state ≡ with_phone self.old.state t phone.0 PhoneState.Slammed }
+    pub(crate) fn slam_phone(&mut self, phone: Label)
+        requires added { IsAdded self.old.state phone.task }
+        requires leads { IsConnected (phone_at self.old.state phone.task phone.phone.0) }
+        ensures state { self.new.state
+            ≡ with_phone self.old.state phone.task phone.phone.0 PhoneState.Slammed }
         ensures room { KeepsRoom self.old self.new 0 }
     {
-        slam_phone(t, phone, &mut self.phones);
+        slam_phone(phone.task, phone.phone, &mut self.phones);
     }
 
     /// The task is marked as ended.
@@ -367,17 +391,141 @@ impl Switchboard {
         self.alive[who.0 as usize - 1] = false;
     }
 
-    /// The call goes on to that task as this message, seen from that phone.
-    pub(crate) fn readdress(&mut self, call: CallNo, msg: Msg, label: Label, to: TaskNo)
+    /// The call goes on to that task as this message, seen from that phone. Returns the phone that
+    /// its holder kept for it, which no call keeps any more.
+    pub(crate) fn readdress(
+        &mut self,
+        call: CallNo,
+        msg: Msg,
+        label: Label,
+        to: TaskNo,
+    ) -> Option<Label>
         requires live { IsSome (call_at self.old.state.calls call.0) }
         requires added { to.0 ≤ length self.old.state.tasks.alive }
         requires few_stamps { self.old.state.calls.next_stamp < 2 ^ 63 }
+        ensures lent { IfSome (call_at self.old.state.calls call.0) (λ c. lent_phone c ≡ result) }
+        ensures loose { IsLoose self.new.state result }
         ensures state { self.new.state
-            ≡ with_calls self.old.state
-            (readdressed self.old.state.calls call.0 msg label (Incoming to)) }
+            ≡ with_calls self.old.state (with_passed self.old.state.calls call.0 msg label to) }
         ensures room { KeepsRoom self.old self.new 0 }
     {
-        self.boxes.readdress(call, msg, label, Place::Incoming(to));
+        let record = self.boxes.get(call).unwrap();
+        let (lent, reserved) = (lent_phone(record), record.reserved);
+        let left = unless_freed(lent, reserved);
+        self.boxes.readdress(call, msg, label, left, Place::Incoming(to));
+        lent
+    }
+
+    /// Keeps the caller's first usable phone, before a CONNECT_ME_TO is sent.
+    ///
+    /// # Errors
+    ///
+    /// `ELIMIT` where no phone is usable; then nothing has changed.
+    pub fn keep_to_send(&mut self, t: TaskNo) -> Result<Label, Code>
+        requires added { IsAdded self.old.state t }
+        ensures answer { result ≡ or_refused (first_usable_of self.old.state t) }
+        ensures loose { IsLoose self.new.state (first_usable_of self.old.state t) }
+        ensures state { self.new.state ≡ with_kept self.old.state
+            (first_usable_of self.old.state t) PhoneState.Connecting }
+        ensures room { KeepsRoom self.old self.new 0 }
+    {
+        keep_to_send(t, &mut self.phones)
+    }
+
+    /// Keeps the receiver's first usable phone, as a CONNECT_TO_ME is received; `None` where no
+    /// phone is usable.
+    pub fn keep_to_receive(&mut self, t: TaskNo) -> Option<Label>
+        requires added { IsAdded self.old.state t }
+        ensures answer { result ≡ first_usable_of self.old.state t }
+        ensures loose { IsLoose self.new.state (first_usable_of self.old.state t) }
+        ensures state { self.new.state ≡ with_kept self.old.state
+            (first_usable_of self.old.state t) PhoneState.Connecting }
+        ensures room { KeepsRoom self.old self.new 0 }
+    {
+        keep_to_receive(t, &mut self.phones)
+    }
+
+    /// The CONNECT_TO_ME that task `t` holds takes an accepting reply to the answers of its caller,
+    /// and the phone that it keeps leads there. Returns that phone and the code of the answer.
+    pub(crate) fn connect_to_caller(
+        &mut self,
+        call: CallNo,
+        reply: &Reply,
+        t: TaskNo,
+        caller: TaskNo,
+    ) -> (Option<Label>, Code)
+        requires held { IsHeldBy (call_at self.old.state.calls call.0)
+            MethodKind.ConnectToMe t caller }
+        requires added { IsAdded self.old.state t }
+        requires alive { is_alive self.old.state caller ≡ true }
+        requires few_stamps { self.old.state.calls.next_stamp < 2 ^ 63 }
+        ensures kept { IfSome (call_at self.old.state.calls call.0)
+            (λ c. kept_phone c ≡ result.0) }
+        ensures code { result.1 ≡ code_of result.0 }
+        ensures state { self.new.state ≡ with_calls
+            (with_kept self.old.state result.0 (PhoneState.Connected caller))
+            (with_reply self.old.state.calls call.0
+            (record { code = result.1; args = reply.now.args }) caller) }
+        ensures room { KeepsRoom self.old self.new 0 }
+    {
+        let record = self.boxes.get(call).unwrap();
+        let (kept, reserved) = (kept_phone(record), record.reserved);
+        let code = connect_to_caller(t, kept, caller, &mut self.phones);
+        let args = reply.args;
+        self.boxes.answer(call, Reply { code, args }, reserved, Place::Answers(caller));
+        (kept, code)
+    }
+
+    /// The CONNECT_ME_TO that task `t` holds takes an accepting reply to the answers of its caller,
+    /// and the phone that it keeps leads to `t`. Returns that phone.
+    pub(crate) fn connect_to_answerer(
+        &mut self,
+        call: CallNo,
+        reply: &Reply,
+        t: TaskNo,
+        caller: TaskNo,
+    ) -> Option<Label>
+        requires held { IsHeldBy (call_at self.old.state.calls call.0)
+            MethodKind.ConnectMeTo t caller }
+        requires added { IsAdded self.old.state t }
+        requires accepts { accepts reply.now.code ≡ true }
+        requires alive { is_alive self.old.state caller ≡ true }
+        requires few_stamps { self.old.state.calls.next_stamp < 2 ^ 63 }
+        ensures kept { IfSome (call_at self.old.state.calls call.0) (λ c. kept_phone c ≡ result) }
+        ensures state { self.new.state ≡ with_calls
+            (with_kept self.old.state result (PhoneState.Connected t))
+            (with_reply self.old.state.calls call.0 reply.now caller) }
+        ensures room { KeepsRoom self.old self.new 0 }
+    {
+        let record = self.boxes.get(call).unwrap();
+        let (kept, reserved) = (kept_phone(record), record.reserved);
+        connect_to_answerer(kept, t, &mut self.phones);
+        self.boxes.answer(call, *reply, reserved, Place::Answers(caller));
+        kept
+    }
+
+    /// The call takes the reply to the answers of its caller, and what it reserves stays.
+    pub(crate) fn answer(&mut self, call: CallNo, reply: &Reply, caller: TaskNo)
+        requires called { IsCallOf (call_at self.old.state.calls call.0) caller }
+        requires unkept { IfSome (call_at self.old.state.calls call.0)
+            (λ c. kept_phone c ≡ None) }
+        requires alive { is_alive self.old.state caller ≡ true }
+        requires few_stamps { self.old.state.calls.next_stamp < 2 ^ 63 }
+        ensures state { self.new.state
+            ≡ with_calls self.old.state (with_reply self.old.state.calls call.0 reply.now caller) }
+        ensures room { KeepsRoom self.old self.new 0 }
+    {
+        let reserved = self.boxes.get(call).unwrap().reserved;
+        self.boxes.answer(call, *reply, reserved, Place::Answers(caller));
+    }
+
+    /// The phone, where there is one, is free. No call keeps it.
+    pub(crate) fn release(&mut self, kept: Option<Label>)
+        requires loose { IsLoose self.old.state kept }
+        ensures state { self.new.state ≡ with_kept self.old.state kept PhoneState.Free }
+        ensures room { KeepsRoom self.old self.new 0 }
+    {
+        release_kept(kept, &mut self.phones);
     }
 }
 

@@ -1,29 +1,49 @@
 //! The joins: one change of a call or a phone each, with the entries that tell of it.
 ghost use Rattle.std.specs.Prelude.{◌≡◌, ◌+◌, ◌<◌, ◌≤◌, ◌++◌, ◌∷◌, [], ◌^◌, true, None, IsSome, IfSome, length};
 ghost use Rattle.answerbox.specs.Calls.{call_at, active_calls};
-ghost use Rattle.cleanup.specs.State.{is_alive, phone_at, label_of};
-ghost use Rattle.cleanup.specs.Joins.{on_call, acceptance, answer_at_once, passage, receive_first, drop_answer, vanishing, forget_call, answer_to, settle_live, hang_up, hangup_refusal};
+ghost use Rattle.cleanup.specs.State.{is_alive, phone_at};
+ghost use Rattle.std.specs.Option.{option_to_list};
+ghost use Rattle.ipc_ids.specs.Methods.{kind_of};
+ghost use Rattle.cleanup.specs.Kept.{IsLoose, MayReserve, accepts, kept_phone};
+ghost use Rattle.cleanup.specs.Joins.{on_call, acceptance, answer_at_once, passage, reception_live, delivery_live, releasing, drop_answer, vanishing, forget_call, answer_to, declined, accepted_to_me, accepted_me_to, settle_live, hang_up, hangup_refusal};
 ghost use Rattle.cleanup.specs.Kill.{slam_at};
-ghost use Rattle.cleanup.specs.Board.{IsAdded, IsCallOf, IsNewCall};
+ghost use Rattle.cleanup.specs.Board.{IsAdded, IsCallOf, IsHeldBy, IsNewCall};
 ghost use Rattle.cleanup.specs.Rooms.{HasRoom, UsesRoom};
-ghost use Rattle.cleanup.specs.Serving.{Does, Serves};
+ghost use Rattle.cleanup.specs.Serving.{Does, Serves, as_it_is};
 
 use crate::board::Switchboard;
-use crate::counts::label;
+use crate::kept::{kept_note, kept_phone};
 use call_slab::{Call, Place};
 use ipc_ids::methods::PHONE_HUNGUP;
 use ipc_ids::{
-    CallNo, Code, Entry, Label, Msg, Outcome, PhoneNo, PhoneState, Reply, TaskNo, Trace,
+    CallNo, Code, Entry, Label, MethodKind, Msg, Outcome, PhoneState, Reply, TaskNo, Trace,
 };
 use phone_table::Hung;
 
+/// What a call takes with it as a task receives it.
+#[derive(Clone, Copy)]
+pub struct Arrival {
+    /// The message that the task sees.
+    pub msg: Msg,
+    /// The phone that is kept for a connection.
+    pub reserved: Option<Label>,
+    /// What is told beside the receipt.
+    pub note: Option<Entry>,
+}
+
 impl Switchboard {
     /// Accepts the new call into its place, and tells its number.
-    pub fn accept(&mut self, call: Call, to: Option<TaskNo>, out: &mut Trace) -> Outcome
+    pub fn accept(
+        &mut self,
+        call: Call,
+        note: Option<Entry>,
+        to: Option<TaskNo>,
+        out: &mut Trace,
+    ) -> Outcome
         requires new_call { IsNewCall self.old.state call }
         requires room { HasRoom self.old out.old 1 1 2 }
         ensures served { Serves self.new result out.old out.new
-            (acceptance self.old.state call to) }
+            (acceptance (record { state = self.old.state; call = call; note = note }) to) }
         ensures room { UsesRoom self.old self.new out.old out.new 1 1 2 }
     {
         let number = call.number;
@@ -33,6 +53,7 @@ impl Switchboard {
             method: call.request.method,
             to,
         });
+        tell(note, out);
         self.enqueue(call);
         Outcome::Accepted(number)
     }
@@ -63,7 +84,8 @@ impl Switchboard {
         Outcome::Accepted(number)
     }
 
-    /// Passes the call on to a task, which sees this message from this phone.
+    /// Passes the call on to a task, which sees this message from this phone. A phone that its
+    /// holder kept for it is free.
     pub fn pass_on(
         &mut self,
         number: CallNo,
@@ -81,31 +103,48 @@ impl Switchboard {
             (on_call (passage msg label by to) self.old.state number.0) }
         ensures room { UsesRoom self.old self.new out.old out.new 0 1 2 }
     {
-        self.readdress(number, msg, label, to);
+        let lent = self.readdress(number, msg, label, to);
         out.push(Entry::Forwarded {
             call: number,
             by,
             to,
             label,
         });
+        self.free(lent, out);
     }
 
     /// Hands the call over to the task, which holds it from then on.
-    pub fn hand_over(&mut self, number: CallNo, who: TaskNo, out: &mut Trace) -> Outcome
+    pub fn hand_over(
+        &mut self,
+        number: CallNo,
+        arrival: Arrival,
+        who: TaskNo,
+        out: &mut Trace,
+    ) -> Outcome
         requires live { IsSome (call_at self.old.state.calls number.0) }
         requires added { IsAdded self.old.state who }
+        requires reserved { IfSome (call_at self.old.state.calls number.0)
+            (λ c. MayReserve self.old.state (kind_of c.request.method) c.reserved
+            arrival.reserved) }
         requires room { HasRoom self.old out.old 0 1 2 }
         ensures served { Serves self.new result out.old out.new
-            (receive_first self.old.state who None (call_at self.old.state.calls number.0)) }
+            (reception_live who arrival self.old.state
+            (call_at self.old.state.calls number.0)) }
         ensures room { UsesRoom self.old self.new out.old out.new 0 1 2 }
     {
+        let Arrival {
+            msg,
+            reserved,
+            note,
+        } = arrival;
         let call = self.get(number).unwrap();
-        let (number, msg, label) = (call.number, call.msg, call.label);
-        self.dispatch(number, who);
+        let (number, label) = (call.number, call.label);
+        self.dispatch(number, msg, reserved, who);
         out.push(Entry::Received {
             call: number,
             by: who,
         });
+        tell(note, out);
         Outcome::Received {
             call: number,
             msg,
@@ -113,12 +152,18 @@ impl Switchboard {
         }
     }
 
-    /// Delivers the answer to the task, and ends the call.
-    pub fn deliver(&mut self, number: CallNo, who: TaskNo, out: &mut Trace) -> Outcome
+    /// Delivers this reply to the task, and ends the call. A phone that it kept is free.
+    pub fn deliver(
+        &mut self,
+        number: CallNo,
+        reply: Reply,
+        who: TaskNo,
+        out: &mut Trace,
+    ) -> Outcome
         requires live { IsSome (call_at self.old.state.calls number.0) }
         requires room { HasRoom self.old out.old 0 0 2 }
         ensures served { Serves self.new result out.old out.new
-            (receive_first self.old.state who (call_at self.old.state.calls number.0) None) }
+            (delivery_live who reply self.old.state (call_at self.old.state.calls number.0)) }
         ensures room { UsesRoom self.old self.new out.old out.new 0 0 2 }
     {
         let call = self.leave(number);
@@ -126,13 +171,14 @@ impl Switchboard {
             call: call.number,
             to: who,
         });
+        self.free(kept_phone(&call), out);
         Outcome::Answered {
             call: call.number,
-            reply: call.reply,
+            reply,
         }
     }
 
-    /// Drops the answer at the task, and ends the call.
+    /// Drops the answer at the task, and ends the call. A phone that it kept is free.
     pub fn drop_answer(&mut self, number: CallNo, at: TaskNo, out: &mut Trace)
         requires live { IsSome (call_at self.old.state.calls number.0) }
         requires room { HasRoom self.old out.old 0 0 2 }
@@ -145,9 +191,10 @@ impl Switchboard {
             call: call.number,
             at,
         });
+        self.free(kept_phone(&call), out);
     }
 
-    /// Ends the call without an answer.
+    /// Ends the call without an answer. A phone that it kept is free.
     pub fn vanish(&mut self, number: CallNo, out: &mut Trace)
         requires live { IsSome (call_at self.old.state.calls number.0) }
         requires room { HasRoom self.old out.old 0 0 2 }
@@ -156,6 +203,18 @@ impl Switchboard {
     {
         let call = self.leave(number);
         out.push(Entry::Vanished(call.number));
+        self.free(kept_phone(&call), out);
+    }
+
+    /// Frees the phone, which no call keeps, where there is one.
+    fn free(&mut self, kept: Option<Label>, out: &mut Trace)
+        requires loose { IsLoose self.old.state kept }
+        requires room { HasRoom self.old out.old 0 0 1 }
+        ensures step { Does self.new out.old out.new (releasing kept self.old.state) }
+        ensures room { UsesRoom self.old self.new out.old out.new 0 0 1 }
+    {
+        self.release(kept);
+        tell(kept_note(kept, PhoneState::Free), out);
     }
 
     /// Forgets the caller of the call, which has ended.
@@ -169,8 +228,9 @@ impl Switchboard {
         out.push(Entry::Forgotten(number));
     }
 
-    /// Moves the call with the reply to the answers of its caller.
-    fn finish(
+    /// Moves the call with a reply that does not accept to the answers of its caller. A phone that
+    /// its holder kept for it is free.
+    fn refuse(
         &mut self,
         number: CallNo,
         reply: Reply,
@@ -183,19 +243,110 @@ impl Switchboard {
         requires alive { is_alive self.old.state caller ≡ true }
         requires room { HasRoom self.old out.old 0 1 2 }
         ensures step { Does self.new out.old out.new
-            (on_call (λ k c. answer_to k c reply by caller) self.old.state number.0) }
+            (on_call (λ k c. answer_to (declined k c reply) by caller) self.old.state number.0) }
         ensures room { UsesRoom self.old self.new out.old out.new 0 1 2 }
     {
-        self.answer_to(number, reply, caller);
+        let lent = self.decline(number, reply, caller);
         out.push(Entry::Answered {
             call: number,
             reply,
             by,
         });
+        self.free(lent, out);
     }
 
-    /// Answers the call, in the name of a task or of the kernel where `by` is `None`. Where its
-    /// caller has ended the call vanishes.
+    /// Accepts the CONNECT_TO_ME that the task holds: the phone that it kept leads to the caller.
+    /// Without one the answer has the code `ELIMIT`.
+    pub fn accept_to_me(
+        &mut self,
+        number: CallNo,
+        reply: &Reply,
+        who: TaskNo,
+        caller: TaskNo,
+        out: &mut Trace,
+    )
+        requires number { IfSome (call_at self.old.state.calls number.0) (λ c. c.number ≡ number) }
+        requires held { IsHeldBy (call_at self.old.state.calls number.0)
+            MethodKind.ConnectToMe who caller }
+        requires added { IsAdded self.old.state who }
+        requires alive { is_alive self.old.state caller ≡ true }
+        requires room { HasRoom self.old out.old 0 1 2 }
+        ensures step { Does self.new out.old out.new
+            (on_call (λ k c. answer_to (accepted_to_me k c reply.now caller) (Some who) caller)
+            self.old.state number.0) }
+        ensures room { UsesRoom self.old self.new out.old out.new 0 1 2 }
+    {
+        let (kept, code) = self.connect_to_caller(number, reply, who, caller);
+        let args = reply.args;
+        out.push(Entry::Answered {
+            call: number,
+            reply: Reply { code, args },
+            by: Some(who),
+        });
+        tell(kept_note(kept, PhoneState::Connected(caller)), out);
+    }
+
+    /// Accepts the CONNECT_ME_TO that the task holds: the phone that its caller kept leads to the
+    /// task.
+    pub fn accept_me_to(
+        &mut self,
+        number: CallNo,
+        reply: &Reply,
+        who: TaskNo,
+        caller: TaskNo,
+        out: &mut Trace,
+    )
+        requires number { IfSome (call_at self.old.state.calls number.0) (λ c. c.number ≡ number) }
+        requires held { IsHeldBy (call_at self.old.state.calls number.0)
+            MethodKind.ConnectMeTo who caller }
+        requires accepts { accepts reply.now.code ≡ true }
+        requires added { IsAdded self.old.state who }
+        requires alive { is_alive self.old.state caller ≡ true }
+        requires room { HasRoom self.old out.old 0 1 2 }
+        ensures step { Does self.new out.old out.new
+            (on_call (λ k c. answer_to (accepted_me_to k c reply.now who) (Some who) caller)
+            self.old.state number.0) }
+        ensures room { UsesRoom self.old self.new out.old out.new 0 1 2 }
+    {
+        let kept = self.connect_to_answerer(number, reply, who, caller);
+        out.push(Entry::Answered {
+            call: number,
+            reply: *reply,
+            by: Some(who),
+        });
+        tell(kept_note(kept, PhoneState::Connected(who)), out);
+    }
+
+    /// Moves the call, for which no phone is kept, with the reply to the answers of its caller.
+    pub fn finish(
+        &mut self,
+        number: CallNo,
+        reply: &Reply,
+        who: TaskNo,
+        caller: TaskNo,
+        out: &mut Trace,
+    )
+        requires number { IfSome (call_at self.old.state.calls number.0) (λ c. c.number ≡ number) }
+        requires called { IsCallOf (call_at self.old.state.calls number.0) caller }
+        requires unkept { IfSome (call_at self.old.state.calls number.0)
+            (λ c. kept_phone c ≡ None) }
+        requires alive { is_alive self.old.state caller ≡ true }
+        requires room { HasRoom self.old out.old 0 1 2 }
+        ensures step { Does self.new out.old out.new (on_call
+            (λ k c. answer_to (as_it_is k (record c { reply = reply.now })) (Some who) caller)
+            self.old.state number.0) }
+        ensures room { UsesRoom self.old self.new out.old out.new 0 1 2 }
+    {
+        self.answer(number, reply, caller);
+        out.push(Entry::Answered {
+            call: number,
+            reply: *reply,
+            by: Some(who),
+        });
+    }
+
+    /// Answers the call with a reply that does not accept, in the name of a task or of the kernel
+    /// where `by` is `None`. Where its caller has ended the call vanishes.
     pub fn settle(&mut self, number: CallNo, reply: &Reply, by: Option<TaskNo>, out: &mut Trace)
         requires live { IsSome (call_at self.old.state.calls number.0) }
         requires room { HasRoom self.old out.old 0 1 2 }
@@ -225,7 +376,7 @@ impl Switchboard {
         ensures room { UsesRoom self.old self.new out.old out.new 0 1 2 }
     {
         match caller {
-            Some(caller) if self.is_alive(caller) => self.finish(number, *reply, by, caller, out),
+            Some(caller) if self.is_alive(caller) => self.refuse(number, *reply, by, caller, out),
             _ => self.vanish(number, out),
         }
     }
@@ -236,28 +387,28 @@ impl Switchboard {
     ///
     /// `ENOENT` where the task has no such phone, `EINVAL` where it leads and led nowhere or was
     /// hung up before.
-    pub fn hang_up(&mut self, t: TaskNo, phone: u64, out: &mut Trace) -> Result<(), Code>
-        requires added { IsAdded self.old.state t }
-        requires few { active_calls self.old.state.calls (label_of t phone) < 2 ^ 31 }
+    pub fn hang_up(&mut self, from: Label, out: &mut Trace) -> Result<(), Code>
+        requires added { IsAdded self.old.state from.task }
+        requires few { active_calls self.old.state.calls from < 2 ^ 31 }
         requires room { HasRoom self.old out.old 1 1 3 }
-        ensures step { Does self.new out.old out.new
-            (hang_up self.old.state t phone (phone_at self.old.state t phone)) }
-        ensures answer { result ≡ hangup_refusal (phone_at self.old.state t phone) }
+        ensures step { Does self.new out.old out.new (hang_up self.old.state from.task from.phone.0
+            (phone_at self.old.state from.task from.phone.0)) }
+        ensures answer { result
+            ≡ hangup_refusal (phone_at self.old.state from.task from.phone.0) }
         ensures free { call_at self.old.state.calls self.old.state.calls.next_number ≡ None }
         ensures room { UsesRoom self.old self.new out.old out.new 1 1 3 }
     {
         let _next = self.next_number();
-        match self.hang_phone(t, phone) {
+        match self.hang_phone(from) {
             Err(code) => Err(code),
             Ok(Hung::Silent) => {
-                tell_hung_up(label(t, phone), out);
+                tell_hung_up(from, out);
                 Ok(())
             }
             Ok(Hung::Sent(to)) => {
-                let from = label(t, phone);
                 let mut call = self.new_call(from, &Msg::bare(PHONE_HUNGUP), Place::Incoming(to));
                 call.discard = true;
-                let _accepted = self.accept(call, Some(to), out);
+                let _accepted = self.accept(call, None, Some(to), out);
                 tell_hung_up(from, out);
                 Ok(())
             }
@@ -265,22 +416,34 @@ impl Switchboard {
     }
 
     /// Slams the phone of another task, where it leads to the task that comes to its end.
-    pub fn slam(&mut self, who: TaskNo, other: TaskNo, phone: u64, out: &mut Trace)
-        requires added { IsAdded self.old.state other }
+    pub fn slam(&mut self, who: TaskNo, phone: Label, out: &mut Trace)
+        requires added { IsAdded self.old.state phone.task }
         requires room { HasRoom self.old out.old 0 0 1 }
-        ensures step { Does self.new out.old out.new (slam_at who other self.old.state phone) }
+        ensures step { Does self.new out.old out.new
+            (slam_at who phone.task self.old.state phone.phone.0) }
         ensures room { UsesRoom self.old self.new out.old out.new 0 0 1 }
     {
-        match self.phone(other, phone) {
+        match self.phone(phone.task, u64::from(phone.phone.0)) {
             Some(PhoneState::Connected(to)) if to.0 == who.0 => {
-                self.slam_phone(other, PhoneNo(phone as u32));
+                self.slam_phone(phone);
                 out.push(Entry::PhoneIs {
-                    phone: label(other, phone),
+                    phone,
                     state: PhoneState::Slammed,
                 });
             }
             _ => {}
         }
+    }
+}
+
+/// Tells the entry, where there is one.
+fn tell(note: Option<Entry>, out: &mut Trace)
+    requires { 1 ≤ out.old.spare }
+    ensures entries { out.new.entries ≡ out.old.entries ++ option_to_list note }
+    ensures spare { out.old.spare ≤ out.new.spare + 1 }
+{
+    if let Some(entry) = note {
+        out.push(entry);
     }
 }
 

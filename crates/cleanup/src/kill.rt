@@ -8,6 +8,7 @@ ghost use Rattle.cleanup.specs.Rooms.{HasRoom, UsesRoom};
 ghost use Rattle.cleanup.specs.Serving.{Does, Leaves};
 
 use crate::board::Switchboard;
+use crate::counts::label;
 use call_slab::Place;
 use ipc_ids::{Code, NoMemory, Reply, TaskNo, Trace};
 
@@ -84,7 +85,7 @@ impl Switchboard {
         ensures room { UsesRoom self.old self.new out.old out.new 64 64 192 }
     {
         for phone in 0..self.width(who) {
-            let _told = self.hang_up(who, phone, out);
+            let _told = self.hang_up(label(who, phone), out);
         }
     }
 
@@ -122,7 +123,7 @@ impl Switchboard {
         ensures room { UsesRoom self.old self.new out.old out.new 0 0 64 }
     {
         for phone in 0..self.width(other) {
-            self.slam(who, other, phone, out);
+            self.slam(who, label(other, phone), out);
         }
     }
 

@@ -1,12 +1,20 @@
 -- A receive by task t: answers come before calls, and answers that nobody waits for are dropped.
-use Rattle.std.specs.Prelude.{if◌then◌else◌, Option, None, Some}
+use Rattle.std.specs.Prelude.{if◌then◌else◌, [], Option, None, Some}
 use Rattle.ipc_ids.specs.declared.numbers.TaskNo.{TaskNo}
+use Rattle.ipc_ids.specs.declared.message.Outcome.TheVariants.{Empty}
 use Rattle.call_slab.specs.declared.call.Call.{Call}
 use Rattle.call_slab.specs.declared.call.Place.TheVariants.{Incoming, Answers}
 use Rattle.answerbox.specs.Calls.{front}
 use Rattle.cleanup.specs.State.{KernelState, Transition, live_calls, drain}
-use Rattle.cleanup.specs.Joins.{drop_answer, receive_first}
+use Rattle.cleanup.specs.Joins.{drop_answer, delivery, reception}
 use Rattle.cleanup.specs.Serving.{Served, then_serve}
+use Rattle.kernel_core.specs.Moments.{on_receive, on_delivery}
+
+-- of the first answer and the first incoming call the answer
+abbrev pub receive_first : KernelState → TaskNo → Option Call → Option Call → Served
+receive_first k t (Some answer) incoming = delivery t (on_delivery k answer)
+receive_first k t None (Some c) = reception t (on_receive k c t)
+receive_first k t None None = record { state = k; outcome = Empty; entries = [] }
 
 abbrev pub receive_now : TaskNo → KernelState → Served
 receive_now t k = receive_first k t (front k.calls (Answers t)) (front k.calls (Incoming t))

@@ -1,11 +1,18 @@
 //! The answer of a task to a call that it holds.
+ghost use Rattle.std.specs.Prelude.{◌≡◌, true};
+ghost use Rattle.answerbox.specs.Calls.{call_at};
+ghost use Rattle.cleanup.specs.Board.{IsAdded};
+ghost use Rattle.cleanup.specs.Joins.{lives, on_call};
+ghost use Rattle.cleanup.specs.Kept.{accepts};
 ghost use Rattle.cleanup.specs.Rooms.{HasRoom, UsesRoom};
-ghost use Rattle.cleanup.specs.Serving.{ServesOrLeaves};
-ghost use Rattle.kernel_core.specs.Answering.{answer as answer_of};
+ghost use Rattle.cleanup.specs.Serving.{Does, ServesOrLeaves};
+ghost use Rattle.kernel_core.specs.Answering.{answer as answer_of, accept_for};
+ghost use Rattle.kernel_core.specs.Handing.{IsHeldOf};
 
+use crate::moments::on_accept;
 use cleanup::Switchboard;
 use forwarding::is_held;
-use ipc_ids::{CallNo, Code, NoMemory, Outcome, Reply, TaskNo, Trace};
+use ipc_ids::{CallNo, Code, MethodKind, NoMemory, Outcome, Reply, TaskNo, Trace};
 
 /// Answers the call, where the task holds it; refuses with `ENOENT` otherwise.
 pub(crate) fn answer(
@@ -15,6 +22,7 @@ pub(crate) fn answer(
     reply: &Reply,
     out: &mut Trace,
 ) -> Result<Outcome, NoMemory>
+    requires added { IsAdded board.old.state who }
     requires room { HasRoom board.old out.old 0 1 2 }
     ensures served { ServesOrLeaves result board.old board.new out.old out.new
         (answer_of board.old.state who call.0 reply.now) }
@@ -22,10 +30,41 @@ pub(crate) fn answer(
 {
     match board.get(call) {
         Some(held) if is_held(held, who) => {
-            let caller = held.caller;
-            board.settle_for(call, caller, reply, Some(who), out);
+            let (caller, kind) = (held.caller, MethodKind::of(held.request.method));
+            if reply.code == Code::EOK {
+                accept(board, call, kind, reply, who, caller, out);
+            } else {
+                board.settle_for(call, caller, reply, Some(who), out);
+            }
             Ok(Outcome::Done)
         }
         _ => Ok(Outcome::Refused(Code::ENOENT)),
+    }
+}
+
+/// Accepts the call, which the task holds; it vanishes where its caller has ended.
+fn accept(
+    board: &mut Switchboard,
+    call: CallNo,
+    kind: MethodKind,
+    reply: &Reply,
+    who: TaskNo,
+    caller: Option<TaskNo>,
+    out: &mut Trace,
+)
+    requires held { IsHeldOf (call_at board.old.state.calls call.0) call kind who caller }
+    requires accepts { accepts reply.now.code ≡ true }
+    requires added { IsAdded board.old.state who }
+    requires room { HasRoom board.old out.old 0 1 2 }
+    ensures step { Does board.new out.old out.new
+        (on_call (λ k c. accept_for k who reply.now c c.caller (lives k c.caller))
+        board.old.state call.0) }
+    ensures room { UsesRoom board.old board.new out.old out.new 0 1 2 }
+{
+    match caller {
+        Some(caller) if board.is_alive(caller) => {
+            on_accept(board, call, kind, reply, who, caller, out);
+        }
+        _ => board.vanish(call, out),
     }
 }

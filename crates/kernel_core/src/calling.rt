@@ -1,22 +1,23 @@
 //! A call over a phone.
-ghost use Rattle.std.specs.Prelude.{◌<◌, ◌^◌, IsSome};
+ghost use Rattle.std.specs.Prelude.{◌≡◌, ◌<◌, ◌≤◌, ◌^◌, IsSome, None, length};
 ghost use Rattle.answerbox.specs.Calls.{active_calls};
 ghost use Rattle.cleanup.specs.State.{phone_at};
-ghost use Rattle.cleanup.specs.Board.{IsAdded, LeadsToAdded};
+ghost use Rattle.cleanup.specs.Board.{IsAdded, IsNewCall, LeadsToAdded};
 ghost use Rattle.cleanup.specs.Rooms.{HasRoom, UsesRoom};
-ghost use Rattle.cleanup.specs.Serving.{ServesOrLeaves};
-ghost use Rattle.kernel_core.specs.Calling.{call as call_of, call_tested, call_through};
+ghost use Rattle.cleanup.specs.Serving.{Serves, ServesOrLeaves};
+ghost use Rattle.kernel_core.specs.Calling.{call as call_of, call_tested, call_through, is_callable, sent_to};
+ghost use Rattle.kernel_core.specs.Moments.{before_send};
 
-use call_slab::Place;
+use crate::moments::before_send;
+use call_slab::{Call, Place};
 use cleanup::{Switchboard, label};
-use ipc_ids::methods::FIRST_USER_METHOD;
-use ipc_ids::{Code, Label, Msg, NoMemory, Outcome, PhoneState, TaskNo, Trace};
+use ipc_ids::{Code, Label, MethodKind, Msg, NoMemory, Outcome, PhoneState, TaskNo, Trace};
 
 /// Active calls over a phone before a further call is refused.
 const MOST_ACTIVE: u32 = 64;
 
 /// Calls over the task's phone. It refuses with `ENOENT` where the task has no such phone or the
-/// phone leads and led nowhere, with `EPERM` where the method is not a user's, and with `ELIMIT`
+/// phone leads and led nowhere, with `EPERM` where no task calls with the method, and with `ELIMIT`
 /// where too many calls are active over the phone.
 pub(crate) fn call(
     board: &mut Switchboard,
@@ -26,6 +27,7 @@ pub(crate) fn call(
     out: &mut Trace,
 ) -> Result<Outcome, NoMemory>
     requires added { IsAdded board.old.state who }
+    requires few { length board.old.state.tasks.alive ≤ 64 }
     requires room { HasRoom board.old out.old 1 1 2 }
     ensures served { ServesOrLeaves result board.old board.new out.old out.new
         (call_of board.old.state who phone msg.now) }
@@ -50,18 +52,29 @@ fn call_tested(
     requires added { IsAdded board.old.state from.task }
     requires there { IsSome (phone_at board.old.state from.task from.phone.0) }
     requires leads { LeadsToAdded board.old.state state }
+    requires few { length board.old.state.tasks.alive ≤ 64 }
     requires room { HasRoom board.old out.old 1 1 2 }
     ensures served { ServesOrLeaves result board.old board.new out.old out.new
         (call_tested board.old.state from.task from.phone.0 msg.now state) }
     ensures room { UsesRoom board.old board.new out.old out.new 1 1 2 }
 {
-    if msg.method < FIRST_USER_METHOD {
+    if !is_callable(MethodKind::of(msg.method)) {
         return Ok(Outcome::Refused(Code::EPERM));
     }
     if board.active(from) >= MOST_ACTIVE {
         return Ok(Outcome::Refused(Code::ELIMIT));
     }
     call_through(board, from, msg, state, out)
+}
+
+/// Whether a task may call with a method of this kind.
+fn is_callable(kind: MethodKind) -> bool
+    ensures { result ≡ is_callable kind }
+{
+    match kind {
+        MethodKind::ConnectToMe | MethodKind::ConnectMeTo | MethodKind::User => true,
+        MethodKind::PhoneHungUp | MethodKind::NotBuilt => false,
+    }
 }
 
 /// Makes the call over a phone in this state.
@@ -75,6 +88,7 @@ fn call_through(
     requires added { IsAdded board.old.state from.task }
     requires there { IsSome (phone_at board.old.state from.task from.phone.0) }
     requires leads { LeadsToAdded board.old.state state }
+    requires few_tasks { length board.old.state.tasks.alive ≤ 64 }
     requires few { active_calls board.old.state.calls from < 2 ^ 31 }
     requires room { HasRoom board.old out.old 1 1 2 }
     ensures served { ServesOrLeaves result board.old board.new out.old out.new
@@ -85,7 +99,7 @@ fn call_through(
         PhoneState::Free | PhoneState::Connecting => Ok(Outcome::Refused(Code::ENOENT)),
         PhoneState::Connected(to) => {
             let call = board.new_call(from, msg, Place::Incoming(to));
-            Ok(board.accept(call, Some(to), out))
+            Ok(send(board, call, to, out))
         }
         PhoneState::HungUp => {
             let call = board.new_call(from, msg, Place::Answers(from.task));
@@ -94,6 +108,27 @@ fn call_through(
         PhoneState::Slammed => {
             let call = board.new_call(from, msg, Place::Answers(from.task));
             Ok(board.answer_at_once(call, Code::ENOENT, out))
+        }
+    }
+}
+
+/// Sends the new call to the task, or answers it at once where its method does not allow it to be
+/// sent.
+fn send(board: &mut Switchboard, mut call: Call, to: TaskNo, out: &mut Trace) -> Outcome
+    requires new_call { IsNewCall board.old.state call }
+    requires added { IsAdded board.old.state call.from.task }
+    requires few_tasks { length board.old.state.tasks.alive ≤ 64 }
+    requires unreserved { call.reserved ≡ None }
+    requires room { HasRoom board.old out.old 1 1 2 }
+    ensures served { Serves board.new result out.old out.new
+        (sent_to to board.old.state call (before_send board.old.state call)) }
+    ensures room { UsesRoom board.old board.new out.old out.new 1 1 2 }
+{
+    match before_send(board, &mut call) {
+        Ok(note) => board.accept(call, note, Some(to), out),
+        Err(code) => {
+            call.place = Place::Answers(call.from.task);
+            board.answer_at_once(call, code, out)
         }
     }
 }

@@ -8,7 +8,7 @@ ghost use Rattle.kernel_core.specs.Forward.{forward as forward_of, failed_forwar
 
 use cleanup::Switchboard;
 use forwarding::{ForwardFault, label_after, msg_after, receiver_of};
-use ipc_ids::{CallNo, Code, Mode, Msg, Outcome, Reply, TaskNo, Trace};
+use ipc_ids::{CallNo, Code, Mode, Msg, Outcome, PhoneNo, Reply, TaskNo, Trace};
 
 /// Passes the call on over the task's phone. It refuses with `ENOENT` where the task does not hold
 /// the call, and else with the code of the first test that fails; the kernel then answers the call
@@ -36,7 +36,7 @@ pub(crate) fn forward(
     match receiver_of(held, who, state, change) {
         Ok(to) => {
             let msg = msg_after(held, change);
-            let label = label_after(held, who, phone, mode);
+            let label = label_after(held, who, PhoneNo(phone as u32), mode);
             board.pass_on(call, msg, label, who, to, out);
             Outcome::Done
         }

@@ -4,8 +4,8 @@ ghost use Rattle.cleanup.specs.Rooms.{HasRoom, UsesRoom};
 ghost use Rattle.cleanup.specs.Serving.{Serves};
 ghost use Rattle.kernel_core.specs.HangingUp.{hangup as hangup_of};
 
-use cleanup::Switchboard;
-use ipc_ids::{Outcome, TaskNo, Trace};
+use cleanup::{Switchboard, label};
+use ipc_ids::{Code, Outcome, TaskNo, Trace};
 
 /// Hangs the task's phone up. It refuses with `ENOENT` where the task has no such phone, and with
 /// `EINVAL` where the phone leads and led nowhere or was hung up before.
@@ -16,8 +16,11 @@ pub(crate) fn hangup(board: &mut Switchboard, who: TaskNo, phone: u64, out: &mut
     ensures served { Serves board.new result out.old out.new (hangup_of board.old.state who phone) }
     ensures room { UsesRoom board.old board.new out.old out.new 1 1 3 }
 {
-    match board.hang_up(who, phone, out) {
-        Ok(()) => Outcome::Done,
-        Err(code) => Outcome::Refused(code),
+    match board.phone(who, phone) {
+        None => Outcome::Refused(Code::ENOENT),
+        Some(_) => match board.hang_up(label(who, phone), out) {
+            Ok(()) => Outcome::Done,
+            Err(code) => Outcome::Refused(code),
+        },
     }
 }

@@ -5,8 +5,9 @@ ghost use Rattle.cleanup.specs.State.{live_calls};
 ghost use Rattle.cleanup.specs.Board.{IsAdded};
 ghost use Rattle.cleanup.specs.Rooms.{HasRoom, UsesRoom};
 ghost use Rattle.cleanup.specs.Serving.{Does, Serves};
-ghost use Rattle.kernel_core.specs.Receiving.{receive as receive_of, receive_now as receive_now_of, next_unawaited as next_unawaited_of, drop_unawaited as drop_unawaited_of};
+ghost use Rattle.kernel_core.specs.Receiving.{receive as receive_of, receive_first, receive_now as receive_now_of, next_unawaited as next_unawaited_of, drop_unawaited as drop_unawaited_of};
 
+use crate::moments::{on_delivery, on_receive};
 use call_slab::Place;
 use cleanup::Switchboard;
 use ipc_ids::{CallNo, Outcome, TaskNo, Trace};
@@ -62,10 +63,35 @@ fn receive_now(board: &mut Switchboard, who: TaskNo, out: &mut Trace) -> Outcome
     ensures room { UsesRoom board.old board.new out.old out.new 0 1 2 }
 {
     if let Some(number) = board.front(Place::Answers(who)) {
-        return board.deliver(number, who, out);
+        return give_answer(board, number, who, out);
     }
     match board.front(Place::Incoming(who)) {
-        Some(number) => board.hand_over(number, who, out),
+        Some(number) => give_call(board, number, who, out),
         None => Outcome::Empty,
     }
+}
+
+/// Delivers the answer to the task.
+fn give_answer(board: &mut Switchboard, number: CallNo, who: TaskNo, out: &mut Trace) -> Outcome
+    requires live { IsSome (call_at board.old.state.calls number.0) }
+    requires room { HasRoom board.old out.old 0 0 2 }
+    ensures served { Serves board.new result out.old out.new
+        (receive_first board.old.state who (call_at board.old.state.calls number.0) None) }
+    ensures room { UsesRoom board.old board.new out.old out.new 0 0 2 }
+{
+    let reply = on_delivery(board.get(number).unwrap());
+    board.deliver(number, reply, who, out)
+}
+
+/// Hands the call over to the task.
+fn give_call(board: &mut Switchboard, number: CallNo, who: TaskNo, out: &mut Trace) -> Outcome
+    requires live { IsSome (call_at board.old.state.calls number.0) }
+    requires added { IsAdded board.old.state who }
+    requires room { HasRoom board.old out.old 0 1 2 }
+    ensures served { Serves board.new result out.old out.new
+        (receive_first board.old.state who None (call_at board.old.state.calls number.0)) }
+    ensures room { UsesRoom board.old board.new out.old out.new 0 1 2 }
+{
+    let arrival = on_receive(board, number, who);
+    board.hand_over(number, arrival, who, out)
 }

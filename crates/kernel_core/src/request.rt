@@ -1,5 +1,5 @@
 //! What each request does, and the room that it needs.
-ghost use Rattle.std.specs.Prelude.{◌≡◌, ◌<◌, ◌^◌};
+ghost use Rattle.std.specs.Prelude.{◌≡◌, ◌<◌, ◌≤◌, ◌^◌, length};
 ghost use Rattle.cleanup.specs.State.{live_calls};
 ghost use Rattle.cleanup.specs.Board.{IsAdded, FewActive};
 ghost use Rattle.cleanup.specs.Rooms.{HasRoom, UsesRoom};
@@ -39,6 +39,7 @@ pub(crate) fn serve_request(
 ) -> Result<Outcome, NoMemory>
     requires added { IsAdded board.old.state who }
     requires few { FewActive board.old.state }
+    requires few_tasks { length board.old.state.tasks.alive ≤ 64 }
     requires room { HasRoom board.old out.old (most_calls request.now) 1
         (most_entries board.old.state request.now) }
     ensures served { ServesOrLeaves result board.old board.new out.old out.new

@@ -1,0 +1,57 @@
+-- What the functions of two moments hand on, as their definitions say it.
+use Rattle.std.specs.Prelude.{◌≡◌, Option, None, Some, Result, Ok, Err}
+use Rattle.ipc_ids.specs.declared.numbers.TaskNo.{TaskNo}
+use Rattle.ipc_ids.specs.declared.numbers.CallNo.{CallNo}
+use Rattle.ipc_ids.specs.declared.numbers.Code.{Code}
+use Rattle.ipc_ids.specs.declared.methods.MethodKind.{MethodKind}
+use Rattle.ipc_ids.specs.declared.entry.Entry.{Entry}
+use Rattle.ipc_ids.specs.Methods.{kind_of}
+use Rattle.call_slab.specs.declared.call.Call.{Call}
+use Rattle.call_slab.specs.declared.call.Place.TheVariants.{Dispatched}
+use Rattle.cleanup.specs.declared.joins.Arrival.{Arrival}
+use Rattle.cleanup.specs.State.{KernelState, BoardState}
+use Rattle.cleanup.specs.Kept.{IsLoose, MayReserve, kept_phone}
+use Rattle.cleanup.specs.Joins.{with_arrival}
+use Rattle.cleanup.specs.Serving.{Handed}
+use Rattle.kernel_core.specs.Moments.{on_receive}
+
+-- the code left this state and this record, and handed on this note; what the call keeps is new to it
+pub record IsHanded (new : BoardState) (call : Call) (note : Option Entry) (handed : Handed) : Type 0 where
+  pub state : new.state ≡ handed.state
+  pub call : call ≡ handed.call
+  pub note : note ≡ handed.note
+  pub loose : IsLoose new.state (kept_phone call)
+
+-- nothing has changed, and the call is to be answered with this code
+pub record IsUnsent (old new : BoardState) (before now : Call) (given code : Code) : Type 0 where
+  pub state : new.state ≡ old.state
+  pub call : now ≡ before
+  pub code : given ≡ code
+
+abbrev pub IsSent : BoardState → BoardState → Call → Call → Result (Option Entry) Code → Result Handed Code → Type 0
+IsSent old new before now (Ok note) (Ok handed) = IsHanded new now note handed
+IsSent old new before now (Err given) (Err code) = IsUnsent old new before now given code
+IsSent old new before now (Ok note) (Err code) = ⊥
+IsSent old new before now (Err given) (Ok handed) = ⊥
+
+-- the code left this state, and what the call is to take with it makes the record that is handed on
+pub record IsArriving (new : BoardState) (arrival : Arrival) (old : KernelState) (who : TaskNo) (c : Call) : Type 0 where
+  pub handed : with_arrival new.state c arrival ≡ on_receive old c who
+  pub calls : new.state.calls ≡ old.calls
+  pub tasks : new.state.tasks.alive ≡ old.tasks.alive
+  pub reserved : MayReserve new.state (kind_of c.request.method) c.reserved arrival.reserved
+
+abbrev pub Arrives : BoardState → BoardState → Arrival → TaskNo → Option Call → Type 0
+Arrives old new arrival who None = ⊥
+Arrives old new arrival who (Some c) = IsArriving new arrival old.state who c
+
+-- the live call has this number and this kind, task t holds it, and this is its caller, unless that has ended
+pub record IsAnswered (c : Call) (number : CallNo) (kind : MethodKind) (t : TaskNo) (caller : Option TaskNo) : Type 0 where
+  pub number : c.number ≡ number
+  pub kind : kind_of c.request.method ≡ kind
+  pub place : c.place ≡ Dispatched t
+  pub caller : c.caller ≡ caller
+
+abbrev pub IsHeldOf : Option Call → CallNo → MethodKind → TaskNo → Option TaskNo → Type 0
+IsHeldOf None number kind t caller = ⊥
+IsHeldOf (Some c) number kind t caller = IsAnswered c number kind t caller

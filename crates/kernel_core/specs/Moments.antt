@@ -1,0 +1,95 @@
+-- The four moments of a call at which its method does more than carry a message: before it is sent, as it is received,
+-- as it is accepted, and as its answer is delivered. Each hands the state, the record of the call and one entry more
+-- at most to a join.
+use Rattle.std.specs.Prelude.{ℕ, ◌+◌, ◌*◌, if◌then◌else◌, Option, None, Some, Result, Ok, Err, slice_set}
+use Rattle.ipc_ids.specs.declared.numbers.TaskNo.{TaskNo}
+use Rattle.ipc_ids.specs.declared.numbers.Label.{Label}
+use Rattle.ipc_ids.specs.declared.numbers.Code.{Code}
+use Rattle.ipc_ids.specs.declared.message.Msg.{Msg}
+use Rattle.ipc_ids.specs.declared.message.Reply.{Reply}
+use Rattle.ipc_ids.specs.declared.message.PhoneState.TheVariants.{Connecting}
+use Rattle.ipc_ids.specs.declared.methods.MethodKind.{MethodKind}
+use Rattle.ipc_ids.specs.declared.methods.MethodKind.TheVariants.{PhoneHungUp, ConnectToMe, ConnectMeTo, NotBuilt, User}
+use Rattle.ipc_ids.specs.Codes.{elimit}
+use Rattle.ipc_ids.specs.Methods.{kind_of}
+use Rattle.call_slab.specs.declared.call.Call.{Call}
+use Rattle.cleanup.specs.State.{KernelState}
+use Rattle.cleanup.specs.Kept.{accepts, first_usable_of, kept_note, with_kept}
+use Rattle.cleanup.specs.Joins.{accepted_to_me, accepted_me_to, with_delivery}
+use Rattle.cleanup.specs.Serving.{Handed, as_it_is}
+
+-- the message, and the reply, with this fifth argument
+abbrev pub with_fifth : Msg → ℕ → Msg
+with_fifth msg n = record { method = msg.method; args = slice_set msg.args 4 n }
+
+abbrev pub reply_with_fifth : Reply → ℕ → Reply
+reply_with_fifth reply n = record { code = reply.code; args = slice_set reply.args 4 n }
+
+-- before a CONNECT_ME_TO is sent, the caller keeps its first usable phone; the message names task and phone
+abbrev pub keeping_to_send : KernelState → Call → Option Label → Result Handed Code
+keeping_to_send k c None = Err elimit
+keeping_to_send k c (Some l) =
+    Ok (record {
+      state = with_kept k (Some l) Connecting;
+      call = record c { msg = with_fifth c.msg (64 * l.task.0 + l.phone.0); reserved = Some l };
+      note = kept_note (Some l) Connecting;
+    })
+
+abbrev pub before_send_of : MethodKind → KernelState → Call → Result Handed Code
+before_send_of PhoneHungUp k c = Ok (as_it_is k c)
+before_send_of ConnectToMe k c = Ok (as_it_is k c)
+before_send_of ConnectMeTo k c = keeping_to_send k c (first_usable_of k c.from.task)
+before_send_of NotBuilt k c = Ok (as_it_is k c)
+before_send_of User k c = Ok (as_it_is k c)
+
+abbrev pub before_send : KernelState → Call → Result Handed Code
+before_send k c = before_send_of (kind_of c.request.method) k c
+
+-- as a CONNECT_TO_ME is received, the receiver keeps its first usable phone; the message names the phone, or 64
+abbrev pub number_of : Option Label → ℕ
+number_of None = 64
+number_of (Some l) = l.phone.0
+
+abbrev pub keeping_to_receive : KernelState → Call → Option Label → Handed
+keeping_to_receive k c kept =
+    record {
+      state = with_kept k kept Connecting;
+      call = record c { msg = with_fifth c.msg (number_of kept); reserved = kept };
+      note = kept_note kept Connecting;
+    }
+
+abbrev pub on_receive_of : MethodKind → KernelState → Call → TaskNo → Handed
+on_receive_of PhoneHungUp k c t = as_it_is k c
+on_receive_of ConnectToMe k c t = keeping_to_receive k c (first_usable_of k t)
+on_receive_of ConnectMeTo k c t = as_it_is k c
+on_receive_of NotBuilt k c t = as_it_is k c
+on_receive_of User k c t = as_it_is k c
+
+abbrev pub on_receive : KernelState → Call → TaskNo → Handed
+on_receive k c t = on_receive_of (kind_of c.request.method) k c t
+
+-- as task t accepts a call of this caller, the kept phone leads to the other of the two
+abbrev pub on_accept_of : MethodKind → KernelState → Call → Reply → TaskNo → TaskNo → Handed
+on_accept_of PhoneHungUp k c reply t caller = as_it_is k (record c { reply = reply })
+on_accept_of ConnectToMe k c reply t caller = accepted_to_me k c reply caller
+on_accept_of ConnectMeTo k c reply t caller = accepted_me_to k c reply t
+on_accept_of NotBuilt k c reply t caller = as_it_is k (record c { reply = reply })
+on_accept_of User k c reply t caller = as_it_is k (record c { reply = reply })
+
+abbrev pub on_accept : KernelState → Call → Reply → TaskNo → TaskNo → Handed
+on_accept k c reply t caller = on_accept_of (kind_of c.request.method) k c reply t caller
+
+-- as the answer of a CONNECT_ME_TO is delivered that was accepted, it names the phone
+abbrev pub with_phone_named : Option Label → Reply → Reply
+with_phone_named None reply = reply
+with_phone_named (Some l) reply = reply_with_fifth reply l.phone.0
+
+abbrev pub reply_of : MethodKind → Call → Reply
+reply_of PhoneHungUp c = c.reply
+reply_of ConnectToMe c = c.reply
+reply_of ConnectMeTo c = if accepts c.reply.code then with_phone_named c.reserved c.reply else c.reply
+reply_of NotBuilt c = c.reply
+reply_of User c = c.reply
+
+abbrev pub on_delivery : KernelState → Call → Handed
+on_delivery k c = with_delivery k c (reply_of (kind_of c.request.method) c)

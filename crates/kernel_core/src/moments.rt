@@ -1,0 +1,168 @@
+//! The four moments of a call at which its method does more than carry a message.
+ghost use Rattle.std.specs.Prelude.{◌≡◌, ◌≤◌, true, IsSome, IfSome};
+ghost use Rattle.ipc_ids.specs.Methods.{kind_of};
+ghost use Rattle.answerbox.specs.Calls.{call_at};
+ghost use Rattle.cleanup.specs.State.{is_alive};
+ghost use Rattle.cleanup.specs.Board.{IsAdded, IsHeldBy};
+ghost use Rattle.cleanup.specs.Joins.{on_call, answer_to};
+ghost use Rattle.cleanup.specs.Kept.{accepts};
+ghost use Rattle.cleanup.specs.Rooms.{HasRoom, KeepsRoom, UsesRoom};
+ghost use Rattle.cleanup.specs.Serving.{Does};
+ghost use Rattle.kernel_core.specs.Moments.{with_fifth, reply_with_fifth, number_of, reply_of, before_send as before_send_of, on_receive as on_receive_of, on_accept as on_accept_of};
+ghost use Rattle.kernel_core.specs.Handing.{IsSent, Arrives};
+
+use call_slab::Call;
+use cleanup::{Arrival, Switchboard, kept_note};
+use ipc_ids::{
+    CallNo, Code, Entry, Label, MethodKind, Msg, PhoneState, Reply, TaskNo, Trace,
+};
+
+/// The phone number that a CONNECT_TO_ME names where its receiver has no usable phone.
+const NO_PHONE: u64 = 64;
+
+/// Before the new call is sent: the caller of a CONNECT_ME_TO keeps its first usable phone for it,
+/// and the message names the caller and the phone. Returns what is told of it.
+///
+/// # Errors
+///
+/// The code with which the call is answered at once; then nothing has changed.
+pub(crate) fn before_send(
+    board: &mut Switchboard,
+    call: &mut Call,
+) -> Result<Option<Entry>, Code>
+    requires added { IsAdded board.old.state call.old.from.task }
+    requires few { call.old.from.task.0 ≤ 64 }
+    ensures sent { IsSent board.old board.new call.old call.new result
+        (before_send_of board.old.state call.old) }
+    ensures room { KeepsRoom board.old board.new 0 }
+{
+    match MethodKind::of(call.request.method) {
+        MethodKind::ConnectMeTo => match board.keep_to_send(call.from.task) {
+            Ok(kept) => {
+                let number = 64 * kept.task.0 + u64::from(kept.phone.0);
+                call.msg = with_fifth(&call.msg, number);
+                call.reserved = Some(kept);
+                Ok(kept_note(Some(kept), PhoneState::Connecting))
+            }
+            Err(code) => Err(code),
+        },
+        MethodKind::PhoneHungUp
+        | MethodKind::ConnectToMe
+        | MethodKind::NotBuilt
+        | MethodKind::User => Ok(None),
+    }
+}
+
+/// As the task receives the call: it keeps its first usable phone for a CONNECT_TO_ME, and the
+/// message names the phone, or 64. Returns what the call takes with it.
+pub(crate) fn on_receive(board: &mut Switchboard, number: CallNo, who: TaskNo) -> Arrival
+    requires live { IsSome (call_at board.old.state.calls number.0) }
+    requires added { IsAdded board.old.state who }
+    ensures arrives { Arrives board.old board.new result who
+        (call_at board.old.state.calls number.0) }
+    ensures room { KeepsRoom board.old board.new 0 }
+{
+    let call = board.get(number).unwrap();
+    let (kind, msg, reserved) = (MethodKind::of(call.request.method), call.msg, call.reserved);
+    match kind {
+        MethodKind::ConnectToMe => {
+            let kept = board.keep_to_receive(who);
+            Arrival {
+                msg: with_fifth(&msg, number_of(kept)),
+                reserved: kept,
+                note: kept_note(kept, PhoneState::Connecting),
+            }
+        }
+        MethodKind::PhoneHungUp
+        | MethodKind::ConnectMeTo
+        | MethodKind::NotBuilt
+        | MethodKind::User => Arrival {
+            msg,
+            reserved,
+            note: None,
+        },
+    }
+}
+
+/// As the task accepts a call of that caller: a phone that was kept for it leads to the other of
+/// the two.
+pub(crate) fn on_accept(
+    board: &mut Switchboard,
+    number: CallNo,
+    kind: MethodKind,
+    reply: &Reply,
+    who: TaskNo,
+    caller: TaskNo,
+    out: &mut Trace,
+)
+    requires number { IfSome (call_at board.old.state.calls number.0) (λ c. c.number ≡ number) }
+    requires held { IsHeldBy (call_at board.old.state.calls number.0) kind who caller }
+    requires accepts { accepts reply.now.code ≡ true }
+    requires added { IsAdded board.old.state who }
+    requires alive { is_alive board.old.state caller ≡ true }
+    requires room { HasRoom board.old out.old 0 1 2 }
+    ensures step { Does board.new out.old out.new
+        (on_call (λ k c. answer_to (on_accept_of k c reply.now who caller) (Some who) caller)
+        board.old.state number.0) }
+    ensures room { UsesRoom board.old board.new out.old out.new 0 1 2 }
+{
+    match kind {
+        MethodKind::ConnectToMe => board.accept_to_me(number, reply, who, caller, out),
+        MethodKind::ConnectMeTo => board.accept_me_to(number, reply, who, caller, out),
+        MethodKind::PhoneHungUp | MethodKind::NotBuilt | MethodKind::User => {
+            board.finish(number, reply, who, caller, out);
+        }
+    }
+}
+
+/// As the answer is delivered: the answer of a CONNECT_ME_TO that was accepted names the phone.
+/// Returns the reply that its caller is told.
+pub(crate) fn on_delivery(call: &Call) -> Reply
+    ensures { result ≡ reply_of (kind_of call.now.request.method) call.now }
+{
+    match MethodKind::of(call.request.method) {
+        MethodKind::ConnectMeTo if call.reply.code == Code::EOK => {
+            with_phone_named(call.reserved, &call.reply)
+        }
+        _ => call.reply,
+    }
+}
+
+/// The reply, which names the phone where there is one.
+fn with_phone_named(phone: Option<Label>, reply: &Reply) -> Reply
+    ensures { result ≡ with_phone_named phone reply.now }
+{
+    match phone {
+        Some(label) => {
+            let mut args = reply.args;
+            args[4] = u64::from(label.phone.0);
+            Reply {
+                code: reply.code,
+                args,
+            }
+        }
+        None => *reply,
+    }
+}
+
+/// The message with this fifth argument.
+fn with_fifth(msg: &Msg, number: u64) -> Msg
+    ensures { result ≡ with_fifth msg.now number }
+{
+    let mut args = msg.args;
+    args[4] = number;
+    Msg {
+        method: msg.method,
+        args,
+    }
+}
+
+/// The number by which a message names the phone.
+fn number_of(phone: Option<Label>) -> u64
+    ensures { result ≡ number_of phone }
+{
+    match phone {
+        Some(label) => u64::from(label.phone.0),
+        None => NO_PHONE,
+    }
+}
