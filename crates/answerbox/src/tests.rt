@@ -76,6 +76,34 @@ fn calls_go_from_place_to_place(rt: HostRuntime) -> Result<(), Fail> {
 }
 
 #[test]
+fn a_received_call_has_its_message_and_its_phone(rt: HostRuntime) -> Result<(), Fail> {
+    let mut boxes = Boxes::new(rt.alloc());
+    boxes.add_task()?;
+    boxes.add_task()?;
+    boxes.reserve(1)?;
+    let (caller, receiver) = (TaskNo(1), TaskNo(2));
+    let one = boxes.next_number();
+    boxes.enqueue(call_from(rt.alloc(), one, caller, Place::Incoming(receiver)));
+    let reserved = Some(Label {
+        task: receiver,
+        phone: PhoneNo(3),
+    });
+    if let Some(first) = boxes.front(Place::Incoming(receiver)) {
+        boxes.receive(first, Msg::bare(700), reserved, Place::Dispatched(receiver));
+    }
+    assert_eq!(rt; boxes.front(Place::Incoming(receiver)), None);
+    assert_eq!(rt; boxes.front(Place::Dispatched(receiver)), Some(one));
+    let Some(call) = boxes.get(one) else {
+        return Err(Fail::new("the call is gone"));
+    };
+    assert_eq!(rt; call.msg, Msg::bare(700));
+    assert_eq!(rt; call.request, Msg::bare(512));
+    assert_eq!(rt; call.reserved, reserved);
+    assert_eq!(rt; call.stamp, 2);
+    Ok(())
+}
+
+#[test]
 fn a_caller_has_its_calls_by_rising_number(rt: HostRuntime) -> Result<(), Fail> {
     let mut boxes = Boxes::new(rt.alloc());
     boxes.add_task()?;
@@ -126,7 +154,13 @@ fn a_readdressed_call_comes_last_to_its_next_place(rt: HostRuntime) -> Result<()
         phone: PhoneNo(4),
     };
     if let Some(first) = boxes.front(Place::Incoming(receiver)) {
-        boxes.readdress(first, Msg::bare(700), label, None, Place::Incoming(third));
+        boxes.readdress(
+            first,
+            Msg::bare(700),
+            label,
+            Some(label),
+            Place::Incoming(third),
+        );
     }
     assert_eq!(rt; boxes.front(Place::Incoming(receiver)), None);
     assert_eq!(rt; boxes.front(Place::Incoming(third)), Some(two));
@@ -136,6 +170,7 @@ fn a_readdressed_call_comes_last_to_its_next_place(rt: HostRuntime) -> Result<()
     assert_eq!(rt; call.msg, Msg::bare(700));
     assert_eq!(rt; call.request, Msg::bare(512));
     assert_eq!(rt; call.label, label);
+    assert_eq!(rt; call.reserved, Some(label));
     assert_eq!(rt; call.stamp, 3);
     Ok(())
 }

@@ -1,5 +1,5 @@
 -- Which calls may be passed on, and what the next receiver sees of them.
-use Rattle.std.specs.Prelude.{ℕ, ⊤, ◌≤◌, Bool, false, not, ◌&&◌, if◌then◌else◌, Option, None, Some, nat_lt}
+use Rattle.std.specs.Prelude.{ℕ, ⊤, ◌≤◌, Bool, false, not, ◌&&◌, Option, None, Some, nat_lt, slice_index, slice_set}
 use Rattle.ipc_ids.specs.declared.message.Msg.{Msg}
 use Rattle.ipc_ids.specs.declared.message.Mode.{Mode}
 use Rattle.ipc_ids.specs.declared.message.Mode.TheVariants.{Plain, Route}
@@ -7,7 +7,9 @@ use Rattle.ipc_ids.specs.declared.message.PhoneState.{PhoneState}
 use Rattle.ipc_ids.specs.declared.message.PhoneState.TheVariants.{Free, Connecting, Connected, HungUp, Slammed}
 use Rattle.ipc_ids.specs.declared.numbers.Label.{Label}
 use Rattle.ipc_ids.specs.declared.numbers.TaskNo.{TaskNo}
-use Rattle.ipc_ids.specs.Methods.{first_user_method}
+use Rattle.ipc_ids.specs.declared.methods.MethodKind.{MethodKind}
+use Rattle.ipc_ids.specs.declared.methods.MethodKind.TheVariants.{PhoneHungUp, ConnectToMe, ConnectMeTo, NotBuilt, User}
+use Rattle.ipc_ids.specs.Methods.{first_user_method, kind_of}
 use Rattle.call_slab.specs.declared.call.Call.{Call}
 use Rattle.call_slab.specs.declared.call.Place.TheVariants.{Dispatched}
 use Rattle.answerbox.specs.Calls.{is_hangup, same_place}
@@ -29,10 +31,22 @@ has_system_method (Some msg) = nat_lt msg.method first_user_method
 abbrev pub is_forwardable : Option Msg → Call → Bool
 is_forwardable change c = not (is_hangup c) && not (is_user_call c && has_system_method change)
 
--- a user call takes the change, where there is one
+-- the message of a connect call, with arguments 1 to 4 of the change
+abbrev pub connect_msg : Msg → Msg → Msg
+connect_msg change msg = record { method = msg.method; args = slice_set change.args 4 (slice_index msg.args 4) }
+
+-- the message of a call of this kind, after a change
+abbrev pub changed_msg : MethodKind → Msg → Msg → Msg
+changed_msg PhoneHungUp change msg = msg
+changed_msg ConnectToMe change msg = connect_msg change msg
+changed_msg ConnectMeTo change msg = connect_msg change msg
+changed_msg NotBuilt change msg = msg
+changed_msg User change msg = change
+
+-- the message that the next receiver sees: where there is no change, the one of now
 abbrev pub msg_after : Option Msg → Call → Msg
 msg_after None c = c.msg
-msg_after (Some msg) c = if is_user_call c then msg else c.msg
+msg_after (Some change) c = changed_msg (kind_of c.request.method) change c.msg
 
 -- the sender that the next receiver sees: with Route the phone over which the call is passed on
 abbrev pub label_after : TaskNo → ℕ → Mode → Call → Label

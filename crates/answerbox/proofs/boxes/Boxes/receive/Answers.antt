@@ -11,9 +11,9 @@ unwrap-i-requires c =
 pub invariant_of-self : goal.invariant_of-self
 invariant_of-self c =
     let s : StandsAt c.self.inside.records.items c.args.call.0 c.unwrap-i.result = rw (c.unwrap-i.ensures, c.deref.ensures.value) at c.position_of.ensures.found in
-    rw c.put.ensures (rises-set 1 c.self.inside.records.items c.self.inside.next_number c.unwrap-i.result c.index_mut-record.result.now _ c.self.invariant s.in_range c.index_mut-record.ensures.value refl)
+    rw c.put.ensures (rises-set 1 c.self.inside.records.items c.self.inside.next_number c.unwrap-i.result c.index_mut-received.result.now _ c.self.invariant s.in_range c.index_mut-received.ensures.value refl)
 
 pub returns-clause-calls : goal.returns-clause-calls
 returns-clause-calls c =
     let s : StandsAt c.self.inside.records.items c.args.call.0 c.unwrap-i.result = rw (c.unwrap-i.ensures, c.deref.ensures.value) at c.position_of.ensures.found in
-    rw (← c.self.view_is, c.put.ensures) (put_at_at c.self.inside.records.items c.self.inside.next_number c.self.inside.next_stamp c.args.call.0 c.unwrap-i.result c.index_mut-record.result.now (λ d. record d { msg = c.args.msg; reserved = c.args.reserved }) c.args.place c.self.invariant s c.index_mut-record.ensures.value refl)
+    rw (← c.self.view_is, c.put.ensures) (put_at_at c.self.inside.records.items c.self.inside.next_number c.self.inside.next_stamp c.args.call.0 c.unwrap-i.result c.index_mut-received.result.now (λ d. record d { msg = c.args.msg; reserved = c.args.reserved }) c.args.place c.self.invariant s c.index_mut-received.ensures.value refl)
