@@ -16,17 +16,17 @@ use Rattle.cleanup.specs.Serving.{Handed}
 use Rattle.kernel_core.specs.Moments.{on_receive}
 
 -- the code left this state and this record, and handed on this note; what the call keeps is new to it
-pub record IsHanded (new : BoardState) (call : Call) (note : Option Entry) (handed : Handed) : Type 0 where
+pub record IsHanded (new : BoardState) (c : Call) (told : Option Entry) (handed : Handed) : Type 0 where
   pub state : new.state ≡ handed.state
-  pub call : call ≡ handed.call
-  pub note : note ≡ handed.note
-  pub loose : IsLoose new.state (kept_phone call)
+  pub call : c ≡ handed.call
+  pub note : told ≡ handed.note
+  pub loose : IsLoose new.state (kept_phone c)
 
 -- nothing has changed, and the call is to be answered with this code
-pub record IsUnsent (old new : BoardState) (before now : Call) (given code : Code) : Type 0 where
+pub record IsUnsent (old new : BoardState) (before now : Call) (given wanted : Code) : Type 0 where
   pub state : new.state ≡ old.state
   pub call : now ≡ before
-  pub code : given ≡ code
+  pub code : given ≡ wanted
 
 abbrev pub IsSent : BoardState → BoardState → Call → Call → Result (Option Entry) Code → Result Handed Code → Type 0
 IsSent old new before now (Ok note) (Ok handed) = IsHanded new now note handed
@@ -46,11 +46,11 @@ Arrives old new arrival who None = ⊥
 Arrives old new arrival who (Some c) = IsArriving new arrival old.state who c
 
 -- the live call has this number and this kind, task t holds it, and this is its caller, unless that has ended
-pub record IsAnswered (c : Call) (number : CallNo) (kind : MethodKind) (t : TaskNo) (caller : Option TaskNo) : Type 0 where
-  pub number : c.number ≡ number
-  pub kind : kind_of c.request.method ≡ kind
+pub record IsAnswered (c : Call) (n : CallNo) (wanted : MethodKind) (t : TaskNo) (made_by : Option TaskNo) : Type 0 where
+  pub number : c.number ≡ n
+  pub kind : kind_of c.request.method ≡ wanted
   pub place : c.place ≡ Dispatched t
-  pub caller : c.caller ≡ caller
+  pub caller : c.caller ≡ made_by
 
 abbrev pub IsHeldOf : Option Call → CallNo → MethodKind → TaskNo → Option TaskNo → Type 0
 IsHeldOf None number kind t caller = ⊥
