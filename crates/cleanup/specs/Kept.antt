@@ -1,5 +1,5 @@
 -- The phones that connect calls keep for their connections, and who keeps which.
-use Rattle.std.specs.Prelude.{◌≡◌, ℕ, ◌+◌, ◌==◌, ⊤, Bool, false, if◌then◌else◌, List, [], ◌∷◌, Option, None, Some, Result, Ok, Err, option_and_then}
+use Rattle.std.specs.Prelude.{◌≡◌, ℕ, ◌+◌, ◌==◌, ◌⊎◌, ⊤, Bool, false, if◌then◌else◌, List, [], ◌∷◌, Option, None, Some, Result, Ok, Err, option_and_then}
 use Rattle.ipc_ids.specs.declared.numbers.TaskNo.{TaskNo}
 use Rattle.ipc_ids.specs.declared.numbers.Label.{Label}
 use Rattle.ipc_ids.specs.declared.numbers.Code.{Code}
@@ -133,10 +133,11 @@ abbrev pub IsLoose : KernelState → Option Label → Type 0
 IsLoose k None = ⊤
 IsLoose k (Some l) = IsLoosePhone k l
 
--- the phone that a live call reserves as it is received: one that it keeps is new to it
-abbrev pub MayReserve : KernelState → MethodKind → Option Label → Option Label → Type 0
-MayReserve k PhoneHungUp before after = after ≡ before
-MayReserve k ConnectToMe before after = IsLoose k after
-MayReserve k ConnectMeTo before after = after ≡ before
-MayReserve k NotBuilt before after = after ≡ before
-MayReserve k User before after = after ≡ before
+-- what the record keeps is what the call kept, or a phone that no call keeps
+abbrev pub MayKeep : KernelState → Call → Call → Type 0
+MayKeep k c d = (kept_phone d ≡ kept_phone c) ⊎ IsLoose k (kept_phone d)
+
+-- the live call may be received by task t with this phone reserved
+abbrev pub MayReserve : KernelState → Option Call → Option Label → TaskNo → Type 0
+MayReserve k None reserved t = ⊥
+MayReserve k (Some c) reserved t = MayKeep k c (record c { reserved = reserved; place = Dispatched t })
