@@ -110,11 +110,11 @@ keepers_phone_changed {rows} a b state s not = record {
   each = λ t p is. elim (state_changed_at rows a b t p state Connecting is) [ inl e ↦ absurd (not e.2) | inr e ↦ s.each t p e.1 ];
 }
 
+none_some : (o : Option Label) (x : Label) → o ≡ None → o ≡ Some x → ⊥
+none_some o x a b = cc
+
 -- a call lets its phone go, and the others keep theirs
 module _ {rows : List (List PhoneState)} (q r : CallTable) (n : ℕ) (l : Label) (was : kept_by q n ≡ Some l) (is : kept_by r n ≡ None) (others : (m : ℕ) → (n ≡ m → ⊥) → kept_by r m ≡ kept_by q m) where
-  none_some : (o : Option Label) (x : Label) → o ≡ None → o ≡ Some x → ⊥
-  none_some o x a b = cc
-
   pub let_go_kept : AreKept rows q → AreKept rows r
   let_go_kept s = kept_less r (λ m x has. elim (cases_eq n m) [
     | inl e ↦ absurd (none_some (kept_by r n) x is (ap (kept_by r) e ∙ has))

@@ -153,7 +153,7 @@ passed_lets_go c msg label to reserved User = inl refl
 -- a call that was put to a place where it keeps nothing: nobody keeps what it kept
 pub put_unkept : (k : KernelState) (n : ℕ) (c d : Call) (place : Place) → AreKept k.tasks.phones k.calls → call_at k.calls n ≡ Some c → d.number.0 ≡ n → kept_phone (record d { place = place }) ≡ None → AreUnkept (put_at k.calls d place) (kept_phone c)
 put_unkept k n c d place s is number none = by_phone (kept_phone c) refl where
-  abbrev e : Call
+  e : Call
   e = record d { place = place; stamp = k.calls.next_stamp }
 
   at : (m : ℕ) → call_at (put_at k.calls d place) m ≡ (if d.number.0 == m then Some e else call_at k.calls m)
