@@ -5,6 +5,7 @@ use Rattle.std.proofs.lemmas.Bool.{cases_eq}
 use Rattle.ipc_ids.specs.declared.numbers.TaskNo.{TaskNo}
 use Rattle.ipc_ids.specs.declared.numbers.CallNo.{CallNo}
 use Rattle.ipc_ids.specs.declared.numbers.Label.{Label}
+use Rattle.ipc_ids.specs.declared.numbers.Code.{Code}
 use Rattle.ipc_ids.specs.declared.message.Msg.{Msg}
 use Rattle.ipc_ids.specs.declared.message.Reply.{Reply}
 use Rattle.ipc_ids.specs.declared.message.PhoneState.{PhoneState}
@@ -68,14 +69,14 @@ kept_forgotten q n c s is number =
 -- an answer that does not accept
 pub declined_keeps : (k : KernelState) (c : Call) (reply : Reply) (caller : TaskNo) → IsPendingAt c.place → MayKeep k c (record (declined_call c reply) { place = Answers caller })
 declined_keeps k c reply caller pending = by_kind (kind_of c.request.method) where
-  asked : (place : Place) → IsPendingAt place → (b : Bool) → ((if b then None else phone_of c.from.task c.reserved) ≡ kept_of ConnectMeTo (record c { place = place })) ⊎ IsLoose k (if b then None else phone_of c.from.task c.reserved)
+  asked : (place : Place) → IsPendingAt place → (b : Bool) → ((if b then None else phone_of c.from.task c.reserved) ≡ kept_of ConnectMeTo c.from.task place c.reply.code c.reserved) ⊎ IsLoose k (if b then None else phone_of c.from.task c.reserved)
   asked (Incoming t) h true = inr tt
   asked (Incoming t) h false = inl refl
   asked (Dispatched t) h true = inr tt
   asked (Dispatched t) h false = inl refl
   asked (Answers t) h b = absurd h
 
-  by_kind : (kind : MethodKind) → (kept_of kind (record c { reply = reply; reserved = unless_freed (lent_of kind c) c.reserved; place = Answers caller }) ≡ kept_of kind c) ⊎ IsLoose k (kept_of kind (record c { reply = reply; reserved = unless_freed (lent_of kind c) c.reserved; place = Answers caller }))
+  by_kind : (kind : MethodKind) → (kept_of kind c.from.task (Answers caller) reply.code (unless_freed (lent_of kind c.place c.reserved) c.reserved) ≡ kept_of kind c.from.task c.place c.reply.code c.reserved) ⊎ IsLoose k (kept_of kind c.from.task (Answers caller) reply.code (unless_freed (lent_of kind c.place c.reserved) c.reserved))
   by_kind PhoneHungUp = inr tt
   by_kind ConnectToMe = inr tt
   by_kind ConnectMeTo = asked c.place pending (accepts reply.code)
@@ -85,12 +86,12 @@ declined_keeps k c reply caller pending = by_kind (kind_of c.request.method) whe
 -- a call that goes on
 pub passed_keeps : (k : KernelState) (c : Call) (msg : Msg) (label : Label) (to : TaskNo) → IsPendingAt c.place → MayKeep k c (record (passed_call msg label c) { place = Incoming to })
 passed_keeps k c msg label to pending = by_kind (kind_of c.request.method) where
-  asked : (place : Place) → IsPendingAt place → phone_of c.from.task c.reserved ≡ kept_of ConnectMeTo (record c { place = place })
+  asked : (place : Place) → IsPendingAt place → phone_of c.from.task c.reserved ≡ kept_of ConnectMeTo c.from.task place c.reply.code c.reserved
   asked (Incoming t) h = refl
   asked (Dispatched t) h = refl
   asked (Answers t) h = absurd h
 
-  by_kind : (kind : MethodKind) → (kept_of kind (record c { msg = msg; label = label; reserved = unless_freed (lent_of kind c) c.reserved; place = Incoming to }) ≡ kept_of kind c) ⊎ IsLoose k (kept_of kind (record c { msg = msg; label = label; reserved = unless_freed (lent_of kind c) c.reserved; place = Incoming to }))
+  by_kind : (kind : MethodKind) → (kept_of kind c.from.task (Incoming to) c.reply.code (unless_freed (lent_of kind c.place c.reserved) c.reserved) ≡ kept_of kind c.from.task c.place c.reply.code c.reserved) ⊎ IsLoose k (kept_of kind c.from.task (Incoming to) c.reply.code (unless_freed (lent_of kind c.place c.reserved) c.reserved))
   by_kind PhoneHungUp = inr tt
   by_kind ConnectToMe = inr tt
   by_kind ConnectMeTo = inl (asked c.place pending)
@@ -98,18 +99,18 @@ passed_keeps k c msg label to pending = by_kind (kind_of c.request.method) where
   by_kind User = inr tt
 
 -- a call that is accepted keeps no phone
-pub accepted_keeps : (kind : MethodKind) (c : Call) (reply : Reply) (caller : TaskNo) → accepts reply.code ≡ true → kept_of kind (record c { reply = reply; place = Answers caller }) ≡ None
-accepted_keeps PhoneHungUp c reply caller yes = refl
-accepted_keeps ConnectToMe c reply caller yes = refl
-accepted_keeps ConnectMeTo c reply caller yes = rw yes refl
-accepted_keeps NotBuilt c reply caller yes = refl
-accepted_keeps User c reply caller yes = refl
+pub accepted_keeps : (kind : MethodKind) (from caller : TaskNo) (code : Code) (reserved : Option Label) → accepts code ≡ true → kept_of kind from (Answers caller) code reserved ≡ None
+accepted_keeps PhoneHungUp from caller code reserved accept = refl
+accepted_keeps ConnectToMe from caller code reserved accept = refl
+accepted_keeps ConnectMeTo from caller code reserved accept = rw accept refl
+accepted_keeps NotBuilt from caller code reserved accept = refl
+accepted_keeps User from caller code reserved accept = refl
 
 -- a phone that a call has let go is loose
 
 pub loose_after : (k : KernelState) (r : CallTable) (n : ℕ) (c : Call) (kept : Option Label) → AreKept k.tasks.phones k.calls → call_at k.calls n ≡ Some c → (kept ≡ None) ⊎ ((kept ≡ kept_phone c) × (kept_by r n ≡ None)) → ((m : ℕ) → (n ≡ m → ⊥) → kept_by r m ≡ kept_by k.calls m) → IsLoose (with_calls k r) kept
 loose_after k r n c None s is may others = tt
-loose_after k r n c (Some l) s is (inl no) others = absurd (cc no)
+loose_after k r n c (Some l) s is (inl none) others = absurd (cc none)
 loose_after k r n c (Some l) s is (inr has) others =
     let was : kept_by k.calls n ≡ Some l = kept_of_call k.calls n c is ∙ sym has.0 in
     record {
@@ -124,31 +125,29 @@ left_loose k n c s is =
     (inr (refl, kept_here k.calls (without_call k.calls n) n None (at_remove k.calls.records n)))
     (kept_other k.calls (without_call k.calls n) n None (at_remove k.calls.records n))
 
+-- what its holder kept is kept no more at another place
+pub lets_go : (kind : MethodKind) (from : TaskNo) (before after : Place) (code : Code) (reserved : Option Label) → ((t : TaskNo) → after ≡ Dispatched t → ⊥) → (lent_of kind before reserved ≡ None) ⊎ ((lent_of kind before reserved ≡ kept_of kind from before code reserved) × ((from' : TaskNo) (code' : Code) (reserved' : Option Label) → kept_of kind from' after code' reserved' ≡ None))
+lets_go PhoneHungUp from before after code reserved not = inl refl
+lets_go ConnectToMe from before after code reserved not = inr (refl, λ from' code' reserved'. gone after not reserved') where
+  gone : (place : Place) → ((t : TaskNo) → place ≡ Dispatched t → ⊥) → (reserved' : Option Label) → held_phone place reserved' ≡ None
+  gone (Incoming t) h reserved' = refl
+  gone (Dispatched t) h reserved' = absurd (h t refl)
+  gone (Answers t) h reserved' = refl
+lets_go ConnectMeTo from before after code reserved not = inl refl
+lets_go NotBuilt from before after code reserved not = inl refl
+lets_go User from before after code reserved not = inl refl
+
 -- a call that was put to a place where its holder keeps nothing for it
-pub put_loose : (k : KernelState) (n : ℕ) (c d : Call) (place : Place) → AreKept k.tasks.phones k.calls → call_at k.calls n ≡ Some c → d.number.0 ≡ n → ((kind : MethodKind) → (lent_of kind c ≡ None) ⊎ ((lent_of kind c ≡ kept_of kind c) × (kept_of kind (record d { place = place }) ≡ None))) → d.request ≡ c.request → IsLoose (with_calls k (put_at k.calls d place)) (lent_phone c)
-put_loose k n c d place s is number by_kind request =
+pub put_loose : (k : KernelState) (n : ℕ) (c d : Call) (place : Place) → AreKept k.tasks.phones k.calls → call_at k.calls n ≡ Some c → d.number.0 ≡ n → d.request ≡ c.request → ((t : TaskNo) → place ≡ Dispatched t → ⊥) → IsLoose (with_calls k (put_at k.calls d place)) (lent_phone c)
+put_loose k n c d place s is number request not =
     let e : Call = record d { place = place; stamp = k.calls.next_stamp } in
     let r : CallTable = put_at k.calls d place in
     let at : (m : ℕ) → call_at r m ≡ (if d.number.0 == m then Some e else call_at k.calls m) = λ m. at_insert k.calls.records d.number.0 m e in
     let here : kept_by r n ≡ kept_phone e = subst (λ i. kept_by r i ≡ kept_phone e) number (kept_here k.calls r d.number.0 (Some e) at) in
-    let same : kept_phone e ≡ kept_of (kind_of c.request.method) (record d { place = place }) = ap (λ (m : Msg). kept_of (kind_of m.method) (record d { place = place })) request in
+    let same : kept_phone e ≡ kept_of (kind_of c.request.method) d.from.task place d.reply.code d.reserved = ap (λ (m : Msg). kept_of (kind_of m.method) d.from.task place d.reply.code d.reserved) request in
     loose_after k r n c (lent_phone c) s is
-    (elim (by_kind (kind_of c.request.method)) [ inl no ↦ inl no | inr x ↦ inr (x.0, here ∙ same ∙ x.1) ])
+    (elim (lets_go (kind_of c.request.method) c.from.task c.place place c.reply.code c.reserved not) [ inl none ↦ inl none | inr x ↦ inr (x.0, here ∙ same ∙ x.1 d.from.task d.reply.code d.reserved) ])
     (λ m ne. kept_other k.calls r d.number.0 (Some e) at m (λ z. ne (sym number ∙ z)))
-
-pub declined_lets_go : (c : Call) (reply : Reply) (caller : TaskNo) (reserved : Option Label) (kind : MethodKind) → (lent_of kind c ≡ None) ⊎ ((lent_of kind c ≡ kept_of kind c) × (kept_of kind (record c { reply = reply; reserved = reserved; place = Answers caller }) ≡ None))
-declined_lets_go c reply caller reserved PhoneHungUp = inl refl
-declined_lets_go c reply caller reserved ConnectToMe = inr (refl, refl)
-declined_lets_go c reply caller reserved ConnectMeTo = inl refl
-declined_lets_go c reply caller reserved NotBuilt = inl refl
-declined_lets_go c reply caller reserved User = inl refl
-
-pub passed_lets_go : (c : Call) (msg : Msg) (label : Label) (to : TaskNo) (reserved : Option Label) (kind : MethodKind) → (lent_of kind c ≡ None) ⊎ ((lent_of kind c ≡ kept_of kind c) × (kept_of kind (record c { msg = msg; label = label; reserved = reserved; place = Incoming to }) ≡ None))
-passed_lets_go c msg label to reserved PhoneHungUp = inl refl
-passed_lets_go c msg label to reserved ConnectToMe = inr (refl, refl)
-passed_lets_go c msg label to reserved ConnectMeTo = inl refl
-passed_lets_go c msg label to reserved NotBuilt = inl refl
-passed_lets_go c msg label to reserved User = inl refl
 
 -- a call that was put to a place where it keeps nothing: nobody keeps what it kept
 pub put_unkept : (k : KernelState) (n : ℕ) (c d : Call) (place : Place) → AreKept k.tasks.phones k.calls → call_at k.calls n ≡ Some c → d.number.0 ≡ n → kept_phone (record d { place = place }) ≡ None → AreUnkept (put_at k.calls d place) (kept_phone c)

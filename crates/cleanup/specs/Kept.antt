@@ -42,27 +42,27 @@ is_accepted (Answers t) code = accepts code
 abbrev pub asked_phone : TaskNo → Place → Code → Option Label → Option Label
 asked_phone from place code reserved = if is_accepted place code then None else phone_of from reserved
 
-abbrev pub kept_of : MethodKind → Call → Option Label
-kept_of PhoneHungUp c = None
-kept_of ConnectToMe c = held_phone c.place c.reserved
-kept_of ConnectMeTo c = asked_phone c.from.task c.place c.reply.code c.reserved
-kept_of NotBuilt c = None
-kept_of User c = None
+abbrev pub kept_of : MethodKind → TaskNo → Place → Code → Option Label → Option Label
+kept_of PhoneHungUp from place code reserved = None
+kept_of ConnectToMe from place code reserved = held_phone place reserved
+kept_of ConnectMeTo from place code reserved = asked_phone from place code reserved
+kept_of NotBuilt from place code reserved = None
+kept_of User from place code reserved = None
 
 -- the phone that the call keeps
 abbrev pub kept_phone : Call → Option Label
-kept_phone c = kept_of (kind_of c.request.method) c
+kept_phone c = kept_of (kind_of c.request.method) c.from.task c.place c.reply.code c.reserved
 
 -- the same, where the task that holds the call keeps it
-abbrev pub lent_of : MethodKind → Call → Option Label
-lent_of PhoneHungUp c = None
-lent_of ConnectToMe c = held_phone c.place c.reserved
-lent_of ConnectMeTo c = None
-lent_of NotBuilt c = None
-lent_of User c = None
+abbrev pub lent_of : MethodKind → Place → Option Label → Option Label
+lent_of PhoneHungUp place reserved = None
+lent_of ConnectToMe place reserved = held_phone place reserved
+lent_of ConnectMeTo place reserved = None
+lent_of NotBuilt place reserved = None
+lent_of User place reserved = None
 
 abbrev pub lent_phone : Call → Option Label
-lent_phone c = lent_of (kind_of c.request.method) c
+lent_phone c = lent_of (kind_of c.request.method) c.place c.reserved
 
 -- a phone that was freed is reserved no more
 abbrev pub unless_freed : Option Label → Option Label → Option Label

@@ -6,7 +6,7 @@ use Rattle.cleanup.specs.Board.{IsPending, IsPendingAt}
 use Rattle.cleanup.specs.Joins.{declined_call}
 use Rattle.cleanup.proofs.Endings.{within}
 use Rattle.cleanup.proofs.Inner.{inner}
-use Rattle.cleanup.proofs.KeptCalls.{declined_keeps, declined_lets_go, kept_put, put_loose}
+use Rattle.cleanup.proofs.KeptCalls.{declined_keeps, kept_put, put_loose}
 use Rattle.cleanup.proofs.Live.{live_declined}
 use Rattle.cleanup.proofs.Switched.{switched_put}
 use Rattle.cleanup.proofs.board.Switchboard.decline.Goals as goal
@@ -34,7 +34,7 @@ returns-clause-loose c =
     let is : call_at i.boxes.calls c.args.call.0 ≡ Some r = sym c.get.ensures.call ∙ ap option_copied c.unwrap-record.ensures in
     let number = c.self.invariant.0.has_counts.numbered c.args.call.0 r is in
     rw (c.answer.ensures.calls, is, c.unless_freed.ensures, c.lent_phone-lent.ensures)
-    (put_loose (inner i) c.args.call.0 r (declined_call r c.args.reply) (Answers c.args.caller) c.self.invariant.0.kept is number (λ kind. declined_lets_go r c.args.reply c.args.caller (declined_call r c.args.reply).reserved kind) refl)
+    (put_loose (inner i) c.args.call.0 r (declined_call r c.args.reply) (Answers c.args.caller) c.self.invariant.0.kept is number refl (λ t e. cc))
 
 pub returns-clause-state : goal.returns-clause-state
 returns-clause-state c =
