@@ -13,6 +13,8 @@ pub mod KilledPhones
 pub mod Histories
 pub mod Limits
 pub mod KillExample
+pub mod Keepers
+pub mod KeptCalls
 pub mod Keeping
 pub mod Endings
 pub mod Inner
