@@ -9,6 +9,7 @@ use Rattle.ipc_ids.specs.declared.methods.MethodKind.TheVariants.{PhoneHungUp, C
 use Rattle.ipc_ids.specs.declared.message.PhoneState.{PhoneState}
 use Rattle.ipc_ids.specs.Methods.{kind_of}
 use Rattle.call_slab.specs.declared.call.Call.{Call}
+use Rattle.call_slab.specs.declared.call.Place.{Place}
 use Rattle.answerbox.specs.Calls.{CallTable, call_at, active_calls}
 use Rattle.phone_table.specs.Phones.{row_at, is_usable}
 use Rattle.cleanup.specs.State.{KernelState, phone_at, label_of}
@@ -54,12 +55,12 @@ usable_is k t l h =
 
 -- the phone that a live call keeps waits, also where its holder keeps it
 
-lent_kept : (kind : MethodKind) (c : Call) (l : Label) → lent_of kind c ≡ Some l → kept_of kind c ≡ Some l
-lent_kept PhoneHungUp c l h = h
-lent_kept ConnectToMe c l h = h
-lent_kept ConnectMeTo c l h = absurd (cc h)
-lent_kept NotBuilt c l h = h
-lent_kept User c l h = h
+lent_kept : (kind : MethodKind) (from : TaskNo) (place : Place) (code : Code) (reserved : Option Label) (l : Label) → lent_of kind place reserved ≡ Some l → kept_of kind from place code reserved ≡ Some l
+lent_kept PhoneHungUp from place code reserved l h = h
+lent_kept ConnectToMe from place code reserved l h = h
+lent_kept ConnectMeTo from place code reserved l h = absurd (cc h)
+lent_kept NotBuilt from place code reserved l h = h
+lent_kept User from place code reserved l h = h
 
 module _ (rows : List (List PhoneState)) (q : CallTable) (n : ℕ) (c : Call) (s : AreKept rows q) (is : call_at q n ≡ Some c) where
   waits : (o : Option Label) → ((l : Label) → o ≡ Some l → kept_phone c ≡ Some l) → WaitsIn rows o
@@ -70,4 +71,4 @@ module _ (rows : List (List PhoneState)) (q : CallTable) (n : ℕ) (c : Call) (s
   kept_waits = waits (kept_phone c) (λ l e. e)
 
   pub lent_waits : WaitsIn rows (lent_phone c)
-  lent_waits = waits (lent_phone c) (lent_kept (kind_of c.request.method) c)
+  lent_waits = waits (lent_phone c) (lent_kept (kind_of c.request.method) c.from.task c.place c.reply.code c.reserved)
