@@ -1,5 +1,6 @@
 pub mod Lookups
 pub mod Rows
+pub mod Usable
 pub mod Loops
 pub mod Soundness
 pub mod Counting
