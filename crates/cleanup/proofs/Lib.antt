@@ -2,6 +2,8 @@ pub mod Lookups
 pub mod Rows
 pub mod Loops
 pub mod Soundness
+pub mod SoundStates
+pub mod SoundJoins
 pub mod Counting
 pub mod Recounting
 pub mod Repeats
@@ -12,6 +14,7 @@ pub mod KilledPhones
 pub mod Histories
 pub mod Limits
 pub mod KillExample
+pub mod Keepers
 pub mod Keeping
 pub mod Endings
 pub mod Inner

@@ -24,7 +24,8 @@ use Rattle.cleanup.specs.Kill.{width, mark_ended, hang_up_at, slam, first_at, fi
 use Rattle.cleanup.specs.Limits.{awaited_calls, hangup_calls, IsIdle, IsWithinLimits, IsRowOf}
 use Rattle.cleanup.proofs.Rows.{some_of}
 use Rattle.cleanup.proofs.Repeats.{by_test, each_keeps, drain_keeps}
-use Rattle.cleanup.proofs.Silence.{with_marks, next_free, hang_up_ends, IsEnding, IsAlone, own_phones_hung_up, phones_slammed, slams_keep}
+use Rattle.cleanup.proofs.Soundness.{next_free}
+use Rattle.cleanup.proofs.Silence.{with_marks, hang_up_ends, IsEnding, IsAlone, own_phones_hung_up, phones_slammed, slams_keep}
 use Rattle.cleanup.proofs.Queues.{IsLive, IsUncalled, IsIdle as IsWithoutHeld, IsUnanswered, front_at, call_from, forget_step, forget_unanswered, incoming_alone, incoming_settled, dispatched_uncalled, dispatched_settled, drop_idle, answers_dropped}
 use Rattle.cleanup.proofs.Killing.{after_hangups, after_slams, after_incoming, after_dispatched, after_answers}
 use Rattle.cleanup.proofs.KilledPhones.{written_here, written_elsewhere}
