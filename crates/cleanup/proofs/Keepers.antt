@@ -92,6 +92,10 @@ loose_there k (Some l) loose = is_some (state_at k.tasks.phones l.task.0 l.phone
 pub loose_unkept : (k : KernelState) (l : Label) → IsLoosePhone k l → IsUnkept k.calls l.task.0 l.phone.0
 loose_unkept k l loose n x is e = loose.unkept n (is ∙ ap Some (same_phone x l e.0 e.1))
 
+pub waiting_there : (rows : List (List PhoneState)) (kept : Option Label) → WaitsIn rows kept → IsThere rows kept
+waiting_there rows None waits = tt
+waiting_there rows (Some l) waits = is_some (state_at rows l.task.0 l.phone.0) Connecting waits
+
 pub loose_waits : (k : KernelState) (kept : Option Label) → IsLoose k kept → WaitsIn k.tasks.phones kept
 loose_waits k None loose = tt
 loose_waits k (Some l) loose = loose.waits

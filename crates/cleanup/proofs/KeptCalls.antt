@@ -1,7 +1,7 @@
 -- What the calls keep after each change of a call, and that a phone which a call has let go is kept by none.
 use Rattle.std.proofs.Common.{◌≡◌, ℕ, ◌⊎◌, inl, inr, Bool, true, false, Option, None, Some, List, refl, ap, sym, subst, ◌∙◌}
 use Rattle.std.specs.Prelude.{◌==◌, if◌then◌else◌, option_and_then, ⊤}
-use Rattle.std.proofs.lemmas.Bool.{cases_eq}
+use Rattle.std.proofs.lemmas.Bool.{cases_eq, eqb-true}
 use Rattle.ipc_ids.specs.declared.numbers.TaskNo.{TaskNo}
 use Rattle.ipc_ids.specs.declared.numbers.CallNo.{CallNo}
 use Rattle.ipc_ids.specs.declared.numbers.Label.{Label}
@@ -17,9 +17,9 @@ use Rattle.call_slab.specs.declared.call.Place.{Place}
 use Rattle.call_slab.specs.declared.call.Place.TheVariants.{Incoming, Dispatched, Answers}
 use Rattle.answerbox.specs.Calls.{CallTable, call_at, enqueue, put_at, with_record, without_call, without_caller}
 use Rattle.cleanup.specs.State.{KernelState, with_calls}
-use Rattle.cleanup.specs.Kept.{AreKept, IsLoose, MayKeep, accepts, phone_of, held_phone, is_accepted, kept_by, kept_of, kept_phone, lent_of, lent_phone, unless_freed}
+use Rattle.cleanup.specs.Kept.{AreKept, IsLoose, IsOf, MayKeep, accepts, phone_of, held_phone, is_accepted, kept_by, kept_of, kept_phone, lent_of, lent_phone, unless_freed}
 use Rattle.cleanup.specs.Joins.{declined_call, passed_call}
-use Rattle.cleanup.specs.Board.{IsPendingAt}
+use Rattle.cleanup.specs.Board.{IsPendingAt, IsHeldCall}
 use Rattle.cleanup.proofs.Lookups.{at_insert, at_remove}
 use Rattle.cleanup.proofs.Keepers.{AreUnkept, all_same, kept_here, kept_less, kept_of_call, kept_other, kept_same, let_go_loose, let_go_unkept, taken_kept}
 
@@ -180,3 +180,26 @@ put_unkept k n c d place s is number none = by_phone (kept_phone c) refl where
   by_phone : (o : Option Label) → kept_phone c ≡ o → AreUnkept (put_at k.calls d place) o
   by_phone None has = tt
   by_phone (Some l) has = let_go_unkept k.calls (put_at k.calls d place) n l (kept_of_call k.calls n c is ∙ has) here (λ m ne. kept_other k.calls (put_at k.calls d place) d.number.0 (Some e) at m (λ z. ne (sym number ∙ z))) s
+
+-- a call that its holder may accept
+
+module _ (c : Call) (t caller : TaskNo) where
+  -- the phone that a CONNECT_TO_ME keeps is one of its holder
+  pub held_own : IsHeldCall c ConnectToMe t caller → IsOf t (kept_phone c)
+  held_own h = rw (h.kind, h.place) (by_phone c.reserved) where
+    same : (l : Label) → l.task.0 ≡ t.0 → l.task ≡ t
+    same l e = ap (λ n. let u : TaskNo = record { 0 = n } in u) e
+
+    by_phone : (o : Option Label) → IsOf t (phone_of t o)
+    by_phone None = tt
+    by_phone (Some l) = by_test (l.task.0 == t.0) refl where
+      by_test : (b : Bool) → (l.task.0 == t.0) ≡ b → IsOf t (if b then Some l else None)
+      by_test true e = same l (eqb-true l.task.0 t.0 e)
+      by_test false e = tt
+
+  -- at the answers it keeps none
+  pub caller_keeps : (reply : Reply) → IsHeldCall c ConnectToMe t caller → kept_phone (record c { reply = reply; place = Answers caller }) ≡ None
+  caller_keeps reply h = rw h.kind refl
+
+  pub answerer_keeps : (reply : Reply) → IsHeldCall c ConnectMeTo t caller → accepts reply.code ≡ true → kept_phone (record c { reply = reply; place = Answers caller }) ≡ None
+  answerer_keeps reply h accept = rw (h.kind, accept) refl

@@ -132,6 +132,10 @@ switched_wired {alive} {phones} {counts} {calls} a b to s there added unkept = r
   kept = kept_phone_changed a b (Connected to) s.kept unkept;
 }
 
+-- whom a connection leads to was added
+pub leads_here : (u : TaskNo) (n : ℕ) → u.0 ≤ n → (v : TaskNo) → Connected u ≡ Connected v → v.0 ≤ n
+leads_here u n le v e = subst (λ (x : TaskNo). x.0 ≤ n) (same_end u v e) le
+
 -- the same of a kept phone, where there is one
 pub switched_kept : {alive : List Bool} {phones : List (List PhoneState)} {counts : List (List ℕ)} {calls : CallTable} {tasks : ℕ} (kept : Option Label) (state : PhoneState) → IsSwitched alive phones counts calls tasks → IsThere phones kept → ((u : TaskNo) → state ≡ Connected u → u.0 ≤ length alive) → AreUnkept calls kept → IsSwitched alive (kept_rows phones kept state) counts calls tasks
 switched_kept None state s there leads unkept = s

@@ -1,6 +1,7 @@
 //! The tasks, their phones and their calls, with room for more calls.
 ghost use Rattle.std.specs.Prelude.{◌≡◌, ℕ, ◌+◌, ◌-◌, ◌^◌, ◌<◌, ◌≤◌, true, Some, None, IsSome, IfSome, IfNone, IfOk, OnOk, OnErr, length};
 ghost use Rattle.std.specs.Option.{option_copied};
+ghost use Rattle.answerbox.specs.Places.{IsAt};
 ghost use Rattle.answerbox.specs.Calls.{call_at, task_of, enqueue, without_call, received, without_caller, active_calls, front, calls_of};
 ghost use Rattle.phone_table.specs.Phones.{hangup_answer};
 ghost use Rattle.cleanup.specs.State.{state_from, start, is_alive, phone_at, live_calls, with_calls, with_phone, with_task, with_event};
@@ -8,7 +9,7 @@ ghost use Rattle.call_slab.specs.declared.call.Place.TheVariants.{Dispatched, An
 ghost use Rattle.cleanup.specs.Joins.{new_call, code_of};
 ghost use Rattle.cleanup.specs.Kept.{IsLoose, MayReserve, accepts, kept_phone, lent_phone, with_kept, first_usable_of, or_refused};
 ghost use Rattle.cleanup.specs.Counts.{HasCounts};
-ghost use Rattle.cleanup.specs.Board.{IsAt, IsPending, IsCallOf, IsLimit, IsSwitched, IsAdded, IsHeldBy, IsNewCall, HasPlaces, LeadsToAdded, TellsAdded, with_hung, with_declined, with_passed, with_reply};
+ghost use Rattle.cleanup.specs.Board.{IsPending, IsCallOf, IsLimit, IsSwitched, IsAdded, IsHeldBy, IsNewCall, HasPlaces, LeadsToAdded, TellsAdded, with_hung, with_declined, with_passed, with_reply};
 ghost use Rattle.phone_table.specs.Usable.{IsConnected};
 ghost use Rattle.cleanup.specs.Kill.{width, mark_ended};
 ghost use Rattle.cleanup.specs.Rooms.{KeepsRoom};
@@ -212,7 +213,7 @@ impl Switchboard {
         ensures some { IfSome result (λ n. front self.now.state.calls place
             ≡ call_at self.now.state.calls n.0) }
         ensures live { IfSome result (λ n. IsSome (call_at self.now.state.calls n.0)) }
-        ensures there { IfSome result (λ n. IsAt (call_at self.now.state.calls n.0) place) }
+        ensures there { IfSome result (λ n. IsAt self.now.state.calls n.0 place) }
     {
         self.boxes.front(place)
     }

@@ -10,5 +10,5 @@ enqueue-requires-clause-new_call c =
       phone = new.phone;
       place = new.place;
       few = new.few;
-      kept = unreserved_loose c.args.self.now.state _ c.requires.unreserved;
+      kept = unreserved_loose c.args.self.now.state (record c.args.call { reply = c.bare-reply.result }) c.requires.unreserved;
     }

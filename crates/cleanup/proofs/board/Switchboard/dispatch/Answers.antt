@@ -1,17 +1,25 @@
-use Rattle.std.proofs.Common.{arith}
+use Rattle.std.proofs.Common.{◌≡◌, Some, arith, refl}
 use Rattle.call_slab.specs.declared.call.Place.TheVariants.{Dispatched}
-use Rattle.cleanup.proofs.Switched.{switched_calls, counts_move}
-use Rattle.cleanup.proofs.Live.{live_place}
+use Rattle.answerbox.specs.Calls.{call_at}
+use Rattle.cleanup.specs.Kept.{MayKeep}
+use Rattle.cleanup.proofs.Inner.{inner}
+use Rattle.cleanup.proofs.KeptCalls.{kept_put}
+use Rattle.cleanup.proofs.Live.{live_received}
+use Rattle.cleanup.proofs.Lookups.{record_of}
+use Rattle.cleanup.proofs.Switched.{switched_put}
 use Rattle.cleanup.proofs.board.Switchboard.dispatch.Goals as goal
 
 pub invariant_of-self : goal.invariant_of-self
 invariant_of-self c =
     let i = c.self.inside in
-    rw (c.move_to.ensures.calls, c.move_to.ensures.tasks)
-    (switched_calls _ _ c.self.invariant.0 (counts_move i.phones.states i.phones.counts i.boxes.calls c.args.call.0 (Dispatched c.args.by) c.self.invariant.0.has_counts (rw (← c.self.view_is) at c.requires.live)), c.self.invariant.1)
+    let found = record_of (call_at i.boxes.calls c.args.call.0) (rw (← c.self.view_is) at c.requires.live) in
+    let r = found.0 in
+    let may : MayKeep (inner i) r (record r { reserved = c.args.reserved; place = Dispatched c.args.by }) = rw found.1 at (rw (← c.self.view_is) at c.requires.reserved) in
+    rw (c.receive.ensures.calls, c.receive.ensures.tasks, found.1)
+    (switched_put c.args.call.0 r (record r { msg = c.args.msg; reserved = c.args.reserved }) (Dispatched c.args.by) c.self.invariant.0 found.1 refl refl refl (kept_put (inner i) c.args.call.0 r (record r { msg = c.args.msg; reserved = c.args.reserved }) (Dispatched c.args.by) c.self.invariant.0.kept found.1 (c.self.invariant.0.has_counts.numbered c.args.call.0 r found.1) may), c.self.invariant.1)
 
 pub returns-clause-room : goal.returns-clause-room
 returns-clause-room c =
     let i = c.self.inside in
-    let l = live_place i.phones.states i.phones.counts i.boxes.calls c.args.call.0 c.self.invariant.0.has_counts (rw (← c.self.view_is) at c.requires.live) (Dispatched c.args.by) in
-    rw (← c.self.view_is, c.move_to.ensures.calls) (record { live = omega (arith, l); calls = omega (arith, c.move_to.ensures.spare); places = c.move_to.ensures.tasks })
+    let l = live_received i.phones.states i.phones.counts i.boxes.calls c.args.call.0 c.self.invariant.0.has_counts (rw (← c.self.view_is) at c.requires.live) c.args.msg c.args.reserved (Dispatched c.args.by) in
+    rw (← c.self.view_is, c.receive.ensures.calls) (record { live = omega (arith, l); calls = omega (arith, c.receive.ensures.spare); places = c.receive.ensures.tasks })
