@@ -157,6 +157,7 @@ module _ (marks : List Bool) (t : TaskNo) (alive : alive_in marks t.0 ≡ true) 
         caller = called c.from c.caller (h.callers n c is) was.caller;
         phone = was.phone;
         discard = was.discard;
+        reserved = was.reserved;
       };
       stamps_differ = before.calls.stamps_differ;
     };
@@ -168,6 +169,8 @@ module _ (marks : List Bool) (t : TaskNo) (alive : alive_in marks t.0 ≡ true) 
         | inr ne ↦ before.tasks.quiet s p x is (sym (alive_elsewhere marks t.0 alive s ne) ∙ ended)
       ];
     };
+    kept = before.kept;
+    keepers = before.keepers;
   }
 
 -- a kill keeps soundness

@@ -3,6 +3,8 @@ pub mod Rows
 pub mod Usable
 pub mod Loops
 pub mod Soundness
+pub mod SoundStates
+pub mod SoundJoins
 pub mod Counting
 pub mod Recounting
 pub mod Repeats

@@ -26,7 +26,8 @@ use Rattle.cleanup.specs.Limits.{awaited_calls, hangup_calls, IsIdle, IsWithinLi
 use Rattle.cleanup.proofs.Rows.{some_of}
 use Rattle.cleanup.proofs.Usable.{IsUsable, usable_is, kept_waits, lent_waits}
 use Rattle.cleanup.proofs.Repeats.{by_test, each_keeps}
-use Rattle.cleanup.proofs.Silence.{with_marks, next_free, hang_up_ends, IsEnding, slams_keep}
+use Rattle.cleanup.proofs.Soundness.{next_free}
+use Rattle.cleanup.proofs.Silence.{with_marks, hang_up_ends, IsEnding, slams_keep}
 use Rattle.cleanup.proofs.Queues.{IsLive, forget_step}
 use Rattle.cleanup.proofs.Killing.{after_hangups, after_slams}
 use Rattle.cleanup.proofs.KilledPhones.{written_here, written_elsewhere, calls_keep}

@@ -1,11 +1,16 @@
 -- The call parts of a kill: no call waits at the task, is held by it or answers it, and none is its own.
 use Rattle.std.proofs.Common.{◌≡◌, ℕ, suc, ◌+◌, Bool, true, false, ◌⊎◌, inl, inr, Option, None, Some, List, refl, ap, sym, subst, ◌∙◌, arith}
+use Rattle.std.specs.Prelude.{◌==◌, if◌then◌else◌}
 use Rattle.std.proofs.lemmas.Bool.{false≢true}
 use Rattle.std.specs.Cmp.{nat_cmp_total}
 use Rattle.std.specs.FinMap.{len, len-insert, get, insert, remove, get-remove, entries}
 use Rattle.ipc_ids.specs.declared.numbers.TaskNo.{TaskNo}
 use Rattle.ipc_ids.specs.declared.message.Reply.{Reply}
+use Rattle.ipc_ids.specs.declared.numbers.Label.{Label}
+use Rattle.ipc_ids.specs.declared.message.PhoneState.{PhoneState}
+use Rattle.ipc_ids.specs.declared.message.PhoneState.TheVariants.{Free, Connected}
 use Rattle.ipc_ids.specs.Codes.{ehangup}
+use Rattle.ipc_ids.specs.Methods.{kind_of}
 use Rattle.call_slab.specs.declared.call.Call.{Call}
 use Rattle.call_slab.specs.declared.call.Place.{Place}
 use Rattle.call_slab.specs.declared.call.Place.TheVariants.{Incoming, Dispatched, Answers}
@@ -14,12 +19,17 @@ use Rattle.answerbox.proofs.Counts.{insert-remove, ties, count-len, count-withou
 use Rattle.answerbox.proofs.Fronts.{front_live, no_front-has_no_calls}
 use Rattle.answerbox.proofs.Steps.{with_change-record}
 use Rattle.answerbox.proofs.Callers.{calls_of_live, calls_of_none}
+use Rattle.phone_table.specs.Phones.{state_at}
 use Rattle.cleanup.specs.State.{Tasks, KernelState, with_calls}
-use Rattle.cleanup.specs.Sound.{IsPlaced, IsSoundCall, AreSoundCalls, IsSound}
-use Rattle.cleanup.specs.Joins.{bare_reply, settle_for, lives, drop_answer, forget_call}
+use Rattle.cleanup.specs.Sound.{IsPlaced, IsSoundCall, AreSoundCalls, IsQuiet, IsSound}
+use Rattle.cleanup.specs.Kept.{accepts, kept_phone, lent_phone, kept_rows, with_kept, kept_by}
+use Rattle.cleanup.specs.Joins.{bare_reply, declined_call, vanishing, settle_for, lives, drop_answer, forget_call}
 use Rattle.cleanup.specs.Kill.{first_at, first_call_of, settle_call, settle_incoming, settle_dispatched, drop_answers, forget_calls_elsewhere}
 use Rattle.cleanup.proofs.Lookups.{at_insert, at_remove, chosen, same_call}
-use Rattle.cleanup.proofs.Soundness.{sound_put, sound_without, kept_calls}
+use Rattle.cleanup.proofs.Rows.{state_changed_at}
+use Rattle.cleanup.proofs.Keepers.{kept_here, kept_other, kept_of_call, all_same}
+use Rattle.cleanup.proofs.SoundStates.{kept_alike, kept_calls}
+use Rattle.cleanup.proofs.SoundJoins.{IsWaiting, incoming_waits, held_waits, sound_gone, sound_declined}
 use Rattle.cleanup.proofs.Repeats.{NoneIs, drain_keeps, drain_empties}
 use Rattle.cleanup.proofs.Silence.{with_marks, IsEnding, IsAlone}
 
@@ -63,16 +73,15 @@ sound_record tasks q n c d s is number stamp sound = record {
     | inr e ↦ inr (λ z. e.0 (number ∙ z), e.1)
   ]
 
--- a call gets its answer, or is over where its caller has ended
-pub sound_settle_for : (k : KernelState) (n : ℕ) (c : Call) (reply : Reply) (by o : Option TaskNo) (lives : Bool) → IsSound k → call_at k.calls n ≡ Some c → c.caller ≡ o → IsSound (settle_for k c reply by o lives).state
-sound_settle_for k n c reply by None b s is from = kept_calls k (without_call k.calls c.number.0) s (sound_without k.tasks k.calls c.number.0 s.calls)
-sound_settle_for k n c reply by (Some u) false s is from = kept_calls k (without_call k.calls c.number.0) s (sound_without k.tasks k.calls c.number.0 s.calls)
-sound_settle_for k n c reply by (Some u) true s is from =
-    kept_calls k (put_at k.calls (record c { reply = reply }) (Answers u)) s (sound_put k.tasks k.calls n c (record c { reply = reply }) (Answers u) s.calls is refl refl refl refl refl from)
+-- a call that does not accept gets its answer, or is over where its caller has ended
+pub sound_settle_for : (k : KernelState) (c : Call) (reply : Reply) (by o : Option TaskNo) (lives : Bool) → IsSound k → call_at k.calls c.number.0 ≡ Some c → IsWaiting c.place → accepts reply.code ≡ false → c.caller ≡ o → IsSound (settle_for k c reply by o lives).state
+sound_settle_for k c reply by None b s is waits declines from = sound_gone k c s is
+sound_settle_for k c reply by (Some u) false s is waits declines from = sound_gone k c s is
+sound_settle_for k c reply by (Some u) true s is waits declines from = sound_declined k c reply by u s is waits declines from
 
 -- an answer is dropped
-pub sound_drop : (k : KernelState) (t : TaskNo) (c : Call) → IsSound k → IsSound (drop_answer t k c).state
-sound_drop k t c s = kept_calls k (without_call k.calls c.number.0) s (sound_without k.tasks k.calls c.number.0 s.calls)
+pub sound_drop : (k : KernelState) (t : TaskNo) (c : Call) → IsSound k → call_at k.calls c.number.0 ≡ Some c → IsSound (drop_answer t k c).state
+sound_drop k t c s is = sound_gone k c s is
 
 -- the steps on one call while a task ends
 
@@ -97,27 +106,35 @@ front_at marks k place c h is = let f = front_live k.calls place c is in (own ma
 alone_with : (marks : List Bool) (t : TaskNo) (k : KernelState) (q : CallTable) → IsAlone marks t k → IsSound (with_marks marks (with_calls k q)) → IsAlone marks t (with_calls k q)
 alone_with marks t k q h sound = record { silent = record { ending = record { sound = sound }; still = h.silent.still }; unled = h.unled }
 
+-- the calls change, and a phone, where there is one, is free
+alone_freed : (marks : List Bool) (t : TaskNo) (k : KernelState) (kept : Option Label) (q : CallTable) → IsAlone marks t k → IsSound (with_marks marks (with_calls (with_kept k kept Free) q)) → IsAlone marks t (with_calls (with_kept k kept Free) q)
+alone_freed marks t k kept q h sound = record { silent = record { ending = record { sound = sound }; still = still kept }; unled = unled kept } where
+  still : (kept : Option Label) (p : ℕ) (x : PhoneState) → state_at (kept_rows k.tasks.phones kept Free) t.0 p ≡ Some x → IsQuiet x
+  still None p x is = h.silent.still p x is
+  still (Some l) p x is = elim (state_changed_at k.tasks.phones l.task.0 l.phone.0 t.0 p Free x is) [ inl e ↦ subst IsQuiet e.2 tt | inr old ↦ h.silent.still p x old.1 ]
+
+  unled : (kept : Option Label) (a p : ℕ) (v : TaskNo) → state_at (kept_rows k.tasks.phones kept Free) a p ≡ Some (Connected v) → v.0 ≡ t.0 → ⊥
+  unled None a p v is = h.unled a p v is
+  unled (Some l) a p v is = elim (state_changed_at k.tasks.phones l.task.0 l.phone.0 a p Free (Connected v) is) [ inl e ↦ absurd (cc e.2) | inr old ↦ h.unled a p v old.1 ]
+
 -- the record of a call that the kernel has answered, and of one whose caller has ended
 abbrev answered : KernelState → Call → TaskNo → Call
-answered k c u = record c { reply = bare_reply ehangup; place = Answers u; stamp = k.calls.next_stamp }
+answered k c u = record (declined_call c (bare_reply ehangup)) { place = Answers u; stamp = k.calls.next_stamp }
 
 abbrev forgotten : Call → Call
 forgotten c = record c { caller = None }
 
-over_alone : (marks : List Bool) (t : TaskNo) (k : KernelState) (c : Call) → IsAlone marks t k → IsLive k c → IsAlone marks t (with_calls k (without_call k.calls c.number.0))
-over_alone marks t k c h is =
-    let e = h.silent.ending in
-    alone_with marks t k (without_call k.calls c.number.0) h (kept_calls (with_marks marks k) (without_call k.calls c.number.0) e.sound (sound_without (with_marks marks k).tasks k.calls c.number.0 e.sound.calls))
+over_alone : (marks : List Bool) (t : TaskNo) (k : KernelState) (c : Call) → IsAlone marks t k → IsLive k c → IsAlone marks t (vanishing k c).state
+over_alone marks t k c h is = alone_freed marks t k (kept_phone c) (without_call k.calls c.number.0) h (sound_gone (with_marks marks k) c h.silent.ending.sound is)
 
-settle_alone : (marks : List Bool) (t : TaskNo) (k : KernelState) (c : Call) → IsAlone marks t k → IsLive k c → IsAlone marks t (settle_call k c).state
-settle_alone marks t k c h is = by_caller c.caller (lives k c.caller) refl where
+settle_alone : (marks : List Bool) (t : TaskNo) (k : KernelState) (c : Call) → IsAlone marks t k → IsLive k c → IsWaiting c.place → IsAlone marks t (settle_call k c).state
+settle_alone marks t k c h is waits = by_caller c.caller (lives k c.caller) refl where
   by_caller : (o : Option TaskNo) (b : Bool) → c.caller ≡ o → IsAlone marks t (settle_for k c (bare_reply ehangup) None o b).state
   by_caller None b from = over_alone marks t k c h is
   by_caller (Some u) false from = over_alone marks t k c h is
   by_caller (Some u) true from =
-      let e = h.silent.ending in
-      alone_with marks t k (put_at k.calls (record c { reply = bare_reply ehangup }) (Answers u)) h
-      (sound_settle_for (with_marks marks k) c.number.0 c (bare_reply ehangup) None (Some u) true e.sound is from)
+      alone_freed marks t k (lent_phone c) (put_at k.calls (declined_call c (bare_reply ehangup)) (Answers u)) h
+      (sound_declined (with_marks marks k) c (bare_reply ehangup) None u h.silent.ending.sound is waits refl from)
 
 forgotten_place : (tasks : Tasks) (t : TaskNo) (o : Option TaskNo) (place : Place) → IsPlaced tasks o place → is_caller t o ≡ true → same_place place (Answers t) ≡ false → IsPlaced tasks None place
 forgotten_place tasks t o (Incoming s) h made none = h
@@ -126,6 +143,14 @@ forgotten_place tasks t o (Answers s) h made none = absurd (false≢true (sym no
 
 pub forget_step : (k : KernelState) (c : Call) → IsLive k c → (forget_call k c).state ≡ with_calls k (with_record k.calls (forgotten c))
 forget_step k c is = ap (with_calls k) (with_change-record k.calls c.number.0 c forgotten is)
+
+-- a call whose caller has ended keeps what it kept
+forgotten_keeps : (k : KernelState) (c : Call) → IsLive k c → (n : ℕ) → kept_by (with_record k.calls (forgotten c)) n ≡ kept_by k.calls n
+forgotten_keeps k c is = all_same k.calls (with_record k.calls (forgotten c)) c.number.0
+    (kept_here k.calls (with_record k.calls (forgotten c)) c.number.0 (Some (forgotten c)) at ∙ kept_alike (kind_of c.request.method) c (forgotten c) refl refl refl refl ∙ sym (kept_of_call k.calls c.number.0 c is))
+    (kept_other k.calls (with_record k.calls (forgotten c)) c.number.0 (Some (forgotten c)) at) where
+      at : (m : ℕ) → call_at (with_record k.calls (forgotten c)) m ≡ (if c.number.0 == m then Some (forgotten c) else call_at k.calls m)
+      at m = at_insert k.calls.records c.number.0 m (forgotten c)
 
 forget_alone : (marks : List Bool) (t : TaskNo) (k : KernelState) (c : Call) → IsAlone marks t k → IsLive k c → is_call_of t c ≡ true → stands_at (Answers t) c ≡ false → IsAlone marks t (forget_call k c).state
 forget_alone marks t k c h is made none =
@@ -139,10 +164,11 @@ forget_alone marks t k c h is made none =
       caller = tt;
       phone = was.phone;
       discard = was.discard;
+      reserved = record { there = was.reserved.there; owner = was.reserved.owner; needed = was.reserved.needed };
     } in
     subst (IsAlone marks t) (sym (forget_step k c is))
     (alone_with marks t k (with_record k.calls (forgotten c)) h
-    (kept_calls (with_marks marks k) (with_record k.calls (forgotten c)) e.sound (sound_record (with_marks marks k).tasks k.calls c.number.0 c (forgotten c) e.sound.calls is refl refl here)))
+    (kept_calls (with_marks marks k) (with_record k.calls (forgotten c)) e.sound (sound_record (with_marks marks k).tasks k.calls c.number.0 c (forgotten c) e.sound.calls is refl refl here) (forgotten_keeps k c is)))
 
 -- one call fewer passes
 
@@ -189,7 +215,7 @@ pub record IsUncalled (marks : List Bool) (t : TaskNo) (k : KernelState) : Type 
   pub incoming : NoneIs (stands_at (Incoming t)) k
 
 pub incoming_alone : (marks : List Bool) (t : TaskNo) (k : KernelState) (c : Call) → IsAlone marks t k → front k.calls (Incoming t) ≡ Some c → IsAlone marks t (settle_call k c).state
-incoming_alone marks t k c h is = settle_alone marks t k c h (front_at marks k (Incoming t) c h.silent.ending is).0
+incoming_alone marks t k c h is = let f = front_at marks k (Incoming t) c h.silent.ending is in settle_alone marks t k c h f.0 (incoming_waits c.place t f.1)
 
 pub incoming_settled : (marks : List Bool) (t : TaskNo) (k : KernelState) → IsAlone marks t k → IsUncalled marks t (settle_incoming t k).state
 incoming_settled marks t k h = record {
@@ -205,8 +231,8 @@ pub record IsIdle (marks : List Bool) (t : TaskNo) (k : KernelState) : Type 0 wh
   pub dispatched : NoneIs (stands_at (Dispatched t)) k
 
 pub dispatched_uncalled : (marks : List Bool) (t : TaskNo) (k : KernelState) (c : Call) → IsUncalled marks t k → front k.calls (Dispatched t) ≡ Some c → IsUncalled marks t (settle_call k c).state
-dispatched_uncalled marks t k c h is = record {
-  alone = settle_alone marks t k c h.alone (front_at marks k (Dispatched t) c h.alone.silent.ending is).0;
+dispatched_uncalled marks t k c h is = let f = front_at marks k (Dispatched t) c h.alone.silent.ending is in record {
+  alone = settle_alone marks t k c h.alone f.0 (held_waits c.place t f.1);
   incoming = settle_none (stands_at (Incoming t)) k c h.incoming (λ u. refl);
 }
 

@@ -16,7 +16,7 @@ use Rattle.cleanup.specs.Sound.{AreSoundCalls, IsQuiet, IsSound}
 use Rattle.cleanup.specs.Joins.{hangup_call, hang_up}
 use Rattle.cleanup.specs.Kill.{task_no, width, hang_up_at, hang_up_own_phones, slam, slam_at, slam_phones_of, slam_other, slam_phones_to}
 use Rattle.cleanup.proofs.Rows.{state_changed_at}
-use Rattle.cleanup.proofs.Soundness.{sound_enqueue, sound_under, phone_kept, kept_calls, kept_hung_up}
+use Rattle.cleanup.proofs.SoundStates.{no_phone, sound_enqueued, kept_state, kept_hung_up}
 use Rattle.cleanup.proofs.Repeats.{by_test, each_keeps, each_does}
 
 -- the state, with these marks of who is alive
@@ -27,15 +27,11 @@ with_marks marks k = record { tasks = record { alive = marks; phones = k.tasks.p
 pub record IsEnding (marks : List Bool) (k : KernelState) : Type 0 where
   pub sound : IsSound (with_marks marks k)
 
--- the next number is free
-pub next_free : (tasks : Tasks) (q : CallTable) → AreSoundCalls tasks q → call_at q q.next_number ≡ None
-next_free tasks q s = by_call (call_at q q.next_number) refl where
-  by_call : (o : Option Call) → call_at q q.next_number ≡ o → o ≡ None
-  by_call None is = refl
-  by_call (Some c) is = absurd (let l = (s.each q.next_number c is).below in omega arith)
-
 is_some : {A : Type 0} (o : Option A) (x : A) → o ≡ Some x → IsSome o
 is_some o x e = rw e refl
+
+other_state : (o : Option PhoneState) (x : PhoneState) → o ≡ Some x → o ≡ Some Connecting → (x ≡ Connecting → ⊥) → ⊥
+other_state o x a b not = let e : Some x ≡ Some Connecting = sym a ∙ b in not (cc e)
 
 -- a hangup of a phone of a task that is alive
 pub sound_hang_up : (k : KernelState) (t : TaskNo) (p : ℕ) (o : Option PhoneState) → phone_at k t p ≡ o → IsSound k → is_alive k t ≡ true → IsSound (hang_up k t p o).state
@@ -43,11 +39,11 @@ sound_hang_up k t p None is s alive = s
 sound_hang_up k t p (Some Free) is s alive = s
 sound_hang_up k t p (Some Connecting) is s alive = s
 sound_hang_up k t p (Some HungUp) is s alive = s
-sound_hang_up k t p (Some Slammed) is s alive = kept_hung_up k t p s
+sound_hang_up k t p (Some Slammed) is s alive = kept_hung_up k t p s (λ e. other_state (phone_at k t p) Slammed is e (λ d. cc d))
 sound_hang_up k t p (Some (Connected u)) is s alive =
     kept_hung_up (with_calls k (enqueue k.calls (hangup_call k t p u))) t p
-    (kept_calls k (enqueue k.calls (hangup_call k t p u)) s
-    (sound_enqueue k.tasks k.calls (hangup_call k t p u) s.calls refl (s.tasks.leads t.0 p u is) (refl, alive) (is_some (phone_at k t p) (Connected u) is) refl))
+    (sound_enqueued k (hangup_call k t p u) s refl (s.tasks.leads t.0 p u is) (refl, alive) (is_some (phone_at k t p) (Connected u) is) refl (no_phone k.tasks.phones (hangup_call k t p u) refl (λ e. e)) refl)
+    (λ e. other_state (phone_at k t p) (Connected u) is e (λ d. cc d))
 
 pub hang_up_ends : (marks : List Bool) (t : TaskNo) (k : KernelState) (p : ℕ) → alive_in marks t.0 ≡ true → IsEnding marks k → IsEnding marks (hang_up_at t k p).state
 hang_up_ends marks t k p alive h = by_state (phone_at k t p) refl where
@@ -117,19 +113,16 @@ as_many_rows rows a b s = by_row (row_at rows a) where
   by_row None = refl
   by_row (Some row) = length-set rows (a - 1) (set row b s)
 
--- a phone of a task that is alive is slammed
-pub kept_slammed : (k : KernelState) (t : TaskNo) (p : ℕ) → IsSound k → is_alive k t ≡ true → IsSound (with_phone k t p Slammed)
-kept_slammed k t p s alive = record {
-  calls = sound_under k.tasks (with_phone k t p Slammed).tasks k.calls s.calls (λ a h. h) (λ a b h. phone_kept k.tasks.phones t.0 p a b Slammed h);
-  tasks = record {
-    paired = as_many_rows k.tasks.phones t.0 p Slammed ∙ s.tasks.paired;
-    leads = λ a b u is. elim (state_changed_at k.tasks.phones t.0 p a b Slammed (Connected u) is) [ inl e ↦ absurd (cc (e.2)) | inr e ↦ s.tasks.leads a b u e.1 ];
-    quiet = λ a b state is ended. elim (state_changed_at k.tasks.phones t.0 p a b Slammed state is) [
-      | inl e ↦ absurd (false≢true (sym ended ∙ ap (alive_in k.tasks.alive) (e.0) ∙ alive))
-      | inr e ↦ s.tasks.quiet a b state e.1 ended
-    ];
-  };
-}
+-- a phone of a task that is alive, and that leads to another, is slammed
+pub kept_slammed : (k : KernelState) (t : TaskNo) (p : ℕ) (u : TaskNo) → IsSound k → is_alive k t ≡ true → phone_at k t p ≡ Some (Connected u) → IsSound (with_phone k t p Slammed)
+kept_slammed k t p u s alive led = kept_state k t p Slammed s (λ e. other_state (phone_at k t p) (Connected u) led e (λ d. cc d)) (λ e. cc e) (record {
+  paired = as_many_rows k.tasks.phones t.0 p Slammed ∙ s.tasks.paired;
+  leads = λ a b v is. elim (state_changed_at k.tasks.phones t.0 p a b Slammed (Connected v) is) [ inl e ↦ absurd (cc (e.2)) | inr e ↦ s.tasks.leads a b v e.1 ];
+  quiet = λ a b state is ended. elim (state_changed_at k.tasks.phones t.0 p a b Slammed state is) [
+    | inl e ↦ absurd (false≢true (sym ended ∙ ap (alive_in k.tasks.alive) (e.0) ∙ alive))
+    | inr e ↦ s.tasks.quiet a b state e.1 ended
+  ];
+})
 
 -- a task with a phone that leads to another is alive
 leader_alive : (k : KernelState) (t : TaskNo) (p : ℕ) (u : TaskNo) → IsSound k → phone_at k t p ≡ Some (Connected u) → is_alive k t ≡ true
@@ -147,7 +140,7 @@ slam_silent marks t u n k (Some Slammed) is h = h
 slam_silent marks t u n k (Some (Connected v)) is h = by_test (λ (s : Transition). IsSilent marks t s.state) (v.0 == t.0) _ _ (λ _. slammed) (λ _. h) where
   slammed : IsSilent marks t (with_phone k u n Slammed)
   slammed = record {
-    ending = record { sound = kept_slammed (with_marks marks k) u n h.ending.sound (leader_alive (with_marks marks k) u n v h.ending.sound is) };
+    ending = record { sound = kept_slammed (with_marks marks k) u n v h.ending.sound (leader_alive (with_marks marks k) u n v h.ending.sound is) is };
     still = λ q x there. elim (state_changed_at k.tasks.phones u.0 n t.0 q Slammed x there) [
       | inl e ↦ absurd (h.still q (Connected v) (ap (λ a. state_at k.tasks.phones a q) e.0 ∙ ap (state_at k.tasks.phones u.0) e.1 ∙ is))
       | inr old ↦ h.still q x old.1

@@ -1,4 +1,4 @@
--- Each change of the kernel keeps a sound state sound.
+-- Each change of calls or of phones keeps them sound.
 use Rattle.std.proofs.Common.{◌≡◌, ℕ, zero, suc, ◌+◌, ◌-◌, ◌≤◌, Bool, true, false, ◌⊎◌, inl, inr, Option, None, Some, List, [], ◌∷◌, ◌++◌, length, replicate, refl, ap, sym, subst, ◌∙◌, arith, set, length-append}
 use Rattle.std.proofs.Math.ListN.{length-set}
 use Rattle.std.specs.Prelude.{◌==◌, if◌then◌else◌, IsSome, slice_get, unwrap_or}
@@ -16,7 +16,7 @@ use Rattle.call_slab.specs.declared.call.Place.TheVariants.{Incoming, Dispatched
 use Rattle.answerbox.specs.Calls.{CallTable, call_at, enqueue, put_at, without_call}
 use Rattle.phone_table.specs.Phones.{row_at, state_at}
 use Rattle.cleanup.specs.State.{Tasks, KernelState, alive_in, with_state_at, with_calls, with_phone, with_task, start}
-use Rattle.cleanup.specs.Sound.{IsPlaced, IsCaller, IsSoundCall, AreSoundCalls, IsQuiet, AreSoundTasks, IsSound}
+use Rattle.cleanup.specs.Sound.{IsPlaced, IsCaller, IsSoundCall, AreSoundCalls, IsQuiet, AreSoundTasks, HasSoundPhone, IsSound}
 use Rattle.cleanup.proofs.Lookups.{at_insert, at_remove, chosen, same_call}
 use Rattle.cleanup.proofs.Rows.{some_of, state_changed_at}
 
@@ -30,6 +30,7 @@ later tasks a b a' b' n c s h g = record {
   caller = s.caller;
   phone = s.phone;
   discard = s.discard;
+  reserved = s.reserved;
 }
 
 -- one call came, or changed, and went behind all others
@@ -71,14 +72,30 @@ sound_without tasks q n s = record {
       ];
 }
 
-pub sound_enqueue : (tasks : Tasks) (q : CallTable) (c : Call) → AreSoundCalls tasks q → c.number.0 ≡ q.next_number → IsPlaced tasks c.caller c.place → IsCaller tasks c.from c.caller → IsSome (state_at tasks.phones c.from.task.0 c.from.phone.0) → c.discard ≡ (c.request.method == 0) → AreSoundCalls tasks (enqueue q c)
-sound_enqueue tasks q c s number place caller phone discard =
-    sound_with tasks q (enqueue q c) c.number.0 (record c { stamp = q.next_stamp }) s (λ m. at_insert q.records c.number.0 m (record c { stamp = q.next_stamp })) (omega arith) refl refl
-    (record { number = refl; below = omega arith; stamp = omega arith; place = place; caller = caller; phone = phone; discard = discard })
+-- the next number is free
+pub next_free : (tasks : Tasks) (q : CallTable) → AreSoundCalls tasks q → call_at q q.next_number ≡ None
+next_free tasks q s = by_call (call_at q q.next_number) refl where
+  by_call : (o : Option Call) → call_at q q.next_number ≡ o → o ≡ None
+  by_call None is = refl
+  by_call (Some c) is = absurd (let l = (s.each q.next_number c is).below in omega arith)
 
--- a live call, changed in its message or its reply, goes to a place
-pub sound_put : (tasks : Tasks) (q : CallTable) (n : ℕ) (c d : Call) (place : Place) → AreSoundCalls tasks q → call_at q n ≡ Some c → d.number ≡ c.number → d.caller ≡ c.caller → d.from ≡ c.from → d.request ≡ c.request → d.discard ≡ c.discard → IsPlaced tasks d.caller place → AreSoundCalls tasks (put_at q d place)
-sound_put tasks q n c d place s is number caller from request discard placed =
+pub sound_enqueue : (tasks : Tasks) (q : CallTable) (c : Call) → AreSoundCalls tasks q → c.number.0 ≡ q.next_number → IsPlaced tasks c.caller c.place → IsCaller tasks c.from c.caller → IsSome (state_at tasks.phones c.from.task.0 c.from.phone.0) → c.discard ≡ (c.request.method == 0) → HasSoundPhone tasks.phones c → AreSoundCalls tasks (enqueue q c)
+sound_enqueue tasks q c s number place caller phone discard reserved =
+    sound_with tasks q (enqueue q c) c.number.0 (record c { stamp = q.next_stamp }) s (λ m. at_insert q.records c.number.0 m (record c { stamp = q.next_stamp })) (omega arith) refl refl
+    (record {
+      number = refl;
+      below = omega arith;
+      stamp = omega arith;
+      place = place;
+      caller = caller;
+      phone = phone;
+      discard = discard;
+      reserved = record { there = reserved.there; owner = reserved.owner; needed = reserved.needed };
+    })
+
+-- a live call goes to a place, changed in its message, its label, its reply or the phone that is reserved for it
+pub sound_put : (tasks : Tasks) (q : CallTable) (n : ℕ) (c d : Call) (place : Place) → AreSoundCalls tasks q → call_at q n ≡ Some c → d.number ≡ c.number → d.caller ≡ c.caller → d.from ≡ c.from → d.request ≡ c.request → d.discard ≡ c.discard → IsPlaced tasks d.caller place → HasSoundPhone tasks.phones (record d { place = place }) → AreSoundCalls tasks (put_at q d place)
+sound_put tasks q n c d place s is number caller from request discard placed reserved =
     let was = s.each n c is in
     let number_is : d.number.0 ≡ n = ap (λ (x : Rattle.ipc_ids.specs.declared.numbers.CallNo.CallNo). x.0) number ∙ was.number in
     sound_with tasks q (put_at q d place) d.number.0 (record d { place = place; stamp = q.next_stamp }) s (λ m. at_insert q.records d.number.0 m (record d { place = place; stamp = q.next_stamp })) (omega arith) refl refl
@@ -90,6 +107,7 @@ sound_put tasks q n c d place s is number caller from request discard placed =
       caller = rw (from, caller) was.caller;
       phone = rw from was.phone;
       discard = discard ∙ was.discard ∙ ap (λ (x : Rattle.ipc_ids.specs.declared.message.Msg.Msg). x.method == 0) (sym request);
+      reserved = record { there = reserved.there; owner = reserved.owner; needed = reserved.needed };
     })
 
 -- the calls stay sound where tasks and phones that were there are still there
@@ -103,6 +121,7 @@ sound_under old new q s alive phones = record {
     caller = called c.from c.caller was.caller;
     phone = phones c.from.task.0 c.from.phone.0 was.phone;
     discard = was.discard;
+    reserved = record { there = λ l e. phones l.task.0 l.phone.0 (was.reserved.there l e); owner = was.reserved.owner; needed = was.reserved.needed };
   };
   stamps_differ = s.stamps_differ;
 } where
@@ -179,12 +198,12 @@ length_rows rows a b s = by_row (row_at rows a) where
   by_row None = refl
   by_row (Some row) = length-set rows (a - 1) (set row b s)
 
--- a phone is hung up
-pub sound_hung_up : (tasks : Tasks) (t p : ℕ) → AreSoundTasks tasks → AreSoundTasks (record { alive = tasks.alive; phones = with_state_at tasks.phones t p HungUp })
-sound_hung_up tasks t p s = record {
-  paired = length_rows tasks.phones t p HungUp ∙ s.paired;
-  leads = λ a b u is. elim (state_changed_at tasks.phones t p a b HungUp (Connected u) is) [ inl e ↦ absurd (cc (e.2)) | inr e ↦ s.leads a b u e.1 ];
-  quiet = λ a b state is ended. elim (state_changed_at tasks.phones t p a b HungUp state is) [ inl e ↦ subst IsQuiet e.2 tt | inr e ↦ s.quiet a b state e.1 ended ];
+-- a phone falls quiet
+pub sound_quieted : (tasks : Tasks) (t p : ℕ) (x : PhoneState) → IsQuiet x → AreSoundTasks tasks → AreSoundTasks (record { alive = tasks.alive; phones = with_state_at tasks.phones t p x })
+sound_quieted tasks t p x quiet s = record {
+  paired = length_rows tasks.phones t p x ∙ s.paired;
+  leads = λ a b u is. elim (state_changed_at tasks.phones t p a b x (Connected u) is) [ inl e ↦ absurd (subst IsQuiet e.2 quiet) | inr e ↦ s.leads a b u e.1 ];
+  quiet = λ a b state is ended. elim (state_changed_at tasks.phones t p a b x state is) [ inl e ↦ subst IsQuiet e.2 quiet | inr e ↦ s.quiet a b state e.1 ended ];
 }
 
 -- a phone of a task that is alive is connected to one that is alive
@@ -217,7 +236,7 @@ get_last [] y (suc i) e = absurd (omega arith)
 get_last (x ∷ xs) y zero e = absurd (omega arith)
 get_last (x ∷ xs) y (suc i) e = get_last xs y i (omega arith)
 
-all_same : {A : Type 0} (k p : ℕ) (x y : A) → slice_get (replicate k x) p ≡ Some y → x ≡ y
+pub all_same : {A : Type 0} (k p : ℕ) (x y : A) → slice_get (replicate k x) p ≡ Some y → x ≡ y
 all_same zero p x y h = absurd (cc h)
 all_same (suc k) zero x y h = cc
 all_same (suc k) (suc p) x y h = all_same k p x y h
@@ -254,7 +273,7 @@ mark_is alive t b h = elim (cases_eq t 0) [
 pub alive_before : (alive : List Bool) (t : ℕ) → alive_in alive t ≡ true → alive_in (alive ++ true ∷ []) t ≡ true
 alive_before alive t h = mark_is (alive ++ true ∷ []) t true (row_before alive true t true (mark_of alive t h))
 
-phone_before : (rows : List (List PhoneState)) (row : List PhoneState) (t p : ℕ) → IsSome (state_at rows t p) → IsSome (state_at (rows ++ row ∷ []) t p)
+pub phone_before : (rows : List (List PhoneState)) (row : List PhoneState) (t p : ℕ) → IsSome (state_at rows t p) → IsSome (state_at (rows ++ row ∷ []) t p)
 phone_before rows row t p h =
     let found = value_of (state_at rows t p) h in
     let was = some_of (row_at rows t) (λ r. slice_get r p) found.0 found.1 in
@@ -282,43 +301,4 @@ sound_task tasks limit s = record {
         | inl e ↦ s.quiet t p state (rw e row.2) (ended_before tasks.alive t ended)
         | inr e ↦ let g : slice_get (replicate limit Free) p ≡ Some state = rw (e.1) row.2 in subst IsQuiet (all_same limit p Free state g) tt
       ];
-}
-
--- the whole state, after each change
-
-pub kept_calls : (k : KernelState) (calls : CallTable) → IsSound k → AreSoundCalls k.tasks calls → IsSound (with_calls k calls)
-kept_calls k calls s sound = record { calls = sound; tasks = s.tasks }
-
-pub kept_hung_up : (k : KernelState) (t : TaskNo) (p : ℕ) → IsSound k → IsSound (with_phone k t p HungUp)
-kept_hung_up k t p s = record {
-  calls = sound_under k.tasks _ k.calls s.calls (λ a h. h) (λ a b h. phone_kept k.tasks.phones t.0 p a b HungUp h);
-  tasks = sound_hung_up k.tasks t.0 p s.tasks;
-}
-
-pub kept_wired : (k : KernelState) (t : TaskNo) (p : ℕ) (u : TaskNo) → IsSound k → alive_in k.tasks.alive t.0 ≡ true → alive_in k.tasks.alive u.0 ≡ true → IsSound (with_phone k t p (Connected u))
-kept_wired k t p u s from to = record {
-  calls = sound_under k.tasks _ k.calls s.calls (λ a h. h) (λ a b h. phone_kept k.tasks.phones t.0 p a b (Connected u) h);
-  tasks = sound_wired k.tasks t.0 p u s.tasks from to;
-}
-
-pub kept_task : (k : KernelState) (limit : ℕ) → IsSound k → IsSound (with_task k limit)
-kept_task k limit s = record {
-  calls = sound_under k.tasks _ k.calls s.calls (λ t h. alive_before k.tasks.alive t h) (λ t p h. phone_before k.tasks.phones (replicate limit Free) t p h);
-  tasks = sound_task k.tasks limit s.tasks;
-}
-
-none_at : (t p : ℕ) (s : PhoneState) → state_at [] t p ≡ Some s → ⊥
-none_at t p s h = elim (cases_eq t 0) [ inl e ↦ let g = rw (eq-eqb t 0 e) at h in cc | inr ne ↦ let g = rw (ne_eqb t 0 ne) at h in cc ]
-
-pub sound_start : IsSound start
-sound_start = record {
-  calls = record {
-    each = λ n c is. absurd (let g = rw (get-empty nat_cmp n) at is in cc);
-    stamps_differ = λ m n c d is has same. absurd (let g = rw (get-empty nat_cmp m) at is in cc);
-  };
-  tasks = record {
-    paired = refl;
-    leads = λ t p u is. absurd (none_at t p (Connected u) is);
-    quiet = λ t p s is ended. absurd (none_at t p s is);
-  };
 }

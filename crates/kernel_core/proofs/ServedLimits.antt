@@ -31,7 +31,7 @@ use Rattle.cleanup.specs.Joins.{bare_reply, drop_answer, new_call, receive_first
 use Rattle.cleanup.specs.Serving.{Served}
 use Rattle.cleanup.specs.Limits.{IsIdle, IsWithinLimits}
 use Rattle.cleanup.proofs.Repeats.{by_test, drain_keeps}
-use Rattle.cleanup.proofs.Silence.{next_free}
+use Rattle.cleanup.proofs.Soundness.{next_free}
 use Rattle.cleanup.proofs.Queues.{sound_drop}
 use Rattle.cleanup.proofs.Limits.{within_call, within_over, within_put, within_settle, within_hang_up}
 use Rattle.kernel_core.specs.Calling.{call_through, call_tested, call_over, call}
