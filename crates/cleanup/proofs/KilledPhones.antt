@@ -1,25 +1,28 @@
--- Each phone after a kill: those of the task are hung up, and those that led to it are slammed.
+-- Each phone after a kill: those of the task are hung up, those that led to it are slammed, and of those that waited
+-- for a connection some are free.
 use Rattle.std.proofs.Common.{◌≡◌, ℕ, Bool, true, false, ◌⊎◌, inl, inr, Option, None, Some, List, refl, ap, sym, subst, ◌∙◌}
 use Rattle.std.specs.Prelude.{◌==◌, if◌then◌else◌, IsSome, option_map}
 use Rattle.std.proofs.lemmas.Bool.{cases_eq, eqb-true, eq-eqb, ne_eqb, false≢true}
-use Rattle.std.specs.FinMap.{len}
 use Rattle.ipc_ids.specs.declared.numbers.TaskNo.{TaskNo}
+use Rattle.ipc_ids.specs.declared.numbers.Label.{Label}
 use Rattle.ipc_ids.specs.declared.message.PhoneState.{PhoneState}
 use Rattle.ipc_ids.specs.declared.message.PhoneState.TheVariants.{Free, Connecting, Connected, HungUp, Slammed}
-use Rattle.ipc_ids.specs.declared.message.Reply.{Reply}
 use Rattle.ipc_ids.specs.Codes.{ehangup}
 use Rattle.call_slab.specs.declared.call.Call.{Call}
 use Rattle.call_slab.specs.declared.call.Place.{Place}
 use Rattle.call_slab.specs.declared.call.Place.TheVariants.{Incoming, Dispatched, Answers}
 use Rattle.phone_table.specs.Phones.{state_at}
-use Rattle.cleanup.specs.State.{KernelState, Transition, is_alive, phone_at, with_state_at, with_phone}
+use Rattle.cleanup.specs.State.{KernelState, Transition, live_calls, is_alive, phone_at, with_state_at, with_phone}
 use Rattle.cleanup.specs.Sound.{IsQuiet, IsSound}
+use Rattle.cleanup.specs.Kept.{AreKept, WaitsIn, kept_phone, lent_phone, kept_rows}
 use Rattle.cleanup.specs.Joins.{bare_reply, settle_for, lives, drop_answer, forget_call, hang_up}
-use Rattle.cleanup.specs.Kill.{width, mark_ended, hang_up_at, slam, first_at, first_call_of, settle_call, settle_calls_at, kill}
+use Rattle.cleanup.specs.Kill.{width, mark_ended, hang_up_at, slam, first_at, first_call_of, settle_call, kill}
 use Rattle.cleanup.proofs.Rows.{state_changed_at}
 use Rattle.cleanup.proofs.Soundness.{phone_kept, value_of}
 use Rattle.cleanup.proofs.Repeats.{by_test, each_keeps, drain_keeps}
-use Rattle.cleanup.proofs.Silence.{IsEnding, IsSilent, own_phones_hung_up, slam_silent, slams_keep}
+use Rattle.cleanup.proofs.Usable.{kept_waits, lent_waits}
+use Rattle.cleanup.proofs.Silence.{IsEnding, IsSilent, IsAlone, own_phones_hung_up, phones_slammed, slam_silent, slams_keep}
+use Rattle.cleanup.proofs.Queues.{IsLive, IsUncalled, IsIdle, IsUnanswered, front_at, call_from, incoming_alone, incoming_settled, dispatched_uncalled, dispatched_settled, drop_idle, answers_dropped, forget_unanswered}
 use Rattle.cleanup.proofs.Killing.{HasNothingOf, kill_leaves_nothing, after_hangups, after_slams, after_incoming, after_dispatched, after_answers}
 
 -- what a hangup makes of a phone
@@ -185,23 +188,98 @@ settled_other t o now (inr e) unled = e
 settled_other t None now (inl e) unled = e
 settled_other t (Some x) now (inl e) unled = e ∙ ap Some (sym (slammed_away t x (λ v is. unled v (e ∙ ap Some is))))
 
--- the parts on calls leave the phones
+-- the parts on calls free phones that wait, and leave the others
 
-settle_phones : (rows : List (List PhoneState)) (j : KernelState) (c : Call) (reply : Reply) (o : Option TaskNo) (b : Bool) → j.tasks.phones ≡ rows → (settle_for j c reply None o b).state.tasks.phones ≡ rows
-settle_phones rows j c reply None b h = h
-settle_phones rows j c reply (Some u) false h = h
-settle_phones rows j c reply (Some u) true h = h
+-- a fact of the states, and another
+record And (F I : KernelState → Type 0) (j : KernelState) : Type 0 where
+  pub fact : F j
+  pub kept : I j
 
-settles_phones : (place : Place) (rows : List (List PhoneState)) (j : KernelState) → j.tasks.phones ≡ rows → (settle_calls_at place j).state.tasks.phones ≡ rows
-settles_phones place rows j h = drain_keeps (first_at place) settle_call (λ i. i.tasks.phones ≡ rows) (λ i c s is. settle_phones rows i c (bare_reply ehangup) c.caller (lives i c.caller) s) (len j.calls.records) j h
+-- what the steps on a live call keep, while the state is sound by the marks from before, the parts on calls keep
+module _ (k : KernelState) (t : TaskNo) (sound : IsSound k) (alive : is_alive k t ≡ true) (I : KernelState → Type 0)
+  (settled : (j : KernelState) (c : Call) → IsEnding k.tasks.alive j → IsLive j c → I j → I (settle_call j c).state)
+  (dropped : (j : KernelState) (c : Call) → IsEnding k.tasks.alive j → IsLive j c → I j → I (drop_answer t j c).state)
+  (forgot : (j : KernelState) (c : Call) → IsLive j c → I j → I (forget_call j c).state) where
+  pub calls_keep : I (after_slams t k) → I (kill k t).state
+  calls_keep h2 =
+      let marks : List Bool = k.tasks.alive in
+      let s1 = own_phones_hung_up marks t (mark_ended k t) alive (record { sound = sound }) in
+      let s2 : IsAlone marks t (after_slams t k) = phones_slammed marks t (after_hangups t k) s1 in
+      let h3 : And (IsAlone marks t) I (after_incoming t k) = drain_keeps (first_at (Incoming t)) settle_call (And (IsAlone marks t) I)
+      (λ j c s is. let e = s.fact.silent.ending in record { fact = incoming_alone marks t j c s.fact is; kept = settled j c e (front_at marks j (Incoming t) c e is).0 s.kept })
+      (live_calls (after_slams t k)) (after_slams t k) (record { fact = s2; kept = h2 }) in
+      let s3 : IsUncalled marks t (after_incoming t k) = incoming_settled marks t (after_slams t k) s2 in
+      let h4 : And (IsUncalled marks t) I (after_dispatched t k) = drain_keeps (first_at (Dispatched t)) settle_call (And (IsUncalled marks t) I)
+      (λ j c s is. let e = s.fact.alone.silent.ending in record { fact = dispatched_uncalled marks t j c s.fact is; kept = settled j c e (front_at marks j (Dispatched t) c e is).0 s.kept })
+      (live_calls (after_incoming t k)) (after_incoming t k) (record { fact = s3; kept = h3.kept }) in
+      let s4 : IsIdle marks t (after_dispatched t k) = dispatched_settled marks t (after_incoming t k) s3 in
+      let h5 : And (IsIdle marks t) I (after_answers t k) = drain_keeps (first_at (Answers t)) (drop_answer t) (And (IsIdle marks t) I)
+      (λ j c s is. let e = s.fact.uncalled.alone.silent.ending in record { fact = drop_idle marks t j c s.fact is; kept = dropped j c e (front_at marks j (Answers t) c e is).0 s.kept })
+      (live_calls (after_dispatched t k)) (after_dispatched t k) (record { fact = s4; kept = h4.kept }) in
+      let s5 : IsUnanswered marks t (after_answers t k) = answers_dropped marks t (after_dispatched t k) s4 in
+      let h6 : And (IsUnanswered marks t) I (kill k t).state = drain_keeps (first_call_of t) forget_call (And (IsUnanswered marks t) I)
+      (λ j c s is. record { fact = forget_unanswered marks t j c s.fact is; kept = forgot j c (call_from marks t j c s.fact.idle.uncalled.alone.silent.ending is).0 s.kept })
+      (live_calls (after_answers t k)) (after_answers t k) (record { fact = s5; kept = h5.kept }) in
+      h6.kept
 
-pub phones_after : (k : KernelState) (t : TaskNo) → (kill k t).state.tasks.phones ≡ (after_slams t k).tasks.phones
-phones_after k t =
-    let rows : List (List PhoneState) = (after_slams t k).tasks.phones in
-    let h3 : (after_incoming t k).tasks.phones ≡ rows = settles_phones (Incoming t) rows (after_slams t k) refl in
-    let h4 : (after_dispatched t k).tasks.phones ≡ rows = settles_phones (Dispatched t) rows (after_incoming t k) h3 in
-    let h5 : (after_answers t k).tasks.phones ≡ rows = drain_keeps (first_at (Answers t)) (drop_answer t) (λ j. j.tasks.phones ≡ rows) (λ j c s is. s) (len (after_dispatched t k).calls.records) (after_dispatched t k) h4 in
-    drain_keeps (first_call_of t) forget_call (λ j. j.tasks.phones ≡ rows) (λ j c s is. s) (len (after_answers t k).calls.records) (after_answers t k) h5
+-- a phone is as it was, or waited for a connection and is free
+abbrev IsFreed : Option PhoneState → Option PhoneState → Type 0
+IsFreed before now = (now ≡ before) ⊎ ((before ≡ Some Connecting) × (now ≡ Some Free))
+
+free_waits : (o : Option PhoneState) → o ≡ Some Free → o ≡ Some Connecting → ⊥
+free_waits o a b = cc
+
+kept_freed : (rows : List (List PhoneState)) (kept : Option Label) (t p : ℕ) (o : Option PhoneState) → WaitsIn rows kept → IsFreed o (state_at rows t p) → IsFreed o (state_at (kept_rows rows kept Free) t p)
+kept_freed rows None t p o w h = h
+kept_freed rows (Some l) t p o w h = by_place (cases_eq t l.task.0) (cases_eq p l.phone.0) where
+  away : ((t ≡ l.task.0) × (p ≡ l.phone.0) → ⊥) → IsFreed o (state_at (with_state_at rows l.task.0 l.phone.0 Free) t p)
+  away ne = subst (IsFreed o) (sym (written_elsewhere rows l.task.0 l.phone.0 t p Free ne)) h
+
+  by_place : (t ≡ l.task.0) ⊎ (t ≡ l.task.0 → ⊥) → (p ≡ l.phone.0) ⊎ (p ≡ l.phone.0 → ⊥) → IsFreed o (state_at (with_state_at rows l.task.0 l.phone.0 Free) t p)
+  by_place (inr ne) b = away (λ z. ne z.0)
+  by_place (inl a) (inr ne) = away (λ z. ne z.1)
+  by_place (inl a) (inl b) =
+      let was : state_at rows t p ≡ Some Connecting = rw (a, b) w in
+      let now : state_at (with_state_at rows l.task.0 l.phone.0 Free) t p ≡ Some Free = rw (a, b) (written_here rows l.task.0 l.phone.0 Free (is_some (state_at rows l.task.0 l.phone.0) Connecting w)) in
+      elim h [ inl e ↦ inr (sym e ∙ was, now) | inr e ↦ absurd (free_waits (state_at rows t p) e.1 was) ]
+
+settle_frees : (j : KernelState) (c : Call) (t p : ℕ) (o : Option PhoneState) → AreKept j.tasks.phones j.calls → IsLive j c → IsFreed o (state_at j.tasks.phones t p) → IsFreed o (state_at (settle_call j c).state.tasks.phones t p)
+settle_frees j c t p o kept is h = by_caller c.caller (lives j c.caller) where
+  over : IsFreed o (state_at (kept_rows j.tasks.phones (kept_phone c) Free) t p)
+  over = kept_freed j.tasks.phones (kept_phone c) t p o (kept_waits j.tasks.phones j.calls c.number.0 c kept is) h
+
+  by_caller : (a : Option TaskNo) (b : Bool) → IsFreed o (state_at (settle_for j c (bare_reply ehangup) None a b).state.tasks.phones t p)
+  by_caller None b = over
+  by_caller (Some u) false = over
+  by_caller (Some u) true = kept_freed j.tasks.phones (lent_phone c) t p o (lent_waits j.tasks.phones j.calls c.number.0 c kept is) h
+
+-- a phone that did not wait is not freed
+not_freed : (before now : Option PhoneState) → IsFreed before now → (before ≡ Some Connecting → ⊥) → now ≡ before
+not_freed before now (inl e) other = e
+not_freed before now (inr e) other = absurd (other e.0)
+
+-- it waits only where it did
+not_waiting : (change : PhoneState → PhoneState) (o s : Option PhoneState) → ((x : PhoneState) → change x ≡ Connecting → x ≡ Connecting) → IsEither change o s → (o ≡ Some Connecting → ⊥) → s ≡ Some Connecting → ⊥
+not_waiting change o s back (inl e) other w = other (sym e ∙ w)
+not_waiting change None s back (inr e) other w = cc
+not_waiting change (Some x) s back (inr e) other w = let waits : change x ≡ Connecting = cc in other (ap Some (back x waits))
+
+hung_waits : (x : PhoneState) → hung x ≡ Connecting → x ≡ Connecting
+hung_waits Free e = absurd (cc e)
+hung_waits Connecting e = refl
+hung_waits (Connected v) e = absurd (cc e)
+hung_waits HungUp e = absurd (cc e)
+hung_waits Slammed e = absurd (cc e)
+
+slammed_waits : (t : TaskNo) (x : PhoneState) → slammed t x ≡ Connecting → x ≡ Connecting
+slammed_waits t Free e = absurd (cc e)
+slammed_waits t Connecting e = refl
+slammed_waits t (Connected v) e = absurd (by_target (v.0 == t.0) e) where
+  by_target : (b : Bool) → (if b then Slammed else Connected v) ≡ Connecting → ⊥
+  by_target true g = cc
+  by_target false g = cc
+slammed_waits t HungUp e = absurd (cc e)
+slammed_waits t Slammed e = absurd (cc e)
 
 -- a fact on the phones that a slam keeps, and the silence that it keeps
 record AndSilent (marks : List Bool) (t : TaskNo) (I : KernelState → Type 0) (k : KernelState) : Type 0 where
@@ -215,21 +293,32 @@ module _ (k : KernelState) (t : TaskNo) (sound : IsSound k) (alive : is_alive k 
   silent_first : IsSilent k.tasks.alive t (after_hangups t k)
   silent_first = let h0 : IsEnding k.tasks.alive (mark_ended k t) = record { sound = sound } in own_phones_hung_up k.tasks.alive t (mark_ended k t) alive h0
 
+  -- a phone after the parts on calls
+  freed_after : (u : TaskNo) (q : ℕ) → IsFreed (phone_at (after_slams t k) u q) (phone_at (kill k t).state u q)
+  freed_after u q =
+      let o : Option PhoneState = phone_at (after_slams t k) u q in
+      calls_keep k t sound alive (λ j. IsFreed o (phone_at j u q))
+      (λ j c e is h. settle_frees j c u.0 q o e.sound.kept is h)
+      (λ j c e is h. kept_freed j.tasks.phones (kept_phone c) u.0 q o (kept_waits j.tasks.phones j.calls c.number.0 c e.sound.kept is) h)
+      (λ j c is h. h) (inl refl)
+
   -- a phone of the task
-  pub kill_own_phone : (q : ℕ) → phone_at (kill k t).state t q ≡ option_map hung (phone_at k t q)
-  kill_own_phone q =
+  pub kill_own_phone : (q : ℕ) → (phone_at k t q ≡ Some Connecting → ⊥) → phone_at (kill k t).state t q ≡ option_map hung (phone_at k t q)
+  kill_own_phone q other =
       let o : Option PhoneState = phone_at k t q in
       let h1 : IsEither hung o (phone_at (after_hangups t k) t q) = each_keeps (hang_up_at t) (λ j. IsEither hung o (phone_at j t q)) (λ j n h. hang_up_own t q o j n h) (width k.tasks.phones t.0) 0 (mark_ended k t) (inl refl) in
       let h2 : AndSilent k.tasks.alive t (λ j. IsEither hung o (phone_at j t q)) (after_slams t k) =
       slams_keep t (AndSilent k.tasks.alive t (λ j. IsEither hung o (phone_at j t q)))
       (λ u n j h. record { silent = slam_silent k.tasks.alive t u n j (phone_at j u n) refl h.silent; fact = slam_own k.tasks.alive t u n q o j (phone_at j u n) refl h.silent h.fact })
       (after_hangups t k) (record { silent = silent_first; fact = h1 }) in
-      settled_own o (phone_at (kill k t).state t q) (subst (λ (rows : List (List PhoneState)). IsEither hung o (state_at rows t.0 q)) (sym (phones_after k t)) h2.fact) (nothing_left.quiet q)
+      let same = not_freed (phone_at (after_slams t k) t q) (phone_at (kill k t).state t q) (freed_after t q) (not_waiting hung o (phone_at (after_slams t k) t q) hung_waits h2.fact other) in
+      settled_own o (phone_at (kill k t).state t q) (subst (IsEither hung o) (sym same) h2.fact) (nothing_left.quiet q)
 
   -- a phone of another task
-  pub kill_other_phone : (u : TaskNo) (q : ℕ) → (u.0 ≡ t.0 → ⊥) → phone_at (kill k t).state u q ≡ option_map (slammed t) (phone_at k u q)
-  kill_other_phone u q ne =
+  pub kill_other_phone : (u : TaskNo) (q : ℕ) → (u.0 ≡ t.0 → ⊥) → (phone_at k u q ≡ Some Connecting → ⊥) → phone_at (kill k t).state u q ≡ option_map (slammed t) (phone_at k u q)
+  kill_other_phone u q ne other =
       let o : Option PhoneState = phone_at k u q in
       let h1 : phone_at (after_hangups t k) u q ≡ o = each_keeps (hang_up_at t) (λ j. phone_at j u q ≡ o) (λ j n h. hang_up_other t u q o j n ne h) (width k.tasks.phones t.0) 0 (mark_ended k t) refl in
       let h2 : IsEither (slammed t) o (phone_at (after_slams t k) u q) = slams_keep t (λ j. IsEither (slammed t) o (phone_at j u q)) (λ w n j h. slam_either t u w n q o j (phone_at j w n) refl h) (after_hangups t k) (inl h1) in
-      settled_other t o (phone_at (kill k t).state u q) (subst (λ (rows : List (List PhoneState)). IsEither (slammed t) o (state_at rows u.0 q)) (sym (phones_after k t)) h2) (λ v is. nothing_left.unled u.0 q v is)
+      let same = not_freed (phone_at (after_slams t k) u q) (phone_at (kill k t).state u q) (freed_after u q) (not_waiting (slammed t) o (phone_at (after_slams t k) u q) (slammed_waits t) h2 other) in
+      settled_other t o (phone_at (kill k t).state u q) (subst (IsEither (slammed t) o) (sym same) h2) (λ v is. nothing_left.unled u.0 q v is)

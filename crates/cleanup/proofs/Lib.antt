@@ -1,5 +1,6 @@
 pub mod Lookups
 pub mod Rows
+pub mod Usable
 pub mod Loops
 pub mod Soundness
 pub mod SoundStates
@@ -15,6 +16,8 @@ pub mod Histories
 pub mod Limits
 pub mod KillExample
 pub mod Keepers
+pub mod KeptCalls
+pub mod KeptRows
 pub mod Keeping
 pub mod Endings
 pub mod Inner

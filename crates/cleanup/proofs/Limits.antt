@@ -19,16 +19,18 @@ use Rattle.phone_table.specs.Phones.{Row, state_at, is_usable, first_usable, fir
 use Rattle.cleanup.specs.State.{KernelState, Transition, live_calls, start, is_alive, phone_at, label_of, with_state_at, with_phone, with_calls, with_task}
 use Rattle.cleanup.specs.Counts.{label_at}
 use Rattle.cleanup.specs.Sound.{IsSound}
-use Rattle.cleanup.specs.Joins.{bare_reply, settle, settle_for, lives, drop_answer, forget_call, hangup_call, hang_up}
-use Rattle.cleanup.specs.Kill.{width, mark_ended, hang_up_at, slam, first_at, first_call_of, settle_call, kill}
+use Rattle.cleanup.specs.Kept.{AreKept, WaitsIn, with_kept, kept_phone, lent_phone, first_usable_of}
+use Rattle.cleanup.specs.Joins.{bare_reply, declined_call, vanishing, settle, settle_for, lives, drop_answer, forget_call, hangup_call, hang_up}
+use Rattle.cleanup.specs.Kill.{width, mark_ended, hang_up_at, slam, kill}
 use Rattle.cleanup.specs.Limits.{awaited_calls, hangup_calls, IsIdle, IsWithinLimits, IsRowOf}
 use Rattle.cleanup.proofs.Rows.{some_of}
-use Rattle.cleanup.proofs.Repeats.{by_test, each_keeps, drain_keeps}
+use Rattle.cleanup.proofs.Usable.{IsUsable, usable_is, kept_waits, lent_waits}
+use Rattle.cleanup.proofs.Repeats.{by_test, each_keeps}
 use Rattle.cleanup.proofs.Soundness.{next_free}
-use Rattle.cleanup.proofs.Silence.{with_marks, hang_up_ends, IsEnding, IsAlone, own_phones_hung_up, phones_slammed, slams_keep}
-use Rattle.cleanup.proofs.Queues.{IsLive, IsUncalled, IsIdle as IsWithoutHeld, IsUnanswered, front_at, call_from, forget_step, forget_unanswered, incoming_alone, incoming_settled, dispatched_uncalled, dispatched_settled, drop_idle, answers_dropped}
-use Rattle.cleanup.proofs.Killing.{after_hangups, after_slams, after_incoming, after_dispatched, after_answers}
-use Rattle.cleanup.proofs.KilledPhones.{written_here, written_elsewhere}
+use Rattle.cleanup.proofs.Silence.{with_marks, hang_up_ends, IsEnding, slams_keep}
+use Rattle.cleanup.proofs.Queues.{IsLive, forget_step}
+use Rattle.cleanup.proofs.Killing.{after_hangups, after_slams}
+use Rattle.cleanup.proofs.KilledPhones.{written_here, written_elsewhere, calls_keep}
 
 -- active calls are those that wait and those that tell of a hangup
 
@@ -122,13 +124,6 @@ within_over k c h is = within_calls k (without_call k.calls c.number.0) h (over_
 pub within_put : (k : KernelState) (c d : Call) (place : Place) → IsWithinLimits k → call_at k.calls d.number.0 ≡ Some c → d.caller ≡ c.caller → d.from ≡ c.from → d.request ≡ c.request → IsWithinLimits (with_calls k (put_at k.calls d place))
 within_put k c d place h is caller from request = within_calls k (put_at k.calls d place) h (put_no_more k.calls c d place is caller from request)
 
-pub within_settle : (k : KernelState) (c : Call) (reply : Reply) (by : Option TaskNo) → IsWithinLimits k → IsLive k c → IsWithinLimits (settle k c reply by).state
-within_settle k c reply by h is = by_caller c.caller (lives k c.caller) where
-  by_caller : (o : Option TaskNo) (b : Bool) → IsWithinLimits (settle_for k c reply by o b).state
-  by_caller None b = within_over k c h is
-  by_caller (Some u) false = within_over k c h is
-  by_caller (Some u) true = within_put k c (record c { reply = reply }) (Answers u) h is refl refl refl
-
 within_forget : (k : KernelState) (c : Call) → IsWithinLimits k → IsLive k c → IsWithinLimits (forget_call k c).state
 within_forget k c h is = subst IsWithinLimits (sym (forget_step k c is)) (within_calls k (with_record k.calls (orphan c)) h (forget_no_more k.calls c is))
 
@@ -137,32 +132,74 @@ within_forget k c h is = subst IsWithinLimits (sym (forget_step k c is)) (within
 is_some : {A : Type 0} (o : Option A) (x : A) → o ≡ Some x → IsSome o
 is_some o x e = rw e refl
 
--- where the phone is not idle from now on, and was hung up if a hangup is active on it
-pub within_phone : (k : KernelState) (t : TaskNo) (p : ℕ) (old new : PhoneState) → IsWithinLimits k → phone_at k t p ≡ Some old → (IsIdle (Some new) → ⊥) → (old ≡ HungUp → new ≡ HungUp) → IsWithinLimits (with_phone k t p new)
-within_phone k t p old new h is busy stays = record {
+-- where no call goes out over the phone if it is idle from now on, and where it is hung up if a hangup is active on it
+within_state : (k : KernelState) (t : TaskNo) (p : ℕ) (new : PhoneState) → IsWithinLimits k → IsSome (phone_at k t p) → (IsIdle (Some new) → active_calls k.calls (label_of t p) ≡ 0) → (1 ≤ hangup_calls k.calls (label_of t p) → new ≡ HungUp) → IsWithinLimits (with_phone k t p new)
+within_state k t p new h there unused hung = record {
   awaited = h.awaited;
   hangups = h.hangups;
-  hung_up = λ a b some. at_hung a b (cases_eq a t.0) (cases_eq b p) (h.hung_up a b some);
+  hung_up = λ a b some. at_hung a b (cases_eq a t.0) (cases_eq b p) some;
   idle = λ a b idle. at_idle a b (cases_eq a t.0) (cases_eq b p) idle;
 } where
-  rows : List (List PhoneState)
-  rows = k.tasks.phones
-
   here : (a b : ℕ) → a ≡ t.0 → b ≡ p → state_at (with_state_at k.tasks.phones t.0 p new) a b ≡ Some new
-  here a b i j = rw (i, j) (written_here k.tasks.phones t.0 p new (is_some (phone_at k t p) old is))
+  here a b i j = rw (i, j) (written_here k.tasks.phones t.0 p new there)
 
-  one : (x y : PhoneState) → Some x ≡ Some y → x ≡ y
-  one x y e = cc
-
-  at_hung : (a b : ℕ) → (a ≡ t.0) ⊎ (a ≡ t.0 → ⊥) → (b ≡ p) ⊎ (b ≡ p → ⊥) → state_at k.tasks.phones a b ≡ Some HungUp → state_at (with_state_at k.tasks.phones t.0 p new) a b ≡ Some HungUp
-  at_hung a b (inl i) (inl j) was = here a b i j ∙ ap Some (stays (one old HungUp (sym is ∙ subst (λ x. state_at k.tasks.phones x p ≡ Some HungUp) i (subst (λ x. state_at k.tasks.phones a x ≡ Some HungUp) j was))))
-  at_hung a b (inl i) (inr ne) was = written_elsewhere k.tasks.phones t.0 p a b new (λ z. ne z.1) ∙ was
-  at_hung a b (inr ne) j was = written_elsewhere k.tasks.phones t.0 p a b new (λ z. ne z.0) ∙ was
+  at_hung : (a b : ℕ) → (a ≡ t.0) ⊎ (a ≡ t.0 → ⊥) → (b ≡ p) ⊎ (b ≡ p → ⊥) → 1 ≤ hangup_calls k.calls (label_at a b) → state_at (with_state_at k.tasks.phones t.0 p new) a b ≡ Some HungUp
+  at_hung a b (inl i) (inl j) some = here a b i j ∙ ap Some (hung (subst (λ x. 1 ≤ hangup_calls k.calls (label_at x p)) i (subst (λ x. 1 ≤ hangup_calls k.calls (label_at a x)) j some)))
+  at_hung a b (inl i) (inr ne) some = written_elsewhere k.tasks.phones t.0 p a b new (λ z. ne z.1) ∙ h.hung_up a b some
+  at_hung a b (inr ne) j some = written_elsewhere k.tasks.phones t.0 p a b new (λ z. ne z.0) ∙ h.hung_up a b some
 
   at_idle : (a b : ℕ) → (a ≡ t.0) ⊎ (a ≡ t.0 → ⊥) → (b ≡ p) ⊎ (b ≡ p → ⊥) → IsIdle (state_at (with_state_at k.tasks.phones t.0 p new) a b) → active_calls k.calls (label_at a b) ≡ 0
-  at_idle a b (inl i) (inl j) idle = absurd (busy (subst IsIdle (here a b i j) idle))
+  at_idle a b (inl i) (inl j) idle = subst (λ x. active_calls k.calls (label_at x b) ≡ 0) (sym i) (subst (λ x. active_calls k.calls (label_at t.0 x) ≡ 0) (sym j) (unused (subst IsIdle (here a b i j) idle)))
   at_idle a b (inl i) (inr ne) idle = h.idle a b (subst IsIdle (written_elsewhere k.tasks.phones t.0 p a b new (λ z. ne z.1)) idle)
   at_idle a b (inr ne) j idle = h.idle a b (subst IsIdle (written_elsewhere k.tasks.phones t.0 p a b new (λ z. ne z.0)) idle)
+
+one_state : (x y : PhoneState) → Some x ≡ Some y → x ≡ y
+one_state x y e = cc
+
+-- a phone over which calls may go out from now on, and that stays hung up if it was
+pub within_phone : (k : KernelState) (t : TaskNo) (p : ℕ) (old new : PhoneState) → IsWithinLimits k → phone_at k t p ≡ Some old → (IsIdle (Some new) → ⊥) → (old ≡ HungUp → new ≡ HungUp) → IsWithinLimits (with_phone k t p new)
+within_phone k t p old new h is busy stays =
+    within_state k t p new h (is_some (phone_at k t p) old is) (λ idle. absurd (busy idle)) (λ some. stays (one_state old HungUp (sym is ∙ h.hung_up t.0 p some)))
+
+-- a phone that no call is active on
+pub within_unused : (k : KernelState) (l : Label) (old new : PhoneState) → IsWithinLimits k → phone_at k l.task l.phone.0 ≡ Some old → active_calls k.calls l ≡ 0 → IsWithinLimits (with_kept k (Some l) new)
+within_unused k l old new h is unused = within_state k l.task l.phone.0 new h (is_some (phone_at k l.task l.phone.0) old is) (λ _. unused) (λ some. absurd (let both = active_split k.calls l in omega arith))
+
+-- a phone that waits is freed, or connected
+pub within_kept : (k : KernelState) (kept : Option Label) (new : PhoneState) → IsWithinLimits k → WaitsIn k.tasks.phones kept → IsWithinLimits (with_kept k kept new)
+within_kept k None new h waits = record { awaited = h.awaited; hangups = h.hangups; hung_up = h.hung_up; idle = h.idle }
+within_kept k (Some l) new h waits = within_unused k l Connecting new h waits (h.idle l.task.0 l.phone.0 (subst IsIdle (sym waits) tt))
+
+-- no call is active on a phone that is usable
+pub usable_unused : (k : KernelState) (t : TaskNo) (l : Label) → IsWithinLimits k → IsUsable k t l → active_calls k.calls l ≡ 0
+usable_unused k t l h u = by_state u.state u.is u.usable where
+  by_state : (s : PhoneState) → phone_at k l.task l.phone.0 ≡ Some s → is_usable s (active_calls k.calls l) ≡ true → active_calls k.calls l ≡ 0
+  by_state Free is it = h.idle l.task.0 l.phone.0 (subst IsIdle (sym is) tt)
+  by_state Connecting is it = absurd (cc it)
+  by_state (Connected u) is it = absurd (cc it)
+  by_state HungUp is it = eqb-true (active_calls k.calls l) 0 it
+  by_state Slammed is it = absurd (cc it)
+
+-- the first usable phone is kept
+pub within_taken : (k : KernelState) (t : TaskNo) (kept : Option Label) → IsWithinLimits k → first_usable_of k t ≡ kept → IsWithinLimits (with_kept k kept Connecting)
+within_taken k t None h is = record { awaited = h.awaited; hangups = h.hangups; hung_up = h.hung_up; idle = h.idle }
+within_taken k t (Some l) h is = let u = usable_is k t l is in within_unused k l u.state Connecting h u.is (usable_unused k t l h u)
+
+-- a call ends or goes on, and a phone that it keeps is freed
+
+pub within_settle : (k : KernelState) (c : Call) (reply : Reply) (by : Option TaskNo) → IsWithinLimits k → AreKept k.tasks.phones k.calls → IsLive k c → IsWithinLimits (settle k c reply by).state
+within_settle k c reply by h kept is = by_caller c.caller (lives k c.caller) where
+  over : IsWithinLimits (vanishing k c).state
+  over = within_over (with_kept k (kept_phone c) Free) c (within_kept k (kept_phone c) Free h (kept_waits k.tasks.phones k.calls c.number.0 c kept is)) is
+
+  by_caller : (o : Option TaskNo) (b : Bool) → IsWithinLimits (settle_for k c reply by o b).state
+  by_caller None b = over
+  by_caller (Some u) false = over
+  by_caller (Some u) true =
+      within_put (with_kept k (lent_phone c) Free) c (declined_call c reply) (Answers u) (within_kept k (lent_phone c) Free h (lent_waits k.tasks.phones k.calls c.number.0 c kept is)) is refl refl refl
+
+pub within_drop : (t : TaskNo) (k : KernelState) (c : Call) → IsWithinLimits k → AreKept k.tasks.phones k.calls → IsLive k c → IsWithinLimits (drop_answer t k c).state
+within_drop t k c h kept is = within_over (with_kept k (kept_phone c) Free) c (within_kept k (kept_phone c) Free h (kept_waits k.tasks.phones k.calls c.number.0 c kept is)) is
 
 -- a call comes
 
@@ -313,29 +350,16 @@ pub within_kill : (k : KernelState) (t : TaskNo) → IsSound k → is_alive k t 
 within_kill k t sound alive h =
     let marks : List Bool = k.tasks.alive in
     let first : KernelState = mark_ended k t in
-    let s0 : IsEnding marks first = record { sound = sound } in
-    let h0 : AndWithin (IsEnding marks) first = record { fact = s0; within = record { awaited = h.awaited; hangups = h.hangups; hung_up = h.hung_up; idle = h.idle } } in
+    let h0 : AndWithin (IsEnding marks) first = record { fact = record { sound = sound }; within = record { awaited = h.awaited; hangups = h.hangups; hung_up = h.hung_up; idle = h.idle } } in
     let h1 : AndWithin (IsEnding marks) (after_hangups t k) = each_keeps (hang_up_at t) (AndWithin (IsEnding marks))
     (λ j p s. record { fact = hang_up_ends marks t j p alive s.fact; within = within_hang_up j t p (phone_at j t p) refl s.within (next_free (with_marks marks j).tasks j.calls s.fact.sound.calls) })
     (width k.tasks.phones t.0) 0 first h0 in
     let h2 : IsWithinLimits (after_slams t k) = slams_keep t IsWithinLimits (λ u p j s. within_slam t u j p (phone_at j u p) refl s) (after_hangups t k) h1.within in
-    let s2 : IsAlone marks t (after_slams t k) = phones_slammed marks t (after_hangups t k) (own_phones_hung_up marks t first alive s0) in
-    let h3 : AndWithin (IsAlone marks t) (after_incoming t k) = drain_keeps (first_at (Incoming t)) settle_call (AndWithin (IsAlone marks t))
-    (λ j c s is. record { fact = incoming_alone marks t j c s.fact is; within = within_settle j c (bare_reply ehangup) None s.within (front_at marks j (Incoming t) c s.fact.silent.ending is).0 })
-    (live_calls (after_slams t k)) (after_slams t k) (record { fact = s2; within = h2 }) in
-    let s3 : IsUncalled marks t (after_incoming t k) = incoming_settled marks t (after_slams t k) s2 in
-    let h4 : AndWithin (IsUncalled marks t) (after_dispatched t k) = drain_keeps (first_at (Dispatched t)) settle_call (AndWithin (IsUncalled marks t))
-    (λ j c s is. record { fact = dispatched_uncalled marks t j c s.fact is; within = within_settle j c (bare_reply ehangup) None s.within (front_at marks j (Dispatched t) c s.fact.alone.silent.ending is).0 })
-    (live_calls (after_incoming t k)) (after_incoming t k) (record { fact = s3; within = h3.within }) in
-    let s4 : IsWithoutHeld marks t (after_dispatched t k) = dispatched_settled marks t (after_incoming t k) s3 in
-    let h5 : AndWithin (IsWithoutHeld marks t) (after_answers t k) = drain_keeps (first_at (Answers t)) (drop_answer t) (AndWithin (IsWithoutHeld marks t))
-    (λ j c s is. record { fact = drop_idle marks t j c s.fact is; within = within_over j c s.within (front_at marks j (Answers t) c s.fact.uncalled.alone.silent.ending is).0 })
-    (live_calls (after_dispatched t k)) (after_dispatched t k) (record { fact = s4; within = h4.within }) in
-    let s5 : IsUnanswered marks t (after_answers t k) = answers_dropped marks t (after_dispatched t k) s4 in
-    let h6 : AndWithin (IsUnanswered marks t) (kill k t).state = drain_keeps (first_call_of t) forget_call (AndWithin (IsUnanswered marks t))
-    (λ j c s is. record { fact = forget_unanswered marks t j c s.fact is; within = within_forget j c s.within (call_from marks t j c s.fact.idle.uncalled.alone.silent.ending is).0 })
-    (live_calls (after_answers t k)) (after_answers t k) (record { fact = s5; within = h5.within }) in
-    h6.within
+    calls_keep k t sound alive IsWithinLimits
+    (λ j c e is s. within_settle j c (bare_reply ehangup) None s e.sound.kept is)
+    (λ j c e is s. within_drop t j c s e.sound.kept is)
+    (λ j c is s. within_forget j c s is)
+    h2
 
 -- a phone that is handed out
 

@@ -1,16 +1,20 @@
 -- How many calls are live after each change.
-use Rattle.std.proofs.Common.{◌≡◌, ℕ, ◌+◌, ◌≤◌, List, None, Some, ap, ◌∙◌, arith}
+use Rattle.std.proofs.Common.{◌≡◌, ℕ, ◌+◌, ◌≤◌, List, Option, None, Some, ap, ◌∙◌, arith}
 use Rattle.std.specs.Prelude.{IsSome}
 use Rattle.std.specs.Cmp.{nat_cmp_total}
 use Rattle.std.specs.FinMap.{len, len-insert, insert}
+use Rattle.ipc_ids.specs.declared.numbers.TaskNo.{TaskNo}
 use Rattle.ipc_ids.specs.declared.numbers.Label.{Label}
 use Rattle.ipc_ids.specs.declared.message.Msg.{Msg}
 use Rattle.ipc_ids.specs.declared.message.Reply.{Reply}
 use Rattle.ipc_ids.specs.declared.message.PhoneState.{PhoneState}
 use Rattle.call_slab.specs.declared.call.Call.{Call}
 use Rattle.call_slab.specs.declared.call.Place.{Place}
-use Rattle.answerbox.specs.Calls.{CallTable, call_at, enqueue, with_place, answered, readdressed, without_call, without_caller}
+use Rattle.call_slab.specs.declared.call.Place.TheVariants.{Incoming, Answers}
+use Rattle.answerbox.specs.Calls.{CallTable, call_at, enqueue, with_place, received, answered, readdressed, without_call, without_caller}
 use Rattle.cleanup.specs.Counts.{HasCounts}
+use Rattle.cleanup.specs.Joins.{declined_call, passed_call}
+use Rattle.cleanup.specs.Board.{with_reply, with_declined, with_passed}
 use Rattle.cleanup.proofs.Lookups.{record_of}
 use Rattle.cleanup.proofs.Queues.{fewer_calls, as_many_calls}
 
@@ -30,11 +34,23 @@ module _ (phones : List (List PhoneState)) (counts : List (List ℕ)) (q : CallT
   pub live_place : (place : Place) → len (with_place q n place).records ≤ len q.records
   live_place place = let f = record_of (call_at q n) live in let l = same f.0 (record f.0 { place = place; stamp = q.next_stamp }) f.1 in rw f.1 (omega arith)
 
-  pub live_answered : (reply : Reply) (place : Place) → len (answered q n reply place).records ≤ len q.records
-  live_answered reply place = let f = record_of (call_at q n) live in let l = same f.0 (record f.0 { reply = reply; place = place; stamp = q.next_stamp }) f.1 in rw f.1 (omega arith)
+  pub live_received : (msg : Msg) (reserved : Option Label) (place : Place) → len (received q n msg reserved place).records ≤ len q.records
+  live_received msg reserved place = let f = record_of (call_at q n) live in let l = same f.0 (record f.0 { msg = msg; reserved = reserved; place = place; stamp = q.next_stamp }) f.1 in rw f.1 (omega arith)
 
-  pub live_readdressed : (msg : Msg) (label : Label) (place : Place) → len (readdressed q n msg label place).records ≤ len q.records
-  live_readdressed msg label place = let f = record_of (call_at q n) live in let l = same f.0 (record f.0 { msg = msg; label = label; place = place; stamp = q.next_stamp }) f.1 in rw f.1 (omega arith)
+  pub live_answered : (reply : Reply) (reserved : Option Label) (place : Place) → len (answered q n reply reserved place).records ≤ len q.records
+  live_answered reply reserved place = let f = record_of (call_at q n) live in let l = same f.0 (record f.0 { reply = reply; reserved = reserved; place = place; stamp = q.next_stamp }) f.1 in rw f.1 (omega arith)
+
+  pub live_readdressed : (msg : Msg) (label : Label) (reserved : Option Label) (place : Place) → len (readdressed q n msg label reserved place).records ≤ len q.records
+  live_readdressed msg label reserved place = let f = record_of (call_at q n) live in let l = same f.0 (record f.0 { msg = msg; label = label; reserved = reserved; place = place; stamp = q.next_stamp }) f.1 in rw f.1 (omega arith)
+
+  pub live_reply : (reply : Reply) (caller : TaskNo) → len (with_reply q n reply caller).records ≤ len q.records
+  live_reply reply caller = let f = record_of (call_at q n) live in let l = same f.0 (record f.0 { reply = reply; place = Answers caller; stamp = q.next_stamp }) f.1 in rw f.1 (omega arith)
+
+  pub live_declined : (reply : Reply) (caller : TaskNo) → len (with_declined q n reply caller).records ≤ len q.records
+  live_declined reply caller = let f = record_of (call_at q n) live in let l = same f.0 (record (declined_call f.0 reply) { place = Answers caller; stamp = q.next_stamp }) f.1 in rw f.1 (omega arith)
+
+  pub live_passed : (msg : Msg) (label : Label) (to : TaskNo) → len (with_passed q n msg label to).records ≤ len q.records
+  live_passed msg label to = let f = record_of (call_at q n) live in let l = same f.0 (record (passed_call msg label f.0) { place = Incoming to; stamp = q.next_stamp }) f.1 in rw f.1 (omega arith)
 
   pub live_caller : len (without_caller q n).records ≤ len q.records
   live_caller = let f = record_of (call_at q n) live in let l = same f.0 (record f.0 { caller = None }) f.1 in rw f.1 (omega arith)

@@ -14,7 +14,7 @@ use Rattle.call_slab.specs.declared.call.Place.TheVariants.{Incoming, Dispatched
 use Rattle.answerbox.specs.Calls.{CallTable, call_at, enqueue, put_at, without_call, with_record}
 use Rattle.answerbox.proofs.Fronts.{front_live}
 use Rattle.cleanup.specs.State.{KernelState, Transition, alive_in, phone_at, with_phone, label_of, live_calls, nothing, then_do, drain, each}
-use Rattle.cleanup.specs.Joins.{bare_reply, lives, settle_for, drop_answer, forget_call, hang_up, hangup_call}
+use Rattle.cleanup.specs.Joins.{bare_reply, declined_call, lives, settle_for, drop_answer, forget_call, hang_up, hangup_call}
 use Rattle.cleanup.specs.Kill.{task_no, width, hang_up_at, hang_up_own_phones, slam, slam_at, slam_phones_of, slam_other, slam_phones_to, first_at, settle_call, settle_calls_at, settle_incoming, settle_dispatched, drop_answers, first_call_of, forget_calls_elsewhere, end_parts}
 use Rattle.cleanup.proofs.Lookups.{at_insert}
 use Rattle.cleanup.proofs.Keeping.{each_with, each_without}
@@ -107,7 +107,7 @@ module _ (marks : List Bool) (t : TaskNo) where
     by_caller None b = (refl, record { task = a.task; callers = agree_remove k c.number.0 a })
     by_caller (Some u) false = (refl, record { task = a.task; callers = agree_remove k c.number.0 a })
     by_caller (Some u) true =
-        let d : Call = record c { reply = bare_reply ehangup } in
+        let d : Call = declined_call c (bare_reply ehangup) in
         let e : Call = record d { place = Answers u; stamp = k.calls.next_stamp } in
         (refl, record { task = a.task; callers = agree_insert k c.number.0 e (put_at k.calls d (Answers u)) a (λ m. at_insert k.calls.records c.number.0 m e) (a.callers n c is) })
 

@@ -1,5 +1,5 @@
 -- Each step keeps what a switchboard keeps.
-use Rattle.std.proofs.Common.{◌≡◌, ℕ, zero, suc, ◌≤◌, ◌<◌, ◌+◌, ◌-◌, ◌^◌, Bool, true, false, ◌&&◌, Option, None, Some, List, [], ◌∷◌, ◌++◌, replicate, length, length-append, refl, sym, subst, ◌∙◌, arith, inl, inr}
+use Rattle.std.proofs.Common.{◌≡◌, ℕ, zero, suc, ◌≤◌, ◌<◌, ◌+◌, ◌-◌, ◌^◌, Bool, true, false, ◌&&◌, Option, None, Some, List, [], ◌∷◌, ◌++◌, replicate, length, length-append, refl, ap, sym, subst, ◌∙◌, arith, inl, inr}
 use Rattle.std.specs.Prelude.{IsSome, IfSome, slice_get, option_and_then, ◌==◌, OnOk, Result, Ok, Err}
 use Rattle.std.specs.Option.{IsSomeAnd}
 use Rattle.ipc_ids.specs.declared.numbers.TaskNo.{TaskNo}
@@ -7,12 +7,11 @@ use Rattle.ipc_ids.specs.declared.numbers.Label.{Label}
 use Rattle.ipc_ids.specs.declared.message.PhoneState.{PhoneState}
 use Rattle.ipc_ids.specs.declared.message.PhoneState.TheVariants.{Free, Connecting, Connected, HungUp, Slammed}
 use Rattle.call_slab.specs.declared.call.Place.{Place}
-use Rattle.answerbox.specs.Calls.{CallTable, call_at, with_place, readdressed, no_calls, active_calls, same_label}
+use Rattle.call_slab.specs.declared.call.Call.{Call}
+use Rattle.answerbox.specs.Calls.{CallTable, call_at, put_at, no_calls, active_calls, same_label}
 use Rattle.answerbox.proofs.Counts.{active-enqueue}
 use Rattle.cleanup.specs.Joins.{hang_up, hangup_call}
 use Rattle.answerbox.proofs.Steps.{call_at-no_calls}
-use Rattle.ipc_ids.specs.declared.message.Msg.{Msg}
-use Rattle.call_slab.specs.declared.call.Place.TheVariants.{Incoming}
 use Rattle.std.proofs.lemmas.Bool.{cases_eq, eq-eqb, ne_eqb}
 use Rattle.std.specs.Ordering.{nat_cmp}
 use Rattle.std.specs.FinMap.{len-empty}
@@ -25,7 +24,8 @@ use Rattle.cleanup.specs.Board.{hung_rows, IsSwitched, TellsAdded, LeadsToAdded}
 use Rattle.cleanup.specs.State.{KernelState, label_of, with_state_at}
 use Rattle.cleanup.proofs.Soundness.{phone_kept, value_of, get_last, row_append, row_before}
 use Rattle.cleanup.specs.Counts.{HasCounts}
-use Rattle.cleanup.proofs.Lookups.{record_of}
+use Rattle.cleanup.specs.Kept.{AreKept, kept_by, kept_phone, kept_rows}
+use Rattle.cleanup.proofs.Keepers.{IsUnkept, AreUnkept, IsThere, kept_phone_changed, not_waiting}
 use Rattle.cleanup.proofs.Rows.{state_changed_at, some_of}
 use Rattle.cleanup.proofs.Recounting.{some_and}
 use Rattle.cleanup.proofs.Counting.{counted_none, counted_task}
@@ -33,23 +33,22 @@ use Rattle.cleanup.proofs.Keeping.{counts_put, counts_phone}
 use Rattle.cleanup.proofs.Endings.{length_rows, sent_to}
 
 -- calls and counts change
-pub switched_calls : {alive : List Bool} {phones : List (List PhoneState)} {counts : List (List ℕ)} {calls : CallTable} {tasks : ℕ} (counts' : List (List ℕ)) (calls' : CallTable) → IsSwitched alive phones counts calls tasks → HasCounts phones counts' calls' → IsSwitched alive phones counts' calls' tasks
-switched_calls counts' calls' s h = record { paired = s.paired; places = s.places; leads = s.leads; has_counts = h }
+pub switched_calls : {alive : List Bool} {phones : List (List PhoneState)} {counts : List (List ℕ)} {calls : CallTable} {tasks : ℕ} (counts' : List (List ℕ)) (calls' : CallTable) → IsSwitched alive phones counts calls tasks → HasCounts phones counts' calls' → AreKept phones calls' → IsSwitched alive phones counts' calls' tasks
+switched_calls counts' calls' s h kept = record { paired = s.paired; places = s.places; leads = s.leads; has_counts = h; kept = kept }
 
--- a phone that is there gets a state in which it leads to no task
-pub switched_phone : {alive : List Bool} {phones : List (List PhoneState)} {counts : List (List ℕ)} {calls : CallTable} {tasks : ℕ} (a b : ℕ) (state : PhoneState) → IsSwitched alive phones counts calls tasks → IsSome (state_at phones a b) → ((u : TaskNo) → state ≡ Connected u → ⊥) → IsSwitched alive (with_state_at phones a b state) counts calls tasks
-switched_phone {alive} {phones} {counts} {calls} a b state s there quiet = record {
+-- a phone that is there and that no call keeps gets a state in which it leads to no task
+pub switched_phone : {alive : List Bool} {phones : List (List PhoneState)} {counts : List (List ℕ)} {calls : CallTable} {tasks : ℕ} (a b : ℕ) (state : PhoneState) → IsSwitched alive phones counts calls tasks → IsSome (state_at phones a b) → ((u : TaskNo) → state ≡ Connected u → ⊥) → IsUnkept calls a b → IsSwitched alive (with_state_at phones a b state) counts calls tasks
+switched_phone {alive} {phones} {counts} {calls} a b state s there quiet unkept = record {
   paired = length_rows phones a b state ∙ s.paired;
   places = s.places;
   leads = λ t p u is. elim (state_changed_at phones a b t p state (Connected u) is) [ inl e ↦ absurd (quiet u e.2) | inr e ↦ s.leads t p u e.1 ];
   has_counts = counts_phone phones counts calls a b state s.has_counts there;
+  kept = kept_phone_changed a b state s.kept unkept;
 }
 
--- a live call goes to another place
-pub counts_move : (phones : List (List PhoneState)) (counts : List (List ℕ)) (calls : CallTable) (n : ℕ) (place : Place) → HasCounts phones counts calls → IsSome (call_at calls n) → HasCounts phones counts (with_place calls n place)
-counts_move phones counts calls n place s live =
-    let f = record_of (call_at calls n) live in
-    rw (f.1) (counts_put phones counts calls n f.0 f.0 place s f.1 refl refl refl)
+-- the record of a live call changes, but for its number and its caller, and goes to a place
+pub switched_put : {alive : List Bool} {phones : List (List PhoneState)} {counts : List (List ℕ)} {calls : CallTable} {tasks : ℕ} (n : ℕ) (c d : Call) (place : Place) → IsSwitched alive phones counts calls tasks → call_at calls n ≡ Some c → d.number ≡ c.number → d.caller ≡ c.caller → d.from ≡ c.from → AreKept phones (put_at calls d place) → IsSwitched alive phones counts (put_at calls d place) tasks
+switched_put {alive} {phones} {counts} {calls} n c d place s is number caller from kept = switched_calls counts (put_at calls d place) s (counts_put phones counts calls n c d place s.has_counts is number caller from) kept
 
 -- there is room to count one call more
 pub may_count : (phones : List (List PhoneState)) (counts : List (List ℕ)) (calls : CallTable) (from : Label) → HasCounts phones counts calls → IsSome (state_at phones from.task.0 from.phone.0) → active_calls calls from < 2 ^ 31 → IsSomeAnd (count_at counts from.task.0 from.phone.0) (λ n. n < 2 ^ 31)
@@ -77,6 +76,22 @@ pub connected_there : (o : Option PhoneState) → IsConnected o → IsSome o
 connected_there None h = absurd h
 connected_there (Some s) h = refl
 
+not_hung : (o : Option PhoneState) (h : Hung) → Ok h ≡ hangup_answer o → o ≡ Some Connecting → ⊥
+not_hung None h e f = cc
+not_hung (Some Free) h e f = cc
+not_hung (Some Connecting) h e f = absurd (cc e)
+not_hung (Some (Connected u)) h e f = absurd (cc f)
+not_hung (Some HungUp) h e f = cc
+not_hung (Some Slammed) h e f = absurd (cc f)
+
+pub not_slammed : (o : Option PhoneState) → IsConnected o → o ≡ Some Connecting → ⊥
+not_slammed None h f = h
+not_slammed (Some Free) h f = h
+not_slammed (Some Connecting) h f = h
+not_slammed (Some (Connected u)) h f = absurd (cc f)
+not_slammed (Some HungUp) h f = h
+not_slammed (Some Slammed) h f = h
+
 hung_there : (o : Option PhoneState) (h : Hung) → Ok h ≡ hangup_answer o → IsSome o
 hung_there None h e = absurd (cc e)
 hung_there (Some s) h e = refl
@@ -84,7 +99,7 @@ hung_there (Some s) h e = refl
 -- a phone is hung up, where it can be
 pub switched_hung : {alive : List Bool} {phones : List (List PhoneState)} {counts : List (List ℕ)} {calls : CallTable} {tasks : ℕ} (t p : ℕ) (answer : Result Hung Code) → IsSwitched alive phones counts calls tasks → answer ≡ hangup_answer (state_at phones t p) → IsSwitched alive (hung_rows phones t p answer) counts calls tasks
 switched_hung t p (Err e) s is = s
-switched_hung {phones} t p (Ok h) s is = switched_phone t p HungUp s (hung_there (state_at phones t p) h is) (λ u e. absurd (cc e))
+switched_hung {phones} t p (Ok h) s is = switched_phone t p HungUp s (hung_there (state_at phones t p) h is) (λ u e. absurd (cc e)) (not_waiting t p s.kept (λ e. not_hung (state_at phones t p) h is e))
 
 pub tells_added : (k : KernelState) (t p : ℕ) (answer : Result Hung Code) → ((a b : ℕ) (u : TaskNo) → state_at k.tasks.phones a b ≡ Some (Connected u) → u.0 ≤ length k.tasks.alive) → answer ≡ hangup_answer (state_at k.tasks.phones t p) → TellsAdded k answer
 tells_added k t p (Err e) leads is = tt
@@ -104,22 +119,28 @@ leads_of k t p (Some (Connected u)) s e = s t p u (sym e)
 leads_of k t p (Some HungUp) s e = tt
 leads_of k t p (Some Slammed) s e = tt
 
--- a live call goes on to a task
-pub counts_readdress : (phones : List (List PhoneState)) (counts : List (List ℕ)) (calls : CallTable) (n : ℕ) (msg : Msg) (label : Label) (to : TaskNo) → HasCounts phones counts calls → IsSome (call_at calls n) → HasCounts phones counts (readdressed calls n msg label (Incoming to))
-counts_readdress phones counts calls n msg label to s live =
-    let f = record_of (call_at calls n) live in
-    rw (f.1) (counts_put phones counts calls n f.0 (record f.0 { msg = msg; label = label }) (Incoming to) s f.1 refl refl refl)
-
 -- a phone that is there leads to a task from now on
 same_end : (u v : TaskNo) → Connected u ≡ Connected v → u ≡ v
 same_end u v e = cc
 
-pub switched_wired : {alive : List Bool} {phones : List (List PhoneState)} {counts : List (List ℕ)} {calls : CallTable} {tasks : ℕ} (a b : ℕ) (to : TaskNo) → IsSwitched alive phones counts calls tasks → IsSome (state_at phones a b) → to.0 ≤ length alive → IsSwitched alive (with_state_at phones a b (Connected to)) counts calls tasks
-switched_wired {alive} {phones} {counts} {calls} a b to s there added = record {
+pub switched_wired : {alive : List Bool} {phones : List (List PhoneState)} {counts : List (List ℕ)} {calls : CallTable} {tasks : ℕ} (a b : ℕ) (to : TaskNo) → IsSwitched alive phones counts calls tasks → IsSome (state_at phones a b) → to.0 ≤ length alive → IsUnkept calls a b → IsSwitched alive (with_state_at phones a b (Connected to)) counts calls tasks
+switched_wired {alive} {phones} {counts} {calls} a b to s there added unkept = record {
   paired = length_rows phones a b (Connected to) ∙ s.paired;
   places = s.places;
   leads = λ t p u is. elim (state_changed_at phones a b t p (Connected to) (Connected u) is) [ inl e ↦ subst (λ (v : TaskNo). v.0 ≤ length alive) (same_end to u e.2) added | inr e ↦ s.leads t p u e.1 ];
   has_counts = counts_phone phones counts calls a b (Connected to) s.has_counts there;
+  kept = kept_phone_changed a b (Connected to) s.kept unkept;
+}
+
+-- the same of a kept phone, where there is one
+pub switched_kept : {alive : List Bool} {phones : List (List PhoneState)} {counts : List (List ℕ)} {calls : CallTable} {tasks : ℕ} (kept : Option Label) (state : PhoneState) → IsSwitched alive phones counts calls tasks → IsThere phones kept → ((u : TaskNo) → state ≡ Connected u → u.0 ≤ length alive) → AreUnkept calls kept → IsSwitched alive (kept_rows phones kept state) counts calls tasks
+switched_kept None state s there leads unkept = s
+switched_kept {alive} {phones} {counts} {calls} (Some l) state s there leads unkept = record {
+  paired = length_rows phones l.task.0 l.phone.0 state ∙ s.paired;
+  places = s.places;
+  leads = λ t p u is. elim (state_changed_at phones l.task.0 l.phone.0 t p state (Connected u) is) [ inl e ↦ leads u e.2 | inr e ↦ s.leads t p u e.1 ];
+  has_counts = counts_phone phones counts calls l.task.0 l.phone.0 state s.has_counts there;
+  kept = kept_phone_changed l.task.0 l.phone.0 state s.kept unkept;
 }
 
 -- no tasks and no calls
@@ -137,6 +158,10 @@ switched_start = record {
     shaped = λ t p h. let f = value_of (state_at [] t p) h in absurd (nowhere t p f.0 f.1);
     counted = counted_none;
     few = rw (len-empty nat_cmp) (omega arith);
+  };
+  kept = record {
+    waits = λ n l is. absurd (let g : kept_by no_calls n ≡ None = ap (option_and_then kept_phone) (call_at-no_calls n) in let h : ◌≡◌ {A = Option Label} None (Some l) = sym g ∙ is in cc h);
+    alone = λ m n l a b. absurd (let g : kept_by no_calls n ≡ None = ap (option_and_then kept_phone) (call_at-no_calls n) in let h : ◌≡◌ {A = Option Label} None (Some l) = sym g ∙ b in cc h);
   };
 }
 
@@ -175,6 +200,11 @@ there_before rows row t p h =
     let r = some_of (row_at rows t) (λ x. slice_get x p) f.0 f.1 in
     rw (row_before rows row t r.0 r.1, r.2) refl
 
+same_before : (rows : List (List PhoneState)) (row : List PhoneState) (t p : ℕ) (x : PhoneState) → state_at rows t p ≡ Some x → state_at (rows ++ row ∷ []) t p ≡ Some x
+same_before rows row t p x h =
+    let r = some_of (row_at rows t) (λ y. slice_get y p) x h in
+    rw (row_before rows row t r.0 r.1) r.2
+
 pub switched_task : {alive : List Bool} {phones : List (List PhoneState)} {counts : List (List ℕ)} {calls : CallTable} {tasks : ℕ} (limit tasks' : ℕ) → IsSwitched alive phones counts calls tasks → length counts ≡ length phones → length alive + 1 ≤ tasks' → calls.next_number ≤ 1 → IsSwitched (alive ++ true ∷ []) (phones ++ replicate limit Free ∷ []) (counts ++ replicate limit 0 ∷ []) calls tasks'
 switched_task {alive} {phones} {counts} {calls} limit tasks' s paired enough first = record {
   paired = rw (length-append, length-append) (let e = s.paired in omega arith);
@@ -191,5 +221,9 @@ switched_task {alive} {phones} {counts} {calls} limit tasks' s paired enough fir
     shaped = λ t p h. shaped_task phones counts limit t p paired s.has_counts.shaped h;
     counted = counted_task counts calls limit s.has_counts.counted (let f = s.has_counts.few in omega arith);
     few = s.has_counts.few;
+  };
+  kept = record {
+    waits = λ n l is. same_before phones (replicate limit Free) l.task.0 l.phone.0 Connecting (s.kept.waits n l is);
+    alone = s.kept.alone;
   };
 }

@@ -1,7 +1,8 @@
 -- The phones that connect calls keep for their connections, and who keeps which.
-use Rattle.std.specs.Prelude.{◌≡◌, ℕ, ◌+◌, ◌==◌, ⊤, Bool, false, if◌then◌else◌, List, [], ◌∷◌, Option, None, Some, Result, Ok, Err, option_and_then}
+use Rattle.std.specs.Prelude.{◌≡◌, ℕ, ◌+◌, ◌==◌, ◌⊎◌, ⊤, Bool, false, if◌then◌else◌, List, [], ◌∷◌, Option, None, Some, Result, Ok, Err, option_and_then}
 use Rattle.ipc_ids.specs.declared.numbers.TaskNo.{TaskNo}
 use Rattle.ipc_ids.specs.declared.numbers.Label.{Label}
+use Rattle.ipc_ids.specs.declared.numbers.PhoneNo.{PhoneNo}
 use Rattle.ipc_ids.specs.declared.numbers.Code.{Code}
 use Rattle.ipc_ids.specs.declared.methods.MethodKind.{MethodKind}
 use Rattle.ipc_ids.specs.declared.methods.MethodKind.TheVariants.{PhoneHungUp, ConnectToMe, ConnectMeTo, NotBuilt, User}
@@ -42,27 +43,27 @@ is_accepted (Answers t) code = accepts code
 abbrev pub asked_phone : TaskNo → Place → Code → Option Label → Option Label
 asked_phone from place code reserved = if is_accepted place code then None else phone_of from reserved
 
-abbrev pub kept_of : MethodKind → Call → Option Label
-kept_of PhoneHungUp c = None
-kept_of ConnectToMe c = held_phone c.place c.reserved
-kept_of ConnectMeTo c = asked_phone c.from.task c.place c.reply.code c.reserved
-kept_of NotBuilt c = None
-kept_of User c = None
+abbrev pub kept_of : MethodKind → TaskNo → Place → Code → Option Label → Option Label
+kept_of PhoneHungUp from place code reserved = None
+kept_of ConnectToMe from place code reserved = held_phone place reserved
+kept_of ConnectMeTo from place code reserved = asked_phone from place code reserved
+kept_of NotBuilt from place code reserved = None
+kept_of User from place code reserved = None
 
 -- the phone that the call keeps
 abbrev pub kept_phone : Call → Option Label
-kept_phone c = kept_of (kind_of c.request.method) c
+kept_phone c = kept_of (kind_of c.request.method) c.from.task c.place c.reply.code c.reserved
 
 -- the same, where the task that holds the call keeps it
-abbrev pub lent_of : MethodKind → Call → Option Label
-lent_of PhoneHungUp c = None
-lent_of ConnectToMe c = held_phone c.place c.reserved
-lent_of ConnectMeTo c = None
-lent_of NotBuilt c = None
-lent_of User c = None
+abbrev pub lent_of : MethodKind → Place → Option Label → Option Label
+lent_of PhoneHungUp place reserved = None
+lent_of ConnectToMe place reserved = held_phone place reserved
+lent_of ConnectMeTo place reserved = None
+lent_of NotBuilt place reserved = None
+lent_of User place reserved = None
 
 abbrev pub lent_phone : Call → Option Label
-lent_phone c = lent_of (kind_of c.request.method) c
+lent_phone c = lent_of (kind_of c.request.method) c.place c.reserved
 
 -- a phone that was freed is reserved no more
 abbrev pub unless_freed : Option Label → Option Label → Option Label
@@ -104,12 +105,22 @@ label_in t (Some p) = Some (label_of t p)
 abbrev pub first_usable_in : Rows → TaskNo → Option Label
 first_usable_in rows t = label_in t (option_and_then (λ states. option_and_then (λ counts. first_usable (record { states = states; counts = counts })) (row_at rows.counts t.0)) (row_at rows.states t.0))
 
+-- the number of the phone, where there is one
+abbrev pub phone_in : Option Label → Option PhoneNo
+phone_in None = None
+phone_in (Some l) = Some l.phone
+
 -- without a usable phone nothing is sent
 abbrev pub or_refused : Option Label → Result Label Code
 or_refused None = Err elimit
 or_refused (Some l) = Ok l
 
--- the phone, where there is one, waits for a connection
+-- the phone, where there is one, is one of task t
+abbrev pub IsOf : TaskNo → Option Label → Type 0
+IsOf t None = ⊤
+IsOf t (Some l) = l.task ≡ t
+
+-- it waits for a connection
 abbrev pub WaitsIn : List (List PhoneState) → Option Label → Type 0
 WaitsIn rows None = ⊤
 WaitsIn rows (Some l) = state_at rows l.task.0 l.phone.0 ≡ Some Connecting
@@ -133,10 +144,11 @@ abbrev pub IsLoose : KernelState → Option Label → Type 0
 IsLoose k None = ⊤
 IsLoose k (Some l) = IsLoosePhone k l
 
--- the phone that a live call reserves as it is received: one that it keeps is new to it
-abbrev pub MayReserve : KernelState → MethodKind → Option Label → Option Label → Type 0
-MayReserve k PhoneHungUp before after = after ≡ before
-MayReserve k ConnectToMe before after = IsLoose k after
-MayReserve k ConnectMeTo before after = after ≡ before
-MayReserve k NotBuilt before after = after ≡ before
-MayReserve k User before after = after ≡ before
+-- what the record keeps is what the call kept, or a phone that no call keeps
+abbrev pub MayKeep : KernelState → Call → Call → Type 0
+MayKeep k c d = (kept_phone d ≡ kept_phone c) ⊎ IsLoose k (kept_phone d)
+
+-- the live call may be received by task t with this phone reserved
+abbrev pub MayReserve : KernelState → Option Call → Option Label → TaskNo → Type 0
+MayReserve k None reserved t = ⊥
+MayReserve k (Some c) reserved t = MayKeep k c (record c { reserved = reserved; place = Dispatched t })

@@ -4,12 +4,11 @@ ghost use Rattle.std.specs.Option.{option_copied};
 ghost use Rattle.answerbox.specs.Calls.{call_at, task_of, enqueue, without_call, received, without_caller, active_calls, front, calls_of};
 ghost use Rattle.phone_table.specs.Phones.{hangup_answer};
 ghost use Rattle.cleanup.specs.State.{state_from, start, is_alive, phone_at, live_calls, with_calls, with_phone, with_task, with_event};
-ghost use Rattle.call_slab.specs.declared.call.Place.TheVariants.{Dispatched};
-ghost use Rattle.ipc_ids.specs.Methods.{kind_of};
+ghost use Rattle.call_slab.specs.declared.call.Place.TheVariants.{Dispatched, Answers};
 ghost use Rattle.cleanup.specs.Joins.{new_call, code_of};
 ghost use Rattle.cleanup.specs.Kept.{IsLoose, MayReserve, accepts, kept_phone, lent_phone, with_kept, first_usable_of, or_refused};
 ghost use Rattle.cleanup.specs.Counts.{HasCounts};
-ghost use Rattle.cleanup.specs.Board.{IsCallOf, IsLimit, IsSwitched, IsAdded, IsHeldBy, IsNewCall, HasPlaces, LeadsToAdded, TellsAdded, with_hung, with_declined, with_passed, with_reply};
+ghost use Rattle.cleanup.specs.Board.{IsAt, IsPending, IsCallOf, IsLimit, IsSwitched, IsAdded, IsHeldBy, IsNewCall, HasPlaces, LeadsToAdded, TellsAdded, with_hung, with_declined, with_passed, with_reply};
 ghost use Rattle.phone_table.specs.Usable.{IsConnected};
 ghost use Rattle.cleanup.specs.Kill.{width, mark_ended};
 ghost use Rattle.cleanup.specs.Rooms.{KeepsRoom};
@@ -213,6 +212,7 @@ impl Switchboard {
         ensures some { IfSome result (λ n. front self.now.state.calls place
             ≡ call_at self.now.state.calls n.0) }
         ensures live { IfSome result (λ n. IsSome (call_at self.now.state.calls n.0)) }
+        ensures there { IfSome result (λ n. IsAt (call_at self.now.state.calls n.0) place) }
     {
         self.boxes.front(place)
     }
@@ -302,8 +302,8 @@ impl Switchboard {
     )
         requires live { IsSome (call_at self.old.state.calls call.0) }
         requires added { IsAdded self.old.state by }
-        requires reserved { IfSome (call_at self.old.state.calls call.0)
-            (λ c. MayReserve self.old.state (kind_of c.request.method) c.reserved reserved) }
+        requires reserved { MayReserve self.old.state (call_at self.old.state.calls call.0)
+            reserved by }
         requires few_stamps { self.old.state.calls.next_stamp < 2 ^ 63 }
         ensures state { self.new.state ≡ with_calls self.old.state
             (received self.old.state.calls call.0 msg reserved (Dispatched by)) }
@@ -315,6 +315,7 @@ impl Switchboard {
     /// The call takes a reply that does not accept to the answers of its caller. Returns the phone
     /// that its holder kept for it, which no call keeps any more.
     pub(crate) fn decline(&mut self, call: CallNo, reply: Reply, caller: TaskNo) -> Option<Label>
+        requires pending { IsPending (call_at self.old.state.calls call.0) }
         requires called { IsCallOf (call_at self.old.state.calls call.0) caller }
         requires alive { is_alive self.old.state caller ≡ true }
         requires few_stamps { self.old.state.calls.next_stamp < 2 ^ 63 }
@@ -400,7 +401,7 @@ impl Switchboard {
         label: Label,
         to: TaskNo,
     ) -> Option<Label>
-        requires live { IsSome (call_at self.old.state.calls call.0) }
+        requires pending { IsPending (call_at self.old.state.calls call.0) }
         requires added { to.0 ≤ length self.old.state.tasks.alive }
         requires few_stamps { self.old.state.calls.next_stamp < 2 ^ 63 }
         ensures lent { IfSome (call_at self.old.state.calls call.0) (λ c. lent_phone c ≡ result) }
@@ -508,7 +509,7 @@ impl Switchboard {
     pub(crate) fn answer(&mut self, call: CallNo, reply: &Reply, caller: TaskNo)
         requires called { IsCallOf (call_at self.old.state.calls call.0) caller }
         requires unkept { IfSome (call_at self.old.state.calls call.0)
-            (λ c. kept_phone c ≡ None) }
+            (λ c. kept_phone (record c { reply = reply.now; place = Answers caller }) ≡ None) }
         requires alive { is_alive self.old.state caller ≡ true }
         requires few_stamps { self.old.state.calls.next_stamp < 2 ^ 63 }
         ensures state { self.new.state

@@ -3,11 +3,11 @@ ghost use Rattle.std.specs.Prelude.{◌≡◌, ◌+◌, ◌<◌, ◌≤◌, ◌+
 ghost use Rattle.answerbox.specs.Calls.{call_at, active_calls};
 ghost use Rattle.cleanup.specs.State.{is_alive, phone_at};
 ghost use Rattle.std.specs.Option.{option_to_list};
-ghost use Rattle.ipc_ids.specs.Methods.{kind_of};
+ghost use Rattle.call_slab.specs.declared.call.Place.TheVariants.{Answers};
 ghost use Rattle.cleanup.specs.Kept.{IsLoose, MayReserve, accepts, kept_phone};
 ghost use Rattle.cleanup.specs.Joins.{on_call, acceptance, answer_at_once, passage, reception_live, delivery_live, releasing, drop_answer, vanishing, forget_call, answer_to, declined, accepted_to_me, accepted_me_to, settle_live, hang_up, hangup_refusal};
 ghost use Rattle.cleanup.specs.Kill.{slam_at};
-ghost use Rattle.cleanup.specs.Board.{IsAdded, IsCallOf, IsHeldBy, IsNewCall};
+ghost use Rattle.cleanup.specs.Board.{IsAdded, IsPending, IsCallOf, IsHeldBy, IsNewCall};
 ghost use Rattle.cleanup.specs.Rooms.{HasRoom, UsesRoom};
 ghost use Rattle.cleanup.specs.Serving.{Does, Serves, as_it_is};
 
@@ -96,7 +96,7 @@ impl Switchboard {
         out: &mut Trace,
     )
         requires number { IfSome (call_at self.old.state.calls number.0) (λ c. c.number ≡ number) }
-        requires live { IsSome (call_at self.old.state.calls number.0) }
+        requires pending { IsPending (call_at self.old.state.calls number.0) }
         requires added { to.0 ≤ length self.old.state.tasks.alive }
         requires room { HasRoom self.old out.old 0 1 2 }
         ensures step { Does self.new out.old out.new
@@ -123,9 +123,8 @@ impl Switchboard {
     ) -> Outcome
         requires live { IsSome (call_at self.old.state.calls number.0) }
         requires added { IsAdded self.old.state who }
-        requires reserved { IfSome (call_at self.old.state.calls number.0)
-            (λ c. MayReserve self.old.state (kind_of c.request.method) c.reserved
-            arrival.reserved) }
+        requires reserved { MayReserve self.old.state (call_at self.old.state.calls number.0)
+            arrival.reserved who }
         requires room { HasRoom self.old out.old 0 1 2 }
         ensures served { Serves self.new result out.old out.new
             (reception_live who arrival self.old.state
@@ -238,6 +237,7 @@ impl Switchboard {
         caller: TaskNo,
         out: &mut Trace,
     )
+        requires pending { IsPending (call_at self.old.state.calls number.0) }
         requires number { IfSome (call_at self.old.state.calls number.0) (λ c. c.number ≡ number) }
         requires called { IsCallOf (call_at self.old.state.calls number.0) caller }
         requires alive { is_alive self.old.state caller ≡ true }
@@ -329,7 +329,7 @@ impl Switchboard {
         requires number { IfSome (call_at self.old.state.calls number.0) (λ c. c.number ≡ number) }
         requires called { IsCallOf (call_at self.old.state.calls number.0) caller }
         requires unkept { IfSome (call_at self.old.state.calls number.0)
-            (λ c. kept_phone c ≡ None) }
+            (λ c. kept_phone (record c { reply = reply.now; place = Answers caller }) ≡ None) }
         requires alive { is_alive self.old.state caller ≡ true }
         requires room { HasRoom self.old out.old 0 1 2 }
         ensures step { Does self.new out.old out.new (on_call
@@ -348,7 +348,7 @@ impl Switchboard {
     /// Answers the call with a reply that does not accept, in the name of a task or of the kernel
     /// where `by` is `None`. Where its caller has ended the call vanishes.
     pub fn settle(&mut self, number: CallNo, reply: &Reply, by: Option<TaskNo>, out: &mut Trace)
-        requires live { IsSome (call_at self.old.state.calls number.0) }
+        requires pending { IsPending (call_at self.old.state.calls number.0) }
         requires room { HasRoom self.old out.old 0 1 2 }
         ensures step { Does self.new out.old out.new
             (settle_live self.old.state reply.now by (call_at self.old.state.calls number.0)) }
@@ -367,7 +367,7 @@ impl Switchboard {
         by: Option<TaskNo>,
         out: &mut Trace,
     )
-        requires live { IsSome (call_at self.old.state.calls number.0) }
+        requires pending { IsPending (call_at self.old.state.calls number.0) }
         requires number { IfSome (call_at self.old.state.calls number.0) (λ c. c.number ≡ number) }
         requires caller { IfSome (call_at self.old.state.calls number.0) (λ c. c.caller ≡ caller) }
         requires room { HasRoom self.old out.old 0 1 2 }

@@ -3,7 +3,7 @@ ghost use Rattle.std.specs.Prelude.{◌≡◌, ◌+◌, ◌*◌, ◌^◌, ◌<�
 ghost use Rattle.answerbox.specs.Calls.{task_of};
 ghost use Rattle.cleanup.specs.State.{live_calls};
 ghost use Rattle.cleanup.specs.Kill.{kill, end_parts, hang_up_own_phones, slam_phones_to, slam_other, slam_phones_of, settle_calls_at, drop_answers, forget_calls_elsewhere};
-ghost use Rattle.cleanup.specs.Board.{IsAdded, FewFrom};
+ghost use Rattle.cleanup.specs.Board.{IsAdded, IsPendingAt, FewFrom};
 ghost use Rattle.cleanup.specs.Rooms.{HasRoom, UsesRoom};
 ghost use Rattle.cleanup.specs.Serving.{Does, Leaves};
 
@@ -131,6 +131,7 @@ impl Switchboard {
     /// ended vanishes.
     fn settle_calls_at(&mut self, place: Place, out: &mut Trace)
         requires added { task_of place ≤ length self.old.state.tasks.alive }
+        requires pending { IsPendingAt place }
         requires room { HasRoom self.old out.old 0 (live_calls self.old.state)
             (2 * live_calls self.old.state) }
         ensures step { Does self.new out.old out.new (settle_calls_at place self.old.state) }

@@ -39,7 +39,7 @@ pub record IsArriving (new : BoardState) (arrival : Arrival) (old : KernelState)
   pub handed : with_arrival new.state c arrival ≡ on_receive old c who
   pub calls : new.state.calls ≡ old.calls
   pub tasks : new.state.tasks.alive ≡ old.tasks.alive
-  pub reserved : MayReserve new.state (kind_of c.request.method) c.reserved arrival.reserved
+  pub reserved : MayReserve new.state (Some c) arrival.reserved who
 
 abbrev pub Arrives : BoardState → BoardState → Arrival → TaskNo → Option Call → Type 0
 Arrives old new arrival who None = ⊥

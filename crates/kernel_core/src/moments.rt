@@ -1,9 +1,10 @@
 //! The four moments of a call at which its method does more than carry a message.
-ghost use Rattle.std.specs.Prelude.{◌≡◌, ◌≤◌, true, IsSome, IfSome};
+ghost use Rattle.std.specs.Prelude.{◌≡◌, ◌≤◌, true, IfSome};
 ghost use Rattle.ipc_ids.specs.Methods.{kind_of};
+ghost use Rattle.call_slab.specs.declared.call.Place.TheVariants.{Incoming};
 ghost use Rattle.answerbox.specs.Calls.{call_at};
 ghost use Rattle.cleanup.specs.State.{is_alive};
-ghost use Rattle.cleanup.specs.Board.{IsAdded, IsHeldBy};
+ghost use Rattle.cleanup.specs.Board.{IsAdded, IsAt, IsHeldBy};
 ghost use Rattle.cleanup.specs.Joins.{on_call, answer_to};
 ghost use Rattle.cleanup.specs.Kept.{accepts};
 ghost use Rattle.cleanup.specs.Rooms.{HasRoom, KeepsRoom, UsesRoom};
@@ -56,7 +57,7 @@ pub(crate) fn before_send(
 /// As the task receives the call: it keeps its first usable phone for a CONNECT_TO_ME, and the
 /// message names the phone, or 64. Returns what the call takes with it.
 pub(crate) fn on_receive(board: &mut Switchboard, number: CallNo, who: TaskNo) -> Arrival
-    requires live { IsSome (call_at board.old.state.calls number.0) }
+    requires incoming { IsAt (call_at board.old.state.calls number.0) (Incoming who) }
     requires added { IsAdded board.old.state who }
     ensures arrives { Arrives board.old board.new result who
         (call_at board.old.state.calls number.0) }

@@ -1,8 +1,9 @@
 //! What a task receives: answers first, and then calls.
 ghost use Rattle.std.specs.Prelude.{◌≡◌, ◌+◌, ◌*◌, IsSome, IfSome, IfNone, None};
+ghost use Rattle.call_slab.specs.declared.call.Place.TheVariants.{Incoming};
 ghost use Rattle.answerbox.specs.Calls.{call_at};
 ghost use Rattle.cleanup.specs.State.{live_calls};
-ghost use Rattle.cleanup.specs.Board.{IsAdded};
+ghost use Rattle.cleanup.specs.Board.{IsAdded, IsAt};
 ghost use Rattle.cleanup.specs.Rooms.{HasRoom, UsesRoom};
 ghost use Rattle.cleanup.specs.Serving.{Does, Serves};
 ghost use Rattle.kernel_core.specs.Receiving.{receive as receive_of, receive_first, receive_now as receive_now_of, next_unawaited as next_unawaited_of, drop_unawaited as drop_unawaited_of};
@@ -85,7 +86,7 @@ fn give_answer(board: &mut Switchboard, number: CallNo, who: TaskNo, out: &mut T
 
 /// Hands the call over to the task.
 fn give_call(board: &mut Switchboard, number: CallNo, who: TaskNo, out: &mut Trace) -> Outcome
-    requires live { IsSome (call_at board.old.state.calls number.0) }
+    requires incoming { IsAt (call_at board.old.state.calls number.0) (Incoming who) }
     requires added { IsAdded board.old.state who }
     requires room { HasRoom board.old out.old 0 1 2 }
     ensures served { Serves board.new result out.old out.new

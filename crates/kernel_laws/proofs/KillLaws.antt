@@ -1,5 +1,5 @@
 -- A kill keeps its laws.
-use Rattle.std.proofs.Common.{◌≡◌, true, false, ◌⊎◌, inl, inr, Option, None, Some, option_map, refl, ap, sym, ◌∙◌}
+use Rattle.std.proofs.Common.{◌≡◌, true, false, ◌⊎◌, inl, inr, Option, None, Some, option_map, refl, ap, sym, subst, ◌∙◌}
 use Rattle.std.proofs.lemmas.Bool.{eqb-true, eq-eqb, ne_eqb, false≢true}
 use Rattle.ipc_ids.specs.declared.numbers.TaskNo.{TaskNo}
 use Rattle.ipc_ids.specs.declared.message.PhoneState.{PhoneState}
@@ -8,7 +8,7 @@ use Rattle.call_slab.specs.declared.call.Call.{Call}
 use Rattle.call_slab.specs.declared.call.Place.{Place}
 use Rattle.call_slab.specs.declared.call.Place.TheVariants.{Incoming, Dispatched, Answers}
 use Rattle.answerbox.specs.Calls.{same_place, is_caller, task_of}
-use Rattle.cleanup.specs.State.{KernelState, is_alive}
+use Rattle.cleanup.specs.State.{KernelState, is_alive, phone_at}
 use Rattle.cleanup.specs.Sound.{IsSound}
 use Rattle.cleanup.specs.Kill.{kill}
 use Rattle.kernel_laws.specs.KillLaws.{EndsTask, LeavesNothingOf, IsOpen, ClosesPhones, IsWith, ClosesCalls}
@@ -67,6 +67,10 @@ hung_open (Connected u) h = refl
 hung_open HungUp h = absurd h
 hung_open Slammed h = refl
 
+-- an open phone does not wait for a connection
+open_waits : (o : Option PhoneState) (s : PhoneState) → o ≡ Some s → IsOpen s → o ≡ Some Connecting → ⊥
+open_waits o s is opened waits = let same : s ≡ Connecting = cc in subst IsOpen same opened
+
 slammed_leading : (t : TaskNo) → slammed t (Connected t) ≡ Slammed
 slammed_leading t = rw (eq-eqb t.0 t.0 refl) refl
 
@@ -92,9 +96,9 @@ module _ (k : KernelState) (t : TaskNo) (sound : IsSound k) (alive : is_alive k 
 
   pub kill_closes_phones : ClosesPhones t k (kill k t).state
   kill_closes_phones = record {
-    own = λ p s is opened. kill_own_phone k t sound alive p ∙ ap (option_map hung) is ∙ ap Some (hung_open s opened);
-    leading = λ u p ne is. kill_other_phone k t sound alive u p ne ∙ ap (option_map (slammed t)) is ∙ ap Some (slammed_leading t);
-    others = λ u p s ne is opened other. kill_other_phone k t sound alive u p ne ∙ ap (option_map (slammed t)) is ∙ ap Some (slammed_other t s other);
+    own = λ p s is opened. kill_own_phone k t sound alive p (open_waits (phone_at k t p) s is opened) ∙ ap (option_map hung) is ∙ ap Some (hung_open s opened);
+    leading = λ u p ne is. kill_other_phone k t sound alive u p ne (open_waits (phone_at k u p) (Connected t) is tt) ∙ ap (option_map (slammed t)) is ∙ ap Some (slammed_leading t);
+    others = λ u p s ne is opened other. kill_other_phone k t sound alive u p ne (open_waits (phone_at k u p) s is opened) ∙ ap (option_map (slammed t)) is ∙ ap Some (slammed_other t s other);
   }
 
   pub kill_closes_calls : ClosesCalls t k (kill k t).state

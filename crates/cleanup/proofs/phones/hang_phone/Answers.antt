@@ -4,9 +4,9 @@ use Rattle.cleanup.proofs.phones.hang_phone.Goals as goal
 pub returns-clause-states : goal.returns-clause-states
 returns-clause-states c =
     rw c.hangup.ensures.row
-    (hung_states c.args.phones.now.states c.args.t.0 c.args.phone c.row_mut.result.now c.hangup.result c.row_mut.ensures.states)
+    (hung_states c.args.phones.now.states c.args.from.task.0 c.args.from.phone.0 c.row_mut.result.now c.hangup.result c.row_mut.ensures.states)
 
 pub returns-clause-counts : goal.returns-clause-counts
 returns-clause-counts c =
     rw c.hangup.ensures.row
-    (hung_counts c.args.phones.now.counts c.args.t.0 c.args.phone c.row_mut.result.now c.hangup.result c.row_mut.ensures.counts)
+    (hung_counts c.args.phones.now.counts c.args.from.task.0 c.args.from.phone.0 c.row_mut.result.now c.hangup.result c.row_mut.ensures.counts)

@@ -3,6 +3,7 @@ use Rattle.answerbox.specs.Calls.{call_at}
 use Rattle.cleanup.proofs.Keeping.{counts_enqueue}
 use Rattle.cleanup.specs.Board.{IsNewCall}
 use Rattle.cleanup.proofs.Inner.{inner}
+use Rattle.cleanup.proofs.KeptCalls.{kept_enqueue}
 use Rattle.cleanup.proofs.Switched.{may_count, switched_calls}
 use Rattle.cleanup.proofs.Live.{live_enqueue}
 use Rattle.cleanup.proofs.board.Switchboard.enqueue.Goals as goal
@@ -18,7 +19,7 @@ invariant_of-self c =
     let i = c.self.inside in
     let new : IsNewCall (inner i) c.args.call = rw (← c.self.view_is) at c.requires.new_call in
     rw (c.count_up.ensures.states, c.count_up.ensures.counts, c.enqueue.ensures.calls, c.enqueue.ensures.tasks)
-    (switched_calls _ _ c.self.invariant.0 (counts_enqueue i.phones.states i.phones.counts i.boxes.calls c.args.call c.self.invariant.0.has_counts (ap (call_at i.boxes.calls) new.number ∙ c.next_number-number.ensures.free) new.caller new.phone), c.self.invariant.1)
+    (switched_calls _ _ c.self.invariant.0 (counts_enqueue i.phones.states i.phones.counts i.boxes.calls c.args.call c.self.invariant.0.has_counts (ap (call_at i.boxes.calls) new.number ∙ c.next_number-number.ensures.free) new.caller new.phone) (kept_enqueue (inner i) c.args.call c.self.invariant.0.kept new.kept), c.self.invariant.1)
 
 pub returns-clause-room : goal.returns-clause-room
 returns-clause-room c =

@@ -1,7 +1,9 @@
 use Rattle.std.proofs.Common.{arith}
 use Rattle.cleanup.proofs.Keeping.{was_counted, counts_leave}
+use Rattle.cleanup.proofs.KeptCalls.{kept_without, left_loose}
 use Rattle.cleanup.proofs.Switched.{switched_calls}
 use Rattle.cleanup.proofs.Live.{live_without}
+use Rattle.cleanup.proofs.Inner.{inner}
 use Rattle.cleanup.proofs.board.Switchboard.leave.Goals as goal
 
 pub count_out-requires-clause-counted : goal.count_out-requires-clause-counted
@@ -13,7 +15,13 @@ pub invariant_of-self : goal.invariant_of-self
 invariant_of-self c =
     let i = c.self.inside in
     rw (c.count_out.ensures.states, c.count_out.ensures.counts, c.leave-call.ensures.calls, c.leave-call.ensures.tasks)
-    (switched_calls _ _ c.self.invariant.0 (counts_leave i.phones.states i.phones.counts i.boxes.calls c.args.call.0 c.leave-call.result c.self.invariant.0.has_counts c.leave-call.ensures.call), c.self.invariant.1)
+    (switched_calls _ _ c.self.invariant.0 (counts_leave i.phones.states i.phones.counts i.boxes.calls c.args.call.0 c.leave-call.result c.self.invariant.0.has_counts c.leave-call.ensures.call) (kept_without i.boxes.calls c.args.call.0 c.self.invariant.0.kept), c.self.invariant.1)
+
+pub returns-clause-loose : goal.returns-clause-loose
+returns-clause-loose c =
+    let i = c.self.inside in
+    rw (c.count_out.ensures.states, c.leave-call.ensures.calls)
+    (left_loose (inner i) c.args.call.0 c.leave-call.result c.self.invariant.0.kept c.leave-call.ensures.call)
 
 pub returns-clause-room : goal.returns-clause-room
 returns-clause-room c =
