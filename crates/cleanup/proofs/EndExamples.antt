@@ -15,7 +15,7 @@ use Rattle.cleanup.specs.State.{KernelState, start, state_from, with_task}
 use Rattle.cleanup.specs.Sound.{IsSound}
 use Rattle.cleanup.specs.Counts.{IsCounted, label_at}
 use Rattle.cleanup.specs.Ending.{IsJustEnded, HasFewActive}
-use Rattle.cleanup.proofs.SoundStates.{sound_start, sound_enqueued, kept_task, kept_wired, no_phone}
+use Rattle.cleanup.proofs.SoundStates.{no_phone, sound_enqueued, kept_wired, kept_task, sound_start}
 use Rattle.cleanup.proofs.Counting.{counted_none, counted_task, counted_enqueue}
 use Rattle.answerbox.proofs.Counts.{active-len}
 use Rattle.cleanup.proofs.Live.{live_enqueue}
@@ -89,7 +89,7 @@ module _ (reply : Reply) (buffer : List ℕ) where
   its_calls = enqueue no_calls (held reply buffer)
 
   pub held_sound : IsSound (state_from (true ∷ true ∷ []) free_phones its_calls 0)
-  held_sound = sound_enqueued two (held reply buffer) two_sound refl refl (refl, refl) refl refl (no_phone two.tasks.phones (held reply buffer) refl (λ e. e)) refl
+  held_sound = sound_enqueued two (held reply buffer) two_sound refl refl (refl, refl) refl refl (no_phone free_phones (held reply buffer) refl (λ n. n)) refl
 
   pub held_few : HasFewActive one_count its_calls
   held_few =

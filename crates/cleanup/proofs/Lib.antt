@@ -17,6 +17,7 @@ pub mod Limits
 pub mod KillExample
 pub mod Keepers
 pub mod KeptCalls
+pub mod KeptRows
 pub mod Keeping
 pub mod Endings
 pub mod Inner

@@ -337,6 +337,9 @@ usable_found calls t p (x ∷ states) l is = by_test (is_usable x (active_calls 
   by_test true e h later = (0, one (label_of t p) l h ∙ ap (label_of t) (omega arith), (x, refl, idle x (active_calls calls (label_of t p)) e))
   by_test false e h later = let f = later h in (suc f.0, f.1 ∙ ap (label_of t) (omega arith), (f.2.0, f.2.1, f.2.2))
 
+state_found : (rows : List (List PhoneState)) (l m : Label) (row : List PhoneState) (x : PhoneState) → l ≡ m → row_at rows m.task.0 ≡ Some row → slice_get row m.phone.0 ≡ Some x → state_at rows l.task.0 l.phone.0 ≡ Some x
+state_found rows l m row x e is here = rw (e, is) here
+
 pub first_usable_may_be_taken : (k : KernelState) (t : TaskNo) → MayTake k t (first_usable_of k t)
 first_usable_may_be_taken k t = by_found (first_usable_of k t) refl where
   one_state : (x y : PhoneState) → Some x ≡ Some y → x ≡ y
@@ -347,20 +350,8 @@ first_usable_may_be_taken k t = by_found (first_usable_of k t) refl where
   by_found (Some l) is =
       let row = some_of (row_at k.tasks.phones t.0) (first_usable_from k.calls t 0) l is in
       let f = usable_found k.calls t 0 row.0 l row.2 in
-      let here : phone_at k l.task l.phone.0 ≡ Some f.2.0 = rw (f.1, row.1) (ap (slice_get row.0) (omega arith) ∙ f.2.1) in
+      let here : phone_at k l.task l.phone.0 ≡ Some f.2.0 = state_found k.tasks.phones l (label_of t (0 + f.0)) row.0 f.2.0 f.1 row.1 (ap (slice_get row.0) (omega arith) ∙ f.2.1) in
       record { owner = ap (λ (x : Label). x.task) f.1; there = rw here refl; idle = λ e. f.2.2 (one_state f.2.0 Connecting (sym here ∙ e)) }
-
-taken : (k : KernelState) (t : TaskNo) → MayTake k t (first_usable_of k t)
-first_usable_may_be_taken k t = by_found (first_usable_of k t) refl where
-  by_found : (o : Option Label) → first_usable_of k t ≡ o → MayTake k t o
-  by_found None is = tt
-  by_found (Some l) is =
-      let row = some_of (row_at k.tasks.phones t.0) (first_usable_from k.calls t 0) l is in
-      let f = usable_found k.calls t 0 row.0 l row.2 in
-      let here : phone_at k l.task l.phone.0 ≡ Some f.2.0 = rw (f.1, row.1) (ap (slice_get row.0) (omega arith) ∙ f.2.1) in
-      record { owner = ap (λ (x : Label). x.task) f.1; there = rw here refl; idle = λ e. f.2.2 (one f.2.0 Connecting (sym here ∙ e)) }
-  one : (x y : PhoneState) → Some x ≡ Some y → x ≡ y
-  one x y e = cc
 
 taken : (k : KernelState) (q : CallTable) (n : ℕ) (t : TaskNo) (l : Label) → IsSound k → IsTakeable k t l → kept_by k.calls n ≡ None → kept_by q n ≡ Some l → ((m : ℕ) → (n ≡ m → ⊥) → kept_by q m ≡ kept_by k.calls m) → AreSoundCalls k.tasks q → IsSound (with_calls (with_kept k (Some l) Connecting) q)
 taken k q n t l s takes was is others calls =

@@ -2,6 +2,7 @@
 use Rattle.std.specs.Prelude.{◌≡◌, ℕ, ◌+◌, ◌==◌, ◌⊎◌, ⊤, Bool, false, if◌then◌else◌, List, [], ◌∷◌, Option, None, Some, Result, Ok, Err, option_and_then}
 use Rattle.ipc_ids.specs.declared.numbers.TaskNo.{TaskNo}
 use Rattle.ipc_ids.specs.declared.numbers.Label.{Label}
+use Rattle.ipc_ids.specs.declared.numbers.PhoneNo.{PhoneNo}
 use Rattle.ipc_ids.specs.declared.numbers.Code.{Code}
 use Rattle.ipc_ids.specs.declared.methods.MethodKind.{MethodKind}
 use Rattle.ipc_ids.specs.declared.methods.MethodKind.TheVariants.{PhoneHungUp, ConnectToMe, ConnectMeTo, NotBuilt, User}
@@ -104,12 +105,22 @@ label_in t (Some p) = Some (label_of t p)
 abbrev pub first_usable_in : Rows → TaskNo → Option Label
 first_usable_in rows t = label_in t (option_and_then (λ states. option_and_then (λ counts. first_usable (record { states = states; counts = counts })) (row_at rows.counts t.0)) (row_at rows.states t.0))
 
+-- the number of the phone, where there is one
+abbrev pub phone_in : Option Label → Option PhoneNo
+phone_in None = None
+phone_in (Some l) = Some l.phone
+
 -- without a usable phone nothing is sent
 abbrev pub or_refused : Option Label → Result Label Code
 or_refused None = Err elimit
 or_refused (Some l) = Ok l
 
--- the phone, where there is one, waits for a connection
+-- the phone, where there is one, is one of task t
+abbrev pub IsOf : TaskNo → Option Label → Type 0
+IsOf t None = ⊤
+IsOf t (Some l) = l.task ≡ t
+
+-- it waits for a connection
 abbrev pub WaitsIn : List (List PhoneState) → Option Label → Type 0
 WaitsIn rows None = ⊤
 WaitsIn rows (Some l) = state_at rows l.task.0 l.phone.0 ≡ Some Connecting
