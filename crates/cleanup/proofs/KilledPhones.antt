@@ -192,9 +192,9 @@ record And (F I : KernelState → Type 0) (j : KernelState) : Type 0 where
 
 -- what the steps on a live call keep, while the state is sound by the marks from before, the parts on calls keep
 module _ (k : KernelState) (t : TaskNo) (sound : IsSound k) (alive : is_alive k t ≡ true) (I : KernelState → Type 0)
-  (settled : (j : KernelState) (c : Call) → IsEnding k.tasks.alive j → IsLive j c → I j → I (settle_call j c).state)
-  (dropped : (j : KernelState) (c : Call) → IsEnding k.tasks.alive j → IsLive j c → I j → I (drop_answer t j c).state)
-  (forgot : (j : KernelState) (c : Call) → IsLive j c → I j → I (forget_call j c).state) where
+    (settled : (j : KernelState) (c : Call) → IsEnding k.tasks.alive j → IsLive j c → I j → I (settle_call j c).state)
+    (dropped : (j : KernelState) (c : Call) → IsEnding k.tasks.alive j → IsLive j c → I j → I (drop_answer t j c).state)
+    (forgot : (j : KernelState) (c : Call) → IsLive j c → I j → I (forget_call j c).state) where
   pub calls_keep : I (after_slams t k) → I (kill k t).state
   calls_keep h2 =
       let marks : List Bool = k.tasks.alive in
