@@ -15,7 +15,7 @@ use Rattle.cleanup.specs.State.{KernelState, start, state_from, with_task}
 use Rattle.cleanup.specs.Sound.{IsSound}
 use Rattle.cleanup.specs.Counts.{IsCounted, label_at}
 use Rattle.cleanup.specs.Ending.{IsJustEnded, HasFewActive}
-use Rattle.cleanup.proofs.Soundness.{sound_start, sound_enqueue, kept_task, kept_wired, kept_calls}
+use Rattle.cleanup.proofs.SoundStates.{no_phone, sound_enqueued, kept_wired, kept_task, sound_start}
 use Rattle.cleanup.proofs.Counting.{counted_none, counted_task, counted_enqueue}
 use Rattle.answerbox.proofs.Counts.{active-len}
 use Rattle.cleanup.proofs.Live.{live_enqueue}
@@ -38,7 +38,7 @@ pub alone_ended : IsJustEnded (false ∷ []) one
 alone_ended = record { marked = refl; from_one = omega arith; task = omega arith }
 
 pub alone_sound : IsSound (state_from (true ∷ []) own_phones no_calls 0)
-alone_sound = kept_wired (with_task start 2) one 0 one (kept_task start 2 sound_start) refl refl
+alone_sound = kept_wired (with_task start 2) one 0 one (kept_task start 2 sound_start) refl refl refl
 
 pub alone_few : HasFewActive no_counts no_calls
 alone_few = few_active no_counts no_calls (counted_task [] no_calls 2 counted_none (rw (len-empty nat_cmp) refl)) (rw (len-empty nat_cmp) (omega arith))
@@ -89,7 +89,7 @@ module _ (reply : Reply) (buffer : List ℕ) where
   its_calls = enqueue no_calls (held reply buffer)
 
   pub held_sound : IsSound (state_from (true ∷ true ∷ []) free_phones its_calls 0)
-  held_sound = kept_calls two its_calls two_sound (sound_enqueue two.tasks no_calls (held reply buffer) two_sound.calls refl refl (refl, refl) refl refl)
+  held_sound = sound_enqueued two (held reply buffer) two_sound refl refl (refl, refl) refl refl (no_phone free_phones (held reply buffer) refl (λ n. n)) refl
 
   pub held_few : HasFewActive one_count its_calls
   held_few =

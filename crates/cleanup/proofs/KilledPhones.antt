@@ -9,7 +9,6 @@ use Rattle.ipc_ids.specs.declared.message.PhoneState.{PhoneState}
 use Rattle.ipc_ids.specs.declared.message.PhoneState.TheVariants.{Free, Connecting, Connected, HungUp, Slammed}
 use Rattle.ipc_ids.specs.Codes.{ehangup}
 use Rattle.call_slab.specs.declared.call.Call.{Call}
-use Rattle.call_slab.specs.declared.call.Place.{Place}
 use Rattle.call_slab.specs.declared.call.Place.TheVariants.{Incoming, Dispatched, Answers}
 use Rattle.phone_table.specs.Phones.{state_at}
 use Rattle.cleanup.specs.State.{KernelState, Transition, live_calls, is_alive, phone_at, with_state_at, with_phone}
@@ -18,8 +17,9 @@ use Rattle.cleanup.specs.Kept.{AreKept, WaitsIn, kept_phone, lent_phone, kept_ro
 use Rattle.cleanup.specs.Joins.{bare_reply, settle_for, lives, drop_answer, forget_call, hang_up}
 use Rattle.cleanup.specs.Kill.{width, mark_ended, hang_up_at, slam, first_at, first_call_of, settle_call, kill}
 use Rattle.cleanup.proofs.Rows.{state_changed_at}
-use Rattle.cleanup.proofs.Soundness.{phone_kept, value_of}
+use Rattle.cleanup.proofs.Soundness.{phone_kept}
 use Rattle.cleanup.proofs.Repeats.{by_test, each_keeps, drain_keeps}
+use Rattle.cleanup.proofs.Keepers.{state_here}
 use Rattle.cleanup.proofs.Usable.{kept_waits, lent_waits}
 use Rattle.cleanup.proofs.Silence.{IsEnding, IsSilent, IsAlone, own_phones_hung_up, phones_slammed, slam_silent, slams_keep}
 use Rattle.cleanup.proofs.Queues.{IsLive, IsUncalled, IsIdle, IsUnanswered, front_at, call_from, incoming_alone, incoming_settled, dispatched_uncalled, dispatched_settled, drop_idle, answers_dropped, forget_unanswered}
@@ -42,11 +42,6 @@ slammed t HungUp = HungUp
 slammed t Slammed = Slammed
 
 -- the rows after a write
-
-pub written_here : (rows : List (List PhoneState)) (a b : ℕ) (s : PhoneState) → IsSome (state_at rows a b) → state_at (with_state_at rows a b s) a b ≡ Some s
-written_here rows a b s h =
-    let now = value_of (state_at (with_state_at rows a b s) a b) (phone_kept rows a b a b s h) in
-    elim (state_changed_at rows a b a b s now.0 now.1) [ inl e ↦ now.1 ∙ ap Some (sym e.2) | inr e ↦ absurd (e.0 (refl, refl)) ]
 
 none_is : {A : Type 0} (o : Option A) → IsSome o → o ≡ None → ⊥
 none_is o h e = let g = rw e at h in cc
@@ -85,7 +80,7 @@ hang_up_own t q o k n h = by_state (phone_at k t n) refl where
   open_phone s is falls = elim (cases_eq q n) [
     | inl e ↦
         let there : phone_at k t q ≡ Some s = ap (phone_at k t) e ∙ is in
-        let now : phone_at (with_phone k t n HungUp) t q ≡ Some HungUp = ap (phone_at (with_phone k t n HungUp) t) e ∙ written_here k.tasks.phones t.0 n HungUp (is_some (phone_at k t n) s is) in
+        let now : phone_at (with_phone k t n HungUp) t q ≡ Some HungUp = ap (phone_at (with_phone k t n HungUp) t) e ∙ state_here k.tasks.phones t.0 n HungUp (is_some (phone_at k t n) s is) in
         elim h [
           | inl was ↦ inr (now ∙ ap Some (sym falls) ∙ ap (option_map hung) (sym there ∙ was))
           | inr was ↦ inr (now ∙ ap Some (sym falls) ∙ twice o s (sym was ∙ there) ∙ sym was ∙ was)
@@ -169,7 +164,7 @@ slam_either t u w n q o k (Some (Connected v)) is h =
     slam_it e (inl a) (inr ne) = away (λ z. ne z.1)
     slam_it e (inl a) (inl b) =
         let there : phone_at k u q ≡ Some (Connected v) = ap (λ i. state_at k.tasks.phones i q) a ∙ ap (state_at k.tasks.phones w.0) b ∙ is in
-        let now : phone_at (with_phone k w n Slammed) u q ≡ Some Slammed = ap (λ i. state_at (with_phone k w n Slammed).tasks.phones i q) a ∙ ap (state_at (with_phone k w n Slammed).tasks.phones w.0) b ∙ written_here k.tasks.phones w.0 n Slammed (is_some (phone_at k w n) (Connected v) is) in
+        let now : phone_at (with_phone k w n Slammed) u q ≡ Some Slammed = ap (λ i. state_at (with_phone k w n Slammed).tasks.phones i q) a ∙ ap (state_at (with_phone k w n Slammed).tasks.phones w.0) b ∙ state_here k.tasks.phones w.0 n Slammed (is_some (phone_at k w n) (Connected v) is) in
         let falls : slammed t (Connected v) ≡ Slammed = rw e refl in
         elim h [
           | inl was ↦ inr (now ∙ ap Some (sym falls) ∙ ap (option_map (slammed t)) (sym there ∙ was))
@@ -197,9 +192,9 @@ record And (F I : KernelState → Type 0) (j : KernelState) : Type 0 where
 
 -- what the steps on a live call keep, while the state is sound by the marks from before, the parts on calls keep
 module _ (k : KernelState) (t : TaskNo) (sound : IsSound k) (alive : is_alive k t ≡ true) (I : KernelState → Type 0)
-  (settled : (j : KernelState) (c : Call) → IsEnding k.tasks.alive j → IsLive j c → I j → I (settle_call j c).state)
-  (dropped : (j : KernelState) (c : Call) → IsEnding k.tasks.alive j → IsLive j c → I j → I (drop_answer t j c).state)
-  (forgot : (j : KernelState) (c : Call) → IsLive j c → I j → I (forget_call j c).state) where
+    (settled : (j : KernelState) (c : Call) → IsEnding k.tasks.alive j → IsLive j c → I j → I (settle_call j c).state)
+    (dropped : (j : KernelState) (c : Call) → IsEnding k.tasks.alive j → IsLive j c → I j → I (drop_answer t j c).state)
+    (forgot : (j : KernelState) (c : Call) → IsLive j c → I j → I (forget_call j c).state) where
   pub calls_keep : I (after_slams t k) → I (kill k t).state
   calls_keep h2 =
       let marks : List Bool = k.tasks.alive in
@@ -240,7 +235,7 @@ kept_freed rows (Some l) t p o w h = by_place (cases_eq t l.task.0) (cases_eq p 
   by_place (inl a) (inr ne) = away (λ z. ne z.1)
   by_place (inl a) (inl b) =
       let was : state_at rows t p ≡ Some Connecting = rw (a, b) w in
-      let now : state_at (with_state_at rows l.task.0 l.phone.0 Free) t p ≡ Some Free = rw (a, b) (written_here rows l.task.0 l.phone.0 Free (is_some (state_at rows l.task.0 l.phone.0) Connecting w)) in
+      let now : state_at (with_state_at rows l.task.0 l.phone.0 Free) t p ≡ Some Free = rw (a, b) (state_here rows l.task.0 l.phone.0 Free (is_some (state_at rows l.task.0 l.phone.0) Connecting w)) in
       elim h [ inl e ↦ inr (sym e ∙ was, now) | inr e ↦ absurd (free_waits (state_at rows t p) e.1 was) ]
 
 settle_frees : (j : KernelState) (c : Call) (t p : ℕ) (o : Option PhoneState) → AreKept j.tasks.phones j.calls → IsLive j c → IsFreed o (state_at j.tasks.phones t p) → IsFreed o (state_at (settle_call j c).state.tasks.phones t p)

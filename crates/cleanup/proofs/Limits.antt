@@ -12,11 +12,11 @@ use Rattle.ipc_ids.specs.declared.message.Reply.{Reply}
 use Rattle.ipc_ids.specs.Codes.{ehangup}
 use Rattle.call_slab.specs.declared.call.Call.{Call}
 use Rattle.call_slab.specs.declared.call.Place.{Place}
-use Rattle.call_slab.specs.declared.call.Place.TheVariants.{Incoming, Dispatched, Answers}
+use Rattle.call_slab.specs.declared.call.Place.TheVariants.{Answers}
 use Rattle.answerbox.specs.Calls.{is_hangup, CallTable, no_calls, call_at, enqueue, put_at, without_call, with_record, count_of, is_caller, same_label, is_active_on, active_calls}
 use Rattle.answerbox.proofs.Counts.{count-len, count-enqueue, count-without_call, count-with_record, count-put_at}
 use Rattle.phone_table.specs.Phones.{Row, state_at, is_usable, first_usable, first_usable_from}
-use Rattle.cleanup.specs.State.{KernelState, Transition, live_calls, start, is_alive, phone_at, label_of, with_state_at, with_phone, with_calls, with_task}
+use Rattle.cleanup.specs.State.{KernelState, Transition, start, is_alive, phone_at, label_of, with_state_at, with_phone, with_calls, with_task}
 use Rattle.cleanup.specs.Counts.{label_at}
 use Rattle.cleanup.specs.Sound.{IsSound}
 use Rattle.cleanup.specs.Kept.{AreKept, WaitsIn, with_kept, kept_phone, lent_phone, first_usable_of}
@@ -24,13 +24,14 @@ use Rattle.cleanup.specs.Joins.{bare_reply, declined_call, vanishing, settle, se
 use Rattle.cleanup.specs.Kill.{width, mark_ended, hang_up_at, slam, kill}
 use Rattle.cleanup.specs.Limits.{awaited_calls, hangup_calls, IsIdle, IsWithinLimits, IsRowOf}
 use Rattle.cleanup.proofs.Rows.{some_of}
+use Rattle.cleanup.proofs.Keepers.{state_here}
 use Rattle.cleanup.proofs.Usable.{IsUsable, usable_is, kept_waits, lent_waits}
 use Rattle.cleanup.proofs.Repeats.{by_test, each_keeps}
 use Rattle.cleanup.proofs.Soundness.{next_free}
 use Rattle.cleanup.proofs.Silence.{with_marks, hang_up_ends, IsEnding, slams_keep}
 use Rattle.cleanup.proofs.Queues.{IsLive, forget_step}
 use Rattle.cleanup.proofs.Killing.{after_hangups, after_slams}
-use Rattle.cleanup.proofs.KilledPhones.{written_here, written_elsewhere, calls_keep}
+use Rattle.cleanup.proofs.KilledPhones.{written_elsewhere, calls_keep}
 
 -- active calls are those that wait and those that tell of a hangup
 
@@ -141,7 +142,7 @@ within_state k t p new h there unused hung = record {
   idle = λ a b idle. at_idle a b (cases_eq a t.0) (cases_eq b p) idle;
 } where
   here : (a b : ℕ) → a ≡ t.0 → b ≡ p → state_at (with_state_at k.tasks.phones t.0 p new) a b ≡ Some new
-  here a b i j = rw (i, j) (written_here k.tasks.phones t.0 p new there)
+  here a b i j = rw (i, j) (state_here k.tasks.phones t.0 p new there)
 
   at_hung : (a b : ℕ) → (a ≡ t.0) ⊎ (a ≡ t.0 → ⊥) → (b ≡ p) ⊎ (b ≡ p → ⊥) → 1 ≤ hangup_calls k.calls (label_at a b) → state_at (with_state_at k.tasks.phones t.0 p new) a b ≡ Some HungUp
   at_hung a b (inl i) (inl j) some = here a b i j ∙ ap Some (hung (subst (λ x. 1 ≤ hangup_calls k.calls (label_at x p)) i (subst (λ x. 1 ≤ hangup_calls k.calls (label_at a x)) j some)))
@@ -281,7 +282,7 @@ within_hang_up k t p (Some HungUp) is h free = h
 within_hang_up k t p (Some Slammed) is h free = within_phone k t p Slammed HungUp h is (λ x. x) (λ _. refl)
 within_hang_up k t p (Some (Connected u)) is h free =
     let hung : KernelState = with_phone k t p HungUp in
-    let now : phone_at hung t p ≡ Some HungUp = written_here k.tasks.phones t.0 p HungUp (is_some (phone_at k t p) (Connected u) is) in
+    let now : phone_at hung t p ≡ Some HungUp = state_here k.tasks.phones t.0 p HungUp (is_some (phone_at k t p) (Connected u) is) in
     within_hangup hung (hangup_call k t p u) (within_phone k t p (Connected u) HungUp h is (λ x. x) (λ _. refl)) free (λ idle. subst IsIdle now idle) refl now
     (zero_of (hangup_calls k.calls (label_of t p)) (λ some. not_hung (phone_at k t p) u is (h.hung_up t.0 p some)))
 

@@ -24,12 +24,13 @@ use Rattle.cleanup.specs.State.{Tasks, KernelState, with_calls}
 use Rattle.cleanup.specs.Sound.{IsPlaced, IsSoundCall, AreSoundCalls, IsQuiet, IsSound}
 use Rattle.cleanup.specs.Kept.{accepts, kept_phone, lent_phone, kept_rows, with_kept, kept_by}
 use Rattle.cleanup.specs.Joins.{bare_reply, declined_call, vanishing, settle_for, lives, drop_answer, forget_call}
+use Rattle.cleanup.specs.Board.{IsPendingAt}
 use Rattle.cleanup.specs.Kill.{first_at, first_call_of, settle_call, settle_incoming, settle_dispatched, drop_answers, forget_calls_elsewhere}
 use Rattle.cleanup.proofs.Lookups.{at_insert, at_remove, chosen, same_call}
 use Rattle.cleanup.proofs.Rows.{state_changed_at}
 use Rattle.cleanup.proofs.Keepers.{kept_here, kept_other, kept_of_call, all_same}
-use Rattle.cleanup.proofs.SoundStates.{kept_alike, kept_calls}
-use Rattle.cleanup.proofs.SoundJoins.{IsWaiting, incoming_waits, held_waits, sound_gone, sound_declined}
+use Rattle.cleanup.proofs.SoundStates.{kept_calls}
+use Rattle.cleanup.proofs.SoundJoins.{incoming_pending, held_pending, sound_gone, sound_declined}
 use Rattle.cleanup.proofs.Repeats.{NoneIs, drain_keeps, drain_empties}
 use Rattle.cleanup.proofs.Silence.{with_marks, IsEnding, IsAlone}
 
@@ -74,10 +75,10 @@ sound_record tasks q n c d s is number stamp sound = record {
   ]
 
 -- a call that does not accept gets its answer, or is over where its caller has ended
-pub sound_settle_for : (k : KernelState) (c : Call) (reply : Reply) (by o : Option TaskNo) (lives : Bool) → IsSound k → call_at k.calls c.number.0 ≡ Some c → IsWaiting c.place → accepts reply.code ≡ false → c.caller ≡ o → IsSound (settle_for k c reply by o lives).state
-sound_settle_for k c reply by None b s is waits declines from = sound_gone k c s is
-sound_settle_for k c reply by (Some u) false s is waits declines from = sound_gone k c s is
-sound_settle_for k c reply by (Some u) true s is waits declines from = sound_declined k c reply by u s is waits declines from
+pub sound_settle_for : (k : KernelState) (c : Call) (reply : Reply) (by o : Option TaskNo) (lives : Bool) → IsSound k → call_at k.calls c.number.0 ≡ Some c → IsPendingAt c.place → accepts reply.code ≡ false → c.caller ≡ o → IsSound (settle_for k c reply by o lives).state
+sound_settle_for k c reply by None b s is pending declines from = sound_gone k c s is
+sound_settle_for k c reply by (Some u) false s is pending declines from = sound_gone k c s is
+sound_settle_for k c reply by (Some u) true s is pending declines from = sound_declined k c reply by u s is pending declines from
 
 -- an answer is dropped
 pub sound_drop : (k : KernelState) (t : TaskNo) (c : Call) → IsSound k → call_at k.calls c.number.0 ≡ Some c → IsSound (drop_answer t k c).state
@@ -127,14 +128,14 @@ forgotten c = record c { caller = None }
 over_alone : (marks : List Bool) (t : TaskNo) (k : KernelState) (c : Call) → IsAlone marks t k → IsLive k c → IsAlone marks t (vanishing k c).state
 over_alone marks t k c h is = alone_freed marks t k (kept_phone c) (without_call k.calls c.number.0) h (sound_gone (with_marks marks k) c h.silent.ending.sound is)
 
-settle_alone : (marks : List Bool) (t : TaskNo) (k : KernelState) (c : Call) → IsAlone marks t k → IsLive k c → IsWaiting c.place → IsAlone marks t (settle_call k c).state
-settle_alone marks t k c h is waits = by_caller c.caller (lives k c.caller) refl where
+settle_alone : (marks : List Bool) (t : TaskNo) (k : KernelState) (c : Call) → IsAlone marks t k → IsLive k c → IsPendingAt c.place → IsAlone marks t (settle_call k c).state
+settle_alone marks t k c h is pending = by_caller c.caller (lives k c.caller) refl where
   by_caller : (o : Option TaskNo) (b : Bool) → c.caller ≡ o → IsAlone marks t (settle_for k c (bare_reply ehangup) None o b).state
   by_caller None b from = over_alone marks t k c h is
   by_caller (Some u) false from = over_alone marks t k c h is
   by_caller (Some u) true from =
       alone_freed marks t k (lent_phone c) (put_at k.calls (declined_call c (bare_reply ehangup)) (Answers u)) h
-      (sound_declined (with_marks marks k) c (bare_reply ehangup) None u h.silent.ending.sound is waits refl from)
+      (sound_declined (with_marks marks k) c (bare_reply ehangup) None u h.silent.ending.sound is pending refl from)
 
 forgotten_place : (tasks : Tasks) (t : TaskNo) (o : Option TaskNo) (place : Place) → IsPlaced tasks o place → is_caller t o ≡ true → same_place place (Answers t) ≡ false → IsPlaced tasks None place
 forgotten_place tasks t o (Incoming s) h made none = h
@@ -147,7 +148,7 @@ forget_step k c is = ap (with_calls k) (with_change-record k.calls c.number.0 c 
 -- a call whose caller has ended keeps what it kept
 forgotten_keeps : (k : KernelState) (c : Call) → IsLive k c → (n : ℕ) → kept_by (with_record k.calls (forgotten c)) n ≡ kept_by k.calls n
 forgotten_keeps k c is = all_same k.calls (with_record k.calls (forgotten c)) c.number.0
-    (kept_here k.calls (with_record k.calls (forgotten c)) c.number.0 (Some (forgotten c)) at ∙ kept_alike (kind_of c.request.method) c (forgotten c) refl refl refl refl ∙ sym (kept_of_call k.calls c.number.0 c is))
+    (kept_here k.calls (with_record k.calls (forgotten c)) c.number.0 (Some (forgotten c)) at ∙ sym (kept_of_call k.calls c.number.0 c is))
     (kept_other k.calls (with_record k.calls (forgotten c)) c.number.0 (Some (forgotten c)) at) where
       at : (m : ℕ) → call_at (with_record k.calls (forgotten c)) m ≡ (if c.number.0 == m then Some (forgotten c) else call_at k.calls m)
       at m = at_insert k.calls.records c.number.0 m (forgotten c)
@@ -215,7 +216,7 @@ pub record IsUncalled (marks : List Bool) (t : TaskNo) (k : KernelState) : Type 
   pub incoming : NoneIs (stands_at (Incoming t)) k
 
 pub incoming_alone : (marks : List Bool) (t : TaskNo) (k : KernelState) (c : Call) → IsAlone marks t k → front k.calls (Incoming t) ≡ Some c → IsAlone marks t (settle_call k c).state
-incoming_alone marks t k c h is = let f = front_at marks k (Incoming t) c h.silent.ending is in settle_alone marks t k c h f.0 (incoming_waits c.place t f.1)
+incoming_alone marks t k c h is = let f = front_at marks k (Incoming t) c h.silent.ending is in settle_alone marks t k c h f.0 (incoming_pending c.place t f.1)
 
 pub incoming_settled : (marks : List Bool) (t : TaskNo) (k : KernelState) → IsAlone marks t k → IsUncalled marks t (settle_incoming t k).state
 incoming_settled marks t k h = record {
@@ -232,7 +233,7 @@ pub record IsIdle (marks : List Bool) (t : TaskNo) (k : KernelState) : Type 0 wh
 
 pub dispatched_uncalled : (marks : List Bool) (t : TaskNo) (k : KernelState) (c : Call) → IsUncalled marks t k → front k.calls (Dispatched t) ≡ Some c → IsUncalled marks t (settle_call k c).state
 dispatched_uncalled marks t k c h is = let f = front_at marks k (Dispatched t) c h.alone.silent.ending is in record {
-  alone = settle_alone marks t k c h.alone f.0 (held_waits c.place t f.1);
+  alone = settle_alone marks t k c h.alone f.0 (held_pending c.place t f.1);
   incoming = settle_none (stands_at (Incoming t)) k c h.incoming (λ u. refl);
 }
 

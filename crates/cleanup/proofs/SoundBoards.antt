@@ -119,6 +119,7 @@ module _ (alive : List Bool) (who : TaskNo) (phones : List (List PhoneState)) (c
       counted = counted;
       few = few;
     };
+    kept = sound.kept;
   }
 
   -- no phone of the task has more active calls than can be counted

@@ -22,29 +22,25 @@ use Rattle.cleanup.specs.Kept.{accepts, phone_of, held_phone, is_accepted, asked
 use Rattle.cleanup.specs.Sound.{IsPlaced, IsCaller, IsLentAt, IsReservedAt, IsOpenAt, NeedsPhone, HasSoundPhone, AreSoundCalls, IsQuiet, AreSoundTasks, IsSound}
 use Rattle.cleanup.specs.Joins.{answer_to, declined, accepted_to_me, accepted_me_to, passage}
 use Rattle.cleanup.specs.Serving.{as_it_is}
+use Rattle.cleanup.specs.Board.{IsPendingAt}
 use Rattle.cleanup.proofs.Lookups.{at_insert, at_remove}
-use Rattle.cleanup.proofs.Rows.{some_of}
+use Rattle.cleanup.proofs.Usable.{IsUsable}
 use Rattle.cleanup.proofs.Soundness.{next_free, sound_enqueue, sound_put, sound_under, sound_without, phone_kept, sound_quieted, sound_wired}
 use Rattle.cleanup.proofs.Keepers.{state_here, kept_here, kept_other, kept_of_call, kept_same, keepers_same, all_same, not_waiting, kept_phone_changed, let_go_kept, let_go_unkept, let_go_keepers, taken_kept, taken_keepers}
-use Rattle.cleanup.proofs.SoundStates.{kept_alike, keeps_none, no_phone, sound_moved}
+use Rattle.cleanup.proofs.SoundStates.{keeps_none, no_phone, sound_moved}
 
 -- places
 
--- a call at this place waits at a task, or is held by it
-abbrev pub IsWaiting : Place → Type 0
-IsWaiting (Incoming t) = ⊤
-IsWaiting (Dispatched t) = ⊤
-IsWaiting (Answers t) = ⊥
+-- a call that waits at a task, or is held by it
+pub incoming_pending : (place : Place) (t : TaskNo) → same_place place (Incoming t) ≡ true → IsPendingAt place
+incoming_pending (Incoming u) t is = tt
+incoming_pending (Dispatched u) t is = tt
+incoming_pending (Answers u) t is = false≢true is
 
-pub incoming_waits : (place : Place) (t : TaskNo) → same_place place (Incoming t) ≡ true → IsWaiting place
-incoming_waits (Incoming u) t is = tt
-incoming_waits (Dispatched u) t is = tt
-incoming_waits (Answers u) t is = false≢true is
-
-pub held_waits : (place : Place) (t : TaskNo) → same_place place (Dispatched t) ≡ true → IsWaiting place
-held_waits (Incoming u) t is = tt
-held_waits (Dispatched u) t is = tt
-held_waits (Answers u) t is = false≢true is
+pub held_pending : (place : Place) (t : TaskNo) → same_place place (Dispatched t) ≡ true → IsPendingAt place
+held_pending (Incoming u) t is = tt
+held_pending (Dispatched u) t is = tt
+held_pending (Answers u) t is = false≢true is
 
 -- at this place no task holds the call, and this code of its reply does not accept it
 abbrev pub IsLeft : Place → Code → Type 0
@@ -52,15 +48,15 @@ IsLeft (Incoming t) code = ⊤
 IsLeft (Dispatched t) code = ⊥
 IsLeft (Answers t) code = accepts code ≡ false
 
-waiting_open : (place : Place) (code : Code) → IsWaiting place → IsOpenAt place code
-waiting_open (Incoming t) code h = tt
-waiting_open (Dispatched t) code h = tt
-waiting_open (Answers t) code h = absurd h
+pending_open : (place : Place) (code : Code) → IsPendingAt place → IsOpenAt place code
+pending_open (Incoming t) code h = tt
+pending_open (Dispatched t) code h = tt
+pending_open (Answers t) code h = absurd h
 
-waiting_unaccepted : (place : Place) (code : Code) → IsWaiting place → is_accepted place code ≡ false
-waiting_unaccepted (Incoming t) code h = refl
-waiting_unaccepted (Dispatched t) code h = refl
-waiting_unaccepted (Answers t) code h = absurd h
+pending_unaccepted : (place : Place) (code : Code) → IsPendingAt place → is_accepted place code ≡ false
+pending_unaccepted (Incoming t) code h = refl
+pending_unaccepted (Dispatched t) code h = refl
+pending_unaccepted (Answers t) code h = absurd h
 
 left_unaccepted : (place : Place) (code : Code) → IsLeft place code → is_accepted place code ≡ false
 left_unaccepted (Incoming t) code h = refl
@@ -122,9 +118,7 @@ module _ (k : KernelState) (c : Call) (s : IsSound k) (live : call_at k.calls c.
   at m = at_insert k.calls.records c.number.0 m (record d { place = place; stamp = k.calls.next_stamp })
 
   put_keeps : kept_by table c.number.0 ≡ kept_phone (record d { place = place })
-  put_keeps =
-      kept_here k.calls table c.number.0 (Some (record d { place = place; stamp = k.calls.next_stamp })) at
-      ∙ kept_alike (kind_of c.request.method) (record d { place = place }) (record d { place = place; stamp = k.calls.next_stamp }) refl refl refl refl
+  put_keeps = kept_here k.calls table c.number.0 (Some (record d { place = place; stamp = k.calls.next_stamp })) at
 
   put_others : (m : ℕ) → (c.number.0 ≡ m → ⊥) → kept_by table m ≡ kept_by k.calls m
   put_others = kept_other k.calls table c.number.0 (Some (record d { place = place; stamp = k.calls.next_stamp })) at
@@ -145,63 +139,65 @@ module _ (k : KernelState) (c : Call) (s : IsSound k) (live : call_at k.calls c.
 
 -- a call that its holder lets go
 
--- the record of the call, at a place where no task holds it
-abbrev left : MethodKind → Call → Msg → Label → Reply → Place → Call
-left kind c msg label reply place = record c { msg = msg; label = label; reply = reply; reserved = unless_freed (lent_of kind c) c.reserved; place = place }
-
-left_keeps : (kind : MethodKind) (c : Call) (msg : Msg) (label : Label) (reply : Reply) (place : Place) → IsWaiting c.place → IsLeft place reply.code
-    → ((lent_of kind c ≡ kept_of kind c) × (kept_of kind (left kind c msg label reply place) ≡ None)) ⊎ ((lent_of kind c ≡ None) × (kept_of kind (left kind c msg label reply place) ≡ kept_of kind c))
-left_keeps PhoneHungUp c msg label reply place waits left = inl (refl, refl)
-left_keeps ConnectToMe c msg label reply place waits left = inl (refl, unheld place left) where
-  unheld : (place : Place) → IsLeft place reply.code → held_phone place (unless_freed (held_phone c.place c.reserved) c.reserved) ≡ None
-  unheld (Incoming t) h = refl
-  unheld (Dispatched t) h = absurd h
-  unheld (Answers t) h = refl
-left_keeps ConnectMeTo c msg label reply place waits left = inr (refl, rw (left_unaccepted place reply.code left, waiting_unaccepted c.place c.reply.code waits) refl)
-left_keeps NotBuilt c msg label reply place waits left = inl (refl, refl)
-left_keeps User c msg label reply place waits left = inl (refl, refl)
-
 -- a phone that the holder keeps is reserved no more
-freed_none : (place : Place) (reserved : Option Label) → IsWaiting place → ((l : Label) → reserved ≡ Some l → IsLentAt place l) → unless_freed (held_phone place reserved) reserved ≡ None
-freed_none (Incoming t) None waits lent = refl
-freed_none (Incoming t) (Some l) waits lent = absurd (lent l refl)
-freed_none (Dispatched t) None waits lent = refl
-freed_none (Dispatched t) (Some l) waits lent = rw (eq-eqb l.task.0 t.0 (ap (λ (u : TaskNo). u.0) (lent l refl))) refl
-freed_none (Answers t) reserved waits lent = absurd waits
+freed_none : (place : Place) (reserved : Option Label) → IsPendingAt place → ((l : Label) → reserved ≡ Some l → IsLentAt place l) → unless_freed (held_phone place reserved) reserved ≡ None
+freed_none (Incoming t) None pending lent = refl
+freed_none (Incoming t) (Some l) pending lent = absurd (lent l refl)
+freed_none (Dispatched t) None pending lent = refl
+freed_none (Dispatched t) (Some l) pending lent = rw (eq-eqb l.task.0 t.0 (ap (λ (u : TaskNo). u.0) (lent l refl))) refl
+freed_none (Answers t) reserved pending lent = absurd pending
 
 none_some : (o : Option Label) (l : Label) → o ≡ None → o ≡ Some l → ⊥
 none_some o l a b = cc
 
-left_owner : (kind : MethodKind) (c : Call) (place : Place) → IsWaiting c.place → ((l : Label) → c.reserved ≡ Some l → IsReservedAt kind c.from.task c.place l) → (l : Label) → unless_freed (lent_of kind c) c.reserved ≡ Some l → IsReservedAt kind c.from.task place l
-left_owner PhoneHungUp c place waits was l is = was l is
-left_owner ConnectToMe c place waits was l is = absurd (none_some (unless_freed (held_phone c.place c.reserved) c.reserved) l (freed_none c.place c.reserved waits was) is)
-left_owner ConnectMeTo c place waits was l is = was l is
-left_owner NotBuilt c place waits was l is = was l is
-left_owner User c place waits was l is = was l is
+-- what the call of this kind keeps, and has reserved, before and after
+module _ (from : TaskNo) (old new : Place) (was code : Code) (reserved : Option Label) (pending : IsPendingAt old) (left : IsLeft new code) where
+  abbrev freed : MethodKind → Option Label
+  freed kind = unless_freed (lent_of kind old reserved) reserved
 
-left_needed : (kind : MethodKind) (c : Call) (place : Place) (code : Code) → IsWaiting c.place → (NeedsPhone kind c.place c.reply.code → IsSome c.reserved) → NeedsPhone kind place code → IsSome (unless_freed (lent_of kind c) c.reserved)
-left_needed PhoneHungUp c place code waits was needs = absurd needs
-left_needed ConnectToMe c place code waits was needs = absurd needs
-left_needed ConnectMeTo c place code waits was needs = was (waiting_open c.place c.reply.code waits)
-left_needed NotBuilt c place code waits was needs = absurd needs
-left_needed User c place code waits was needs = absurd needs
+  unheld : (place : Place) → IsLeft place code → (o : Option Label) → held_phone place o ≡ None
+  unheld (Incoming t) h o = refl
+  unheld (Dispatched t) h o = absurd h
+  unheld (Answers t) h o = refl
+
+  left_keeps : (kind : MethodKind) → ((lent_of kind old reserved ≡ kept_of kind from old was reserved) × (kept_of kind from new code (freed kind) ≡ None)) ⊎ ((lent_of kind old reserved ≡ None) × (kept_of kind from new code (freed kind) ≡ kept_of kind from old was reserved))
+  left_keeps PhoneHungUp = inl (refl, refl)
+  left_keeps ConnectToMe = inl (refl, unheld new left (freed ConnectToMe))
+  left_keeps ConnectMeTo = inr (refl, rw (left_unaccepted new code left, pending_unaccepted old was pending) refl)
+  left_keeps NotBuilt = inl (refl, refl)
+  left_keeps User = inl (refl, refl)
+
+  left_owner : (kind : MethodKind) → ((l : Label) → reserved ≡ Some l → IsReservedAt kind from old l) → (l : Label) → freed kind ≡ Some l → IsReservedAt kind from new l
+  left_owner PhoneHungUp owner l is = owner l is
+  left_owner ConnectToMe owner l is = absurd (none_some (freed ConnectToMe) l (freed_none old reserved pending owner) is)
+  left_owner ConnectMeTo owner l is = owner l is
+  left_owner NotBuilt owner l is = owner l is
+  left_owner User owner l is = owner l is
+
+  left_needed : (kind : MethodKind) → (NeedsPhone kind old was → IsSome reserved) → NeedsPhone kind new code → IsSome (freed kind)
+  left_needed PhoneHungUp needed needs = absurd needs
+  left_needed ConnectToMe needed needs = absurd needs
+  left_needed ConnectMeTo needed needs = needed (pending_open old was pending)
+  left_needed NotBuilt needed needs = absurd needs
+  left_needed User needed needs = absurd needs
 
 unfreed : (freed reserved : Option Label) (l : Label) → unless_freed freed reserved ≡ Some l → reserved ≡ Some l
 unfreed None reserved l is = is
 unfreed (Some x) reserved l is = absurd (none_some None l refl is)
 
 -- the call goes to a place where no task holds it, is not accepted, and a phone that its holder keeps is free
-pub sound_left : (k : KernelState) (c : Call) (msg : Msg) (label : Label) (reply : Reply) (place : Place) → IsSound k → call_at k.calls c.number.0 ≡ Some c → IsWaiting c.place → IsLeft place reply.code → IsPlaced k.tasks c.caller place
+pub sound_left : (k : KernelState) (c : Call) (msg : Msg) (label : Label) (reply : Reply) (place : Place) → IsSound k → call_at k.calls c.number.0 ≡ Some c → IsPendingAt c.place → IsLeft place reply.code → IsPlaced k.tasks c.caller place
     → IsSound (with_calls (with_kept k (lent_phone c) Free) (put_at k.calls (changed c msg label reply (unless_freed (lent_phone c) c.reserved)) place))
-sound_left k c msg label reply place s live waits goes placed =
+sound_left k c msg label reply place s live pending left placed =
+    let kind : MethodKind = kind_of c.request.method in
     let was = (s.calls.each c.number.0 c live).reserved in
     let freed : Option Label = unless_freed (lent_phone c) c.reserved in
-    let phone : HasSoundPhone k.tasks.phones (left (kind_of c.request.method) c msg label reply place) = record {
+    let phone : HasSoundPhone k.tasks.phones (record c { msg = msg; label = label; reply = reply; reserved = freed; place = place }) = record {
       there = λ l is. was.there l (unfreed (lent_phone c) c.reserved l is);
-      owner = left_owner (kind_of c.request.method) c place waits was.owner;
-      needed = left_needed (kind_of c.request.method) c place reply.code waits was.needed;
+      owner = left_owner c.from.task c.place place c.reply.code reply.code c.reserved pending left kind was.owner;
+      needed = left_needed c.from.task c.place place c.reply.code reply.code c.reserved pending left kind was.needed;
     } in
-    elim (left_keeps (kind_of c.request.method) c msg label reply place waits goes) [
+    elim (left_keeps c.from.task c.place place c.reply.code reply.code c.reserved pending left kind) [
       | inl e ↦
           subst (λ (o : Option Label). IsSound (with_calls (with_kept k o Free) (put_at k.calls (changed c msg label reply freed) place))) (sym e.0)
           (put_without k c s live msg label reply freed place Free placed phone e.1 (quieted k (kept_phone c) Free tt s.tasks) (λ e. cc e))
@@ -211,12 +207,12 @@ sound_left k c msg label reply place s live waits goes placed =
     ]
 
 -- the call is declined, and goes to the answers of its caller
-pub sound_declined : (k : KernelState) (c : Call) (reply : Reply) (by : Option TaskNo) (u : TaskNo) → IsSound k → call_at k.calls c.number.0 ≡ Some c → IsWaiting c.place → accepts reply.code ≡ false → c.caller ≡ Some u → IsSound (answer_to (declined k c reply) by u).state
-sound_declined k c reply by u s live waits declines from = sound_left k c c.msg c.label reply (Answers u) s live waits declines from
+pub sound_declined : (k : KernelState) (c : Call) (reply : Reply) (by : Option TaskNo) (u : TaskNo) → IsSound k → call_at k.calls c.number.0 ≡ Some c → IsPendingAt c.place → accepts reply.code ≡ false → c.caller ≡ Some u → IsSound (answer_to (declined k c reply) by u).state
+sound_declined k c reply by u s live pending declines from = sound_left k c c.msg c.label reply (Answers u) s live pending declines from
 
 -- the call goes on to a task that is alive
-pub sound_passage : (k : KernelState) (c : Call) (msg : Msg) (label : Label) (by to : TaskNo) → IsSound k → call_at k.calls c.number.0 ≡ Some c → IsWaiting c.place → is_alive k to ≡ true → IsSound (passage msg label by to k c).state
-sound_passage k c msg label by to s live waits alive = sound_left k c msg label c.reply (Incoming to) s live waits tt alive
+pub sound_passage : (k : KernelState) (c : Call) (msg : Msg) (label : Label) (by to : TaskNo) → IsSound k → call_at k.calls c.number.0 ≡ Some c → IsPendingAt c.place → is_alive k to ≡ true → IsSound (passage msg label by to k c).state
+sound_passage k c msg label by to s live pending alive = sound_left k c msg label c.reply (Incoming to) s live pending tt alive
 
 -- a call that is accepted
 
@@ -227,25 +223,25 @@ sound_connected k c reply u to s live from none phone owner alive =
     put_without k c s live c.msg c.label reply c.reserved (Answers u) (Connected to) from phone none (connected k (kept_phone c) to owner alive s.tasks) (λ e. cc e)
 
 -- the record of an answer, where the phone stays reserved
-answered_phone : (kind : MethodKind) (c : Call) (u : TaskNo) (l : Label) → IsReservedAt kind c.from.task c.place l → IsReservedAt kind c.from.task (Answers u) l
-answered_phone PhoneHungUp c u l h = h
-answered_phone ConnectToMe c u l h = tt
-answered_phone ConnectMeTo c u l h = h
-answered_phone NotBuilt c u l h = h
-answered_phone User c u l h = h
+answered_owner : (kind : MethodKind) (from : TaskNo) (place : Place) (u : TaskNo) (l : Label) → IsReservedAt kind from place l → IsReservedAt kind from (Answers u) l
+answered_owner PhoneHungUp from place u l h = h
+answered_owner ConnectToMe from place u l h = tt
+answered_owner ConnectMeTo from place u l h = h
+answered_owner NotBuilt from place u l h = h
+answered_owner User from place u l h = h
 
-answered_needs : (kind : MethodKind) (c : Call) (code : Code) (u : TaskNo) → IsWaiting c.place → (NeedsPhone kind c.place c.reply.code → IsSome c.reserved) → NeedsPhone kind (Answers u) code → IsSome c.reserved
-answered_needs PhoneHungUp c code u waits was needs = absurd needs
-answered_needs ConnectToMe c code u waits was needs = absurd needs
-answered_needs ConnectMeTo c code u waits was needs = was (waiting_open c.place c.reply.code waits)
-answered_needs NotBuilt c code u waits was needs = absurd needs
-answered_needs User c code u waits was needs = absurd needs
+pending_needs : (kind : MethodKind) (old new : Place) (was code : Code) → IsPendingAt old → NeedsPhone kind new code → NeedsPhone kind old was
+pending_needs PhoneHungUp old new was code pending needs = needs
+pending_needs ConnectToMe old new was code pending needs = needs
+pending_needs ConnectMeTo old new was code pending needs = pending_open old was pending
+pending_needs NotBuilt old new was code pending needs = needs
+pending_needs User old new was code pending needs = needs
 
-answered_sound : (phones : List (List PhoneState)) (c : Call) (reply : Reply) (u : TaskNo) → IsWaiting c.place → HasSoundPhone phones c → HasSoundPhone phones (record c { reply = reply; place = Answers u })
-answered_sound phones c reply u waits was = record {
+answered_sound : (phones : List (List PhoneState)) (c : Call) (reply : Reply) (u : TaskNo) → IsPendingAt c.place → HasSoundPhone phones c → HasSoundPhone phones (record c { reply = reply; place = Answers u })
+answered_sound phones c reply u pending was = record {
   there = was.there;
-  owner = λ l is. answered_phone (kind_of c.request.method) c u l (was.owner l is);
-  needed = answered_needs (kind_of c.request.method) c reply.code u waits was.needed;
+  owner = λ l is. answered_owner (kind_of c.request.method) c.from.task c.place u l (was.owner l is);
+  needed = λ needs. was.needed (pending_needs (kind_of c.request.method) c.place (Answers u) c.reply.code reply.code pending needs);
 }
 
 -- the task of a phone that a call keeps
@@ -274,18 +270,18 @@ caller_alive : (tasks : Tasks) (from : Label) (caller : Option TaskNo) (u : Task
 caller_alive tasks from caller u is h = subst (IsCaller tasks from) is h
 
 -- a CONNECT_TO_ME is accepted
-pub sound_accepted_to_me : (k : KernelState) (c : Call) (reply : Reply) (by : Option TaskNo) (u : TaskNo) → IsSound k → call_at k.calls c.number.0 ≡ Some c → kind_of c.request.method ≡ ConnectToMe → IsWaiting c.place → c.caller ≡ Some u → IsSound (answer_to (accepted_to_me k c reply u) by u).state
-sound_accepted_to_me k c reply by u s live kind waits from =
+pub sound_accepted_to_me : (k : KernelState) (c : Call) (reply : Reply) (by : Option TaskNo) (u : TaskNo) → IsSound k → call_at k.calls c.number.0 ≡ Some c → kind_of c.request.method ≡ ConnectToMe → IsPendingAt c.place → c.caller ≡ Some u → IsSound (answer_to (accepted_to_me k c reply u) by u).state
+sound_accepted_to_me k c reply by u s live kind pending from =
     let was = s.calls.each c.number.0 c live in
     let given : Reply = record { code = Rattle.cleanup.specs.Joins.code_of (kept_phone c); args = reply.args } in
-    sound_connected k c given u u s live from (rw kind refl) (answered_sound k.tasks.phones c given u waits was.reserved)
+    sound_connected k c given u u s live from (rw kind refl) (answered_sound k.tasks.phones c given u pending was.reserved)
     (λ l is. holder_alive k.tasks c.caller c.place c.reserved l was.place (rw kind at is)) (caller_alive k.tasks c.from c.caller u from was.caller).1
 
 -- a CONNECT_ME_TO is accepted by task t
-pub sound_accepted_me_to : (k : KernelState) (c : Call) (reply : Reply) (t : TaskNo) (by : Option TaskNo) (u : TaskNo) → IsSound k → call_at k.calls c.number.0 ≡ Some c → kind_of c.request.method ≡ ConnectMeTo → IsWaiting c.place → accepts reply.code ≡ true → is_alive k t ≡ true → c.caller ≡ Some u → IsSound (answer_to (accepted_me_to k c reply t) by u).state
-sound_accepted_me_to k c reply t by u s live kind waits accepted alive from =
+pub sound_accepted_me_to : (k : KernelState) (c : Call) (reply : Reply) (t : TaskNo) (by : Option TaskNo) (u : TaskNo) → IsSound k → call_at k.calls c.number.0 ≡ Some c → kind_of c.request.method ≡ ConnectMeTo → IsPendingAt c.place → accepts reply.code ≡ true → is_alive k t ≡ true → c.caller ≡ Some u → IsSound (answer_to (accepted_me_to k c reply t) by u).state
+sound_accepted_me_to k c reply t by u s live kind pending accepted alive from =
     let was = s.calls.each c.number.0 c live in
-    sound_connected k c reply u t s live from (rw (kind, accepted) refl) (answered_sound k.tasks.phones c reply u waits was.reserved)
+    sound_connected k c reply u t s live from (rw (kind, accepted) refl) (answered_sound k.tasks.phones c reply u pending was.reserved)
     (λ l is. asker_alive k.tasks c.from u c.place c.reply.code c.reserved l (caller_alive k.tasks c.from c.caller u from was.caller) (rw kind at is)) alive
 
 -- a call of this kind keeps no phone
@@ -296,79 +292,37 @@ IsPlain ConnectMeTo = ⊥
 IsPlain NotBuilt = ⊤
 IsPlain User = ⊤
 
-plain_keeps : (kind : MethodKind) (c : Call) → IsPlain kind → kept_of kind c ≡ None
-plain_keeps PhoneHungUp c plain = refl
-plain_keeps ConnectToMe c plain = absurd plain
-plain_keeps ConnectMeTo c plain = absurd plain
-plain_keeps NotBuilt c plain = refl
-plain_keeps User c plain = refl
+plain_keeps : (kind : MethodKind) (from : TaskNo) (place : Place) (code : Code) (reserved : Option Label) → IsPlain kind → kept_of kind from place code reserved ≡ None
+plain_keeps PhoneHungUp from place code reserved plain = refl
+plain_keeps ConnectToMe from place code reserved plain = absurd plain
+plain_keeps ConnectMeTo from place code reserved plain = absurd plain
+plain_keeps NotBuilt from place code reserved plain = refl
+plain_keeps User from place code reserved plain = refl
 
 -- another call is answered
-pub sound_finished : (k : KernelState) (c : Call) (reply : Reply) (by : Option TaskNo) (u : TaskNo) → IsSound k → call_at k.calls c.number.0 ≡ Some c → IsPlain (kind_of c.request.method) → IsWaiting c.place → c.caller ≡ Some u → IsSound (answer_to (as_it_is k (record c { reply = reply })) by u).state
-sound_finished k c reply by u s live plain waits from =
-    sound_moved k c (record c { reply = reply }) (Answers u) s live refl refl refl refl refl from (answered_sound k.tasks.phones c reply u waits (s.calls.each c.number.0 c live).reserved)
-    (plain_keeps (kind_of c.request.method) (record c { reply = reply; place = Answers u }) plain ∙ sym (plain_keeps (kind_of c.request.method) c plain))
+pub sound_finished : (k : KernelState) (c : Call) (reply : Reply) (by : Option TaskNo) (u : TaskNo) → IsSound k → call_at k.calls c.number.0 ≡ Some c → IsPlain (kind_of c.request.method) → IsPendingAt c.place → c.caller ≡ Some u → IsSound (answer_to (as_it_is k (record c { reply = reply })) by u).state
+sound_finished k c reply by u s live plain pending from =
+    sound_moved k c (record c { reply = reply }) (Answers u) s live refl refl refl refl refl from (answered_sound k.tasks.phones c reply u pending (s.calls.each c.number.0 c live).reserved)
+    (plain_keeps (kind_of c.request.method) c.from.task (Answers u) reply.code c.reserved plain ∙ sym (plain_keeps (kind_of c.request.method) c.from.task c.place c.reply.code c.reserved plain))
 
 -- a call that takes a phone
 
--- a phone of task t that waits for no connection
-pub record IsTakeable (k : KernelState) (t : TaskNo) (l : Label) : Type 0 where
-  pub owner : l.task ≡ t
-  pub there : IsSome (phone_at k l.task l.phone.0)
-  pub idle : phone_at k l.task l.phone.0 ≡ Some Connecting → ⊥
+usable_there : (k : KernelState) (t : TaskNo) (l : Label) → IsUsable k t l → IsSome (phone_at k l.task l.phone.0)
+usable_there k t l usable = rw (usable.is) refl
 
-abbrev pub MayTake : KernelState → TaskNo → Option Label → Type 0
-MayTake k t None = ⊤
-MayTake k t (Some l) = IsTakeable k t l
+-- a usable phone waits for no connection
+usable_idle : (k : KernelState) (t : TaskNo) (l : Label) → IsUsable k t l → phone_at k l.task l.phone.0 ≡ Some Connecting → ⊥
+usable_idle k t l usable waits = never usable.state (active_calls k.calls l) usable.usable (sym usable.is ∙ waits) where
+  never : (x : PhoneState) (n : ℕ) → is_usable x n ≡ true → Some x ≡ Some Connecting → ⊥
+  never x n is e = let same : x ≡ Connecting = cc in false≢true (sym (ap (λ (y : PhoneState). is_usable y n) same) ∙ is)
 
--- the first usable phone of a task may be taken
-usable_found : (calls : CallTable) (t : TaskNo) (p : ℕ) (states : List PhoneState) (l : Label) → first_usable_from calls t p states ≡ Some l → (q : ℕ) × (l ≡ label_of t (p + q)) × ((x : PhoneState) × (slice_get states q ≡ Some x) × (x ≡ Connecting → ⊥))
-usable_found calls t p [] l is = absurd (none_some None l refl is)
-usable_found calls t p (x ∷ states) l is = by_test (is_usable x (active_calls calls (label_of t p))) refl is (usable_found calls t (p + 1) states l) where
-  one : (x l : Label) → Some x ≡ Some l → l ≡ x
-  one x l e = cc
-
-  idle : (x : PhoneState) (n : ℕ) → is_usable x n ≡ true → x ≡ Connecting → ⊥
-  idle x n usable e = false≢true (sym (ap (λ (y : PhoneState). is_usable y n) e) ∙ usable)
-
-  by_test : (b : Bool) → is_usable x (active_calls calls (label_of t p)) ≡ b → (if b then Some (label_of t p) else first_usable_from calls t (p + 1) states) ≡ Some l
-      → (first_usable_from calls t (p + 1) states ≡ Some l → (q : ℕ) × (l ≡ label_of t (p + 1 + q)) × ((y : PhoneState) × (slice_get states q ≡ Some y) × (y ≡ Connecting → ⊥)))
-      → (q : ℕ) × (l ≡ label_of t (p + q)) × ((y : PhoneState) × (slice_get (x ∷ states) q ≡ Some y) × (y ≡ Connecting → ⊥))
-  by_test true e h later = (0, one (label_of t p) l h ∙ ap (label_of t) (omega arith), (x, refl, idle x (active_calls calls (label_of t p)) e))
-  by_test false e h later = let f = later h in (suc f.0, f.1 ∙ ap (label_of t) (omega arith), (f.2.0, f.2.1, f.2.2))
-
-pub first_usable_may_be_taken : (k : KernelState) (t : TaskNo) → MayTake k t (first_usable_of k t)
-first_usable_may_be_taken k t = by_found (first_usable_of k t) refl where
-  one_state : (x y : PhoneState) → Some x ≡ Some y → x ≡ y
-  one_state x y e = cc
-
-  by_found : (o : Option Label) → first_usable_of k t ≡ o → MayTake k t o
-  by_found None is = tt
-  by_found (Some l) is =
-      let row = some_of (row_at k.tasks.phones t.0) (first_usable_from k.calls t 0) l is in
-      let f = usable_found k.calls t 0 row.0 l row.2 in
-      let here : phone_at k l.task l.phone.0 ≡ Some f.2.0 = rw (f.1, row.1) (ap (slice_get row.0) (omega arith) ∙ f.2.1) in
-      record { owner = ap (λ (x : Label). x.task) f.1; there = rw here refl; idle = λ e. f.2.2 (one_state f.2.0 Connecting (sym here ∙ e)) }
-
-taken : (k : KernelState) (t : TaskNo) → MayTake k t (first_usable_of k t)
-first_usable_may_be_taken k t = by_found (first_usable_of k t) refl where
-  by_found : (o : Option Label) → first_usable_of k t ≡ o → MayTake k t o
-  by_found None is = tt
-  by_found (Some l) is =
-      let row = some_of (row_at k.tasks.phones t.0) (first_usable_from k.calls t 0) l is in
-      let f = usable_found k.calls t 0 row.0 l row.2 in
-      let here : phone_at k l.task l.phone.0 ≡ Some f.2.0 = rw (f.1, row.1) (ap (slice_get row.0) (omega arith) ∙ f.2.1) in
-      record { owner = ap (λ (x : Label). x.task) f.1; there = rw here refl; idle = λ e. f.2.2 (one f.2.0 Connecting (sym here ∙ e)) }
-  one : (x y : PhoneState) → Some x ≡ Some y → x ≡ y
-  one x y e = cc
-
-taken : (k : KernelState) (q : CallTable) (n : ℕ) (t : TaskNo) (l : Label) → IsSound k → IsTakeable k t l → kept_by k.calls n ≡ None → kept_by q n ≡ Some l → ((m : ℕ) → (n ≡ m → ⊥) → kept_by q m ≡ kept_by k.calls m) → AreSoundCalls k.tasks q → IsSound (with_calls (with_kept k (Some l) Connecting) q)
+taken : (k : KernelState) (q : CallTable) (n : ℕ) (t : TaskNo) (l : Label) → IsSound k → IsUsable k t l → kept_by k.calls n ≡ None → kept_by q n ≡ Some l → ((m : ℕ) → (n ≡ m → ⊥) → kept_by q m ≡ kept_by k.calls m) → AreSoundCalls k.tasks q → IsSound (with_calls (with_kept k (Some l) Connecting) q)
 taken k q n t l s takes was is others calls =
-    let unkept = not_waiting l.task.0 l.phone.0 s.kept takes.idle in
+    let unkept = not_waiting l.task.0 l.phone.0 s.kept (usable_idle k t l takes) in
     record {
       calls = calls_with k q (Some l) Connecting calls;
       tasks = quieted k (Some l) Connecting tt s.tasks;
-      kept = taken_kept k.calls q n l is others (kept_phone_changed l.task.0 l.phone.0 Connecting s.kept unkept) (state_here k.tasks.phones l.task.0 l.phone.0 Connecting takes.there) (λ m has. unkept m l has (refl, refl));
+      kept = taken_kept k.calls q n l is others (kept_phone_changed l.task.0 l.phone.0 Connecting s.kept unkept) (state_here k.tasks.phones l.task.0 l.phone.0 Connecting (usable_there k t l takes)) (λ m has. unkept m l has (refl, refl));
       keepers = taken_keepers k.calls q n l is others was s.keepers;
     }
 
@@ -379,9 +333,9 @@ own_phone : (t : TaskNo) (l : Label) → l.task ≡ t → phone_of t (Some l) �
 own_phone t l is = rw (eq-eqb l.task.0 t.0 (ap (λ (u : TaskNo). u.0) is)) refl
 
 -- the record of a call for which this phone is reserved
-with_phone_sound : (k : KernelState) (t : TaskNo) (l : Label) (c : Call) → IsTakeable k t l → c.reserved ≡ Some l → IsReservedAt (kind_of c.request.method) c.from.task c.place l → HasSoundPhone k.tasks.phones c
+with_phone_sound : (k : KernelState) (t : TaskNo) (l : Label) (c : Call) → IsUsable k t l → c.reserved ≡ Some l → IsReservedAt (kind_of c.request.method) c.from.task c.place l → HasSoundPhone k.tasks.phones c
 with_phone_sound k t l c takes is owner = record {
-  there = λ x has. subst (λ (y : Label). IsSome (phone_at k y.task y.phone.0)) (same_label l x (sym is ∙ has)) takes.there;
+  there = λ x has. subst (λ (y : Label). IsSome (phone_at k y.task y.phone.0)) (same_label l x (sym is ∙ has)) (usable_there k t l takes);
   owner = λ x has. subst (IsReservedAt (kind_of c.request.method) c.from.task c.place) (same_label l x (sym is ∙ has)) owner;
   needed = λ n. rw is refl;
 }
@@ -392,66 +346,60 @@ unreceived (Dispatched u) t reserved is = absurd (false≢true is)
 unreceived (Answers u) t reserved is = refl
 
 -- a CONNECT_TO_ME is received by a task, which keeps a phone for it, where it has one
-pub sound_received_to_me : (k : KernelState) (c : Call) (msg : Msg) (t : TaskNo) (kept : Option Label) → IsSound k → call_at k.calls c.number.0 ≡ Some c → kind_of c.request.method ≡ ConnectToMe → same_place c.place (Incoming t) ≡ true → is_alive k t ≡ true → MayTake k t kept
+pub sound_received_to_me : (k : KernelState) (c : Call) (msg : Msg) (t : TaskNo) (kept : Option Label) → IsSound k → call_at k.calls c.number.0 ≡ Some c → kind_of c.request.method ≡ ConnectToMe → same_place c.place (Incoming t) ≡ true → is_alive k t ≡ true → ((l : Label) → kept ≡ Some l → IsUsable k t l)
     → IsSound (with_calls (with_kept k kept Connecting) (put_at k.calls (record c { msg = msg; reserved = kept }) (Dispatched t)))
 sound_received_to_me k c msg t kept s live kind comes alive takes = by_kept kept takes where
   before : kept_phone c ≡ None
   before = rw kind (unreceived c.place t c.reserved comes)
 
-  by_kept : (kept : Option Label) → MayTake k t kept → IsSound (with_calls (with_kept k kept Connecting) (put_at k.calls (record c { msg = msg; reserved = kept }) (Dispatched t)))
+  by_kept : (kept : Option Label) → ((l : Label) → kept ≡ Some l → IsUsable k t l) → IsSound (with_calls (with_kept k kept Connecting) (put_at k.calls (record c { msg = msg; reserved = kept }) (Dispatched t)))
   by_kept None takes =
       let d : Call = record c { msg = msg; reserved = None; place = Dispatched t } in
       put_alike k c s live msg c.label c.reply None (Dispatched t) alive (no_phone k.tasks.phones d refl (λ n. rw kind at n)) (keeps_none d refl ∙ sym before)
   by_kept (Some l) takes =
       let d : Call = record c { msg = msg; reserved = Some l; place = Dispatched t } in
-      let phone : HasSoundPhone k.tasks.phones d = with_phone_sound k t l d takes refl (rw kind takes.owner) in
-      let after : kept_phone d ≡ Some l = rw kind (own_phone t l takes.owner) in
-      taken k (put_at k.calls (record c { msg = msg; reserved = Some l }) (Dispatched t)) c.number.0 t l s takes (kept_of_call k.calls c.number.0 c live ∙ before)
+      let usable : IsUsable k t l = takes l refl in
+      let phone : HasSoundPhone k.tasks.phones d = with_phone_sound k t l d usable refl (rw kind usable.own) in
+      let after : kept_phone d ≡ Some l = rw kind (own_phone t l usable.own) in
+      taken k (put_at k.calls (record c { msg = msg; reserved = Some l }) (Dispatched t)) c.number.0 t l s usable (kept_of_call k.calls c.number.0 c live ∙ before)
       (put_keeps k c s live msg c.label c.reply (Some l) (Dispatched t) ∙ after)
       (put_others k c s live msg c.label c.reply (Some l) (Dispatched t))
       (put_sound k c s live msg c.label c.reply (Some l) (Dispatched t) alive phone)
 
-received_owner : (kind : MethodKind) (c : Call) (t : TaskNo) (l : Label) → (kind ≡ ConnectToMe → ⊥) → IsReservedAt kind c.from.task c.place l → IsReservedAt kind c.from.task (Dispatched t) l
-received_owner PhoneHungUp c t l not h = h
-received_owner ConnectToMe c t l not h = absurd (not refl)
-received_owner ConnectMeTo c t l not h = h
-received_owner NotBuilt c t l not h = h
-received_owner User c t l not h = h
+received_owner : (kind : MethodKind) (from : TaskNo) (place : Place) (t : TaskNo) (l : Label) → (kind ≡ ConnectToMe → ⊥) → IsReservedAt kind from place l → IsReservedAt kind from (Dispatched t) l
+received_owner PhoneHungUp from place t l not h = h
+received_owner ConnectToMe from place t l not h = absurd (not refl)
+received_owner ConnectMeTo from place t l not h = h
+received_owner NotBuilt from place t l not h = h
+received_owner User from place t l not h = h
 
-received_needs : (kind : MethodKind) (c : Call) (t : TaskNo) → IsWaiting c.place → (NeedsPhone kind c.place c.reply.code → IsSome c.reserved) → NeedsPhone kind (Dispatched t) c.reply.code → IsSome c.reserved
-received_needs PhoneHungUp c t waits was needs = absurd needs
-received_needs ConnectToMe c t waits was needs = absurd needs
-received_needs ConnectMeTo c t waits was needs = was (waiting_open c.place c.reply.code waits)
-received_needs NotBuilt c t waits was needs = absurd needs
-received_needs User c t waits was needs = absurd needs
-
-received_keeps : (kind : MethodKind) (c : Call) (t : TaskNo) → (kind ≡ ConnectToMe → ⊥) → IsWaiting c.place → kept_of kind (record c { place = Dispatched t }) ≡ kept_of kind c
-received_keeps PhoneHungUp c t not waits = refl
-received_keeps ConnectToMe c t not waits = absurd (not refl)
-received_keeps ConnectMeTo c t not waits = rw (waiting_unaccepted c.place c.reply.code waits) refl
-received_keeps NotBuilt c t not waits = refl
-received_keeps User c t not waits = refl
+received_keeps : (kind : MethodKind) (from : TaskNo) (place : Place) (code : Code) (reserved : Option Label) (t : TaskNo) → (kind ≡ ConnectToMe → ⊥) → IsPendingAt place → kept_of kind from (Dispatched t) code reserved ≡ kept_of kind from place code reserved
+received_keeps PhoneHungUp from place code reserved t not pending = refl
+received_keeps ConnectToMe from place code reserved t not pending = absurd (not refl)
+received_keeps ConnectMeTo from place code reserved t not pending = rw (pending_unaccepted place code pending) refl
+received_keeps NotBuilt from place code reserved t not pending = refl
+received_keeps User from place code reserved t not pending = refl
 
 -- another call is received
-pub sound_received : (k : KernelState) (c : Call) (t : TaskNo) → IsSound k → call_at k.calls c.number.0 ≡ Some c → (kind_of c.request.method ≡ ConnectToMe → ⊥) → IsWaiting c.place → is_alive k t ≡ true → IsSound (with_calls k (put_at k.calls c (Dispatched t)))
-sound_received k c t s live not waits alive =
+pub sound_received : (k : KernelState) (c : Call) (t : TaskNo) → IsSound k → call_at k.calls c.number.0 ≡ Some c → (kind_of c.request.method ≡ ConnectToMe → ⊥) → IsPendingAt c.place → is_alive k t ≡ true → IsSound (with_calls k (put_at k.calls c (Dispatched t)))
+sound_received k c t s live not pending alive =
     let was = (s.calls.each c.number.0 c live).reserved in
     let phone : HasSoundPhone k.tasks.phones (record c { place = Dispatched t }) = record {
       there = was.there;
-      owner = λ l is. received_owner (kind_of c.request.method) c t l not (was.owner l is);
-      needed = received_needs (kind_of c.request.method) c t waits was.needed;
+      owner = λ l is. received_owner (kind_of c.request.method) c.from.task c.place t l not (was.owner l is);
+      needed = λ needs. was.needed (pending_needs (kind_of c.request.method) c.place (Dispatched t) c.reply.code c.reply.code pending needs);
     } in
-    sound_moved k c c (Dispatched t) s live refl refl refl refl refl alive phone (received_keeps (kind_of c.request.method) c t not waits)
+    sound_moved k c c (Dispatched t) s live refl refl refl refl refl alive phone (received_keeps (kind_of c.request.method) c.from.task c.place c.reply.code c.reserved t not pending)
 
 -- a new CONNECT_ME_TO is sent, for which its caller keeps this phone
-pub sound_sent : (k : KernelState) (c : Call) (l : Label) → IsSound k → IsTakeable k c.from.task l → c.number.0 ≡ k.calls.next_number → IsPlaced k.tasks c.caller c.place → IsCaller k.tasks c.from c.caller → IsSome (state_at k.tasks.phones c.from.task.0 c.from.phone.0) → c.discard ≡ (c.request.method == 0) → kind_of c.request.method ≡ ConnectMeTo → IsWaiting c.place → c.reserved ≡ Some l
+pub sound_sent : (k : KernelState) (c : Call) (l : Label) → IsSound k → IsUsable k c.from.task l → c.number.0 ≡ k.calls.next_number → IsPlaced k.tasks c.caller c.place → IsCaller k.tasks c.from c.caller → IsSome (state_at k.tasks.phones c.from.task.0 c.from.phone.0) → c.discard ≡ (c.request.method == 0) → kind_of c.request.method ≡ ConnectMeTo → IsPendingAt c.place → c.reserved ≡ Some l
     → IsSound (with_calls (with_kept k (Some l) Connecting) (enqueue k.calls c))
-sound_sent k c l s takes number placed caller phone discard kind waits is =
+sound_sent k c l s takes number placed caller phone discard kind pending is =
     let d : Call = record c { stamp = k.calls.next_stamp } in
     let at : (m : ℕ) → call_at (enqueue k.calls c) m ≡ (if c.number.0 == m then Some d else call_at k.calls m) = λ m. at_insert k.calls.records c.number.0 m d in
     let free : call_at k.calls c.number.0 ≡ None = ap (call_at k.calls) number ∙ next_free k.tasks k.calls s.calls in
     let before : kept_by k.calls c.number.0 ≡ None = rw free refl in
-    let keeps : kept_phone c ≡ Some l = rw (kind, waiting_unaccepted c.place c.reply.code waits, is) (own_phone c.from.task l takes.owner) in
-    let after : kept_by (enqueue k.calls c) c.number.0 ≡ Some l = kept_here k.calls (enqueue k.calls c) c.number.0 (Some d) at ∙ kept_alike (kind_of c.request.method) c d refl refl refl refl ∙ keeps in
+    let keeps : kept_phone c ≡ Some l = rw (kind, pending_unaccepted c.place c.reply.code pending, is) (own_phone c.from.task l takes.own) in
+    let after : kept_by (enqueue k.calls c) c.number.0 ≡ Some l = kept_here k.calls (enqueue k.calls c) c.number.0 (Some d) at ∙ keeps in
     taken k (enqueue k.calls c) c.number.0 c.from.task l s takes before after (kept_other k.calls (enqueue k.calls c) c.number.0 (Some d) at)
-    (sound_enqueue k.tasks k.calls c s.calls number placed caller phone discard (with_phone_sound k c.from.task l c takes is (rw kind takes.owner)))
+    (sound_enqueue k.tasks k.calls c s.calls number placed caller phone discard (with_phone_sound k c.from.task l c takes is (rw kind takes.own)))

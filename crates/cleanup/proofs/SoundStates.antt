@@ -31,14 +31,6 @@ use Rattle.cleanup.proofs.Keepers.{kept_here, kept_other, kept_of_call, kept_sam
 pub kept_calls : (k : KernelState) (calls : CallTable) → IsSound k → AreSoundCalls k.tasks calls → ((n : ℕ) → kept_by calls n ≡ kept_by k.calls n) → IsSound (with_calls k calls)
 kept_calls k calls s sound same = record { calls = sound; tasks = s.tasks; kept = kept_same calls same s.kept; keepers = keepers_same calls same s.keepers }
 
--- two records that keep the same phone
-pub kept_alike : (kind : MethodKind) (c d : Call) → d.from ≡ c.from → d.place ≡ c.place → d.reply ≡ c.reply → d.reserved ≡ c.reserved → kept_of kind d ≡ kept_of kind c
-kept_alike PhoneHungUp c d from place reply reserved = refl
-kept_alike ConnectToMe c d from place reply reserved = rw (place, reserved) refl
-kept_alike ConnectMeTo c d from place reply reserved = rw (from, place, reply, reserved) refl
-kept_alike NotBuilt c d from place reply reserved = refl
-kept_alike User c d from place reply reserved = refl
-
 -- a call that has no phone reserved keeps none
 pub keeps_none : (c : Call) → c.reserved ≡ None → kept_phone c ≡ None
 keeps_none c none = by_kind (kind_of c.request.method) where
@@ -51,7 +43,7 @@ keeps_none c none = by_kind (kind_of c.request.method) where
   asked true o e = refl
   asked false o e = e
 
-  by_kind : (kind : MethodKind) → kept_of kind c ≡ None
+  by_kind : (kind : MethodKind) → kept_of kind c.from.task c.place c.reply.code c.reserved ≡ None
   by_kind PhoneHungUp = refl
   by_kind ConnectToMe = rw none (held c.place)
   by_kind ConnectMeTo = asked (is_accepted c.place c.reply.code) (phone_of c.from.task c.reserved) (rw none refl)
@@ -75,7 +67,7 @@ sound_enqueued k c s number place caller phone discard reserved none =
     let at : (m : ℕ) → call_at (enqueue k.calls c) m ≡ (if c.number.0 == m then Some d else call_at k.calls m) = λ m. at_insert k.calls.records c.number.0 m d in
     let free : call_at k.calls c.number.0 ≡ None = ap (call_at k.calls) number ∙ next_free k.tasks k.calls s.calls in
     let before : kept_by k.calls c.number.0 ≡ None = rw free refl in
-    let after : kept_by (enqueue k.calls c) c.number.0 ≡ None = kept_here k.calls (enqueue k.calls c) c.number.0 (Some d) at ∙ kept_alike (kind_of c.request.method) c d refl refl refl refl ∙ none in
+    let after : kept_by (enqueue k.calls c) c.number.0 ≡ None = kept_here k.calls (enqueue k.calls c) c.number.0 (Some d) at ∙ none in
     kept_calls k (enqueue k.calls c) s (sound_enqueue k.tasks k.calls c s.calls number place caller phone discard reserved)
     (same_of_all k.calls (enqueue k.calls c) c.number.0 (after ∙ sym before) (kept_other k.calls (enqueue k.calls c) c.number.0 (Some d) at))
 
@@ -90,7 +82,7 @@ sound_moved k c d place s live number caller from request discard placed reserve
       let at : (m : ℕ) → call_at (put_at k.calls d place) m ≡ (if d.number.0 == m then Some after else call_at k.calls m) = λ m. at_insert k.calls.records d.number.0 m after in
       let was : call_at k.calls d.number.0 ≡ Some c = ap (λ (n : Rattle.ipc_ids.specs.declared.numbers.CallNo.CallNo). call_at k.calls n.0) e ∙ live in
       let here : kept_by (put_at k.calls d place) d.number.0 ≡ kept_by k.calls d.number.0 =
-          kept_here k.calls (put_at k.calls d place) d.number.0 (Some after) at ∙ kept_alike (kind_of d.request.method) (record d { place = place }) after refl refl refl refl ∙ same ∙ sym (kept_of_call k.calls d.number.0 c was) in
+      kept_here k.calls (put_at k.calls d place) d.number.0 (Some after) at ∙ same ∙ sym (kept_of_call k.calls d.number.0 c was) in
       kept_calls k (put_at k.calls d place) s (sound_put k.tasks k.calls c.number.0 c d place s.calls live number caller from request discard placed reserved)
       (same_of_all k.calls (put_at k.calls d place) d.number.0 here (kept_other k.calls (put_at k.calls d place) d.number.0 (Some after) at))
 
