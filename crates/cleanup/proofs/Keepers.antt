@@ -1,5 +1,5 @@
 -- Who keeps which phone after each change of a call or of a phone.
-use Rattle.std.proofs.Common.{◌≡◌, ℕ, ◌⊎◌, inl, inr, Option, None, Some, List, refl, ap, sym, subst, ◌∙◌, arith}
+use Rattle.std.proofs.Common.{◌≡◌, ℕ, inl, inr, Option, None, Some, List, refl, ap, sym, subst, ◌∙◌}
 use Rattle.std.specs.Prelude.{◌==◌, ⊤, if◌then◌else◌, IsSome, option_and_then}
 use Rattle.std.proofs.lemmas.Bool.{cases_eq, eq-eqb, ne_eqb}
 use Rattle.ipc_ids.specs.declared.numbers.Label.{Label}
@@ -10,7 +10,7 @@ use Rattle.answerbox.specs.Calls.{CallTable, call_at}
 use Rattle.phone_table.specs.Phones.{state_at}
 use Rattle.cleanup.specs.State.{KernelState, with_state_at}
 use Rattle.cleanup.specs.Counts.{label_at}
-use Rattle.cleanup.specs.Kept.{AreKept, IsLoose, IsLoosePhone, kept_by, kept_phone}
+use Rattle.cleanup.specs.Kept.{AreKept, IsLoose, IsLoosePhone, WaitsIn, kept_by, kept_phone}
 use Rattle.cleanup.specs.Sound.{HaveKeepers}
 use Rattle.cleanup.proofs.Rows.{state_changed_at}
 use Rattle.cleanup.proofs.Soundness.{phone_kept, value_of}
@@ -91,6 +91,10 @@ loose_there k (Some l) loose = is_some (state_at k.tasks.phones l.task.0 l.phone
 
 pub loose_unkept : (k : KernelState) (l : Label) → IsLoosePhone k l → IsUnkept k.calls l.task.0 l.phone.0
 loose_unkept k l loose n x is e = loose.unkept n (is ∙ ap Some (same_phone x l e.0 e.1))
+
+pub loose_waits : (k : KernelState) (kept : Option Label) → IsLoose k kept → WaitsIn k.tasks.phones kept
+loose_waits k None loose = tt
+loose_waits k (Some l) loose = loose.waits
 
 pub loose_are_unkept : (k : KernelState) (kept : Option Label) → IsLoose k kept → AreUnkept k.calls kept
 loose_are_unkept k None loose = tt

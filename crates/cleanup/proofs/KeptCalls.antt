@@ -17,7 +17,7 @@ use Rattle.call_slab.specs.declared.call.Place.{Place}
 use Rattle.call_slab.specs.declared.call.Place.TheVariants.{Incoming, Dispatched, Answers}
 use Rattle.answerbox.specs.Calls.{CallTable, call_at, enqueue, put_at, with_record, without_call, without_caller}
 use Rattle.cleanup.specs.State.{KernelState, with_calls}
-use Rattle.cleanup.specs.Kept.{AreKept, IsLoose, MayKeep, accepts, phone_of, held_phone, kept_by, kept_of, kept_phone, lent_of, lent_phone, unless_freed}
+use Rattle.cleanup.specs.Kept.{AreKept, IsLoose, MayKeep, accepts, phone_of, held_phone, is_accepted, kept_by, kept_of, kept_phone, lent_of, lent_phone, unless_freed}
 use Rattle.cleanup.specs.Joins.{declined_call, passed_call}
 use Rattle.cleanup.specs.Board.{IsPendingAt}
 use Rattle.cleanup.proofs.Lookups.{at_insert, at_remove}
@@ -97,6 +97,22 @@ passed_keeps k c msg label to pending = by_kind (kind_of c.request.method) where
   by_kind ConnectMeTo = inl (asked c.place pending)
   by_kind NotBuilt = inr tt
   by_kind User = inr tt
+
+-- a call for which no phone is reserved
+pub unreserved_of : (kind : MethodKind) (from : TaskNo) (place : Place) (code : Code) → kept_of kind from place code None ≡ None
+unreserved_of PhoneHungUp from place code = refl
+unreserved_of ConnectToMe from (Incoming t) code = refl
+unreserved_of ConnectToMe from (Dispatched t) code = refl
+unreserved_of ConnectToMe from (Answers t) code = refl
+unreserved_of ConnectMeTo from place code = by_test (is_accepted place code) where
+  by_test : (b : Bool) → (if b then None else phone_of from None) ≡ None
+  by_test true = refl
+  by_test false = refl
+unreserved_of NotBuilt from place code = refl
+unreserved_of User from place code = refl
+
+pub unreserved_loose : (k : KernelState) (c : Call) → c.reserved ≡ None → IsLoose k (kept_phone c)
+unreserved_loose k c none = rw (none, unreserved_of (kind_of c.request.method) c.from.task c.place c.reply.code) tt
 
 -- a call that is accepted keeps no phone
 pub accepted_keeps : (kind : MethodKind) (from caller : TaskNo) (code : Code) (reserved : Option Label) → accepts code ≡ true → kept_of kind from (Answers caller) code reserved ≡ None

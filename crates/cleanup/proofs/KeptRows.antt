@@ -10,12 +10,13 @@ use Rattle.answerbox.specs.Calls.{CallTable, active_calls}
 use Rattle.phone_table.specs.Phones.{Row, Rows, row_at, state_at, count_at, is_usable, first_usable, first_usable_from as first_in}
 use Rattle.phone_table.proofs.Lookups.{same_row}
 use Rattle.connect_hooks.specs.Connecting.{IsKept, send_over, receive_over, before_send, on_receive, accept_to_me}
-use Rattle.cleanup.specs.State.{KernelState, label_of}
+use Rattle.cleanup.specs.State.{KernelState, label_of, phone_at}
 use Rattle.cleanup.specs.Counts.{HasCounts}
-use Rattle.cleanup.specs.Kept.{first_usable_from, first_usable_in, first_usable_of, kept_rows, label_in, phone_in, IsOf, WaitsIn}
+use Rattle.cleanup.specs.Kept.{AreKept, IsLoose, first_usable_from, first_usable_in, first_usable_of, kept_rows, with_kept, label_in, phone_in, IsOf, WaitsIn}
 use Rattle.cleanup.specs.Joins.{code_of}
 use Rattle.cleanup.proofs.Endings.{slammed_states}
-use Rattle.cleanup.proofs.Soundness.{value_of}
+use Rattle.cleanup.proofs.Keepers.{AreUnkept, IsThere, not_waiting, state_here}
+use Rattle.cleanup.proofs.Usable.{usable_is}
 
 -- the first usable phone of a row that was looked up
 pub first_of_row : (rows : Rows) (t : TaskNo) (row : Row) → row_at rows.states t.0 ≡ Some row.states → row_at rows.counts t.0 ≡ Some row.counts → first_usable_in rows t ≡ label_in t (first_usable row)
@@ -66,13 +67,59 @@ module _ (calls : CallTable) (t : TaskNo) where
     by_test true is rest = rw is refl
     by_test false is rest = rw is rest
 
-pub first_is : (k : KernelState) (rows : Rows) (t : TaskNo) (row : Row) → rows.states ≡ k.tasks.phones → HasCounts rows.states rows.counts k.calls → row_at rows.states t.0 ≡ Some row.states → row_at rows.counts t.0 ≡ Some row.counts → first_usable_in rows t ≡ first_usable_of k t
-first_is k rows t row same s states counts =
-    first_of_row rows t row states counts
-    ∙ first_from k.calls t 0 row.states row.counts
-    (λ q h. let there : IsSome (count_at rows.counts t.0 q) = s.shaped t.0 q (rw states h) in rw counts at there)
-    (λ q n h. let z : 0 + q ≡ q = omega arith in s.counted t.0 q n (rw counts h) ∙ ap (λ i. active_calls k.calls (label_of t i)) (sym z))
-    ∙ sym (ap (option_and_then (first_usable_from k.calls t 0)) (ap (λ r. row_at r t.0) (sym same) ∙ states))
+pub first_is : (k : KernelState) (rows : Rows) (t : TaskNo) → rows.states ≡ k.tasks.phones → HasCounts rows.states rows.counts k.calls → first_usable_in rows t ≡ first_usable_of k t
+first_is k rows t same s =
+    by_row (row_at rows.states t.0) refl (row_at rows.counts t.0) refl
+    ∙ ap (option_and_then (first_usable_from k.calls t 0)) (ap (λ r. row_at r t.0) same) where
+  count_there : (o : Option ℕ) → IsSome o → o ≡ None → ⊥
+  count_there None h e = absurd (cc h)
+  count_there (Some n) h e = cc e
+
+  by_row : (o : Option (List PhoneState)) → row_at rows.states t.0 ≡ o → (n : Option (List ℕ)) → row_at rows.counts t.0 ≡ n → label_in t (option_and_then (λ states. option_and_then (λ counts. first_usable (record { states = states; counts = counts })) n) o) ≡ option_and_then (first_usable_from k.calls t 0) o
+  by_row None is n has = refl
+  by_row (Some []) is None has = refl
+  by_row (Some (state ∷ states)) is None has = absurd (count_there (count_at rows.counts t.0 0) (s.shaped t.0 0 (rw is refl)) (rw has refl))
+  by_row (Some states) is (Some counts) has =
+      first_from k.calls t 0 states counts
+      (λ q h. let there : IsSome (count_at rows.counts t.0 q) = s.shaped t.0 q (rw is h) in rw has at there)
+      (λ q n h. let z : 0 + q ≡ q = omega arith in s.counted t.0 q n (rw has h) ∙ ap (λ i. active_calls k.calls (label_of t i)) (sym z))
+
+-- the first usable phone of a task does not wait, so that no call keeps it, and it may be kept
+pub first_unkept : (k : KernelState) (t : TaskNo) → AreKept k.tasks.phones k.calls → AreUnkept k.calls (first_usable_of k t)
+first_unkept k t s = by_first (first_usable_of k t) refl where
+  not_usable : (state : PhoneState) (n : ℕ) → is_usable state n ≡ true → state ≡ Connecting → ⊥
+  not_usable Free n h e = cc e
+  not_usable Connecting n h e = absurd (cc h)
+  not_usable (Connected u) n h e = absurd (cc h)
+  not_usable HungUp n h e = cc e
+  not_usable Slammed n h e = absurd (cc h)
+
+  one : (a b : PhoneState) → Some a ≡ Some b → a ≡ b
+  one a b e = cc
+
+  by_first : (o : Option Label) → first_usable_of k t ≡ o → AreUnkept k.calls o
+  by_first None is = tt
+  by_first (Some l) is =
+      let f = usable_is k t l is in
+      not_waiting l.task.0 l.phone.0 s (λ waits. not_usable f.state (active_calls k.calls l) f.usable (one f.state Connecting (sym f.is ∙ waits)))
+
+pub first_there : (k : KernelState) (t : TaskNo) → IsThere k.tasks.phones (first_usable_of k t)
+first_there k t = by_first (first_usable_of k t) refl where
+  some : {A : Type 0} (o : Option A) (x : A) → o ≡ Some x → IsSome o
+  some o x e = rw e refl
+
+  by_first : (o : Option Label) → first_usable_of k t ≡ o → IsThere k.tasks.phones o
+  by_first None is = tt
+  by_first (Some l) is = let f = usable_is k t l is in some (phone_at k l.task l.phone.0) f.state f.is
+
+pub first_loose : (k : KernelState) (t : TaskNo) → AreKept k.tasks.phones k.calls → IsLoose (with_kept k (first_usable_of k t) Connecting) (first_usable_of k t)
+first_loose k t s = by_first (first_usable_of k t) (first_unkept k t s) (first_there k t) where
+  by_first : (o : Option Label) → AreUnkept k.calls o → IsThere k.tasks.phones o → IsLoose (with_kept k o Connecting) o
+  by_first None unkept there = tt
+  by_first (Some l) unkept there = record {
+    waits = state_here k.tasks.phones l.task.0 l.phone.0 Connecting there;
+    unkept = λ n is. unkept n l is (refl, refl);
+  }
 
 -- a kept phone of task t leads to the caller
 pub to_me_states : (rows : List (List PhoneState)) (t caller : TaskNo) (row : Row) (kept : Option Label) → row_at rows t.0 ≡ Some row.states → IsOf t kept → set rows (t.0 - 1) (accept_to_me row (phone_in kept) caller).phones.states ≡ kept_rows rows kept (Connected caller)

@@ -10,7 +10,6 @@ use Rattle.ipc_ids.specs.declared.message.Reply.{Reply}
 use Rattle.ipc_ids.specs.declared.message.PhoneState.{PhoneState}
 use Rattle.ipc_ids.specs.declared.message.PhoneState.TheVariants.{Free, Connecting, Connected, HungUp, Slammed}
 use Rattle.ipc_ids.specs.declared.message.Outcome.TheVariants.{Received as ToldCall, Answered as ToldAnswer, Accepted as Told, Empty}
-use Rattle.ipc_ids.specs.declared.entry.Entry.{Entry}
 use Rattle.ipc_ids.specs.declared.entry.Entry.TheVariants.{Accepted, Answered, Received, Delivered, Forwarded, Vanished, Dropped, Forgotten, PhoneIs}
 use Rattle.ipc_ids.specs.Codes.{eok, enoent, elimit, einval}
 use Rattle.ipc_ids.specs.Methods.{phone_hungup}

@@ -61,6 +61,7 @@ impl Switchboard {
     /// Accepts the new call, and answers it with this code and arguments 0 in the kernel's name.
     pub fn answer_at_once(&mut self, mut call: Call, code: Code, out: &mut Trace) -> Outcome
         requires new_call { IsNewCall self.old.state call }
+        requires unreserved { call.reserved ≡ None }
         requires room { HasRoom self.old out.old 1 1 2 }
         ensures served { Serves self.new result out.old out.new
             (answer_at_once self.old.state call code) }

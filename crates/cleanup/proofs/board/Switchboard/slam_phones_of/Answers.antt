@@ -6,6 +6,6 @@ use Rattle.cleanup.proofs.board.Switchboard.slam_phones_of.Goals as goal
 pub loop-phone-preserved : goal.loop-phone-preserved
 loop-phone-preserved c =
     record {
-      step = turned (slam_at c.args.who c.args.other) (omega arith) c.slam.ensures.step c.loop-phone.invariant.step;
+      step = turned (slam_at c.args.who c.args.other) (omega arith) (rw c.label.ensures at c.slam.ensures.step) c.loop-phone.invariant.step;
       room = uses_less (uses_both c.loop-phone.invariant.room c.slam.ensures.room) (omega arith) (omega arith) (omega arith);
     }

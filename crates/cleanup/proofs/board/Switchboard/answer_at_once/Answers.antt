@@ -1,0 +1,14 @@
+use Rattle.cleanup.proofs.KeptCalls.{unreserved_loose}
+use Rattle.cleanup.proofs.board.Switchboard.answer_at_once.Goals as goal
+
+pub enqueue-requires-clause-new_call : goal.enqueue-requires-clause-new_call
+enqueue-requires-clause-new_call c =
+    let new = c.requires.new_call in
+    record {
+      number = new.number;
+      caller = new.caller;
+      phone = new.phone;
+      place = new.place;
+      few = new.few;
+      kept = unreserved_loose c.args.self.now.state _ c.requires.unreserved;
+    }
