@@ -8,11 +8,10 @@ use Rattle.std.proofs.lemmas.Bool.{cases_eq, cases_lt, eqb-true, eq-eqb, ne_eqb,
 use Rattle.ipc_ids.specs.declared.numbers.TaskNo.{TaskNo}
 use Rattle.ipc_ids.specs.declared.message.PhoneState.{PhoneState}
 use Rattle.ipc_ids.specs.declared.message.PhoneState.TheVariants.{Free, Connecting, Connected, HungUp, Slammed}
-use Rattle.call_slab.specs.declared.call.Call.{Call}
-use Rattle.answerbox.specs.Calls.{CallTable, call_at, enqueue}
+use Rattle.answerbox.specs.Calls.{enqueue}
 use Rattle.phone_table.specs.Phones.{row_at, state_at}
-use Rattle.cleanup.specs.State.{Tasks, KernelState, Transition, alive_in, is_alive, phone_at, with_state_at, with_phone, with_calls}
-use Rattle.cleanup.specs.Sound.{AreSoundCalls, IsQuiet, IsSound}
+use Rattle.cleanup.specs.State.{KernelState, Transition, alive_in, is_alive, phone_at, with_state_at, with_phone, with_calls}
+use Rattle.cleanup.specs.Sound.{IsQuiet, IsSound}
 use Rattle.cleanup.specs.Joins.{hangup_call, hang_up}
 use Rattle.cleanup.specs.Kill.{task_no, width, hang_up_at, hang_up_own_phones, slam, slam_at, slam_phones_of, slam_other, slam_phones_to}
 use Rattle.cleanup.proofs.Rows.{state_changed_at}

@@ -1,6 +1,6 @@
 -- A sound state stays sound with each join of a call for which a phone is reserved.
-use Rattle.std.proofs.Common.{◌≡◌, ℕ, suc, ◌+◌, Bool, true, false, ◌⊎◌, inl, inr, Option, None, Some, List, [], ◌∷◌, refl, ap, sym, subst, ◌∙◌, arith}
-use Rattle.std.specs.Prelude.{◌==◌, ⊤, if◌then◌else◌, IsSome, slice_get}
+use Rattle.std.proofs.Common.{◌≡◌, ℕ, Bool, true, false, ◌⊎◌, inl, inr, Option, None, Some, List, refl, ap, sym, subst, ◌∙◌}
+use Rattle.std.specs.Prelude.{◌==◌, ⊤, if◌then◌else◌, IsSome}
 use Rattle.std.proofs.lemmas.Bool.{eq-eqb, eqb-true, false≢true}
 use Rattle.ipc_ids.specs.declared.numbers.TaskNo.{TaskNo}
 use Rattle.ipc_ids.specs.declared.numbers.Label.{Label}
@@ -8,7 +8,7 @@ use Rattle.ipc_ids.specs.declared.numbers.Code.{Code}
 use Rattle.ipc_ids.specs.declared.message.Msg.{Msg}
 use Rattle.ipc_ids.specs.declared.message.Reply.{Reply}
 use Rattle.ipc_ids.specs.declared.message.PhoneState.{PhoneState}
-use Rattle.ipc_ids.specs.declared.message.PhoneState.TheVariants.{Free, Connecting, Connected, HungUp, Slammed}
+use Rattle.ipc_ids.specs.declared.message.PhoneState.TheVariants.{Free, Connecting, Connected}
 use Rattle.ipc_ids.specs.declared.methods.MethodKind.{MethodKind}
 use Rattle.ipc_ids.specs.declared.methods.MethodKind.TheVariants.{PhoneHungUp, ConnectToMe, ConnectMeTo, NotBuilt, User}
 use Rattle.ipc_ids.specs.Methods.{kind_of}
@@ -16,9 +16,9 @@ use Rattle.call_slab.specs.declared.call.Call.{Call}
 use Rattle.call_slab.specs.declared.call.Place.{Place}
 use Rattle.call_slab.specs.declared.call.Place.TheVariants.{Incoming, Dispatched, Answers}
 use Rattle.answerbox.specs.Calls.{CallTable, call_at, enqueue, put_at, without_call, same_place, active_calls}
-use Rattle.phone_table.specs.Phones.{row_at, state_at, is_usable}
-use Rattle.cleanup.specs.State.{Tasks, KernelState, alive_in, is_alive, phone_at, with_calls, label_of}
-use Rattle.cleanup.specs.Kept.{accepts, phone_of, held_phone, is_accepted, asked_phone, kept_of, kept_phone, lent_of, lent_phone, unless_freed, kept_rows, with_kept, first_usable_from, first_usable_of, kept_by}
+use Rattle.phone_table.specs.Phones.{state_at, is_usable}
+use Rattle.cleanup.specs.State.{Tasks, KernelState, alive_in, is_alive, phone_at, with_calls}
+use Rattle.cleanup.specs.Kept.{accepts, phone_of, held_phone, is_accepted, asked_phone, kept_of, kept_phone, lent_of, lent_phone, unless_freed, kept_rows, with_kept, kept_by}
 use Rattle.cleanup.specs.Sound.{IsPlaced, IsCaller, IsLentAt, IsReservedAt, IsOpenAt, NeedsPhone, HasSoundPhone, AreSoundCalls, IsQuiet, AreSoundTasks, IsSound}
 use Rattle.cleanup.specs.Joins.{answer_to, declined, accepted_to_me, accepted_me_to, passage}
 use Rattle.cleanup.specs.Serving.{as_it_is}

@@ -1,14 +1,13 @@
 -- A sound state stays sound with a new task, a wire or a call, and where a phone changes that no call keeps.
-use Rattle.std.proofs.Common.{◌≡◌, ℕ, ◌+◌, Bool, true, false, ◌⊎◌, inl, inr, Option, None, Some, List, [], ◌∷◌, ◌++◌, replicate, refl, ap, sym, subst, ◌∙◌, arith}
+use Rattle.std.proofs.Common.{◌≡◌, ℕ, Bool, true, false, inl, inr, Option, None, Some, List, [], ◌∷◌, ◌++◌, replicate, refl, ap, sym, ◌∙◌}
 use Rattle.std.specs.Prelude.{◌==◌, IsSome, slice_get, if◌then◌else◌}
 use Rattle.std.proofs.lemmas.Bool.{cases_eq, eq-eqb, ne_eqb}
 use Rattle.std.specs.Ordering.{nat_cmp}
 use Rattle.std.specs.FinMap.{get-empty}
 use Rattle.ipc_ids.specs.declared.numbers.TaskNo.{TaskNo}
-use Rattle.ipc_ids.specs.declared.numbers.Code.{Code}
 use Rattle.ipc_ids.specs.declared.numbers.Label.{Label}
 use Rattle.ipc_ids.specs.declared.message.PhoneState.{PhoneState}
-use Rattle.ipc_ids.specs.declared.message.PhoneState.TheVariants.{Free, Connecting, Connected, HungUp, Slammed}
+use Rattle.ipc_ids.specs.declared.message.PhoneState.TheVariants.{Free, Connecting, Connected, HungUp}
 use Rattle.ipc_ids.specs.declared.methods.MethodKind.{MethodKind}
 use Rattle.ipc_ids.specs.declared.methods.MethodKind.TheVariants.{PhoneHungUp, ConnectToMe, ConnectMeTo, NotBuilt, User}
 use Rattle.ipc_ids.specs.Methods.{kind_of}
@@ -17,9 +16,9 @@ use Rattle.call_slab.specs.declared.call.Place.{Place}
 use Rattle.call_slab.specs.declared.call.Place.TheVariants.{Incoming, Dispatched, Answers}
 use Rattle.answerbox.specs.Calls.{CallTable, call_at, enqueue, put_at}
 use Rattle.phone_table.specs.Phones.{row_at, state_at}
-use Rattle.cleanup.specs.State.{Tasks, KernelState, alive_in, phone_at, with_state_at, with_calls, with_phone, with_task, start}
-use Rattle.cleanup.specs.Kept.{AreKept, phone_of, is_accepted, held_phone, asked_phone, kept_of, kept_phone, kept_by}
-use Rattle.cleanup.specs.Sound.{IsPlaced, IsCaller, NeedsPhone, HasSoundPhone, AreSoundCalls, AreSoundTasks, HaveKeepers, IsSound}
+use Rattle.cleanup.specs.State.{KernelState, alive_in, phone_at, with_calls, with_phone, with_task, start}
+use Rattle.cleanup.specs.Kept.{AreKept, phone_of, is_accepted, held_phone, kept_of, kept_phone, kept_by}
+use Rattle.cleanup.specs.Sound.{IsPlaced, IsCaller, NeedsPhone, HasSoundPhone, AreSoundCalls, AreSoundTasks, IsSound}
 use Rattle.cleanup.proofs.Lookups.{at_insert}
 use Rattle.cleanup.proofs.Rows.{some_of}
 use Rattle.cleanup.proofs.Soundness.{next_free, sound_enqueue, sound_put, sound_under, phone_kept, sound_quieted, sound_wired, sound_task, row_append, row_before, alive_before, phone_before, all_same}

@@ -261,7 +261,7 @@ pub kill_fits : (h : List Entry) (k : KernelState) (t : TaskNo) → HistoryFits 
 kill_fits h k t fits alive =
     let after = sound_kill k t fits.sound alive in
     record {
-      sound = record { calls = after.calls; tasks = after.tasks };
+      sound = record { calls = after.calls; tasks = after.tasks; kept = after.kept; keepers = after.keepers };
       limits = within_event (kill k t).state (within_kill k t fits.sound alive fits.limits);
       told = rw (past-append h (killed_entries t (kill_event k t))) (fits_later _ (kill k t).state (past_kills (past h) k fits.told fits.sound t alive));
     }

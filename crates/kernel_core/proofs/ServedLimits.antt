@@ -142,7 +142,7 @@ record IsFine (j : KernelState) : Type 0 where
 
 drops_fine : (t : TaskNo) (k : KernelState) → IsFine k → IsFine (drop_unawaited t k).state
 drops_fine t k h = drain_keeps (next_unawaited t) (drop_answer t) IsFine
-    (λ j c s is. record { sound = sound_drop j t c s.sound; within = within_over j c s.within (front_at j (Answers t) c s.sound (unawaited_front (front j.calls (Answers t)) c is)) })
+    (λ j c s is. record { sound = sound_drop j t c s.sound (front_at j (Answers t) c s.sound (unawaited_front (front j.calls (Answers t)) c is)); within = within_over j c s.within (front_at j (Answers t) c s.sound (unawaited_front (front j.calls (Answers t)) c is)) })
     (live_calls k) k h
 
 serves_within : (k : KernelState) (t : TaskNo) (asked : Request) → IsSound k → IsWithinLimits k → IsWithinLimits (serve_request k t asked).state

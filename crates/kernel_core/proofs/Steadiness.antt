@@ -1,12 +1,12 @@
 -- What a kernel keeps from event to event.
 use Rattle.std.proofs.Common.{◌≡◌, refl, ℕ, ◌+◌, ◌*◌, ◌^◌, ◌<◌, ◌≤◌, true, arith, subst, sym}
-use Rattle.std.specs.Prelude.{Result, Ok, Err, OnOk, OnErr}
+use Rattle.std.specs.Prelude.{Some, Result, Ok, Err, OnOk, OnErr}
 use Rattle.ipc_ids.specs.declared.numbers.TaskNo.{TaskNo}
 use Rattle.ipc_ids.specs.declared.message.Request.{Request}
-use Rattle.ipc_ids.specs.declared.message.PhoneState.TheVariants.{Connected}
-use Rattle.cleanup.specs.State.{KernelState, live_calls, start, is_alive, with_task, with_phone, with_event}
+use Rattle.ipc_ids.specs.declared.message.PhoneState.TheVariants.{Free, Connected}
+use Rattle.cleanup.specs.State.{KernelState, live_calls, start, is_alive, phone_at, with_task, with_phone, with_event}
 use Rattle.cleanup.specs.Sound.{IsSound}
-use Rattle.cleanup.proofs.Soundness.{sound_start, kept_task, kept_wired}
+use Rattle.cleanup.proofs.SoundStates.{sound_start, kept_task, kept_wired}
 use Rattle.cleanup.proofs.Killing.{sound_kill}
 use Rattle.answerbox.proofs.Counts.{active-len}
 use Rattle.cleanup.specs.Board.{FewActive}
@@ -21,11 +21,11 @@ steady_start = record { sound = sound_start; numbers = omega arith; stamps = ome
 pub steady_task : (k : KernelState) (limit : ℕ) → IsSteady k → IsSteady (with_task k limit)
 steady_task k limit s = record { sound = kept_task k limit s.sound; numbers = s.numbers; stamps = s.stamps }
 
-pub steady_wire : (k : KernelState) (t : TaskNo) (p : ℕ) (u : TaskNo) → IsSteady k → is_alive k t ≡ true → is_alive k u ≡ true → IsSteady (with_phone k t p (Connected u))
-steady_wire k t p u s alive target = record { sound = kept_wired k t p u s.sound alive target; numbers = s.numbers; stamps = s.stamps }
+pub steady_wire : (k : KernelState) (t : TaskNo) (p : ℕ) (u : TaskNo) → IsSteady k → is_alive k t ≡ true → is_alive k u ≡ true → phone_at k t p ≡ Some Free → IsSteady (with_phone k t p (Connected u))
+steady_wire k t p u s alive target free = record { sound = kept_wired k t p u s.sound alive target free; numbers = s.numbers; stamps = s.stamps }
 
 pub sound_kill_event : (k : KernelState) (t : TaskNo) → IsSteady k → is_alive k t ≡ true → IsSound (kill_event k t).state
-sound_kill_event k t s alive = let after = sound_kill k t s.sound alive in record { calls = after.calls; tasks = after.tasks }
+sound_kill_event k t s alive = let after = sound_kill k t s.sound alive in record { calls = after.calls; tasks = after.tasks; kept = after.kept; keepers = after.keepers }
 
 -- the state after a system call, from what it gives at most
 pub steady_serve : (k j : KernelState) (t : TaskNo) (request : Request) → IsSteady k → is_alive k t ≡ true

@@ -14,7 +14,7 @@ use Rattle.ipc_ids.proofs.LawfulLists.{lives_are_lawful, answered_at_most_once, 
 use Rattle.call_slab.specs.declared.call.Call.{Call}
 use Rattle.answerbox.specs.Calls.{call_at}
 use Rattle.cleanup.specs.State.{KernelState, is_alive, start, with_task, with_phone, phone_at}
-use Rattle.cleanup.proofs.Soundness.{sound_start, kept_task, kept_wired}
+use Rattle.cleanup.proofs.SoundStates.{sound_start, kept_task, kept_wired}
 use Rattle.cleanup.proofs.Limits.{within_start, within_task, within_wire}
 use Rattle.kernel_core.specs.History.{is_ended, TellsOf, PastFits, HistoryFits, gone_entries}
 
@@ -60,7 +60,7 @@ task_fits h k limit fits = record { sound = kept_task k limit fits.sound; limits
 pub wire_fits : (h : List Entry) (k : KernelState) (t : TaskNo) (p : ℕ) (u : TaskNo) → HistoryFits h k → is_alive k t ≡ true → is_alive k u ≡ true → phone_at k t p ≡ Some Free → HistoryFits h (with_phone k t p (Connected u))
 wire_fits h k t p u fits alive target free =
     let f = fits.told in
-    record { sound = kept_wired k t p u fits.sound alive target; limits = within_wire k t p u fits.limits free; told = record { lawful = f.lawful; round = f.round; cleared = f.cleared; number = f.number; ended = f.ended; calls = f.calls } }
+    record { sound = kept_wired k t p u fits.sound alive target free; limits = within_wire k t p u fits.limits free; told = record { lawful = f.lawful; round = f.round; cleared = f.cleared; number = f.number; ended = f.ended; calls = f.calls } }
 
 told_after_gone : (p : List Tale) (t n : ℕ) (o : Option Call) → TellsOf p n o → TellsOf (Head (Gone t) ∷ p) n o
 told_after_gone p t n None told = told

@@ -116,7 +116,7 @@ module _ (k : KernelState) (t : TaskNo) (sound : IsSound k) where
 
   drops_next : (p : List Entry) (j : KernelState) (x : Call) → IsRest p j → next_unawaited t j ≡ Some x → IsRest (told_after (drop_answer t j x).entries p) (drop_answer t j x).state
   drops_next p j x h is = record {
-    fine = sound_drop j t x h.fine;
+    fine = sound_drop j t x h.fine it.live;
     left = λ n c there. elim (chosen x.number.0 n None (call_at j.calls n) (Some c) (sym (at_remove j.calls.records x.number.0 n) ∙ there)) [ inl e ↦ absurd (cc e.1) | inr e ↦ h.left n c e.1 ];
     kept = λ n c there. elim (h.kept n c there) [ inl live ↦ stays n c there live (cases_eq x.number.0 n) | inr gone ↦ inr (none_stays j.calls x.number.0 n gone.0, gone.1) ];
     drops = drops_both t k p (Dropped x.number t ∷ []) h.drops ((refl, x, whole, hangup), tt);
@@ -146,7 +146,7 @@ module _ (k : KernelState) (t : TaskNo) (sound : IsSound k) where
   -- then none stands first
   none_next : next_unawaited t rest ≡ None
   none_next = drain_stops (next_unawaited t) (drop_answer t) IsSound (λ c. same_place c.place (Answers t))
-      (λ j x s is. sound_drop j t x s)
+      (λ j x s is. sound_drop j t x s (next_is j x s is).live)
       (λ j x s is. let it = next_is j x s is in let sum = rw it.at at (count-without_call (λ c. same_place c.place (Answers t)) j.calls x.number.0 x it.live) in omega arith)
       (len k.calls.records) k sound (count-len (λ c. same_place c.place (Answers t)) k.calls.records)
 
