@@ -1,7 +1,6 @@
 -- The rows of phones after a phone of one of them was kept, connected or freed.
-use Rattle.std.proofs.Common.{◌≡◌, ℕ, ◌+◌, ◌-◌, ◌<◌, Bool, true, false, Option, None, Some, List, [], ◌∷◌, refl, ap, sym, subst, ◌∙◌, arith, set, Ok, Err, Result, suc, zero}
-use Rattle.std.specs.Prelude.{◌==◌, if◌then◌else◌, IsSome, slice_get, option_and_then}
-use Rattle.std.proofs.lemmas.Bool.{cases_eq, eq-eqb, ne_eqb, false≢true}
+use Rattle.std.proofs.Common.{◌≡◌, ℕ, ◌+◌, ◌-◌, Bool, true, false, Option, None, Some, List, [], ◌∷◌, refl, ap, sym, subst, ◌∙◌, arith, set, suc}
+use Rattle.std.specs.Prelude.{if◌then◌else◌, IsSome, slice_get, option_and_then}
 use Rattle.ipc_ids.specs.declared.numbers.TaskNo.{TaskNo}
 use Rattle.ipc_ids.specs.declared.numbers.Label.{Label}
 use Rattle.ipc_ids.specs.declared.message.PhoneState.{PhoneState}
@@ -63,26 +62,26 @@ module _ (calls : CallTable) (t : TaskNo) where
       let now : count ≡ active_calls calls (label_of t p) = here ∙ ap (λ i. active_calls calls (label_of t i)) zero_is in
       by_test (is_usable state (active_calls calls (label_of t p))) (ap (is_usable state) now)
       (first_from (p + 1) states counts (λ q h. shaped (suc q) h) (λ q n h. let one : p + suc q ≡ p + 1 + q = omega arith in counted (suc q) n h ∙ ap (λ i. active_calls calls (label_of t i)) one)) where
-    by_test : (b : Bool) → is_usable state count ≡ b → label_in t (first_in (p + 1) states counts) ≡ first_usable_from calls t (p + 1) states → label_in t (if is_usable state count then Some p else first_in (p + 1) states counts) ≡ (if b then Some (label_of t p) else first_usable_from calls t (p + 1) states)
-    by_test true is rest = rw is refl
-    by_test false is rest = rw is rest
+        by_test : (b : Bool) → is_usable state count ≡ b → label_in t (first_in (p + 1) states counts) ≡ first_usable_from calls t (p + 1) states → label_in t (if is_usable state count then Some p else first_in (p + 1) states counts) ≡ (if b then Some (label_of t p) else first_usable_from calls t (p + 1) states)
+        by_test true is rest = rw is refl
+        by_test false is rest = rw is rest
 
 pub first_is : (k : KernelState) (rows : Rows) (t : TaskNo) → rows.states ≡ k.tasks.phones → HasCounts rows.states rows.counts k.calls → first_usable_in rows t ≡ first_usable_of k t
 first_is k rows t same s =
     by_row (row_at rows.states t.0) refl (row_at rows.counts t.0) refl
     ∙ ap (option_and_then (first_usable_from k.calls t 0)) (ap (λ r. row_at r t.0) same) where
-  count_there : (o : Option ℕ) → IsSome o → o ≡ None → ⊥
-  count_there None h e = absurd (cc h)
-  count_there (Some n) h e = cc e
+      count_there : (o : Option ℕ) → IsSome o → o ≡ None → ⊥
+      count_there None h e = absurd (cc h)
+      count_there (Some n) h e = cc e
 
-  by_row : (o : Option (List PhoneState)) → row_at rows.states t.0 ≡ o → (n : Option (List ℕ)) → row_at rows.counts t.0 ≡ n → label_in t (option_and_then (λ states. option_and_then (λ counts. first_usable (record { states = states; counts = counts })) n) o) ≡ option_and_then (first_usable_from k.calls t 0) o
-  by_row None is n has = refl
-  by_row (Some []) is None has = refl
-  by_row (Some (state ∷ states)) is None has = absurd (count_there (count_at rows.counts t.0 0) (s.shaped t.0 0 (rw is refl)) (rw has refl))
-  by_row (Some states) is (Some counts) has =
-      first_from k.calls t 0 states counts
-      (λ q h. let there : IsSome (count_at rows.counts t.0 q) = s.shaped t.0 q (rw is h) in rw has at there)
-      (λ q n h. let z : 0 + q ≡ q = omega arith in s.counted t.0 q n (rw has h) ∙ ap (λ i. active_calls k.calls (label_of t i)) (sym z))
+      by_row : (o : Option (List PhoneState)) → row_at rows.states t.0 ≡ o → (n : Option (List ℕ)) → row_at rows.counts t.0 ≡ n → label_in t (option_and_then (λ states. option_and_then (λ counts. first_usable (record { states = states; counts = counts })) n) o) ≡ option_and_then (first_usable_from k.calls t 0) o
+      by_row None is n has = refl
+      by_row (Some []) is None has = refl
+      by_row (Some (state ∷ states)) is None has = absurd (count_there (count_at rows.counts t.0 0) (s.shaped t.0 0 (rw is refl)) (rw has refl))
+      by_row (Some states) is (Some counts) has =
+          first_from k.calls t 0 states counts
+          (λ q h. let there : IsSome (count_at rows.counts t.0 q) = s.shaped t.0 q (rw is h) in rw has at there)
+          (λ q n h. let z : 0 + q ≡ q = omega arith in s.counted t.0 q n (rw has h) ∙ ap (λ i. active_calls k.calls (label_of t i)) (sym z))
 
 -- the first usable phone of a task does not wait, so that no call keeps it, and it may be kept
 pub first_unkept : (k : KernelState) (t : TaskNo) → AreKept k.tasks.phones k.calls → AreUnkept k.calls (first_usable_of k t)

@@ -294,13 +294,7 @@ impl Switchboard {
     }
 
     /// The call is received by that task as this message, with this phone reserved.
-    pub(crate) fn dispatch(
-        &mut self,
-        call: CallNo,
-        msg: Msg,
-        reserved: Option<Label>,
-        by: TaskNo,
-    )
+    pub(crate) fn dispatch(&mut self, call: CallNo, msg: Msg, reserved: Option<Label>, by: TaskNo)
         requires live { IsSome (call_at self.old.state.calls call.0) }
         requires added { IsAdded self.old.state by }
         requires reserved { MayReserve self.old.state (call_at self.old.state.calls call.0)
@@ -310,7 +304,8 @@ impl Switchboard {
             (received self.old.state.calls call.0 msg reserved (Dispatched by)) }
         ensures room { KeepsRoom self.old self.new 0 }
     {
-        self.boxes.receive(call, msg, reserved, Place::Dispatched(by));
+        self.boxes
+            .receive(call, msg, reserved, Place::Dispatched(by));
     }
 
     /// The call takes a reply that does not accept to the answers of its caller. Returns the phone
@@ -328,7 +323,12 @@ impl Switchboard {
     {
         let record = self.boxes.get(call).unwrap();
         let (lent, reserved) = (lent_phone(record), record.reserved);
-        self.boxes.answer(call, reply, unless_freed(lent, reserved), Place::Answers(caller));
+        self.boxes.answer(
+            call,
+            reply,
+            unless_freed(lent, reserved),
+            Place::Answers(caller),
+        );
         lent
     }
 
@@ -414,7 +414,8 @@ impl Switchboard {
         let record = self.boxes.get(call).unwrap();
         let (lent, reserved) = (lent_phone(record), record.reserved);
         let left = unless_freed(lent, reserved);
-        self.boxes.readdress(call, msg, label, left, Place::Incoming(to));
+        self.boxes
+            .readdress(call, msg, label, left, Place::Incoming(to));
         lent
     }
 
@@ -502,7 +503,8 @@ impl Switchboard {
         let record = self.boxes.get(call).unwrap();
         let (kept, reserved) = (kept_phone(record), record.reserved);
         connect_to_answerer(kept, t, &mut self.phones);
-        self.boxes.answer(call, *reply, reserved, Place::Answers(caller));
+        self.boxes
+            .answer(call, *reply, reserved, Place::Answers(caller));
         kept
     }
 
@@ -518,7 +520,8 @@ impl Switchboard {
         ensures room { KeepsRoom self.old self.new 0 }
     {
         let reserved = self.boxes.get(call).unwrap().reserved;
-        self.boxes.answer(call, *reply, reserved, Place::Answers(caller));
+        self.boxes
+            .answer(call, *reply, reserved, Place::Answers(caller));
     }
 
     /// The phone, where there is one, is free. No call keeps it.

@@ -153,13 +153,7 @@ impl Switchboard {
     }
 
     /// Delivers this reply to the task, and ends the call. A phone that it kept is free.
-    pub fn deliver(
-        &mut self,
-        number: CallNo,
-        reply: Reply,
-        who: TaskNo,
-        out: &mut Trace,
-    ) -> Outcome
+    pub fn deliver(&mut self, number: CallNo, reply: Reply, who: TaskNo, out: &mut Trace) -> Outcome
         requires live { IsSome (call_at self.old.state.calls number.0) }
         requires room { HasRoom self.old out.old 0 0 2 }
         ensures served { Serves self.new result out.old out.new

@@ -1,4 +1,4 @@
-use Rattle.cleanup.proofs.KeptRows.{first_of_row, received_states, received_counts}
+use Rattle.cleanup.proofs.KeptRows.{received_states, received_counts}
 use Rattle.cleanup.proofs.phones.keep_to_receive.Goals as goal
 
 pub returns-in-Some-clause-states : goal.returns-in-Some-clause-states
@@ -12,4 +12,3 @@ returns-in-None-clause-states c = rw c.on_receive.ensures.phones (received_state
 
 pub returns-in-None-clause-counts : goal.returns-in-None-clause-counts
 returns-in-None-clause-counts c = rw c.on_receive.ensures.phones (received_counts c.args.phones.now c.args.t c.row_mut.result.now c.row_mut.ensures.states c.row_mut.ensures.counts)
-

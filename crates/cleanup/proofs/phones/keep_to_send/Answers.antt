@@ -1,4 +1,4 @@
-use Rattle.cleanup.proofs.KeptRows.{first_of_row, sent_states, sent_counts}
+use Rattle.cleanup.proofs.KeptRows.{sent_states, sent_counts}
 use Rattle.cleanup.proofs.phones.keep_to_send.Goals as goal
 
 pub returns-in-Ok-clause-states : goal.returns-in-Ok-clause-states
@@ -12,4 +12,3 @@ returns-in-Err-clause-states c = rw c.before_send.ensures.phones (sent_states c.
 
 pub returns-in-Err-clause-counts : goal.returns-in-Err-clause-counts
 returns-in-Err-clause-counts c = rw c.before_send.ensures.phones (sent_counts c.args.phones.now c.args.t c.row_mut.result.now c.row_mut.ensures.states c.row_mut.ensures.counts)
-

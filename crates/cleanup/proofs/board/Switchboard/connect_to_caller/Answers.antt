@@ -1,11 +1,10 @@
-use Rattle.std.proofs.Common.{◌≡◌, ℕ, ◌≤◌, Some, None, arith, refl, sym, ap, subst, ◌∙◌, inr, length}
+use Rattle.std.proofs.Common.{◌≡◌, Some, arith, refl, sym, ap, ◌∙◌, inr, length}
 use Rattle.std.specs.Option.{option_copied}
-use Rattle.ipc_ids.specs.declared.numbers.TaskNo.{TaskNo}
 use Rattle.ipc_ids.specs.declared.message.PhoneState.TheVariants.{Connected}
-use Rattle.ipc_ids.specs.declared.methods.MethodKind.TheVariants.{ConnectToMe, ConnectMeTo}
+use Rattle.ipc_ids.specs.declared.methods.MethodKind.TheVariants.{ConnectToMe}
 use Rattle.call_slab.specs.declared.call.Place.TheVariants.{Answers}
 use Rattle.answerbox.specs.Calls.{call_at}
-use Rattle.cleanup.specs.Board.{IsAdded, IsHeldCall}
+use Rattle.cleanup.specs.Board.{IsHeldCall}
 use Rattle.cleanup.specs.Kept.{kept_phone}
 use Rattle.cleanup.proofs.Endings.{within}
 use Rattle.cleanup.proofs.Inner.{inner}
@@ -48,12 +47,14 @@ invariant_of-self c =
     let reply = record c.args.reply.now { code = c.connect_to_caller-code.result } in
     let none = caller_keeps r c.args.t c.args.caller reply held in
     let kept = kept_put (inner i) c.args.call.0 r (record r { reply = reply }) (Answers c.args.caller) c.self.invariant.0.kept is number (inr (rw none tt)) in
-    rw (c.answer.ensures.calls, c.answer.ensures.tasks, is, c.connect_to_caller-code.ensures.states, c.connect_to_caller-code.ensures.counts, c.kept_phone-kept.ensures)
-    (switched_kept (kept_phone r) (Connected c.args.caller)
-    (switched_put c.args.call.0 r (record r { reply = reply }) (Answers c.args.caller) c.self.invariant.0 is refl refl refl kept)
-    (waiting_there i.phones.states (kept_phone r) (kept_waits i.phones.states i.boxes.calls c.args.call.0 r c.self.invariant.0.kept is))
-    (leads_here c.args.caller (length i.alive.items) added)
-    (put_unkept (inner i) c.args.call.0 r (record r { reply = reply }) (Answers c.args.caller) c.self.invariant.0.kept is number none), c.self.invariant.1)
+    rw (c.answer.ensures.calls, c.answer.ensures.tasks, is, c.connect_to_caller-code.ensures.states, c.connect_to_caller-code.ensures.counts, c.kept_phone-kept.ensures) (
+      switched_kept (kept_phone r) (Connected c.args.caller)
+          (switched_put c.args.call.0 r (record r { reply = reply }) (Answers c.args.caller) c.self.invariant.0 is refl refl refl kept)
+          (waiting_there i.phones.states (kept_phone r) (kept_waits i.phones.states i.boxes.calls c.args.call.0 r c.self.invariant.0.kept is))
+          (leads_here c.args.caller (length i.alive.items) added)
+          (put_unkept (inner i) c.args.call.0 r (record r { reply = reply }) (Answers c.args.caller) c.self.invariant.0.kept is number none),
+      c.self.invariant.1,
+    )
 
 pub returns-clause-state : goal.returns-clause-state
 returns-clause-state c =

@@ -2,7 +2,7 @@ use Rattle.std.proofs.Common.{◌≡◌, Some, arith, refl, sym, ap, ◌∙◌}
 use Rattle.std.specs.Option.{option_copied}
 use Rattle.call_slab.specs.declared.call.Place.TheVariants.{Answers}
 use Rattle.answerbox.specs.Calls.{call_at}
-use Rattle.cleanup.specs.Board.{IsPending, IsPendingAt}
+use Rattle.cleanup.specs.Board.{IsPendingAt}
 use Rattle.cleanup.specs.Joins.{declined_call}
 use Rattle.cleanup.proofs.Endings.{within}
 use Rattle.cleanup.proofs.Inner.{inner}

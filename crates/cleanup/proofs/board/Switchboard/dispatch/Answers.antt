@@ -1,4 +1,4 @@
-use Rattle.std.proofs.Common.{◌≡◌, Some, arith, refl}
+use Rattle.std.proofs.Common.{arith, refl}
 use Rattle.call_slab.specs.declared.call.Place.TheVariants.{Dispatched}
 use Rattle.answerbox.specs.Calls.{call_at}
 use Rattle.cleanup.specs.Kept.{MayKeep}

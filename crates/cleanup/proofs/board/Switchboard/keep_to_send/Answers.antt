@@ -1,6 +1,6 @@
-use Rattle.std.proofs.Common.{refl, ap, ◌∙◌}
+use Rattle.std.proofs.Common.{refl}
 use Rattle.ipc_ids.specs.declared.message.PhoneState.TheVariants.{Connecting}
-use Rattle.cleanup.specs.Kept.{first_usable_of, or_refused}
+use Rattle.cleanup.specs.Kept.{first_usable_of}
 use Rattle.cleanup.proofs.Inner.{inner}
 use Rattle.cleanup.proofs.KeptRows.{first_is, first_loose, first_there, first_unkept}
 use Rattle.cleanup.proofs.Switched.{switched_kept}
