@@ -1,5 +1,4 @@
-use Rattle.hipc.specs.Answer.{usage_line}
-use Rattle.hipc.specs.Due.{texts, DueForFiles}
+use Rattle.hipc.specs.Due.{texts, usage_line, DueForFiles}
 use Rattle.hipc.specs.declared.status.Status.TheVariants.{Usage}
 use Rattle.hipc.proofs.Dues.{words_some, words_none, part_on, kept_or_part_on}
 use Rattle.hipc.proofs.due.run.Goals as goal
