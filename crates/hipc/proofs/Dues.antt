@@ -11,8 +11,8 @@ use Rattle.script_reader.specs.declared.fault.Reason.TheVariants.{Fault}
 use Rattle.script_reader.specs.Text.{lines}
 use Rattle.script_reader.specs.Plan.{Plan}
 use Rattle.script_reader.specs.Reading.{reading, lines_from, script_of, schedule_of}
-use Rattle.hipc.specs.Answer.{answer_of, answer_for_script, answer_for_events, cannot_line, usage_line}
-use Rattle.hipc.specs.Due.{Files, Names, Answers, files_of, Due, DueForBytes, DueForNames, DueForWords, DueForFiles, Whole, Part}
+use Rattle.hipc.specs.Answer.{answer_of, answer_for_script, answer_for_events}
+use Rattle.hipc.specs.Due.{Files, Names, Answers, files_of, usage_line, cannot_line, Due, DueForBytes, DueForNames, DueForWords, DueForFiles, Whole, Part}
 use Rattle.hipc.specs.declared.status.Status.{Status}
 use Rattle.hipc.specs.declared.status.Status.TheVariants.{Usage, CannotRead}
 

@@ -19,8 +19,8 @@ use Rattle.kernel_core.proofs.ServedHistories.{serve_fits}
 use Rattle.kernel_core.proofs.KilledHistories.{kill_fits}
 use Rattle.kernel_core.proofs.WholeHistories.{start_fits, task_fits, wire_fits, gone_fits, laws_of_history}
 use Rattle.hipc.specs.Raw.{RawState, wanted}
-use Rattle.hipc.specs.Run.{RunState, RunTransition, with_tasks, with_wires, step_by, request_served, killed, gone, turn, run_from, run}
-use Rattle.hipc.specs.Run as hipc
+use Rattle.hipc.specs.Replay.{RunState, RunTransition, with_tasks, with_wires, step_by, request_served, killed, gone, turn, run_from, run}
+use Rattle.hipc.specs.Replay as hipc
 use Rattle.hipc.specs.Wiring.{with_wire, AreOpen}
 use Rattle.hipc.specs.LawfulRun.{KeepsLaws}
 use Rattle.hipc.proofs.Starting.{wires_are_open}

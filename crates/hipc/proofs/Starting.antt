@@ -16,7 +16,7 @@ use Rattle.phone_table.specs.Phones.{state_at}
 use Rattle.cleanup.specs.State.{Tasks, KernelState, start, alive_in, with_task, with_state_at}
 use Rattle.cleanup.proofs.Rows.{state_changed_at}
 use Rattle.cleanup.proofs.Soundness.{value_of, phone_kept}
-use Rattle.hipc.specs.Run.{with_tasks}
+use Rattle.hipc.specs.Replay.{with_tasks}
 use Rattle.hipc.specs.Wiring.{IsOpen, AreOpen, with_wire}
 
 abbrev is_there : TaskPlan → Bool

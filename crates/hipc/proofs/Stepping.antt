@@ -8,7 +8,7 @@ use Rattle.ipc_ids.specs.declared.message.Outcome.{Outcome}
 use Rattle.cleanup.specs.State.{KernelState, is_alive}
 use Rattle.kernel_core.specs.Kernel.{serve}
 use Rattle.hipc.specs.Raw.{RawState, wanted, after}
-use Rattle.hipc.specs.Run.{RunState, program_at, step_by, step}
+use Rattle.hipc.specs.Replay.{RunState, program_at, step_by, step}
 
 chosen : (b : Bool) (o : Option RawState) (p : RawState) → (if b then o else None) ≡ Some p → o ≡ Some p
 chosen true o p h = h

@@ -5,17 +5,10 @@ use Rattle.script_reader.specs.declared.fault.Reason.{Reason}
 use Rattle.script_reader.specs.Text.{text_of_reason}
 use Rattle.script_reader.specs.Plan.{Plan}
 use Rattle.script_reader.specs.Reading.{script_of, schedule_of}
-use Rattle.hipc.specs.Run.{run}
+use Rattle.hipc.specs.Replay.{run}
 use Rattle.hipc.specs.Text.{text_of}
 use Rattle.hipc.specs.declared.status.Status.{Status}
 use Rattle.hipc.specs.declared.status.Status.TheVariants.{Done, BadScript, BadSchedule}
-
-abbrev pub usage_line : List ℕ
-usage_line = codes "usage: hipc replay SCRIPT SCHEDULE\n"
-
--- the line that names a file that could not be loaded
-abbrev pub cannot_line : List ℕ → List ℕ
-cannot_line name = codes "cannot read " ++ name ++ codes "\n"
 
 -- the line that tells the first fault of a file: which file, the number of its line, and the reason
 abbrev pub fault_line : List ℕ → ℕ × Reason → List ℕ

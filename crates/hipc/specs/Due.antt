@@ -7,7 +7,7 @@ use Rattle.std.specs.Io.KnownBytes.{Appends}
 use Rattle.io_edge.specs.Edge.{times, Holds, AppendsStart}
 use Rattle.hipc.specs.declared.status.Status.{Status}
 use Rattle.hipc.specs.declared.status.Status.TheVariants.{Usage, CannotRead, WriteFailed, NoMemory}
-use Rattle.hipc.specs.Answer.{answer_of, usage_line, cannot_line}
+use Rattle.hipc.specs.Answer.{answer_of}
 
 -- files, each a name and its bytes, where a shelf tells them
 abbrev pub Files : Type 0
@@ -30,6 +30,14 @@ abbrev pub files_of : List (List ℕ) → Option (List ℕ × List ℕ)
 files_of (command ∷ script ∷ schedule ∷ []) =
     if bytes_eq command (codes "replay") then Some (script, schedule) else None
 files_of words = None
+
+-- the line for words that are no command
+abbrev pub usage_line : List ℕ
+usage_line = codes "usage: hipc replay SCRIPT SCHEDULE\n"
+
+-- the line that names a file that could not be loaded
+abbrev pub cannot_line : List ℕ → List ℕ
+cannot_line name = codes "cannot read " ++ name ++ codes "\n"
 
 -- the load of this name failed in a call:
 -- among the names whose load failed it stands more often after the call than before

@@ -7,7 +7,7 @@ use Rattle.ipc_ids.specs.Laws.{LivesAreLawful, AnsweredAtMostOnce, KillEndsHeldC
 use Rattle.script_reader.specs.Plan.{Plan}
 use Rattle.script_reader.specs.Reading.{script_of, schedule_of}
 use Rattle.io_edge.specs.Edge.{Holds}
-use Rattle.hipc.specs.Run.{run}
+use Rattle.hipc.specs.Replay.{run}
 use Rattle.hipc.specs.Text.{text_of}
 use Rattle.hipc.specs.Due.{Files, files_of}
 

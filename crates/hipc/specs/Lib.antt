@@ -1,8 +1,8 @@
 pub mod Answer
 pub mod Due
 pub mod LawfulRun
-pub mod Numbers
 pub mod Raw
-pub mod Run
+pub mod Replay
+pub mod Status
 pub mod Text
 pub mod Wiring

@@ -2,15 +2,16 @@
 #![tactic(auto)]
 
 mod answer;
+mod due;
 mod raw;
 mod replay;
 mod status;
 #[cfg(test)]
 mod tests;
 mod text;
-mod top;
 
 pub use answer::replay_bytes;
+pub use due::run;
 use io_edge::{FileShelf, OutSink};
 use ipc_ids::NoMemory;
 pub use status::Status;
@@ -18,7 +19,6 @@ use std::env;
 use std::io::ErrorKind;
 use std::process::ExitCode;
 use std::rt::Env;
-pub use top::run;
 
 // The words after the program's name. Words that are no text are no words, and so no command.
 fn words_of(rt: &HostRuntime) -> Result<Vec<String>, NoMemory> {

@@ -6,8 +6,8 @@ ghost use Rattle.kernel_core.specs.History.{served_entries};
 ghost use Rattle.kernel_core.specs.Kernel.{serve};
 ghost use Rattle.script_reader.specs.Sound.{IsRawTask};
 ghost use Rattle.hipc.specs.Raw.{wanted};
-ghost use Rattle.hipc.specs.Run.{with_tasks, with_wires, ops_of, program_of, run};
-ghost use Rattle.hipc.specs.Run.{Tells};
+ghost use Rattle.hipc.specs.Replay.{with_tasks, with_wires, ops_of, program_of, run};
+ghost use Rattle.hipc.specs.Replay.{Tells};
 ghost use Rattle.hipc.specs.Wiring.{AreOpen};
 ghost use Rattle.hipc.specs.Text.{text_of};
 
@@ -29,7 +29,7 @@ pub struct Replay {
 impl Model for Replay {
     ghost use Rattle.kernel_core.specs.contracts.kernel.Kernel as kernels;
     ghost use Rattle.hipc.specs.contracts.raw.RawProgram as raws;
-    ghost use Rattle.hipc.specs.Run.{RunState, run_code};
+    ghost use Rattle.hipc.specs.Replay.{RunState, run_code};
 
     ghost Value = { RunState };
 
@@ -39,7 +39,7 @@ impl Model for Replay {
 }
 
 impl Replay {
-    ghost use Rattle.hipc.specs.Run.{start, program_at, turn, step, kill, hangup};
+    ghost use Rattle.hipc.specs.Replay.{start, program_at, turn, step, kill, hangup};
 
     /// The tasks of a script before the first event.
     ///

@@ -1,6 +1,6 @@
 //! How the program ends.
 ghost use Rattle.std.specs.Prelude.{◌≡◌};
-ghost use Rattle.hipc.specs.Numbers.{number_of};
+ghost use Rattle.hipc.specs.Status.{number_of};
 
 /// How a command ended. All but the last two say that the text that is due was written whole.
 #[derive(Clone, Copy, Debug, PartialEq, Eq, Drop)]

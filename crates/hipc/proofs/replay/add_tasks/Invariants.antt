@@ -1,5 +1,5 @@
 use Rattle.std.proofs.Common.{◌≡◌, ◌+◌, ◌≤◌, drop, length}
-use Rattle.hipc.specs.Run.{with_tasks}
+use Rattle.hipc.specs.Replay.{with_tasks}
 use Rattle.hipc.proofs.replay.add_tasks.Given as goal
 
 abbrev pub invariant-loop-task : goal.invariant-loop-task

@@ -1,5 +1,5 @@
 use Rattle.std.proofs.Common.{◌≡◌, drop}
-use Rattle.hipc.specs.Run.{with_wires}
+use Rattle.hipc.specs.Replay.{with_wires}
 use Rattle.hipc.specs.Wiring.{AreOpen}
 use Rattle.hipc.proofs.replay.add_wires.Given as goal
 

@@ -1,5 +1,5 @@
 use Rattle.std.proofs.Common.{◌≡◌, map, take}
-use Rattle.hipc.specs.Run.{program_of}
+use Rattle.hipc.specs.Replay.{program_of}
 use Rattle.hipc.proofs.replay.programs_of.Given as goal
 
 abbrev pub invariant-loop-task : goal.invariant-loop-task

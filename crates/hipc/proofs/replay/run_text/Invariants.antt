@@ -1,5 +1,5 @@
 use Rattle.std.proofs.Common.{◌≡◌, ◌≤◌, ◌++◌, drop}
-use Rattle.hipc.specs.Run.{run, run_from}
+use Rattle.hipc.specs.Replay.{run, run_from}
 use Rattle.hipc.specs.Text.{text_of}
 use Rattle.hipc.proofs.replay.run_text.Given as goal
 

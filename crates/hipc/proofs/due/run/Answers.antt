@@ -1,8 +1,7 @@
-use Rattle.hipc.specs.Answer.{usage_line}
-use Rattle.hipc.specs.Due.{texts, DueForFiles}
+use Rattle.hipc.specs.Due.{texts, usage_line, DueForFiles}
 use Rattle.hipc.specs.declared.status.Status.TheVariants.{Usage}
 use Rattle.hipc.proofs.Dues.{words_some, words_none, part_on, kept_or_part_on}
-use Rattle.hipc.proofs.top.run.Goals as goal
+use Rattle.hipc.proofs.due.run.Goals as goal
 
 pub returns-in-Some-clause-part : goal.returns-in-Some-clause-part
 returns-in-Some-clause-part g c = λ w.

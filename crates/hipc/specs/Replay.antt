@@ -1,4 +1,4 @@
--- A run: what the events of a schedule make of a script's tasks, and the entries that tell of it.
+-- The replay of a schedule: what its events make of a script's tasks, and its run, the entries that tell of it.
 use Rattle.std.specs.Prelude.{ℕ, ◌≡◌, ◌-◌, if◌then◌else◌, List, [], ◌∷◌, ◌++◌, map, Option, None, Some, slice_get, slice_set, refl}
 use Rattle.std.specs.Coded.{Coded, code_by, coded×, coded_list}
 use Rattle.ipc_ids.specs.declared.numbers.TaskNo.{TaskNo}

@@ -1,11 +1,10 @@
 use Rattle.std.proofs.Common.{refl, ◌∙◌, ap, ◌++◌, ◌∷◌, [], Err}
-use Rattle.hipc.specs.Answer.{cannot_line}
-use Rattle.hipc.specs.Due.{DueForBytes}
+use Rattle.hipc.specs.Due.{cannot_line, DueForBytes}
 use Rattle.hipc.specs.declared.status.Status.TheVariants.{CannotRead}
 use Rattle.hipc.proofs.Lost.{lost_it, lost_only, lost_none}
 use Rattle.hipc.proofs.Dues.{first_lost, second_lost, loaded, whole_on, part_on, kept_or_part_on}
 use Rattle.hipc.proofs.LawfulTexts.{lawful_of_files}
-use Rattle.hipc.proofs.top.replay_files.Goals as goal
+use Rattle.hipc.proofs.due.replay_files.Goals as goal
 
 pub returns-in-Err-Failed-clause-whole : goal.returns-in-Err-Failed-clause-whole
 returns-in-Err-Failed-clause-whole g c = λ w m.

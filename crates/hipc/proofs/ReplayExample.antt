@@ -13,7 +13,7 @@ use Rattle.ipc_ids.specs.declared.op.Op.TheVariants as op
 use Rattle.script_reader.specs.declared.plan.Kind.TheVariants.{Raw}
 use Rattle.script_reader.specs.declared.plan.TaskPlan.{TaskPlan}
 use Rattle.script_reader.specs.Plan.{Plan}
-use Rattle.hipc.specs.Run.{run}
+use Rattle.hipc.specs.Replay.{run}
 
 abbrev caller : TaskNo
 caller = record { 0 = 1 }

@@ -1,10 +1,9 @@
-//! The top call: words, files, and the sink that takes the text.
+//! Does what is due for a command line: words, files, and the sink that takes the text.
 ghost use Rattle.std.specs.Prelude.{◌≡◌, ◌≢◌, ◌≤◌, ◌<◌, ◌++◌, ◌⊎◌, ◌∷◌, [], IfOk, Some, map, string_bytes};
 ghost use Rattle.std.specs.Option.{option_map};
 ghost use Rattle.std.specs.Io.KnownBytes.{Appends, Keeps};
 ghost use Rattle.io_edge.specs.Edge.{AppendsStart, Rose};
-ghost use Rattle.hipc.specs.Answer.{cannot_line};
-ghost use Rattle.hipc.specs.Due.{texts, files_of, Due, DueForFiles, Whole, Part, LosesOneAtMost};
+ghost use Rattle.hipc.specs.Due.{texts, files_of, cannot_line, Due, DueForFiles, Whole, Part, LosesOneAtMost};
 ghost use Rattle.hipc.specs.LawfulRun.{WritesLawfulRunOf, WritesLawfulRunOfFiles};
 ghost use Rattle.hipc.specs.declared.status.Status.TheVariants.{Done, CannotRead, WriteFailed, NoMemory as Memory};
 
