@@ -10,7 +10,7 @@ ghost use Rattle.cleanup.specs.Joins.{on_call, answer_to};
 ghost use Rattle.cleanup.specs.Kept.{accepts};
 ghost use Rattle.cleanup.specs.Rooms.{HasRoom, KeepsRoom, UsesRoom};
 ghost use Rattle.cleanup.specs.Serving.{Does};
-ghost use Rattle.kernel_core.specs.Moments.{with_fifth, reply_with_fifth, number_of, reply_of, before_send as before_send_of, on_receive as on_receive_of, on_accept as on_accept_of};
+ghost use Rattle.kernel_core.specs.Moments.{with_fifth, with_phone_named, number_of, reply_of, before_send as before_send_of, on_receive as on_receive_of, on_accept as on_accept_of};
 ghost use Rattle.kernel_core.specs.Handing.{IsSent, Arrives};
 
 use call_slab::Call;
