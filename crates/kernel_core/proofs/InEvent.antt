@@ -20,10 +20,10 @@ use Rattle.call_slab.specs.declared.call.Place.TheVariants as place
 use Rattle.answerbox.specs.Calls.{CallTable, call_at, same_place, enqueue, put_at, without_call, front}
 use Rattle.answerbox.proofs.Fronts.{front_live}
 use Rattle.phone_table.specs.Phones.{state_at}
-use Rattle.cleanup.specs.State.{KernelState, with_calls, with_phone, alive_in, is_alive}
+use Rattle.cleanup.specs.State.{KernelState, Transition, with_calls, with_phone, alive_in, is_alive}
 use Rattle.cleanup.specs.Kept.{kept_phone, lent_phone, unless_freed, with_kept, kept_note}
 use Rattle.cleanup.specs.Joins.{vanishing, answer_to, settle, settle_for, lives, drop_answer}
-use Rattle.cleanup.specs.Serving.{Handed}
+use Rattle.cleanup.specs.Serving.{Handed, Served}
 use Rattle.cleanup.proofs.Lookups.{at_insert, at_remove}
 use Rattle.cleanup.proofs.Rows.{state_changed_at}
 use Rattle.kernel_core.specs.History.{is_ended, life_at, IsGone}
@@ -81,6 +81,13 @@ pub record InEvent (e : Event) (p : List Tale) (k : KernelState) : Type 0 where
   pub stands : (u n : ℕ) → StandsAt u (life n p) → is_ended k.tasks.alive u ≡ true → e ≡ Kill u
   pub leads : (s q : ℕ) (u : TaskNo) → state_at k.tasks.phones s q ≡ Some (phone.Connected u) → is_ended k.tasks.alive u.0 ≡ true → e ≡ Kill u.0
 
+-- the same after a step, and after a request, that began with the past p
+abbrev pub AfterStep : Event → List Tale → Transition → Type 0
+AfterStep e p step = InEvent e (and_then step.entries p) step.state
+
+abbrev pub AfterServed : Event → List Tale → Served → Type 0
+AfterServed e p served = InEvent e (and_then served.entries p) served.state
+
 -- where a phone in this state leads to a task that has ended, that task is killed in event e
 abbrev pub MayLead : Event → List Bool → PhoneState → Type 0
 MayLead e alive s = (v : TaskNo) → s ≡ phone.Connected v → is_ended alive v.0 ≡ true → e ≡ Kill v.0
@@ -97,7 +104,6 @@ same_place-true a b h = grind (arith, eqb-true, same_task)
 flipped : (a b : Bool) → a ≡ not b → b ≡ not a
 flipped a true h = ap not (sym h)
 flipped a false h = ap not (sym h)
-
 
 -- either way of a test
 pub by_test : {A : Type 0} (P : A → Type 0) (b : Bool) (x y : A) → (b ≡ true → P x) → (b ≡ false → P y) → P (if b then x else y)
@@ -184,7 +190,7 @@ free_leads e alive v x d = absurd (cc x)
 
 -- what each join leaves
 module _ (e : Event) (p : List Tale) (k : KernelState) (inside : InEvent e p k) where
-  pub vanished : (c : Call) (l : Life) → call_at k.calls c.number.0 ≡ Some c → life_at c.from.task.0 c.place ≡ l → Allowed p c.number.0 Vanished l → InEvent e (and_then (vanishing k c).entries p) (vanishing k c).state
+  pub vanished : (c : Call) (l : Life) → call_at k.calls c.number.0 ≡ Some c → life_at c.from.task.0 c.place ≡ l → Allowed p c.number.0 Vanished l → AfterStep e p (vanishing k c)
   vanished c l h at allowed =
       let it = is_told e p k inside c.number.0 c h in
       let table : CallTable = without_call k.calls c.number.0 in
@@ -200,7 +206,7 @@ module _ (e : Event) (p : List Tale) (k : KernelState) (inside : InEvent e p k) 
       (fits.0, flipped b (is_ended k.tasks.alive c.from.task.0) (sym lives' ∙ ap (alive_in k.tasks.alive) fits.0 ∙ fits.1))
 
   -- the call goes back to its caller with this reply, with this phone reserved
-  pub answered : (c : Call) (reply : Reply) (reserved : Option Label) (by : Option TaskNo) (u : TaskNo) (l : Life) → call_at k.calls c.number.0 ≡ Some c → life_at c.from.task.0 c.place ≡ l → caller_of l ≡ c.from.task.0 → c.caller ≡ Some u → is_alive k u ≡ true → (is_killed c.from.task.0 p ≡ false → Allowed p c.number.0 (Answered reply.code.0 (author by)) l) → (kept : Option Label) (s : PhoneState) → MayLead e k.tasks.alive s → InEvent e (and_then (answer_to (handed k c reply reserved kept s) by u).entries p) (answer_to (handed k c reply reserved kept s) by u).state
+  pub answered : (c : Call) (reply : Reply) (reserved : Option Label) (by : Option TaskNo) (u : TaskNo) (l : Life) → call_at k.calls c.number.0 ≡ Some c → life_at c.from.task.0 c.place ≡ l → caller_of l ≡ c.from.task.0 → c.caller ≡ Some u → is_alive k u ≡ true → (is_killed c.from.task.0 p ≡ false → Allowed p c.number.0 (Answered reply.code.0 (author by)) l) → (kept : Option Label) (s : PhoneState) → MayLead e k.tasks.alive s → AfterStep e p (answer_to (handed k c reply reserved kept s) by u)
   answered c reply reserved by u l h at mine is lives' answer kept s leads =
       let it = is_told e p k inside c.number.0 c h in
       let caller = caller_told c u true h is lives' in
@@ -214,9 +220,9 @@ module _ (e : Event) (p : List Tale) (k : KernelState) (inside : InEvent e p k) 
       kept s leads
 
   -- an answer, or the end of the call, where the table allows both
-  pub settled : (c : Call) (reply : Reply) (by : Option TaskNo) (l : Life) → call_at k.calls c.number.0 ≡ Some c → life_at c.from.task.0 c.place ≡ l → caller_of l ≡ c.from.task.0 → (is_killed c.from.task.0 p ≡ true → Allowed p c.number.0 Vanished l) → (is_killed c.from.task.0 p ≡ false → Allowed p c.number.0 (Answered reply.code.0 (author by)) l) → InEvent e (and_then (settle k c reply by).entries p) (settle k c reply by).state
+  pub settled : (c : Call) (reply : Reply) (by : Option TaskNo) (l : Life) → call_at k.calls c.number.0 ≡ Some c → life_at c.from.task.0 c.place ≡ l → caller_of l ≡ c.from.task.0 → (is_killed c.from.task.0 p ≡ true → Allowed p c.number.0 Vanished l) → (is_killed c.from.task.0 p ≡ false → Allowed p c.number.0 (Answered reply.code.0 (author by)) l) → AfterStep e p (settle k c reply by)
   settled c reply by l h at mine vanish answer = by_caller c.caller (lives k c.caller) refl refl where
-    by_caller : (o : Option TaskNo) (b : Bool) → c.caller ≡ o → lives k o ≡ b → InEvent e (and_then (settle_for k c reply by o b).entries p) (settle_for k c reply by o b).state
+    by_caller : (o : Option TaskNo) (b : Bool) → c.caller ≡ o → lives k o ≡ b → AfterStep e p (settle_for k c reply by o b)
     by_caller None b is lives' =
         let it = is_told e p k inside c.number.0 c h in
         let dead : is_ended k.tasks.alive c.from.task.0 ≡ true = subst (CallerFits k.tasks.alive c.from.task) is it.caller in
@@ -226,7 +232,7 @@ module _ (e : Event) (p : List Tale) (k : KernelState) (inside : InEvent e p k) 
         answered c reply (unless_freed (lent_phone c) c.reserved) by u l h at mine is lives' answer (lent_phone c) phone.Free (free_leads e k.tasks.alive)
 
   -- an answer is dropped
-  pub dropped : (t : TaskNo) (c : Call) → (e ≡ Step t.0 Receive) ⊎ (e ≡ Kill t.0) → call_at k.calls c.number.0 ≡ Some c → c.place ≡ place.Answers t → InEvent e (and_then (drop_answer t k c).entries p) (drop_answer t k c).state
+  pub dropped : (t : TaskNo) (c : Call) → (e ≡ Step t.0 Receive) ⊎ (e ≡ Kill t.0) → call_at k.calls c.number.0 ≡ Some c → c.place ≡ place.Answers t → AfterStep e p (drop_answer t k c)
   dropped t c why h at =
       let it = is_told e p k inside c.number.0 c h in
       let home : t.0 ≡ c.from.task.0 = subst (IsHome c.from.task.0) at it.home in

@@ -1,5 +1,5 @@
 -- Each request keeps what the history tells of the state.
-use Rattle.std.proofs.Common.{ℕ, ◌≡◌, Bool, true, false, not, Option, Some, None, List, [], ◌∷◌, ◌++◌, Result, Err, refl, sym, ◌∙◌, ap, subst, inl, inr, arith, nat_lt, nat_le}
+use Rattle.std.proofs.Common.{ℕ, ◌≡◌, Bool, true, false, not, Option, Some, None, List, [], ◌∷◌, ◌++◌, Result, Err, refl, sym, ◌∙◌, ap, subst, inl, inr, arith, nat_le}
 use Rattle.std.specs.Prelude.{◌==◌, ◌+◌, ◌*◌, ◌-◌, if◌then◌else◌, slice_get, unwrap_or}
 use Rattle.std.specs.Option.{option_map_or}
 use Rattle.std.proofs.lemmas.Bool.{cases_eq, eq-eqb, ne_eqb, false≢true}
@@ -52,7 +52,7 @@ use Rattle.kernel_core.specs.Request.{serve_request}
 use Rattle.kernel_core.specs.Kernel.{serve}
 use Rattle.kernel_core.proofs.Serving.{sound_serve}
 use Rattle.kernel_core.specs.History.{is_ended, life_at, IsTold, TellsOf, PastFits, HistoryFits, served_entries}
-use Rattle.kernel_core.proofs.InEvent.{and_then, and_then-append, IsTask, CallerFits, IsHome, Agrees, Core, InEvent, MayLead, handed, by_test, same_place-true, noted, is_told, own, front_at, phone_told, joined, free_leads, caller_told}
+use Rattle.kernel_core.proofs.InEvent.{and_then, and_then-append, IsTask, CallerFits, IsHome, Agrees, Core, InEvent, AfterStep, AfterServed, MayLead, handed, by_test, same_place-true, noted, is_told, own, front_at, phone_told, joined, free_leads, caller_told}
 use Rattle.kernel_core.proofs.InEvent as one
 
 pub step_kill : (t u : ℕ) (r : Ask) → Step t r ≡ Kill u → ⊥
@@ -60,7 +60,7 @@ step_kill t u r e = cc
 
 module _ (e : Event) (p : List Tale) (k : KernelState) (inside : InEvent e p k) where
   -- a phone is hung up
-  pub hang_up_told : (t : TaskNo) (q : ℕ) (s : Option PhoneState) → phone_at k t q ≡ s → task_of e ≡ t.0 → InEvent e (and_then (hang_up k t q s).entries p) (hang_up k t q s).state
+  pub hang_up_told : (t : TaskNo) (q : ℕ) (s : Option PhoneState) → phone_at k t q ≡ s → task_of e ≡ t.0 → AfterStep e p (hang_up k t q s)
   hang_up_told t q None h actor = inside
   hang_up_told t q (Some phone.Free) h actor = inside
   hang_up_told t q (Some phone.Connecting) h actor = inside
@@ -71,7 +71,7 @@ module _ (e : Event) (p : List Tale) (k : KernelState) (inside : InEvent e p k) 
       phone_told e _ _ first t q phone.HungUp (λ v x. cc)
 
   -- a call that goes back with its answer
-  back_told : (t : TaskNo) (q : ℕ) (msg : Msg) (code : Code) → task_of e ≡ t.0 → InEvent e (and_then (answer_at_once k (new_call k t q msg (place.Answers t)) code).entries p) (answer_at_once k (new_call k t q msg (place.Answers t)) code).state
+  back_told : (t : TaskNo) (q : ℕ) (msg : Msg) (code : Code) → task_of e ≡ t.0 → AfterServed e p (answer_at_once k (new_call k t q msg (place.Answers t)) code)
   back_told t q msg code actor =
       let alive : is_ended k.tasks.alive t.0 ≡ true → e ≡ Kill t.0 = rw actor at inside.acts in
       let last = inside.core.number in
@@ -108,10 +108,7 @@ module _ (e : Event) (p : List Tale) (k : KernelState) (inside : InEvent e p k) 
 -- the requests
 module _ (t : TaskNo) (r : Ask) (p : List Tale) (k : KernelState) (inside : InEvent (Step t.0 r) p k) where
   abbrev Is : Served → Type 0
-  Is s = InEvent (Step t.0 r) (and_then s.entries p) s.state
-
-  abbrev Does : Transition → Type 0
-  Does s = InEvent (Step t.0 r) (and_then s.entries p) s.state
+  Is = AfterServed (Step t.0 r) p
 
   -- a call over a phone that leads to task u
   sent : (q : ℕ) (msg : Msg) (u : TaskNo) → phone_at k t q ≡ Some (phone.Connected u) → Is (call_through k t q msg (phone.Connected u))
@@ -170,20 +167,20 @@ module _ (t : TaskNo) (r : Ask) (p : List Tale) (k : KernelState) (inside : InEv
     here false e g = absurd (cc g)
 
   -- a call that t accepts
-  accept_told : (n : ℕ) (reply : Reply) (c : Call) → r ≡ Answer n → n ≡ c.number.0 → call_at k.calls c.number.0 ≡ Some c → c.place ≡ place.Dispatched t → Does (accept_for k t reply c c.caller (lives k c.caller))
+  accept_told : (n : ℕ) (reply : Reply) (c : Call) → r ≡ Answer n → n ≡ c.number.0 → call_at k.calls c.number.0 ≡ Some c → c.place ≡ place.Dispatched t → AfterStep (Step t.0 r) p (accept_for k t reply c c.caller (lives k c.caller))
   accept_told n reply c is number h at = by_caller c.caller (lives k c.caller) refl refl where
     here : life_at c.from.task.0 c.place ≡ Dispatched c.from.task.0 t.0
     here = ap (life_at c.from.task.0) at
 
-    gone : is_ended k.tasks.alive c.from.task.0 ≡ true → Does (vanishing k c)
+    gone : is_ended k.tasks.alive c.from.task.0 ≡ true → AfterStep (Step t.0 r) p (vanishing k c)
     gone dead = one.vanished (Step t.0 r) p k inside c (Dispatched c.from.task.0 t.0) h here (inside.core.ended c.from.task.0 ∙ dead, inr (inl (rw (← number, ← is) inside.now)))
 
-    answered : (u : TaskNo) → c.caller ≡ Some u → is_alive k u ≡ true → (given : Reply) (kept : Option Label) (s : PhoneState) → MayLead (Step t.0 r) k.tasks.alive s → Does (answer_to (handed k c given c.reserved kept s) (Some t) u)
+    answered : (u : TaskNo) → c.caller ≡ Some u → is_alive k u ≡ true → (given : Reply) (kept : Option Label) (s : PhoneState) → MayLead (Step t.0 r) k.tasks.alive s → AfterStep (Step t.0 r) p (answer_to (handed k c given c.reserved kept s) (Some t) u)
     answered u made lives' given kept s leads =
         one.answered (Step t.0 r) p k inside c given c.reserved (Some t) u (Dispatched c.from.task.0 t.0) h here refl made lives'
         (λ live. (refl, rw (← number, ← is) inside.now, live)) kept s leads
 
-    by_kind : (u : TaskNo) → c.caller ≡ Some u → is_alive k u ≡ true → (kind : MethodKind) → Does (answer_to (on_accept_of kind k c reply t u) (Some t) u)
+    by_kind : (u : TaskNo) → c.caller ≡ Some u → is_alive k u ≡ true → (kind : MethodKind) → AfterStep (Step t.0 r) p (answer_to (on_accept_of kind k c reply t u) (Some t) u)
     by_kind u made lives' PhoneHungUp = answered u made lives' reply None phone.Free (free_leads (Step t.0 r) k.tasks.alive)
     by_kind u made lives' ConnectToMe =
         let caller = caller_told (Step t.0 r) p k inside c u true h made lives' in
@@ -194,7 +191,7 @@ module _ (t : TaskNo) (r : Ask) (p : List Tale) (k : KernelState) (inside : InEv
     by_kind u made lives' NotBuilt = answered u made lives' reply None phone.Free (free_leads (Step t.0 r) k.tasks.alive)
     by_kind u made lives' User = answered u made lives' reply None phone.Free (free_leads (Step t.0 r) k.tasks.alive)
 
-    by_caller : (o : Option TaskNo) (b : Bool) → c.caller ≡ o → lives k o ≡ b → Does (accept_for k t reply c o b)
+    by_caller : (o : Option TaskNo) (b : Bool) → c.caller ≡ o → lives k o ≡ b → AfterStep (Step t.0 r) p (accept_for k t reply c o b)
     by_caller None b made lives' = gone (subst (CallerFits k.tasks.alive c.from.task) made (is_told (Step t.0 r) p k inside c.number.0 c h).caller)
     by_caller (Some u) false made lives' = gone (caller_told (Step t.0 r) p k inside c u false h made lives').1
     by_caller (Some u) true made lives' = by_kind u made lives' (kind_of c.request.method)
@@ -205,7 +202,7 @@ module _ (t : TaskNo) (r : Ask) (p : List Tale) (k : KernelState) (inside : InEv
       let f = held (call_at k.calls n) c h in
       let number : n ≡ c.number.0 = sym (is_told (Step t.0 r) p k inside n c f.0).number in
       let live = own (Step t.0 r) p k inside n c f.0 in
-      by_test Does (accepts reply.code) _ _ (λ _. accept_told n reply c is number live f.1)
+      by_test (AfterStep (Step t.0 r) p) (accepts reply.code) _ _ (λ _. accept_told n reply c is number live f.1)
       (λ _. one.settled (Step t.0 r) p k inside c reply (Some t) (Dispatched c.from.task.0 t.0) live (ap (life_at c.from.task.0) f.1) refl
       (λ dead. (dead, inr (inl (rw (← number, ← is) inside.now))))
       (λ alive. (refl, rw (← number, ← is) inside.now, alive)))
@@ -247,10 +244,7 @@ module _ (t : TaskNo) (r : Ask) (p : List Tale) (k : KernelState) (inside : InEv
       (λ _. inside)
 
 module _ (t : TaskNo) (p : List Tale) (k : KernelState) (inside : InEvent (Step t.0 Receive) p k) where
-  abbrev IsReceived : Served → Type 0
-  IsReceived s = InEvent (Step t.0 Receive) (and_then s.entries p) s.state
-
-  delivered : (c : Call) (reply : Reply) → call_at k.calls c.number.0 ≡ Some c → c.place ≡ place.Answers t → IsReceived (delivery t (with_delivery k c reply))
+  delivered : (c : Call) (reply : Reply) → call_at k.calls c.number.0 ≡ Some c → c.place ≡ place.Answers t → AfterServed (Step t.0 Receive) p (delivery t (with_delivery k c reply))
   delivered c reply h at =
       let it = is_told (Step t.0 Receive) p k inside c.number.0 c h in
       let home : t.0 ≡ c.from.task.0 = subst (IsHome c.from.task.0) at it.home in
@@ -260,9 +254,9 @@ module _ (t : TaskNo) (p : List Tale) (k : KernelState) (inside : InEvent (Step 
       (it.place ∙ ap (life_at c.from.task.0) at) (home, rw (← home) inside.now) (λ u s. absurd s) tt inside.core.number (λ m. at_remove k.calls.records c.number.0 m) tt)
       (kept_phone c) phone.Free (free_leads (Step t.0 Receive) k.tasks.alive)
 
-  received : (c : Call) → call_at k.calls c.number.0 ≡ Some c → c.place ≡ place.Incoming t → (kind : MethodKind) → IsReceived (reception t (on_receive_of kind k c t))
+  received : (c : Call) → call_at k.calls c.number.0 ≡ Some c → c.place ≡ place.Incoming t → (kind : MethodKind) → AfterServed (Step t.0 Receive) p (reception t (on_receive_of kind k c t))
   received c h at = by_kind where
-    taken : (msg : Msg) (reserved kept : Option Label) → IsReceived (reception t (record { state = with_kept k kept phone.Connecting; call = record c { msg = msg; reserved = reserved }; note = kept_note kept phone.Connecting }))
+    taken : (msg : Msg) (reserved kept : Option Label) → AfterServed (Step t.0 Receive) p (reception t (record { state = with_kept k kept phone.Connecting; call = record c { msg = msg; reserved = reserved }; note = kept_note kept phone.Connecting }))
     taken msg reserved kept =
         let it = is_told (Step t.0 Receive) p k inside c.number.0 c h in
         let d : Call = record c { msg = msg; reserved = reserved; place = place.Dispatched t; stamp = k.calls.next_stamp } in
@@ -274,14 +268,14 @@ module _ (t : TaskNo) (p : List Tale) (k : KernelState) (inside : InEvent (Step 
         (record { number = refl; place = refl; caller = it.caller; home = tt; origin = it.origin; forgotten = it.forgotten }))
         kept phone.Connecting (λ v x. cc)
 
-    by_kind : (kind : MethodKind) → IsReceived (reception t (on_receive_of kind k c t))
+    by_kind : (kind : MethodKind) → AfterServed (Step t.0 Receive) p (reception t (on_receive_of kind k c t))
     by_kind PhoneHungUp = taken c.msg c.reserved None
     by_kind ConnectToMe = let kept = first_usable_of k t in taken (with_fifth c.msg (number_of kept)) kept kept
     by_kind ConnectMeTo = taken c.msg c.reserved None
     by_kind NotBuilt = taken c.msg c.reserved None
     by_kind User = taken c.msg c.reserved None
 
-  receive_told : (a i : Option Call) → front k.calls (place.Answers t) ≡ a → front k.calls (place.Incoming t) ≡ i → IsReceived (receive_first k t a i)
+  receive_told : (a i : Option Call) → front k.calls (place.Answers t) ≡ a → front k.calls (place.Incoming t) ≡ i → AfterServed (Step t.0 Receive) p (receive_first k t a i)
   receive_told (Some c) i h g =
       let f = front_at (Step t.0 Receive) p k inside (place.Answers t) c h in
       delivered c (reply_of (kind_of c.request.method) c) f.0 f.1
@@ -297,13 +291,13 @@ unawaited_is (Some d) c h = here d.discard h where
   here true g = g
   here false g = absurd (cc g)
 
-unawaited_told : (t : TaskNo) (p : List Tale) (k : KernelState) → InEvent (Step t.0 Receive) p k → InEvent (Step t.0 Receive) (and_then (drop_unawaited t k).entries p) (drop_unawaited t k).state
+unawaited_told : (t : TaskNo) (p : List Tale) (k : KernelState) → InEvent (Step t.0 Receive) p k → AfterStep (Step t.0 Receive) p (drop_unawaited t k)
 unawaited_told t p k inside =
     drain_tells (List Tale) and_then (λ _. refl) and_then-append (next_unawaited t) (drop_answer t) (InEvent (Step t.0 Receive))
     (λ q j c i is. let f = front_at (Step t.0 Receive) q j i (place.Answers t) c (unawaited_is (front j.calls (place.Answers t)) c is) in one.dropped (Step t.0 Receive) q j i t c (inl refl) f.0 f.1)
     (len k.calls.records) p k inside
 
-served_inside : (t : TaskNo) (asked : Request) (p : List Tale) (k : KernelState) → InEvent (Step t.0 (ask asked)) p k → InEvent (Step t.0 (ask asked)) (and_then (serve_request k t asked).entries p) (serve_request k t asked).state
+served_inside : (t : TaskNo) (asked : Request) (p : List Tale) (k : KernelState) → InEvent (Step t.0 (ask asked)) p k → AfterServed (Step t.0 (ask asked)) p (serve_request k t asked)
 served_inside t (request.Call q msg) p k inside = call_told t Other_request p k inside q msg (phone_at k t q) refl
 served_inside t request.Receive p k inside =
     let d : Transition = drop_unawaited t k in
