@@ -15,9 +15,7 @@ ghost use Rattle.kernel_core.specs.Handing.{IsSent, Arrives};
 
 use call_slab::Call;
 use cleanup::{Arrival, Switchboard, kept_note};
-use ipc_ids::{
-    CallNo, Code, Entry, Label, MethodKind, Msg, PhoneState, Reply, TaskNo, Trace,
-};
+use ipc_ids::{CallNo, Code, Entry, Label, MethodKind, Msg, PhoneState, Reply, TaskNo, Trace};
 
 /// The phone number that a CONNECT_TO_ME names where its receiver has no usable phone.
 const NO_PHONE: u64 = 64;
@@ -28,10 +26,7 @@ const NO_PHONE: u64 = 64;
 /// # Errors
 ///
 /// The code with which the call is answered at once; then nothing has changed.
-pub(crate) fn before_send(
-    board: &mut Switchboard,
-    call: &mut Call,
-) -> Result<Option<Entry>, Code>
+pub(crate) fn before_send(board: &mut Switchboard, call: &mut Call) -> Result<Option<Entry>, Code>
     requires new_call { IsNewCall board.old.state call.old }
     requires added { IsAdded board.old.state call.old.from.task }
     requires few { call.old.from.task.0 ≤ 64 }
