@@ -122,7 +122,7 @@ module _ (t : TaskNo) (r : Ask) (p : List Tale) (k : KernelState) (inside : InEv
     keeping : (kept : Option Label) → Is (sent_to u k c (keeping_to_send k c kept))
     keeping None = back_told (Step t.0 r) p k inside t q msg elimit refl
     keeping (Some l) =
-        let seen = with_fifth msg (64 * l.task.0 + l.phone.0) in
+        let seen = with_fifth msg (64 * t.0 + l.phone.0) in
         joined (Step t.0 r) p k (On k.calls.next_number (Accepted t.0 q msg.method (To u.0))) (enqueue k.calls (record c { msg = seen; reserved = Some l })) (accepted seen (Some l)) (Some l) phone.Connecting (λ v x. cc)
 
     by_kind : (kind : MethodKind) → Is (sent_to u k c (before_send_of kind k c))
