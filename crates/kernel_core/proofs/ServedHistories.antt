@@ -1,6 +1,6 @@
 -- Each request keeps what the history tells of the state.
 use Rattle.std.proofs.Common.{ℕ, ◌≡◌, Bool, true, false, not, Option, Some, None, List, [], ◌∷◌, ◌++◌, Result, Err, refl, sym, ◌∙◌, ap, subst, inl, inr, arith, nat_le}
-use Rattle.std.specs.Prelude.{◌==◌, ◌+◌, ◌*◌, ◌-◌, if◌then◌else◌, slice_get, unwrap_or}
+use Rattle.std.specs.Prelude.{◌==◌, ◌-◌, if◌then◌else◌, slice_get, unwrap_or}
 use Rattle.std.specs.Option.{option_map_or}
 use Rattle.std.proofs.lemmas.Bool.{cases_eq, eq-eqb, ne_eqb, false≢true}
 use Rattle.std.specs.FinMap.{len}
@@ -42,7 +42,7 @@ use Rattle.cleanup.proofs.Lookups.{at_insert, at_remove}
 use Rattle.cleanup.proofs.Histories.{drain_tells}
 use Rattle.cleanup.specs.Serving.{Served}
 use Rattle.kernel_core.proofs.ServedLimits.{serve_within}
-use Rattle.kernel_core.specs.Moments.{with_fifth, keeping_to_send, before_send_of, number_of, on_receive_of, on_accept_of, reply_of}
+use Rattle.kernel_core.specs.Moments.{keeping_to_send, before_send_of, on_receive_of, on_accept_of, reply_of}
 use Rattle.kernel_core.specs.Calling.{sent_to, call_through, is_callable, call_tested, call_over}
 use Rattle.kernel_core.specs.Receiving.{receive_first, receive_now, unawaited, next_unawaited, drop_unawaited}
 use Rattle.kernel_core.specs.Answering.{held_call, accept_for, answer_held}
@@ -121,9 +121,7 @@ module _ (t : TaskNo) (r : Ask) (p : List Tale) (k : KernelState) (inside : InEv
 
     keeping : (kept : Option Label) → Is (sent_to u k c (keeping_to_send k c kept))
     keeping None = back_told (Step t.0 r) p k inside t q msg elimit refl
-    keeping (Some l) =
-        let seen = with_fifth msg (64 * t.0 + l.phone.0) in
-        joined (Step t.0 r) p k (On k.calls.next_number (Accepted t.0 q msg.method (To u.0))) (enqueue k.calls (record c { msg = seen; reserved = Some l })) (accepted seen (Some l)) (Some l) phone.Connecting (λ v x. cc)
+    keeping (Some l) = joined (Step t.0 r) p k (On k.calls.next_number (Accepted t.0 q msg.method (To u.0))) _ (accepted _ (Some l)) (Some l) phone.Connecting (λ v x. cc)
 
     by_kind : (kind : MethodKind) → Is (sent_to u k c (before_send_of kind k c))
     by_kind PhoneHungUp = accepted msg None
@@ -270,7 +268,7 @@ module _ (t : TaskNo) (p : List Tale) (k : KernelState) (inside : InEvent (Step 
 
     by_kind : (kind : MethodKind) → AfterServed (Step t.0 Receive) p (reception t (on_receive_of kind k c t))
     by_kind PhoneHungUp = taken c.msg c.reserved None
-    by_kind ConnectToMe = let kept = first_usable_of k t in taken (with_fifth c.msg (number_of kept)) kept kept
+    by_kind ConnectToMe = taken _ (first_usable_of k t) (first_usable_of k t)
     by_kind ConnectMeTo = taken c.msg c.reserved None
     by_kind NotBuilt = taken c.msg c.reserved None
     by_kind User = taken c.msg c.reserved None
