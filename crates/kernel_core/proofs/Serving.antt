@@ -53,7 +53,7 @@ use Rattle.kernel_core.proofs.Passing.{leads_of, passes, held_of}
 
 -- the steps
 
-own : (k : KernelState) (n : ℕ) (c : Call) → IsSound k → call_at k.calls n ≡ Some c → IsLive k c
+pub own : (k : KernelState) (n : ℕ) (c : Call) → IsSound k → call_at k.calls n ≡ Some c → IsLive k c
 own k n c h is = ap (call_at k.calls) (h.calls.each n c is).number ∙ is
 
 pub front_at : (k : KernelState) (place : Place) (c : Call) → IsSound k → front k.calls place ≡ Some c → IsLive k c
