@@ -47,7 +47,7 @@ use Rattle.kernel_core.specs.Moments.{with_fifth, number_of, keeping_to_send, be
 use Rattle.kernel_core.specs.Calling.{is_callable, sent_to, call_through, call_tested, call_over, call}
 use Rattle.kernel_core.specs.Receiving.{receive_first, next_unawaited, drop_unawaited}
 use Rattle.kernel_core.specs.Answering.{held_call, accept_for, answer_call, answer_held}
-use Rattle.kernel_core.specs.Forward.{failed_forward, passing_on, forward_told}
+use Rattle.kernel_core.specs.Forward.{failed_forward, forward_told}
 use Rattle.kernel_core.specs.HangingUp.{hangup_over}
 use Rattle.kernel_core.specs.Kernel.{serve}
 use Rattle.kernel_core.specs.Request.{serve_request}

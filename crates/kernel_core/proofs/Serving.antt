@@ -23,7 +23,6 @@ use Rattle.call_slab.specs.declared.call.Place.{Place}
 use Rattle.call_slab.specs.declared.call.Place.TheVariants.{Incoming, Dispatched, Answers}
 use Rattle.answerbox.specs.Calls.{call_at, front, enqueue, same_place, active_calls}
 use Rattle.answerbox.proofs.Fronts.{front_live}
-use Rattle.phone_table.specs.Phones.{state_at}
 use Rattle.forwarding.specs.declared.passing.Forwarded.{Forwarded}
 use Rattle.forwarding.specs.declared.passing.ForwardFault.{ForwardFault}
 use Rattle.forwarding.specs.declared.passing.ForwardFault.TheVariants.{NotHeld, NotForwardable, NotConnected}
@@ -134,18 +133,17 @@ module _ (t : TaskNo) (k : KernelState) (alive : is_alive k t ≡ true) (h : IsS
   called p msg (Some HungUp) is = tested p msg HungUp is
   called p msg (Some Slammed) is = tested p msg Slammed is
 
+  -- a call is received as it is
+  taken_plain : (c : Call) → IsLive k c → same_place c.place (Incoming t) ≡ true → (kind_of c.request.method ≡ ConnectToMe → ⊥) → Follows (reception t (as_it_is k c))
+  taken_plain c live here other = sound_received k c t h live other (incoming_pending c.place t here) alive
+
   -- what the moment at which it is received makes of a call
   taken_on : (c : Call) → IsLive k c → same_place c.place (Incoming t) ≡ true → (kind : MethodKind) → kind_of c.request.method ≡ kind → Follows (reception t (on_receive_of kind k c t))
-  taken_on c live here kind same = by_kind kind same where
-    plain : (kind_of c.request.method ≡ ConnectToMe → ⊥) → Follows (reception t (as_it_is k c))
-    plain other = sound_received k c t h live other (incoming_pending c.place t here) alive
-
-    by_kind : (kind : MethodKind) → kind_of c.request.method ≡ kind → Follows (reception t (on_receive_of kind k c t))
-    by_kind PhoneHungUp kind = plain (λ e. cc)
-    by_kind ConnectToMe kind = sound_received_to_me k c (with_fifth c.msg (number_of (first_usable_of k t))) t (first_usable_of k t) h live kind here alive (λ l first. usable_is k t l first)
-    by_kind ConnectMeTo kind = plain (λ e. cc)
-    by_kind NotBuilt kind = plain (λ e. cc)
-    by_kind User kind = plain (λ e. cc)
+  taken_on c live here PhoneHungUp kind = taken_plain c live here (λ e. cc)
+  taken_on c live here ConnectToMe kind = sound_received_to_me k c (with_fifth c.msg (number_of (first_usable_of k t))) t (first_usable_of k t) h live kind here alive (λ l first. usable_is k t l first)
+  taken_on c live here ConnectMeTo kind = taken_plain c live here (λ e. cc)
+  taken_on c live here NotBuilt kind = taken_plain c live here (λ e. cc)
+  taken_on c live here User kind = taken_plain c live here (λ e. cc)
 
   received : (a i : Option Call) → front k.calls (Answers t) ≡ a → front k.calls (Incoming t) ≡ i → Follows (receive_first k t a i)
   received (Some c) i first second = sound_gone k c h (front_at k (Answers t) c h first)
