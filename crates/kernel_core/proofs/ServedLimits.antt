@@ -106,7 +106,7 @@ module _ (t : TaskNo) (k : KernelState) (h : IsSound k) (w : IsWithinLimits k) w
     keeping : (u : TaskNo) → phone_at k t p ≡ Some (Connected u) → (o : Option Label) → first_usable_of k t ≡ o → Keeps (sent_to u k (new_call k t p msg (Incoming u)) (keeping_to_send k (new_call k t p msg (Incoming u)) o))
     keeping u is None first = at_once (Connected u) elimit is (λ x. x)
     keeping u is (Some l) first =
-        let d : Call = record (new_call k t p msg (Incoming u)) { msg = with_fifth msg (64 * l.task.0 + l.phone.0); reserved = Some l } in
+        let d : Call = record (new_call k t p msg (Incoming u)) { msg = with_fifth msg (64 * t.0 + l.phone.0); reserved = Some l } in
         let after = still_connected k t p u l (usable_is k t l first) is in
         within_call (with_kept k (Some l) Connecting) d (within_taken k t (Some l) w first) (next_free k.tasks k.calls h.calls) (λ idle. subst IsIdle after idle) (sym (callable_method msg.method callable)) (few_of (active_calls k.calls (label_of t p)) few)
 

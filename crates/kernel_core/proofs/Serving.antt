@@ -105,7 +105,7 @@ module _ (t : TaskNo) (k : KernelState) (alive : is_alive k t ≡ true) (h : IsS
     keeping : (o : Option Label) → first_usable_of k t ≡ o → kind_of msg.method ≡ ConnectMeTo → Follows (sent_to u k c (keeping_to_send k c o))
     keeping None first kind = at_once p msg (Connected u) elimit is callable refl
     keeping (Some l) first kind =
-        let d : Call = record c { msg = with_fifth msg (64 * l.task.0 + l.phone.0); reserved = Some l } in
+        let d : Call = record c { msg = with_fifth msg (64 * t.0 + l.phone.0); reserved = Some l } in
         sound_sent k d l h (usable_is k t l first) refl (h.tasks.leads t.0 p u is) (refl, alive) (is_some (phone_at k t p) (Connected u) is) (callable_method msg.method callable) kind tt refl
 
     sent : (kind : MethodKind) → kind_of msg.method ≡ kind → Follows (sent_to u k c (before_send_of kind k c))
