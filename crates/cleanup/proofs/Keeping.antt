@@ -7,20 +7,18 @@ use Rattle.std.specs.FinMap.{len, len-insert, get, insert, remove, get-remove}
 use Rattle.ipc_ids.specs.declared.numbers.TaskNo.{TaskNo}
 use Rattle.ipc_ids.specs.declared.numbers.Label.{Label}
 use Rattle.ipc_ids.specs.declared.numbers.Code.{Code}
-use Rattle.ipc_ids.specs.declared.message.Reply.{Reply}
 use Rattle.ipc_ids.specs.declared.message.PhoneState.{PhoneState}
 use Rattle.call_slab.specs.declared.call.Call.{Call}
 use Rattle.call_slab.specs.declared.call.Place.{Place}
-use Rattle.call_slab.specs.declared.call.Place.TheVariants.{Answers}
-use Rattle.answerbox.specs.Calls.{CallTable, call_at, answered, enqueue, put_at, with_record, without_call, without_caller, is_caller, is_active_on, same_label, active_calls}
+use Rattle.answerbox.specs.Calls.{CallTable, call_at, enqueue, put_at, with_record, without_call, without_caller, is_caller, is_active_on, same_label, active_calls}
 use Rattle.answerbox.proofs.Counts.{insert-remove, ties, active-without_call, count-with_record}
 use Rattle.phone_table.specs.Phones.{Row, row_at, state_at, count_at, after_hangup}
 use Rattle.phone_table.specs.declared.hung.Hung.{Hung}
 use Rattle.phone_table.proofs.Lookups.{same_row}
 use Rattle.cleanup.specs.State.{with_state_at}
 use Rattle.cleanup.specs.Counts.{label_at, recount, count_changed, counts_without, IsCounted, HasCounts}
-use Rattle.cleanup.specs.Board.{IsCallOf, hung_rows}
-use Rattle.cleanup.proofs.Lookups.{at_insert, at_remove, chosen, same_call, record_of}
+use Rattle.cleanup.specs.Board.{hung_rows}
+use Rattle.cleanup.proofs.Lookups.{at_insert, at_remove, chosen, same_call}
 use Rattle.cleanup.proofs.Rows.{some_of, state_changed_at}
 use Rattle.cleanup.proofs.Soundness.{some_set, value_of, row_after, phone_kept}
 use Rattle.cleanup.proofs.Recounting.{some_and}

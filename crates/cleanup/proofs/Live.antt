@@ -11,7 +11,7 @@ use Rattle.ipc_ids.specs.declared.message.PhoneState.{PhoneState}
 use Rattle.call_slab.specs.declared.call.Call.{Call}
 use Rattle.call_slab.specs.declared.call.Place.{Place}
 use Rattle.call_slab.specs.declared.call.Place.TheVariants.{Incoming, Answers}
-use Rattle.answerbox.specs.Calls.{CallTable, call_at, enqueue, with_place, received, answered, readdressed, without_call, without_caller}
+use Rattle.answerbox.specs.Calls.{CallTable, call_at, enqueue, received, without_call, without_caller}
 use Rattle.cleanup.specs.Counts.{HasCounts}
 use Rattle.cleanup.specs.Joins.{declined_call, passed_call}
 use Rattle.cleanup.specs.Board.{with_reply, with_declined, with_passed}

@@ -1,5 +1,5 @@
 -- What is handed to a join before a call is sent, and as one is received.
-use Rattle.std.proofs.Common.{◌≡◌, ℕ, ◌+◌, ◌*◌, ◌≤◌, Bool, true, false, inl, inr, Option, None, Some, Result, Ok, Err, refl, ap, sym, subst, ◌∙◌, arith}
+use Rattle.std.proofs.Common.{◌≡◌, ℕ, ◌+◌, ◌*◌, Bool, true, false, Option, None, Some, Result, Ok, Err, refl, ◌∙◌, arith}
 use Rattle.std.specs.Prelude.{◌==◌, if◌then◌else◌, IsSome}
 use Rattle.ipc_ids.specs.Trace.{TraceState}
 use Rattle.ipc_ids.specs.declared.numbers.TaskNo.{TaskNo}
@@ -8,12 +8,12 @@ use Rattle.ipc_ids.specs.declared.numbers.Code.{Code}
 use Rattle.ipc_ids.specs.declared.message.Outcome.{Outcome}
 use Rattle.ipc_ids.specs.declared.message.PhoneState.TheVariants.{Connecting}
 use Rattle.ipc_ids.specs.declared.entry.Entry.{Entry}
-use Rattle.ipc_ids.specs.declared.methods.MethodKind.TheVariants.{ConnectToMe, ConnectMeTo}
+use Rattle.ipc_ids.specs.declared.methods.MethodKind.TheVariants.{ConnectMeTo}
 use Rattle.ipc_ids.specs.Methods.{kind_of}
 use Rattle.call_slab.specs.declared.call.Call.{Call}
 use Rattle.cleanup.specs.State.{KernelState, BoardState, phone_at}
 use Rattle.cleanup.specs.Board.{IsNewCall}
-use Rattle.cleanup.specs.Kept.{IsLoose, first_usable_of, is_accepted, kept_note, kept_phone, or_refused, phone_of, with_kept}
+use Rattle.cleanup.specs.Kept.{IsLoose, first_usable_of, is_accepted, kept_note, or_refused, phone_of, with_kept}
 use Rattle.cleanup.specs.Joins.{acceptance}
 use Rattle.cleanup.specs.Rooms.{HasRoom, KeepsCalls, UsesRoom}
 use Rattle.cleanup.specs.Serving.{Handed, Serves}
