@@ -1,5 +1,7 @@
-//! A call from task to task, a forwarded call, and in `kill` the end of tasks, with ample memory.
+//! A call from task to task, a forwarded call, in `connect` calls that connect tasks, and in `kill` the end
+//! of tasks, with ample memory.
 
+mod connect;
 mod kill;
 
 use crate::Kernel;
