@@ -184,22 +184,6 @@ was_counted phones counts q n c s is =
     (s.shaped c.from.task.0 c.from.phone.0 (s.over_phone n c is))
     (λ m count own. let l = count_positive counts q n m c s.counted is count own in omega arith)
 
--- the live call of a caller
-pub call_of : (o : Option Call) (caller : TaskNo) → IsCallOf o caller → (c : Call) × (o ≡ Some c) × (c.caller ≡ Some caller)
-call_of None caller h = absurd h
-call_of (Some c) caller h = (c, refl, h)
-
--- a live call goes to a place with another record of it
-pub counts_changed : (phones : List (List PhoneState)) (counts : List (List ℕ)) (q : CallTable) (n : ℕ) (change : Call → Call) (place : Place) → HasCounts phones counts q → IsSome (call_at q n) → ((c : Call) → (change c).number ≡ c.number) → ((c : Call) → (change c).caller ≡ c.caller) → ((c : Call) → (change c).from ≡ c.from) → HasCounts phones counts (option_map_or (λ c. put_at q (change c) place) (call_at q n) q)
-counts_changed phones counts q n change place s live number caller from =
-    let f = record_of (call_at q n) live in
-    rw (f.1) (counts_put phones counts q n f.0 (change f.0) place s f.1 (number f.0) (caller f.0) (from f.0))
-
-pub counts_answer : (phones : List (List PhoneState)) (counts : List (List ℕ)) (q : CallTable) (n : ℕ) (reply : Reply) (reserved : Option Label) (caller : TaskNo) → HasCounts phones counts q → IsCallOf (call_at q n) caller → HasCounts phones counts (answered q n reply reserved (Answers caller))
-counts_answer phones counts q n reply reserved caller s called =
-    let f = call_of (call_at q n) caller called in
-    rw (f.1) (counts_put phones counts q n f.0 (record f.0 { reply = reply; reserved = reserved }) (Answers caller) s f.1 refl refl refl)
-
 -- the phone of a row that was looked up
 pub phone_of : (rows : List (List PhoneState)) (t p : ℕ) (row : List PhoneState) (o : Option PhoneState) → row_at rows t ≡ Some row → o ≡ slice_get row p → o ≡ state_at rows t p
 phone_of rows t p row o is e = e ∙ sym (ap (option_and_then (λ r. slice_get r p)) is)

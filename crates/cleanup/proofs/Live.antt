@@ -31,17 +31,8 @@ module _ (phones : List (List PhoneState)) (counts : List (List ℕ)) (q : CallT
   same : (c d : Call) → call_at q n ≡ Some c → len (insert q.records c.number.0 d) ≡ len q.records
   same c d is = as_many_calls q c.number.0 c d (ap (call_at q) (s.numbered n c is) ∙ is)
 
-  pub live_place : (place : Place) → len (with_place q n place).records ≤ len q.records
-  live_place place = let f = record_of (call_at q n) live in let l = same f.0 (record f.0 { place = place; stamp = q.next_stamp }) f.1 in rw f.1 (omega arith)
-
   pub live_received : (msg : Msg) (reserved : Option Label) (place : Place) → len (received q n msg reserved place).records ≤ len q.records
   live_received msg reserved place = let f = record_of (call_at q n) live in let l = same f.0 (record f.0 { msg = msg; reserved = reserved; place = place; stamp = q.next_stamp }) f.1 in rw f.1 (omega arith)
-
-  pub live_answered : (reply : Reply) (reserved : Option Label) (place : Place) → len (answered q n reply reserved place).records ≤ len q.records
-  live_answered reply reserved place = let f = record_of (call_at q n) live in let l = same f.0 (record f.0 { reply = reply; reserved = reserved; place = place; stamp = q.next_stamp }) f.1 in rw f.1 (omega arith)
-
-  pub live_readdressed : (msg : Msg) (label : Label) (reserved : Option Label) (place : Place) → len (readdressed q n msg label reserved place).records ≤ len q.records
-  live_readdressed msg label reserved place = let f = record_of (call_at q n) live in let l = same f.0 (record f.0 { msg = msg; label = label; reserved = reserved; place = place; stamp = q.next_stamp }) f.1 in rw f.1 (omega arith)
 
   pub live_reply : (reply : Reply) (caller : TaskNo) → len (with_reply q n reply caller).records ≤ len q.records
   live_reply reply caller = let f = record_of (call_at q n) live in let l = same f.0 (record f.0 { reply = reply; place = Answers caller; stamp = q.next_stamp }) f.1 in rw f.1 (omega arith)

@@ -12,7 +12,7 @@ ghost use Rattle.cleanup.specs.Counts.{HasCounts};
 ghost use Rattle.cleanup.specs.Board.{IsPending, IsCallOf, IsLimit, IsSwitched, IsAdded, IsHeldBy, IsNewCall, HasPlaces, LeadsToAdded, TellsAdded, with_hung, with_declined, with_passed, with_reply};
 ghost use Rattle.phone_table.specs.Usable.{IsConnected};
 ghost use Rattle.cleanup.specs.Kill.{width, mark_ended};
-ghost use Rattle.cleanup.specs.Rooms.{KeepsRoom};
+ghost use Rattle.cleanup.specs.Rooms.{KeepsCalls, KeepsRoom};
 
 use crate::counts::{count_out, count_up};
 use crate::kept::{kept_phone, lent_phone, unless_freed};
@@ -430,7 +430,7 @@ impl Switchboard {
         ensures loose { IsLoose self.new.state (first_usable_of self.old.state t) }
         ensures state { self.new.state ≡ with_kept self.old.state
             (first_usable_of self.old.state t) PhoneState.Connecting }
-        ensures room { KeepsRoom self.old self.new 0 }
+        ensures keeps { KeepsCalls self.old self.new }
     {
         keep_to_send(t, &mut self.phones)
     }
@@ -443,7 +443,7 @@ impl Switchboard {
         ensures loose { IsLoose self.new.state (first_usable_of self.old.state t) }
         ensures state { self.new.state ≡ with_kept self.old.state
             (first_usable_of self.old.state t) PhoneState.Connecting }
-        ensures room { KeepsRoom self.old self.new 0 }
+        ensures keeps { KeepsCalls self.old self.new }
     {
         keep_to_receive(t, &mut self.phones)
     }

@@ -1,11 +1,14 @@
 -- Each request keeps what the history tells of the state.
-use Rattle.std.proofs.Common.{ℕ, ◌≡◌, Bool, true, false, not, Option, Some, None, List, [], ◌∷◌, ◌++◌, Result, Err, refl, sym, ◌∙◌, ap, subst, inl, inr, arith, nat_lt, nat_le}
+use Rattle.std.proofs.Common.{ℕ, ◌≡◌, Bool, true, false, not, Option, Some, None, List, [], ◌∷◌, ◌++◌, Result, Err, refl, sym, ◌∙◌, ap, subst, inl, inr, arith, nat_le}
 use Rattle.std.specs.Prelude.{◌==◌, ◌-◌, if◌then◌else◌, slice_get, unwrap_or}
 use Rattle.std.specs.Option.{option_map_or}
 use Rattle.std.proofs.lemmas.Bool.{cases_eq, eq-eqb, ne_eqb, false≢true}
 use Rattle.std.specs.FinMap.{len}
 use Rattle.ipc_ids.specs.declared.numbers.TaskNo.{TaskNo}
 use Rattle.ipc_ids.specs.declared.numbers.Code.{Code}
+use Rattle.ipc_ids.specs.declared.numbers.Label.{Label}
+use Rattle.ipc_ids.specs.declared.methods.MethodKind.{MethodKind}
+use Rattle.ipc_ids.specs.declared.methods.MethodKind.TheVariants.{PhoneHungUp, ConnectToMe, ConnectMeTo, NotBuilt, User}
 use Rattle.ipc_ids.specs.declared.message.Msg.{Msg}
 use Rattle.ipc_ids.specs.declared.message.Mode.{Mode}
 use Rattle.ipc_ids.specs.declared.message.Reply.{Reply}
@@ -15,10 +18,10 @@ use Rattle.ipc_ids.specs.declared.entry.Entry.{Entry}
 use Rattle.ipc_ids.specs.declared.entry.Entry.TheVariants as entry
 use Rattle.ipc_ids.specs.declared.message.PhoneState.{PhoneState}
 use Rattle.ipc_ids.specs.declared.message.PhoneState.TheVariants as phone
-use Rattle.ipc_ids.specs.Codes.{enoent, eperm, ehangup, eforward}
-use Rattle.ipc_ids.specs.Methods.{first_user_method}
+use Rattle.ipc_ids.specs.Codes.{enoent, eperm, elimit, ehangup, eforward}
+use Rattle.ipc_ids.specs.Methods.{kind_of}
 use Rattle.ipc_ids.specs.Tables.{most_active}
-use Rattle.ipc_ids.specs.Tales.{Ask, Receive, Answer, Forward, Other_request, Event, Step, Kill, Accepted, Received, Forwarded, Answered, Delivered, Kernel, At_once, ask, Tale, Head, On, Other, past}
+use Rattle.ipc_ids.specs.Tales.{Ask, Receive, Answer, Forward, Other_request, Event, Step, Kill, Accepted, Received, Forwarded, Answered, Delivered, Kernel, To, At_once, ask, Tale, Head, On, Other, past}
 use Rattle.ipc_ids.specs.Life.{Nowhere, Back, Incoming, Dispatched, Answers, life, is_killed, event, task_of, IsOf, Allowed}
 use Rattle.ipc_ids.specs.Lawful.{IsCleared}
 use Rattle.ipc_ids.specs.Origins.{origin, is_forgotten}
@@ -26,28 +29,30 @@ use Rattle.ipc_ids.proofs.Pasts.{above, follows, head_follows, past-append}
 use Rattle.call_slab.specs.declared.call.Call.{Call}
 use Rattle.call_slab.specs.declared.call.Place.{Place}
 use Rattle.call_slab.specs.declared.call.Place.TheVariants as place
-use Rattle.answerbox.specs.Calls.{call_at, same_place, put_at, without_call, front, active_calls}
+use Rattle.answerbox.specs.Calls.{CallTable, call_at, same_place, enqueue, put_at, without_call, front, active_calls}
 use Rattle.forwarding.specs.declared.passing.ForwardFault.{ForwardFault}
 use Rattle.forwarding.specs.declared.passing.ForwardFault.TheVariants.{NotHeld}
-use Rattle.forwarding.specs.Forwarding.{is_held, is_forwardable}
-use Rattle.forwarding.specs.Routes.{callee_of, receiver_of, as_forwarded, call_after}
-use Rattle.cleanup.specs.State.{KernelState, Transition, with_event, phone_at, label_of, alive_in, is_alive}
-use Rattle.cleanup.specs.Joins.{bare_reply, drop_answer, new_call, hangup_call, hang_up, answer_at_once, receive_first}
+use Rattle.forwarding.specs.Forwarding.{is_held, is_forwardable, msg_after, label_after}
+use Rattle.forwarding.specs.Routes.{callee_of, receiver_of, as_forwarded}
+use Rattle.cleanup.specs.State.{KernelState, Transition, with_calls, with_event, phone_at, label_of, alive_in, is_alive}
+use Rattle.cleanup.specs.Kept.{accepts, first_usable_of, kept_phone, lent_phone, with_kept, kept_note}
+use Rattle.cleanup.specs.Joins.{bare_reply, drop_answer, new_call, hangup_call, hang_up, answer_at_once, passed_call, vanishing, answer_to, code_of, lives, reception, delivery, with_delivery}
 use Rattle.cleanup.specs.Sound.{IsSound, IsPlaced, IsCaller}
 use Rattle.cleanup.proofs.Lookups.{at_insert, at_remove}
 use Rattle.cleanup.proofs.Histories.{drain_tells}
 use Rattle.cleanup.specs.Serving.{Served}
 use Rattle.kernel_core.proofs.ServedLimits.{serve_within}
-use Rattle.kernel_core.specs.Calling.{call_through, call_tested, call_over}
-use Rattle.kernel_core.specs.Receiving.{receive_now, unawaited, next_unawaited, drop_unawaited}
-use Rattle.kernel_core.specs.Answering.{held_call, answer_held}
+use Rattle.kernel_core.specs.Moments.{keeping_to_send, before_send_of, on_receive_of, on_accept_of, reply_of}
+use Rattle.kernel_core.specs.Calling.{sent_to, call_through, is_callable, call_tested, call_over}
+use Rattle.kernel_core.specs.Receiving.{receive_first, receive_now, unawaited, next_unawaited, drop_unawaited}
+use Rattle.kernel_core.specs.Answering.{held_call, accept_for, answer_held}
 use Rattle.kernel_core.specs.HangingUp.{hangup_over}
 use Rattle.kernel_core.specs.Forward.{failed_forward, forward_told}
 use Rattle.kernel_core.specs.Request.{serve_request}
 use Rattle.kernel_core.specs.Kernel.{serve}
 use Rattle.kernel_core.proofs.Serving.{sound_serve}
 use Rattle.kernel_core.specs.History.{is_ended, life_at, IsTold, TellsOf, PastFits, HistoryFits, served_entries}
-use Rattle.kernel_core.proofs.InEvent.{and_then, and_then-append, IsTask, CallerFits, IsHome, Agrees, Core, InEvent, by_test, same_place-true, noted, is_told, own, front_at, phone_told}
+use Rattle.kernel_core.proofs.InEvent.{and_then, and_then-append, IsTask, CallerFits, IsHome, Agrees, Core, InEvent, AfterStep, AfterServed, MayLead, handed, by_test, same_place-true, noted, is_told, own, front_at, phone_told, joined, free_leads, caller_told}
 use Rattle.kernel_core.proofs.InEvent as one
 
 pub step_kill : (t u : ℕ) (r : Ask) → Step t r ≡ Kill u → ⊥
@@ -55,7 +60,7 @@ step_kill t u r e = cc
 
 module _ (e : Event) (p : List Tale) (k : KernelState) (inside : InEvent e p k) where
   -- a phone is hung up
-  pub hang_up_told : (t : TaskNo) (q : ℕ) (s : Option PhoneState) → phone_at k t q ≡ s → task_of e ≡ t.0 → InEvent e (and_then (hang_up k t q s).entries p) (hang_up k t q s).state
+  pub hang_up_told : (t : TaskNo) (q : ℕ) (s : Option PhoneState) → phone_at k t q ≡ s → task_of e ≡ t.0 → AfterStep e p (hang_up k t q s)
   hang_up_told t q None h actor = inside
   hang_up_told t q (Some phone.Free) h actor = inside
   hang_up_told t q (Some phone.Connecting) h actor = inside
@@ -66,7 +71,7 @@ module _ (e : Event) (p : List Tale) (k : KernelState) (inside : InEvent e p k) 
       phone_told e _ _ first t q phone.HungUp (λ v x. cc)
 
   -- a call that goes back with its answer
-  back_told : (t : TaskNo) (q : ℕ) (msg : Msg) (code : Code) → task_of e ≡ t.0 → InEvent e (and_then (answer_at_once k (new_call k t q msg (place.Answers t)) code).entries p) (answer_at_once k (new_call k t q msg (place.Answers t)) code).state
+  back_told : (t : TaskNo) (q : ℕ) (msg : Msg) (code : Code) → task_of e ≡ t.0 → AfterServed e p (answer_at_once k (new_call k t q msg (place.Answers t)) code)
   back_told t q msg code actor =
       let alive : is_ended k.tasks.alive t.0 ≡ true → e ≡ Kill t.0 = rw actor at inside.acts in
       let last = inside.core.number in
@@ -103,17 +108,37 @@ module _ (e : Event) (p : List Tale) (k : KernelState) (inside : InEvent e p k) 
 -- the requests
 module _ (t : TaskNo) (r : Ask) (p : List Tale) (k : KernelState) (inside : InEvent (Step t.0 r) p k) where
   abbrev Is : Served → Type 0
-  Is s = InEvent (Step t.0 r) (and_then s.entries p) s.state
+  Is = AfterServed (Step t.0 r) p
+
+  -- a call over a phone that leads to task u
+  sent : (q : ℕ) (msg : Msg) (u : TaskNo) → phone_at k t q ≡ Some (phone.Connected u) → Is (call_through k t q msg (phone.Connected u))
+  sent q msg u h = by_kind (kind_of msg.method) where
+    c : Call
+    c = new_call k t q msg (place.Incoming u)
+
+    accepted : (seen : Msg) (reserved : Option Label) → InEvent (Step t.0 r) (On k.calls.next_number (Accepted t.0 q msg.method (To u.0)) ∷ p) (with_calls k (enqueue k.calls (record c { msg = seen; reserved = reserved })))
+    accepted seen reserved = one.accepted (Step t.0 r) p k inside (record c { msg = seen; reserved = reserved }) u refl refl refl refl (inside.leads t.0 q u h)
+
+    keeping : (kept : Option Label) → Is (sent_to u k c (keeping_to_send k c kept))
+    keeping None = back_told (Step t.0 r) p k inside t q msg elimit refl
+    keeping (Some l) = joined (Step t.0 r) p k (On k.calls.next_number (Accepted t.0 q msg.method (To u.0))) _ (accepted _ (Some l)) (Some l) phone.Connecting (λ v x. cc)
+
+    by_kind : (kind : MethodKind) → Is (sent_to u k c (before_send_of kind k c))
+    by_kind PhoneHungUp = accepted msg None
+    by_kind ConnectToMe = accepted msg None
+    by_kind ConnectMeTo = keeping (first_usable_of k t)
+    by_kind NotBuilt = accepted msg None
+    by_kind User = accepted msg None
 
   through : (q : ℕ) (msg : Msg) (s : PhoneState) → phone_at k t q ≡ Some s → Is (call_through k t q msg s)
   through q msg phone.Free h = inside
   through q msg phone.Connecting h = inside
   through q msg phone.HungUp h = back_told (Step t.0 r) p k inside t q msg ehangup refl
   through q msg phone.Slammed h = back_told (Step t.0 r) p k inside t q msg enoent refl
-  through q msg (phone.Connected u) h = one.accepted (Step t.0 r) p k inside (new_call k t q msg (place.Incoming u)) u refl refl refl refl (inside.leads t.0 q u h)
+  through q msg (phone.Connected u) h = sent q msg u h
 
   tested : (q : ℕ) (msg : Msg) (s : PhoneState) → phone_at k t q ≡ Some s → Is (call_tested k t q msg s)
-  tested q msg s h = by_test Is (nat_lt msg.method first_user_method) _ _ (λ _. inside) (λ _. by_test Is (nat_le most_active (active_calls k.calls (label_of t q))) _ _ (λ _. inside) (λ _. through q msg s h))
+  tested q msg s h = by_test Is (not (is_callable (kind_of msg.method))) _ _ (λ _. inside) (λ _. by_test Is (nat_le most_active (active_calls k.calls (label_of t q))) _ _ (λ _. inside) (λ _. through q msg s h))
 
   call_told : (q : ℕ) (msg : Msg) (s : Option PhoneState) → phone_at k t q ≡ s → Is (call_over k t q msg s)
   call_told q msg None h = inside
@@ -139,14 +164,46 @@ module _ (t : TaskNo) (r : Ask) (p : List Tale) (k : KernelState) (inside : InEv
     here true e g = let same : d ≡ c = cc in (g, subst (λ (x : Call). x.place ≡ place.Dispatched t) same (same_place-true d.place (place.Dispatched t) e))
     here false e g = absurd (cc g)
 
+  -- a call that t accepts
+  accept_told : (n : ℕ) (reply : Reply) (c : Call) → r ≡ Answer n → n ≡ c.number.0 → call_at k.calls c.number.0 ≡ Some c → c.place ≡ place.Dispatched t → AfterStep (Step t.0 r) p (accept_for k t reply c c.caller (lives k c.caller))
+  accept_told n reply c is number h at = by_caller c.caller (lives k c.caller) refl refl where
+    here : life_at c.from.task.0 c.place ≡ Dispatched c.from.task.0 t.0
+    here = ap (life_at c.from.task.0) at
+
+    gone : is_ended k.tasks.alive c.from.task.0 ≡ true → AfterStep (Step t.0 r) p (vanishing k c)
+    gone dead = one.vanished (Step t.0 r) p k inside c (Dispatched c.from.task.0 t.0) h here (inside.core.ended c.from.task.0 ∙ dead, inr (inl (rw (← number, ← is) inside.now)))
+
+    answered : (u : TaskNo) → c.caller ≡ Some u → is_alive k u ≡ true → (given : Reply) (kept : Option Label) (s : PhoneState) → MayLead (Step t.0 r) k.tasks.alive s → AfterStep (Step t.0 r) p (answer_to (handed k c given c.reserved kept s) (Some t) u)
+    answered u made lives' given kept s leads =
+        one.answered (Step t.0 r) p k inside c given c.reserved (Some t) u (Dispatched c.from.task.0 t.0) h here refl made lives'
+        (λ live. (refl, rw (← number, ← is) inside.now, live)) kept s leads
+
+    by_kind : (u : TaskNo) → c.caller ≡ Some u → is_alive k u ≡ true → (kind : MethodKind) → AfterStep (Step t.0 r) p (answer_to (on_accept_of kind k c reply t u) (Some t) u)
+    by_kind u made lives' PhoneHungUp = answered u made lives' reply None phone.Free (free_leads (Step t.0 r) k.tasks.alive)
+    by_kind u made lives' ConnectToMe =
+        let caller = caller_told (Step t.0 r) p k inside c u true h made lives' in
+        answered u made lives' (record { code = code_of (kept_phone c); args = reply.args }) (kept_phone c) (phone.Connected u)
+        (λ v x d. let same : v ≡ u = cc in absurd (false≢true (sym caller.1 ∙ ap (is_ended k.tasks.alive) (sym caller.0) ∙ rw same at d)))
+    by_kind u made lives' ConnectMeTo =
+        answered u made lives' reply (kept_phone c) (phone.Connected t) (λ v x d. let same : t ≡ v = cc in absurd (step_kill t.0 t.0 r (inside.acts (rw (← same) at d))))
+    by_kind u made lives' NotBuilt = answered u made lives' reply None phone.Free (free_leads (Step t.0 r) k.tasks.alive)
+    by_kind u made lives' User = answered u made lives' reply None phone.Free (free_leads (Step t.0 r) k.tasks.alive)
+
+    by_caller : (o : Option TaskNo) (b : Bool) → c.caller ≡ o → lives k o ≡ b → AfterStep (Step t.0 r) p (accept_for k t reply c o b)
+    by_caller None b made lives' = gone (subst (CallerFits k.tasks.alive c.from.task) made (is_told (Step t.0 r) p k inside c.number.0 c h).caller)
+    by_caller (Some u) false made lives' = gone (caller_told (Step t.0 r) p k inside c u false h made lives').1
+    by_caller (Some u) true made lives' = by_kind u made lives' (kind_of c.request.method)
+
   answer_told : (n : ℕ) (reply : Reply) (o : Option Call) → r ≡ Answer n → held_call t (call_at k.calls n) ≡ o → Is (answer_held k t reply o)
   answer_told n reply None is h = inside
   answer_told n reply (Some c) is h =
       let f = held (call_at k.calls n) c h in
       let number : n ≡ c.number.0 = sym (is_told (Step t.0 r) p k inside n c f.0).number in
-      one.settled (Step t.0 r) p k inside c reply (Some t) (Dispatched c.from.task.0 t.0) (own (Step t.0 r) p k inside n c f.0) (ap (life_at c.from.task.0) f.1) refl
+      let live = own (Step t.0 r) p k inside n c f.0 in
+      by_test (AfterStep (Step t.0 r) p) (accepts reply.code) _ _ (λ _. accept_told n reply c is number live f.1)
+      (λ _. one.settled (Step t.0 r) p k inside c reply (Some t) (Dispatched c.from.task.0 t.0) live (ap (life_at c.from.task.0) f.1) refl
       (λ dead. (dead, inr (inl (rw (← number, ← is) inside.now))))
-      (λ live. (refl, rw (← number, ← is) inside.now, live))
+      (λ alive. (refl, rw (← number, ← is) inside.now, alive)))
 
   stopped : (n : ℕ) (code : Code) (c : Call) → r ≡ Forward n → call_at k.calls n ≡ Some c → c.place ≡ place.Dispatched t → Is (failed_forward k (Some c) code)
   stopped n code c is h at =
@@ -158,12 +215,16 @@ module _ (t : TaskNo) (r : Ask) (p : List Tale) (k : KernelState) (inside : InEv
   passed_told : (n q : ℕ) (mode : Mode) (change : Option Msg) (c : Call) → r ≡ Forward n → call_at k.calls n ≡ Some c → c.place ≡ place.Dispatched t → (s : Option PhoneState) → phone_at k t q ≡ s → Is (forward_told k t q mode change (Some c) (as_forwarded n (callee_of s)))
   passed_told n q mode change c is h at (Some (phone.Connected v)) l =
       let it = is_told (Step t.0 r) p k inside n c h in
-      let d : Call = record (call_after t q mode change c) { place = place.Incoming v; stamp = k.calls.next_stamp } in
-      rw h
-      (noted (Step t.0 r) p k inside n (Forwarded t.0 v.0) (Dispatched c.from.task.0 t.0) (put_at k.calls (call_after t q mode change c) (place.Incoming v)) (Some d)
-      (it.place ∙ ap (life_at c.from.task.0) at) (refl, rw (← is) inside.now) (λ u s d. rw s at (inside.leads t.0 q v l (rw (← s) at d))) tt inside.core.number
-      (λ m. at_insert k.calls.records c.number.0 m d ∙ ap (λ x. if x == m then Some d else call_at k.calls m) it.number)
-      (record { number = it.number; place = refl; caller = it.caller; home = tt; origin = it.origin; forgotten = it.forgotten }))
+      let number : n ≡ c.number.0 = sym it.number in
+      let sees : Call = passed_call (msg_after change c) (label_after t q mode c) c in
+      let d : Call = record sees { place = place.Incoming v; stamp = k.calls.next_stamp } in
+      let table : CallTable = put_at k.calls sees (place.Incoming v) in
+      joined (Step t.0 r) p k (On c.number.0 (Forwarded t.0 v.0)) table
+      (noted (Step t.0 r) p k inside c.number.0 (Forwarded t.0 v.0) (Dispatched c.from.task.0 t.0) table (Some d)
+      (rw (← number) it.place ∙ ap (life_at c.from.task.0) at) (refl, rw (← number, ← is) inside.now) (λ u s d. rw s at (inside.leads t.0 q v l (rw (← s) at d))) tt inside.core.number
+      (λ m. at_insert k.calls.records c.number.0 m d)
+      (record { number = refl; place = refl; caller = it.caller; home = tt; origin = rw (← number) it.origin; forgotten = rw (← number) it.forgotten }))
+      (lent_phone c) phone.Free (free_leads (Step t.0 r) k.tasks.alive)
   passed_told n q mode change c is h at None l = stopped n enoent c is h at
   passed_told n q mode change c is h at (Some phone.Free) l = stopped n enoent c is h at
   passed_told n q mode change c is h at (Some phone.Connecting) l = stopped n enoent c is h at
@@ -181,21 +242,44 @@ module _ (t : TaskNo) (r : Ask) (p : List Tale) (k : KernelState) (inside : InEv
       (λ _. inside)
 
 module _ (t : TaskNo) (p : List Tale) (k : KernelState) (inside : InEvent (Step t.0 Receive) p k) where
-  receive_told : (a i : Option Call) → front k.calls (place.Answers t) ≡ a → front k.calls (place.Incoming t) ≡ i → InEvent (Step t.0 Receive) (and_then (receive_first k t a i).entries p) (receive_first k t a i).state
+  delivered : (c : Call) (reply : Reply) → call_at k.calls c.number.0 ≡ Some c → c.place ≡ place.Answers t → AfterServed (Step t.0 Receive) p (delivery t (with_delivery k c reply))
+  delivered c reply h at =
+      let it = is_told (Step t.0 Receive) p k inside c.number.0 c h in
+      let home : t.0 ≡ c.from.task.0 = subst (IsHome c.from.task.0) at it.home in
+      let table : CallTable = without_call k.calls c.number.0 in
+      joined (Step t.0 Receive) p k (On c.number.0 (Delivered t.0)) table
+      (noted (Step t.0 Receive) p k inside c.number.0 (Delivered t.0) (Answers c.from.task.0) table None
+      (it.place ∙ ap (life_at c.from.task.0) at) (home, rw (← home) inside.now) (λ u s. absurd s) tt inside.core.number (λ m. at_remove k.calls.records c.number.0 m) tt)
+      (kept_phone c) phone.Free (free_leads (Step t.0 Receive) k.tasks.alive)
+
+  received : (c : Call) → call_at k.calls c.number.0 ≡ Some c → c.place ≡ place.Incoming t → (kind : MethodKind) → AfterServed (Step t.0 Receive) p (reception t (on_receive_of kind k c t))
+  received c h at = by_kind where
+    taken : (msg : Msg) (reserved kept : Option Label) → AfterServed (Step t.0 Receive) p (reception t (record { state = with_kept k kept phone.Connecting; call = record c { msg = msg; reserved = reserved }; note = kept_note kept phone.Connecting }))
+    taken msg reserved kept =
+        let it = is_told (Step t.0 Receive) p k inside c.number.0 c h in
+        let d : Call = record c { msg = msg; reserved = reserved; place = place.Dispatched t; stamp = k.calls.next_stamp } in
+        let table : CallTable = put_at k.calls (record c { msg = msg; reserved = reserved }) (place.Dispatched t) in
+        joined (Step t.0 Receive) p k (On c.number.0 (Received t.0)) table
+        (noted (Step t.0 Receive) p k inside c.number.0 (Received t.0) (Incoming c.from.task.0 t.0) table (Some d)
+        (it.place ∙ ap (life_at c.from.task.0) at) (refl, inside.now) (λ u s d. absurd (step_kill t.0 t.0 Receive (inside.acts (rw (← s) at d)))) tt inside.core.number
+        (λ m. at_insert k.calls.records c.number.0 m d)
+        (record { number = refl; place = refl; caller = it.caller; home = tt; origin = it.origin; forgotten = it.forgotten }))
+        kept phone.Connecting (λ v x. cc)
+
+    by_kind : (kind : MethodKind) → AfterServed (Step t.0 Receive) p (reception t (on_receive_of kind k c t))
+    by_kind PhoneHungUp = taken c.msg c.reserved None
+    by_kind ConnectToMe = taken _ (first_usable_of k t) (first_usable_of k t)
+    by_kind ConnectMeTo = taken c.msg c.reserved None
+    by_kind NotBuilt = taken c.msg c.reserved None
+    by_kind User = taken c.msg c.reserved None
+
+  receive_told : (a i : Option Call) → front k.calls (place.Answers t) ≡ a → front k.calls (place.Incoming t) ≡ i → AfterServed (Step t.0 Receive) p (receive_first k t a i)
   receive_told (Some c) i h g =
       let f = front_at (Step t.0 Receive) p k inside (place.Answers t) c h in
-      let it = is_told (Step t.0 Receive) p k inside c.number.0 c f.0 in
-      let home : t.0 ≡ c.from.task.0 = subst (IsHome c.from.task.0) f.1 it.home in
-      noted (Step t.0 Receive) p k inside c.number.0 (Delivered t.0) (Answers c.from.task.0) (without_call k.calls c.number.0) None
-      (it.place ∙ ap (life_at c.from.task.0) f.1) (home, rw (← home) inside.now) (λ u s. absurd s) tt inside.core.number (λ m. at_remove k.calls.records c.number.0 m) tt
+      delivered c (reply_of (kind_of c.request.method) c) f.0 f.1
   receive_told None (Some c) h g =
       let f = front_at (Step t.0 Receive) p k inside (place.Incoming t) c g in
-      let it = is_told (Step t.0 Receive) p k inside c.number.0 c f.0 in
-      let d : Call = record c { place = place.Dispatched t; stamp = k.calls.next_stamp } in
-      noted (Step t.0 Receive) p k inside c.number.0 (Received t.0) (Incoming c.from.task.0 t.0) (put_at k.calls c (place.Dispatched t)) (Some d)
-      (it.place ∙ ap (life_at c.from.task.0) f.1) (refl, inside.now) (λ u s d. absurd (step_kill t.0 t.0 Receive (inside.acts (rw (← s) at d)))) tt inside.core.number
-      (λ m. at_insert k.calls.records c.number.0 m d)
-      (record { number = refl; place = refl; caller = it.caller; home = tt; origin = it.origin; forgotten = it.forgotten })
+      received c f.0 f.1 (kind_of c.request.method)
   receive_told None None h g = inside
 
 unawaited_is : (o : Option Call) (c : Call) → unawaited o ≡ Some c → o ≡ Some c
@@ -205,13 +289,13 @@ unawaited_is (Some d) c h = here d.discard h where
   here true g = g
   here false g = absurd (cc g)
 
-unawaited_told : (t : TaskNo) (p : List Tale) (k : KernelState) → InEvent (Step t.0 Receive) p k → InEvent (Step t.0 Receive) (and_then (drop_unawaited t k).entries p) (drop_unawaited t k).state
+unawaited_told : (t : TaskNo) (p : List Tale) (k : KernelState) → InEvent (Step t.0 Receive) p k → AfterStep (Step t.0 Receive) p (drop_unawaited t k)
 unawaited_told t p k inside =
     drain_tells (List Tale) and_then (λ _. refl) and_then-append (next_unawaited t) (drop_answer t) (InEvent (Step t.0 Receive))
     (λ q j c i is. let f = front_at (Step t.0 Receive) q j i (place.Answers t) c (unawaited_is (front j.calls (place.Answers t)) c is) in one.dropped (Step t.0 Receive) q j i t c (inl refl) f.0 f.1)
     (len k.calls.records) p k inside
 
-served_inside : (t : TaskNo) (asked : Request) (p : List Tale) (k : KernelState) → InEvent (Step t.0 (ask asked)) p k → InEvent (Step t.0 (ask asked)) (and_then (serve_request k t asked).entries p) (serve_request k t asked).state
+served_inside : (t : TaskNo) (asked : Request) (p : List Tale) (k : KernelState) → InEvent (Step t.0 (ask asked)) p k → AfterServed (Step t.0 (ask asked)) p (serve_request k t asked)
 served_inside t (request.Call q msg) p k inside = call_told t Other_request p k inside q msg (phone_at k t q) refl
 served_inside t request.Receive p k inside =
     let d : Transition = drop_unawaited t k in

@@ -1,10 +1,10 @@
 -- Each request keeps a sound state sound, by the definitions alone.
-use Rattle.std.proofs.Common.{◌≡◌, ℕ, Bool, true, false, Option, None, Some, Result, Ok, Err, List, refl, ap, sym, ◌∙◌, arith, nat_lt, nat_le}
+use Rattle.std.proofs.Common.{◌≡◌, ℕ, ◌+◌, ◌*◌, Bool, true, false, not, Option, None, Some, Result, Ok, Err, List, refl, ap, sym, ◌∙◌, nat_le}
 use Rattle.std.specs.Prelude.{◌==◌, if◌then◌else◌, IsSome}
-use Rattle.std.proofs.lemmas.Bool.{ne_eqb}
-use Rattle.std.proofs.lemmas.Bool.Decides.{nat_tests}
+use Rattle.std.proofs.lemmas.Bool.{false≢true}
 use Rattle.std.specs.FinMap.{len}
 use Rattle.ipc_ids.specs.declared.numbers.TaskNo.{TaskNo}
+use Rattle.ipc_ids.specs.declared.numbers.Label.{Label}
 use Rattle.ipc_ids.specs.declared.numbers.Code.{Code}
 use Rattle.ipc_ids.specs.declared.message.Msg.{Msg}
 use Rattle.ipc_ids.specs.declared.message.Mode.{Mode}
@@ -13,84 +13,117 @@ use Rattle.ipc_ids.specs.declared.message.PhoneState.{PhoneState}
 use Rattle.ipc_ids.specs.declared.message.PhoneState.TheVariants.{Free, Connecting, Connected, HungUp, Slammed}
 use Rattle.ipc_ids.specs.declared.message.Request.{Request}
 use Rattle.ipc_ids.specs.declared.message.Request.TheVariants as R
-use Rattle.ipc_ids.specs.Codes.{ehangup, enoent, eforward}
-use Rattle.ipc_ids.specs.Methods.{first_user_method}
+use Rattle.ipc_ids.specs.declared.methods.MethodKind.{MethodKind}
+use Rattle.ipc_ids.specs.declared.methods.MethodKind.TheVariants.{PhoneHungUp, ConnectToMe, ConnectMeTo, NotBuilt, User}
+use Rattle.ipc_ids.specs.Codes.{ehangup, enoent, eperm, elimit, eforward}
+use Rattle.ipc_ids.specs.Methods.{kind_of}
 use Rattle.ipc_ids.specs.Tables.{most_active}
 use Rattle.call_slab.specs.declared.call.Call.{Call}
 use Rattle.call_slab.specs.declared.call.Place.{Place}
 use Rattle.call_slab.specs.declared.call.Place.TheVariants.{Incoming, Dispatched, Answers}
-use Rattle.answerbox.specs.Calls.{call_at, front, enqueue, put_at, without_call, same_place, active_calls}
+use Rattle.answerbox.specs.Calls.{call_at, front, enqueue, same_place, active_calls}
 use Rattle.answerbox.proofs.Fronts.{front_live}
-use Rattle.phone_table.specs.Phones.{state_at}
 use Rattle.forwarding.specs.declared.passing.Forwarded.{Forwarded}
 use Rattle.forwarding.specs.declared.passing.ForwardFault.{ForwardFault}
 use Rattle.forwarding.specs.declared.passing.ForwardFault.TheVariants.{NotHeld, NotForwardable, NotConnected}
-use Rattle.forwarding.specs.Routes.{forward_answer, call_after, table_after}
-use Rattle.cleanup.specs.State.{KernelState, is_alive, phone_at, with_calls, label_of}
-use Rattle.cleanup.specs.Sound.{IsPlaced, IsCaller, IsSound}
-use Rattle.cleanup.specs.Joins.{bare_reply, settle, settle_for, lives, drop_answer, new_call, hang_up, receive_first}
-use Rattle.cleanup.proofs.Soundness.{sound_enqueue, sound_put, sound_without, kept_calls}
+use Rattle.forwarding.specs.Forwarding.{msg_after, label_after}
+use Rattle.forwarding.specs.Routes.{forward_answer}
+use Rattle.cleanup.specs.State.{KernelState, Transition, is_alive, phone_at, with_calls, label_of}
+use Rattle.cleanup.specs.Kept.{accepts, first_usable_of}
+use Rattle.cleanup.specs.Sound.{IsPlaced, NeedsPhone, IsSound}
+use Rattle.cleanup.specs.Joins.{bare_reply, new_call, acceptance, answer_at_once, reception, answer_to, settle, lives, drop_answer, hang_up}
+use Rattle.cleanup.specs.Serving.{Served, as_it_is}
+use Rattle.cleanup.specs.Board.{IsPendingAt}
+use Rattle.cleanup.proofs.Usable.{usable_is}
+use Rattle.cleanup.proofs.SoundStates.{sound_enqueued, keeps_none, no_phone}
+use Rattle.cleanup.proofs.SoundJoins.{incoming_pending, held_pending, sound_gone, sound_passage, sound_accepted_to_me, sound_accepted_me_to, sound_finished, sound_received_to_me, sound_received, sound_sent}
 use Rattle.cleanup.proofs.Repeats.{by_test, drain_keeps}
-use Rattle.cleanup.proofs.Queues.{IsLive}
+use Rattle.cleanup.proofs.Queues.{IsLive, sound_settle_for, sound_drop}
 use Rattle.cleanup.proofs.Silence.{sound_hang_up}
-use Rattle.cleanup.specs.Serving.{Served}
-use Rattle.kernel_core.specs.Calling.{call_through, call_tested, call_over}
-use Rattle.kernel_core.specs.Receiving.{unawaited, next_unawaited, drop_unawaited}
-use Rattle.kernel_core.specs.Answering.{held_call, answer_held}
+use Rattle.kernel_core.specs.Moments.{with_fifth, number_of, keeping_to_send, before_send_of, on_receive_of, on_accept_of}
+use Rattle.kernel_core.specs.Calling.{is_callable, sent_to, call_through, call_tested, call_over}
+use Rattle.kernel_core.specs.Receiving.{receive_first, unawaited, next_unawaited, drop_unawaited}
+use Rattle.kernel_core.specs.Answering.{held_call, accept_for, answer_call, answer_held}
 use Rattle.kernel_core.specs.Forward.{failed_forward, passing_on, forward_told}
 use Rattle.kernel_core.specs.HangingUp.{hangup_over}
 use Rattle.kernel_core.specs.Kernel.{serve}
 use Rattle.kernel_core.specs.Request.{serve_request}
-use Rattle.kernel_core.proofs.Passing.{leads_of, passes}
+use Rattle.kernel_core.proofs.Passing.{leads_of, passes, held_of}
 
 -- the steps
 
-enqueued : (k : KernelState) (c : Call) → IsSound k → c.number.0 ≡ k.calls.next_number → IsPlaced k.tasks c.caller c.place → IsCaller k.tasks c.from c.caller → IsSome (state_at k.tasks.phones c.from.task.0 c.from.phone.0) → c.discard ≡ (c.request.method == 0) → IsSound (with_calls k (enqueue k.calls c))
-enqueued k c h number place caller phone discard =
-    kept_calls k (enqueue k.calls c) h (sound_enqueue k.tasks k.calls c h.calls number place caller phone discard)
-
-own : (k : KernelState) (n : ℕ) (c : Call) → IsSound k → call_at k.calls n ≡ Some c → IsLive k c
+pub own : (k : KernelState) (n : ℕ) (c : Call) → IsSound k → call_at k.calls n ≡ Some c → IsLive k c
 own k n c h is = ap (call_at k.calls) (h.calls.each n c is).number ∙ is
-
-over : (k : KernelState) (c : Call) → IsSound k → IsLive k c → IsSound (with_calls k (without_call k.calls c.number.0))
-over k c h is =
-    kept_calls k (without_call k.calls c.number.0) h (sound_without k.tasks k.calls c.number.0 h.calls)
-
-moved : (k : KernelState) (c d : Call) (place : Place) → IsSound k → IsLive k c → d.number ≡ c.number → d.caller ≡ c.caller → d.from ≡ c.from → d.request ≡ c.request → d.discard ≡ c.discard → IsPlaced k.tasks d.caller place → IsSound (with_calls k (put_at k.calls d place))
-moved k c d place h is number caller from request discard placed =
-    kept_calls k (put_at k.calls d place) h (sound_put k.tasks k.calls c.number.0 c d place h.calls is number caller from request discard placed)
-
-settled : (k : KernelState) (c : Call) (reply : Reply) (by : Option TaskNo) → IsSound k → IsLive k c → IsSound (settle k c reply by).state
-settled k c reply by h is = by_caller c.caller (lives k c.caller) refl where
-  by_caller : (o : Option TaskNo) (b : Bool) → c.caller ≡ o → IsSound (settle_for k c reply by o b).state
-  by_caller None b from = over k c h is
-  by_caller (Some u) false from = over k c h is
-  by_caller (Some u) true from = moved k c (record c { reply = reply }) (Answers u) h is refl refl refl refl refl from
 
 pub front_at : (k : KernelState) (place : Place) (c : Call) → IsSound k → front k.calls place ≡ Some c → IsLive k c
 front_at k place c h is = let f = front_live k.calls place c is in own k f.0 c h f.1
 
+front_stands : (k : KernelState) (place : Place) (c : Call) → front k.calls place ≡ Some c → same_place c.place place ≡ true
+front_stands k place c is = let f = front_live k.calls place c is in f.2
+
 is_some : {A : Type 0} (o : Option A) (x : A) → o ≡ Some x → IsSome o
 is_some o x e = rw e refl
 
--- the requests of a task that is alive
+-- a method that a task may call with tells of no hangup
+pub callable_method : (m : ℕ) → not (is_callable (kind_of m)) ≡ false → false ≡ (m == 0)
+callable_method m h = by_test (m == 0) _ h where
+  by_test : (b : Bool) (other : MethodKind) → not (is_callable (if b then PhoneHungUp else other)) ≡ false → false ≡ b
+  by_test true other g = absurd (cc g)
+  by_test false other g = refl
 
-pub user_method : (m : ℕ) → nat_lt m first_user_method ≡ false → false ≡ (m == 0)
-user_method m h = sym (ne_eqb m 0 (λ e. grind (arith, nat_tests)))
+-- an answer that does not accept needs no phone
+declined_needless : (kind : MethodKind) (t : TaskNo) (code : Code) → accepts code ≡ false → NeedsPhone kind (Answers t) code → ⊥
+declined_needless PhoneHungUp t code declines needs = needs
+declined_needless ConnectToMe t code declines needs = needs
+declined_needless ConnectMeTo t code declines needs = false≢true (sym declines ∙ needs)
+declined_needless NotBuilt t code declines needs = needs
+declined_needless User t code declines needs = needs
+
+-- the requests of a task that is alive
 
 module _ (t : TaskNo) (k : KernelState) (alive : is_alive k t ≡ true) (h : IsSound k) where
   abbrev Follows : Served → Type 0
   Follows s = IsSound s.state
 
-  through : (p : ℕ) (msg : Msg) (s : PhoneState) → phone_at k t p ≡ Some s → nat_lt msg.method first_user_method ≡ false → Follows (call_through k t p msg s)
-  through p msg Free is user = h
-  through p msg Connecting is user = h
-  through p msg (Connected u) is user = enqueued k (new_call k t p msg (Incoming u)) h refl (h.tasks.leads t.0 p u is) (refl, alive) (is_some (phone_at k t p) (Connected u) is) (user_method msg.method user)
-  through p msg HungUp is user = enqueued k (record (new_call k t p msg (Answers t)) { reply = bare_reply ehangup }) h refl refl (refl, alive) (is_some (phone_at k t p) HungUp is) (user_method msg.method user)
-  through p msg Slammed is user = enqueued k (record (new_call k t p msg (Answers t)) { reply = bare_reply enoent }) h refl refl (refl, alive) (is_some (phone_at k t p) Slammed is) (user_method msg.method user)
+  -- a new call, which keeps no phone
+  made : (p : ℕ) (msg : Msg) (s : PhoneState) (place : Place) (reply : Reply) → phone_at k t p ≡ Some s → not (is_callable (kind_of msg.method)) ≡ false → IsPlaced k.tasks (Some t) place → (NeedsPhone (kind_of msg.method) place reply.code → ⊥) → IsSound (with_calls k (enqueue k.calls (record (new_call k t p msg place) { reply = reply })))
+  made p msg s place reply is callable placed needless =
+      let c : Call = record (new_call k t p msg place) { reply = reply } in
+      sound_enqueued k c h refl placed (refl, alive) (is_some (phone_at k t p) s is) (callable_method msg.method callable) (no_phone k.tasks.phones c refl needless) (keeps_none c refl)
+
+  at_once : (p : ℕ) (msg : Msg) (s : PhoneState) (code : Code) → phone_at k t p ≡ Some s → not (is_callable (kind_of msg.method)) ≡ false → accepts code ≡ false → Follows (answer_at_once k (new_call k t p msg (Answers t)) code)
+  at_once p msg s code is callable declines = made p msg s (Answers t) (bare_reply code) is callable refl (declined_needless (kind_of msg.method) t code declines)
+
+  -- what the moment before it is sent makes of a new call over a phone that leads to task u
+  module _ (p : ℕ) (msg : Msg) (u : TaskNo) (is : phone_at k t p ≡ Some (Connected u)) (callable : not (is_callable (kind_of msg.method)) ≡ false) where
+    abbrev c : Call
+    c = new_call k t p msg (Incoming u)
+
+    plain : (kind : MethodKind) → kind_of msg.method ≡ kind → (NeedsPhone kind (Incoming u) c.reply.code → ⊥) → Follows (acceptance (as_it_is k c) (Some u))
+    plain kind same needless = made p msg (Connected u) (Incoming u) c.reply is callable (h.tasks.leads t.0 p u is) (λ needs. needless (rw same at needs))
+
+    keeping : (o : Option Label) → first_usable_of k t ≡ o → kind_of msg.method ≡ ConnectMeTo → Follows (sent_to u k c (keeping_to_send k c o))
+    keeping None first kind = at_once p msg (Connected u) elimit is callable refl
+    keeping (Some l) first kind =
+        let d : Call = record c { msg = with_fifth msg (64 * t.0 + l.phone.0); reserved = Some l } in
+        sound_sent k d l h (usable_is k t l first) refl (h.tasks.leads t.0 p u is) (refl, alive) (is_some (phone_at k t p) (Connected u) is) (callable_method msg.method callable) kind tt refl
+
+    sent : (kind : MethodKind) → kind_of msg.method ≡ kind → Follows (sent_to u k c (before_send_of kind k c))
+    sent PhoneHungUp kind = plain PhoneHungUp kind (λ needs. needs)
+    sent ConnectToMe kind = plain ConnectToMe kind (λ needs. needs)
+    sent ConnectMeTo kind = keeping (first_usable_of k t) refl kind
+    sent NotBuilt kind = plain NotBuilt kind (λ needs. needs)
+    sent User kind = plain User kind (λ needs. needs)
+
+  through : (p : ℕ) (msg : Msg) (s : PhoneState) → phone_at k t p ≡ Some s → not (is_callable (kind_of msg.method)) ≡ false → Follows (call_through k t p msg s)
+  through p msg Free is callable = h
+  through p msg Connecting is callable = h
+  through p msg (Connected u) is callable = sent p msg u is callable (kind_of msg.method) refl
+  through p msg HungUp is callable = at_once p msg HungUp ehangup is callable refl
+  through p msg Slammed is callable = at_once p msg Slammed enoent is callable refl
 
   tested : (p : ℕ) (msg : Msg) (s : PhoneState) → phone_at k t p ≡ Some s → Follows (call_tested k t p msg s)
-  tested p msg s is = by_test Follows (nat_lt msg.method first_user_method) _ _ (λ _. h) (λ user. by_test Follows (nat_le most_active (active_calls k.calls (label_of t p))) _ _ (λ _. h) (λ _. through p msg s is user))
+  tested p msg s is = by_test Follows (not (is_callable (kind_of msg.method))) _ _ (λ _. h) (λ callable. by_test Follows (nat_le most_active (active_calls k.calls (label_of t p))) _ _ (λ _. h) (λ _. through p msg s is callable))
 
   called : (p : ℕ) (msg : Msg) (o : Option PhoneState) → phone_at k t p ≡ o → Follows (call_over k t p msg o)
   called p msg None is = h
@@ -100,33 +133,67 @@ module _ (t : TaskNo) (k : KernelState) (alive : is_alive k t ≡ true) (h : IsS
   called p msg (Some HungUp) is = tested p msg HungUp is
   called p msg (Some Slammed) is = tested p msg Slammed is
 
+  -- a call is received as it is
+  taken_plain : (c : Call) → IsLive k c → same_place c.place (Incoming t) ≡ true → (kind_of c.request.method ≡ ConnectToMe → ⊥) → Follows (reception t (as_it_is k c))
+  taken_plain c live here other = sound_received k c t h live other (incoming_pending c.place t here) alive
+
+  -- what the moment at which it is received makes of a call
+  taken_on : (c : Call) → IsLive k c → same_place c.place (Incoming t) ≡ true → (kind : MethodKind) → kind_of c.request.method ≡ kind → Follows (reception t (on_receive_of kind k c t))
+  taken_on c live here PhoneHungUp kind = taken_plain c live here (λ e. cc)
+  taken_on c live here ConnectToMe kind = sound_received_to_me k c (with_fifth c.msg (number_of (first_usable_of k t))) t (first_usable_of k t) h live kind here alive (λ l first. usable_is k t l first)
+  taken_on c live here ConnectMeTo kind = taken_plain c live here (λ e. cc)
+  taken_on c live here NotBuilt kind = taken_plain c live here (λ e. cc)
+  taken_on c live here User kind = taken_plain c live here (λ e. cc)
+
   received : (a i : Option Call) → front k.calls (Answers t) ≡ a → front k.calls (Incoming t) ≡ i → Follows (receive_first k t a i)
-  received (Some c) i first second = over k c h (front_at k (Answers t) c h first)
-  received None (Some c) first second = moved k c c (Dispatched t) h (front_at k (Incoming t) c h second) refl refl refl refl refl alive
+  received (Some c) i first second = sound_gone k c h (front_at k (Answers t) c h first)
+  received None (Some c) first second = taken_on c (front_at k (Incoming t) c h second) (front_stands k (Incoming t) c second) (kind_of c.request.method) refl
   received None None first second = h
+
+  -- what an answer makes of a call that task t holds
+  module _ (c : Call) (live : IsLive k c) (held : same_place c.place (Dispatched t) ≡ true) where
+    pending : IsPendingAt c.place
+    pending = held_pending c.place t held
+
+    settled : (reply : Reply) (by : Option TaskNo) → accepts reply.code ≡ false → IsSound (settle k c reply by).state
+    settled reply by declines = sound_settle_for k c reply by c.caller (lives k c.caller) h live pending declines refl
+
+    accepted : (reply : Reply) (u : TaskNo) → accepts reply.code ≡ true → c.caller ≡ Some u → (kind : MethodKind) → kind_of c.request.method ≡ kind → IsSound (answer_to (on_accept_of kind k c reply t u) (Some t) u).state
+    accepted reply u accepting from PhoneHungUp kind = sound_finished k c reply (Some t) u h live (rw kind tt) pending from
+    accepted reply u accepting from ConnectToMe kind = sound_accepted_to_me k c reply (Some t) u h live kind pending from
+    accepted reply u accepting from ConnectMeTo kind = sound_accepted_me_to k c reply t (Some t) u h live kind pending accepting alive from
+    accepted reply u accepting from NotBuilt kind = sound_finished k c reply (Some t) u h live (rw kind tt) pending from
+    accepted reply u accepting from User kind = sound_finished k c reply (Some t) u h live (rw kind tt) pending from
+
+    accepted_for : (reply : Reply) (o : Option TaskNo) (b : Bool) → accepts reply.code ≡ true → c.caller ≡ o → IsSound (accept_for k t reply c o b).state
+    accepted_for reply None b accepting from = sound_gone k c h live
+    accepted_for reply (Some u) false accepting from = sound_gone k c h live
+    accepted_for reply (Some u) true accepting from = accepted reply u accepting from (kind_of c.request.method) refl
+
+    replied : (reply : Reply) → IsSound (answer_call k t reply c).state
+    replied reply = by_test (λ (step : Transition). IsSound step.state) (accepts reply.code) _ _ (λ accepting. accepted_for reply c.caller (lives k c.caller) accepting refl) (λ declines. settled reply (Some t) declines)
 
   answered : (n : ℕ) (reply : Reply) (o : Option Call) → call_at k.calls n ≡ o → Follows (answer_held k t reply (held_call t o))
   answered n reply None is = h
-  answered n reply (Some c) is = by_test (λ (o : Option Call). Follows (answer_held k t reply o)) (same_place c.place (Dispatched t)) (Some c) None (λ _. settled k c reply (Some t) h (own k n c h is)) (λ _. h)
+  answered n reply (Some c) is = by_test (λ (o : Option Call). Follows (answer_held k t reply o)) (same_place c.place (Dispatched t)) (Some c) None (λ held. replied c (own k n c h is) held reply) (λ _. h)
 
-  refused : (n : ℕ) (code : Code) (o : Option Call) → call_at k.calls n ≡ o → Follows (failed_forward k o code)
-  refused n code None is = h
-  refused n code (Some c) is = settled k c (bare_reply eforward) None h (own k n c h is)
+  module _ (n p : ℕ) (mode : Mode) (change : Option Msg) where
+    refused : (code : Code) (answer : Result Forwarded ForwardFault) → forward_answer k.calls t (phone_at k t p) n change ≡ answer → (Err NotHeld ≡ answer → ⊥) → (o : Option Call) → call_at k.calls n ≡ o → Follows (failed_forward k o code)
+    refused code answer told held None is = h
+    refused code answer told held (Some c) is = settled c (own k n c h is) (held_of k t (phone_at k t p) n change c answer is told held) (bare_reply eforward) None refl
 
-  forwarded : (n p : ℕ) (mode : Mode) (change : Option Msg) (answer : Result Forwarded ForwardFault) → forward_answer k.calls t (phone_at k t p) n change ≡ answer → Follows (forward_told k t p mode change (call_at k.calls n) answer)
-  forwarded n p mode change (Err NotHeld) is = h
-  forwarded n p mode change (Err NotForwardable) is = refused n Rattle.ipc_ids.specs.Codes.eperm (call_at k.calls n) refl
-  forwarded n p mode change (Err NotConnected) is = refused n enoent (call_at k.calls n) refl
-  forwarded n p mode change (Ok f) is = by_call (call_at k.calls n) where
-    passed : IsSound (with_calls k (table_after k.calls t p mode change (Ok f)))
-    passed =
-        let g = passes k t (phone_at k t p) n change f (leads_of k t.0 p (phone_at k t p) h.tasks refl) is in
-        let here : call_at k.calls f.call.0 ≡ Some g.call = ap (call_at k.calls) g.number ∙ g.live in
-        rw here (moved k g.call (call_after t p mode change g.call) (Incoming f.to) h (own k f.call.0 g.call h here) refl refl refl refl refl g.alive)
+    passed : (f : Forwarded) → forward_answer k.calls t (phone_at k t p) n change ≡ Ok f → (o : Option Call) → call_at k.calls n ≡ o → Follows (passing_on k t p mode change f o)
+    passed f told None is = h
+    passed f told (Some c) is =
+        let g = passes k t (phone_at k t p) n change f (leads_of k t.0 p (phone_at k t p) h.tasks refl) told in
+        let held = held_of k t (phone_at k t p) n change c (Ok f) is told (λ e. cc) in
+        sound_passage k c (msg_after change c) (label_after t p mode c) t f.to h (own k n c h is) (held_pending c.place t held) g.alive
 
-    by_call : (o : Option Call) → Follows (passing_on k t p mode change f o)
-    by_call None = h
-    by_call (Some c) = passed
+    forwarded : (answer : Result Forwarded ForwardFault) → forward_answer k.calls t (phone_at k t p) n change ≡ answer → Follows (forward_told k t p mode change (call_at k.calls n) answer)
+    forwarded (Err NotHeld) told = h
+    forwarded (Err NotForwardable) told = refused eperm (Err NotForwardable) told (λ e. cc) (call_at k.calls n) refl
+    forwarded (Err NotConnected) told = refused enoent (Err NotConnected) told (λ e. cc) (call_at k.calls n) refl
+    forwarded (Ok f) told = passed f told (call_at k.calls n) refl
 
   hung_up : (p : ℕ) (o : Option PhoneState) → phone_at k t p ≡ o → IsSound (hang_up k t p o).state
   hung_up p None is = h
@@ -157,7 +224,7 @@ unawaited_front (Some d) c e = by_discard d.discard e where
   by_discard false g = absurd (cc g)
 
 drop_less : (t : TaskNo) (k j : KernelState) (c : Call) → IsLess k j → next_unawaited t j ≡ Some c → IsLess k (drop_answer t j c).state
-drop_less t k j c s is = record { sound = over j c s.sound (front_at j (Answers t) c s.sound (unawaited_front (front j.calls (Answers t)) c is)); alive = s.alive }
+drop_less t k j c s is = record { sound = sound_drop j t c s.sound (front_at j (Answers t) c s.sound (unawaited_front (front j.calls (Answers t)) c is)); alive = s.alive }
 
 drops_less : (t : TaskNo) (k : KernelState) → IsSound k → IsLess k (drop_unawaited t k).state
 drops_less t k h = drain_keeps (next_unawaited t) (drop_answer t) (IsLess k) (λ j c s is. drop_less t k j c s is) (len k.calls.records) k (record { sound = h; alive = refl })
@@ -176,4 +243,4 @@ serves k t R.Nothing h alive = h
 
 -- a request keeps soundness
 pub sound_serve : (k : KernelState) (t : TaskNo) (request : Request) → IsSound k → is_alive k t ≡ true → IsSound (serve k t request).state
-sound_serve k t request s alive = let m = serves k t request s alive in record { calls = m.calls; tasks = m.tasks }
+sound_serve k t request s alive = let m = serves k t request s alive in record { calls = m.calls; tasks = m.tasks; kept = m.kept; keepers = m.keepers }

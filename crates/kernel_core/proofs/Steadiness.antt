@@ -1,5 +1,6 @@
 -- What a kernel keeps from event to event.
-use Rattle.std.proofs.Common.{◌≡◌, refl, ℕ, ◌+◌, ◌*◌, ◌^◌, ◌<◌, ◌≤◌, true, arith, subst, sym}
+use Rattle.std.proofs.Common.{◌≡◌, refl, ℕ, ◌+◌, ◌-◌, ◌*◌, ◌^◌, ◌<◌, ◌≤◌, Bool, true, false, List, [], ◌∷◌, ◌++◌, length, length-append, arith, subst, sym}
+use Rattle.std.proofs.lemmas.List.{length-set}
 use Rattle.std.specs.Prelude.{Some, Result, Ok, Err, OnOk, OnErr}
 use Rattle.ipc_ids.specs.declared.numbers.TaskNo.{TaskNo}
 use Rattle.ipc_ids.specs.declared.message.Request.{Request}
@@ -7,7 +8,7 @@ use Rattle.ipc_ids.specs.declared.message.PhoneState.TheVariants.{Free, Connecte
 use Rattle.cleanup.specs.State.{KernelState, live_calls, start, is_alive, phone_at, with_task, with_phone, with_event}
 use Rattle.cleanup.specs.Sound.{IsSound}
 use Rattle.cleanup.proofs.SoundStates.{sound_start, kept_task, kept_wired}
-use Rattle.cleanup.proofs.Killing.{sound_kill}
+use Rattle.cleanup.proofs.Killing.{sound_kill, kill_marks}
 use Rattle.answerbox.proofs.Counts.{active-len}
 use Rattle.cleanup.specs.Board.{FewActive}
 use Rattle.kernel_core.specs.Kernel.{IsSteady, serve, kill_event}
@@ -16,24 +17,27 @@ use Rattle.kernel_core.specs.Request.{serve_request}
 use Rattle.kernel_core.proofs.Serving.{sound_serve}
 
 pub steady_start : IsSteady start
-steady_start = record { sound = sound_start; numbers = omega arith; stamps = omega arith }
+steady_start = record { sound = sound_start; tasks = omega arith; numbers = omega arith; stamps = omega arith }
 
-pub steady_task : (k : KernelState) (limit : ℕ) → IsSteady k → IsSteady (with_task k limit)
-steady_task k limit s = record { sound = kept_task k limit s.sound; numbers = s.numbers; stamps = s.stamps }
+pub steady_task : (k : KernelState) (limit : ℕ) → length k.tasks.alive < 64 → IsSteady k → IsSteady (with_task k limit)
+steady_task k limit few s = record { sound = kept_task k limit s.sound; tasks = one_more k.tasks.alive few; numbers = s.numbers; stamps = s.stamps } where
+  one_more : (alive : List Bool) → length alive < 64 → length (alive ++ true ∷ []) ≤ 64
+  one_more alive less = rw (length-append alive (true ∷ [])) (omega arith)
 
 pub steady_wire : (k : KernelState) (t : TaskNo) (p : ℕ) (u : TaskNo) → IsSteady k → is_alive k t ≡ true → is_alive k u ≡ true → phone_at k t p ≡ Some Free → IsSteady (with_phone k t p (Connected u))
-steady_wire k t p u s alive target free = record { sound = kept_wired k t p u s.sound alive target free; numbers = s.numbers; stamps = s.stamps }
+steady_wire k t p u s alive target free = record { sound = kept_wired k t p u s.sound alive target free; tasks = s.tasks; numbers = s.numbers; stamps = s.stamps }
 
 pub sound_kill_event : (k : KernelState) (t : TaskNo) → IsSteady k → is_alive k t ≡ true → IsSound (kill_event k t).state
 sound_kill_event k t s alive = let after = sound_kill k t s.sound alive in record { calls = after.calls; tasks = after.tasks; kept = after.kept; keepers = after.keepers }
 
 -- the state after a system call, from what it gives at most
 pub steady_serve : (k j : KernelState) (t : TaskNo) (request : Request) → IsSteady k → is_alive k t ≡ true
-    → j ≡ (serve k t request).state
+    → j ≡ (serve k t request).state → j.tasks.alive ≡ k.tasks.alive
     → j.calls.next_number ≤ 64 * j.events + 1 → j.calls.next_stamp ≤ 2 ^ 32 * j.events + 1 → IsSteady j
-steady_serve k j t request s alive is numbers stamps =
+steady_serve k j t request s alive is same numbers stamps =
     record {
       sound = subst IsSound (sym is) (sound_serve k t request s.sound alive);
+      tasks = rw same s.tasks;
       numbers = numbers;
       stamps = stamps;
     }
@@ -45,6 +49,7 @@ pub steady_kill : (k j : KernelState) (t : TaskNo) → IsSteady k → is_alive k
 steady_kill k j t s alive is numbers stamps =
     record {
       sound = subst IsSound (sym is) (sound_kill_event k t s alive);
+      tasks = rw (is, kill_marks k t, length-set k.tasks.alive (t.0 - 1) false) s.tasks;
       numbers = numbers;
       stamps = stamps;
     }
@@ -64,13 +69,16 @@ pub steady_served : (k ready served j : KernelState) (t : TaskNo) (request : Req
     → ready ≡ k → served ≡ (serve_request ready t request).state → j ≡ with_event served
     → served.calls.next_number ≤ ready.calls.next_number + 1
     → served.calls.next_stamp ≤ ready.calls.next_stamp + 1
+    → served.tasks.alive ≡ ready.tasks.alive
     → served.events ≡ ready.events
     → IsSteady j
-steady_served k ready served j t request s alive room does counts numbers stamps events =
+steady_served k ready served j t request s alive room does counts numbers stamps marks events =
     let few = rw room at numbers in
     let later = rw room at stamps in
+    let kept = rw room at marks in
     let same = rw room at events in
     steady_serve k j t request s alive (served_after k ready served j t request room does counts)
+    (rw counts kept)
     (rw counts (omega (arith, few, same, s.numbers)))
     (rw counts (omega (arith, later, same, s.stamps)))
 

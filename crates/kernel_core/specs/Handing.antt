@@ -10,17 +10,18 @@ use Rattle.call_slab.specs.declared.call.Call.{Call}
 use Rattle.call_slab.specs.declared.call.Place.TheVariants.{Dispatched}
 use Rattle.cleanup.specs.declared.joins.Arrival.{Arrival}
 use Rattle.cleanup.specs.State.{KernelState, BoardState}
-use Rattle.cleanup.specs.Kept.{IsLoose, MayReserve, kept_phone}
+use Rattle.cleanup.specs.Board.{IsNewCall}
+use Rattle.cleanup.specs.Kept.{MayReserve}
 use Rattle.cleanup.specs.Joins.{with_arrival}
 use Rattle.cleanup.specs.Serving.{Handed}
 use Rattle.kernel_core.specs.Moments.{on_receive}
 
--- the code left this state and this record, and handed on this note; what the call keeps is new to it
+-- the code left this state and this record of a new call, and handed on this note
 pub record IsHanded (new : BoardState) (c : Call) (told : Option Entry) (handed : Handed) : Type 0 where
   pub state : new.state ≡ handed.state
   pub call : c ≡ handed.call
   pub note : told ≡ handed.note
-  pub loose : IsLoose new.state (kept_phone c)
+  pub new_call : IsNewCall new.state c
 
 -- nothing has changed, and the call is to be answered with this code
 pub record IsUnsent (old new : BoardState) (before now : Call) (given wanted : Code) : Type 0 where
@@ -37,8 +38,6 @@ IsSent old new before now (Err given) (Ok handed) = ⊥
 -- the code left this state, and what the call is to take with it makes the record that is handed on
 pub record IsArriving (new : BoardState) (arrival : Arrival) (old : KernelState) (who : TaskNo) (c : Call) : Type 0 where
   pub handed : with_arrival new.state c arrival ≡ on_receive old c who
-  pub calls : new.state.calls ≡ old.calls
-  pub tasks : new.state.tasks.alive ≡ old.tasks.alive
   pub reserved : MayReserve new.state (Some c) arrival.reserved who
 
 abbrev pub Arrives : BoardState → BoardState → Arrival → TaskNo → Option Call → Type 0

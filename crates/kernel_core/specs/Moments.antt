@@ -31,7 +31,7 @@ keeping_to_send k c None = Err elimit
 keeping_to_send k c (Some l) =
     Ok (record {
       state = with_kept k (Some l) Connecting;
-      call = record c { msg = with_fifth c.msg (64 * l.task.0 + l.phone.0); reserved = Some l };
+      call = record c { msg = with_fifth c.msg (64 * c.from.task.0 + l.phone.0); reserved = Some l };
       note = kept_note (Some l) Connecting;
     })
 

@@ -117,7 +117,7 @@ fn call_through(
 fn send(board: &mut Switchboard, mut call: Call, to: TaskNo, out: &mut Trace) -> Outcome
     requires new_call { IsNewCall board.old.state call }
     requires added { IsAdded board.old.state call.from.task }
-    requires few_tasks { length board.old.state.tasks.alive ≤ 64 }
+    requires few { call.from.task.0 ≤ 64 }
     requires unreserved { call.reserved ≡ None }
     requires room { HasRoom board.old out.old 1 1 2 }
     ensures served { Serves board.new result out.old out.new

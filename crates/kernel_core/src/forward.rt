@@ -1,7 +1,7 @@
 //! A forward of a call that a task holds.
-ghost use Rattle.std.specs.Prelude.{◌≡◌, IsSome, IfSome};
+ghost use Rattle.std.specs.Prelude.{◌≡◌, IfSome};
 ghost use Rattle.answerbox.specs.Calls.{call_at};
-ghost use Rattle.cleanup.specs.Board.{IsAdded};
+ghost use Rattle.cleanup.specs.Board.{IsAdded, IsPending};
 ghost use Rattle.cleanup.specs.Rooms.{HasRoom, UsesRoom};
 ghost use Rattle.cleanup.specs.Serving.{Serves};
 ghost use Rattle.kernel_core.specs.Forward.{forward as forward_of, failed_forward};
@@ -55,7 +55,7 @@ fn fail_forward(
     code: Code,
     out: &mut Trace,
 ) -> Outcome
-    requires live { IsSome (call_at board.old.state.calls call.0) }
+    requires pending { IsPending (call_at board.old.state.calls call.0) }
     requires number { IfSome (call_at board.old.state.calls call.0) (λ c. c.number ≡ call) }
     requires caller { IfSome (call_at board.old.state.calls call.0) (λ c. c.caller ≡ caller) }
     requires room { HasRoom board.old out.old 0 1 2 }

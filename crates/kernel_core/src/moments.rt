@@ -5,19 +5,17 @@ ghost use Rattle.call_slab.specs.declared.call.Place.TheVariants.{Incoming};
 ghost use Rattle.answerbox.specs.Calls.{call_at};
 ghost use Rattle.answerbox.specs.Places.{IsAt};
 ghost use Rattle.cleanup.specs.State.{is_alive};
-ghost use Rattle.cleanup.specs.Board.{IsAdded, IsHeldBy};
+ghost use Rattle.cleanup.specs.Board.{IsAdded, IsHeldBy, IsNewCall};
 ghost use Rattle.cleanup.specs.Joins.{on_call, answer_to};
 ghost use Rattle.cleanup.specs.Kept.{accepts};
-ghost use Rattle.cleanup.specs.Rooms.{HasRoom, KeepsRoom, UsesRoom};
+ghost use Rattle.cleanup.specs.Rooms.{HasRoom, KeepsCalls, UsesRoom};
 ghost use Rattle.cleanup.specs.Serving.{Does};
 ghost use Rattle.kernel_core.specs.Moments.{with_fifth, with_phone_named, number_of, reply_of, before_send as before_send_of, on_receive as on_receive_of, on_accept as on_accept_of};
 ghost use Rattle.kernel_core.specs.Handing.{IsSent, Arrives};
 
 use call_slab::Call;
 use cleanup::{Arrival, Switchboard, kept_note};
-use ipc_ids::{
-    CallNo, Code, Entry, Label, MethodKind, Msg, PhoneState, Reply, TaskNo, Trace,
-};
+use ipc_ids::{CallNo, Code, Entry, Label, MethodKind, Msg, PhoneState, Reply, TaskNo, Trace};
 
 /// The phone number that a CONNECT_TO_ME names where its receiver has no usable phone.
 const NO_PHONE: u64 = 64;
@@ -28,20 +26,18 @@ const NO_PHONE: u64 = 64;
 /// # Errors
 ///
 /// The code with which the call is answered at once; then nothing has changed.
-pub(crate) fn before_send(
-    board: &mut Switchboard,
-    call: &mut Call,
-) -> Result<Option<Entry>, Code>
+pub(crate) fn before_send(board: &mut Switchboard, call: &mut Call) -> Result<Option<Entry>, Code>
+    requires new_call { IsNewCall board.old.state call.old }
     requires added { IsAdded board.old.state call.old.from.task }
     requires few { call.old.from.task.0 ≤ 64 }
     ensures sent { IsSent board.old board.new call.old call.new result
         (before_send_of board.old.state call.old) }
-    ensures room { KeepsRoom board.old board.new 0 }
+    ensures keeps { KeepsCalls board.old board.new }
 {
     match MethodKind::of(call.request.method) {
         MethodKind::ConnectMeTo => match board.keep_to_send(call.from.task) {
             Ok(kept) => {
-                let number = 64 * kept.task.0 + u64::from(kept.phone.0);
+                let number = 64 * call.from.task.0 + u64::from(kept.phone.0);
                 call.msg = with_fifth(&call.msg, number);
                 call.reserved = Some(kept);
                 Ok(kept_note(Some(kept), PhoneState::Connecting))
@@ -63,7 +59,7 @@ pub(crate) fn on_receive(board: &mut Switchboard, number: CallNo, who: TaskNo) -
     requires added { IsAdded board.old.state who }
     ensures arrives { Arrives board.old board.new result who
         (call_at board.old.state.calls number.0) }
-    ensures room { KeepsRoom board.old board.new 0 }
+    ensures keeps { KeepsCalls board.old board.new }
 {
     let call = board.get(number).unwrap();
     let (kind, msg, reserved) = (MethodKind::of(call.request.method), call.msg, call.reserved);

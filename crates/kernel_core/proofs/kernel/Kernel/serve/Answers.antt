@@ -9,17 +9,20 @@ use Rattle.kernel_core.proofs.kernel.Kernel.serve.Goals as goal
 pub serve_request-requires-clause-few : goal.serve_request-requires-clause-few
 serve_request-requires-clause-few c = rw c.reserve.ensures.state (few_active c.self.inside.board.state c.self.invariant (rw (← c.self.view_is) at c.requires.few_events) c.next_number-next.ensures.few)
 
+pub serve_request-requires-clause-few_tasks : goal.serve_request-requires-clause-few_tasks
+serve_request-requires-clause-few_tasks c = rw c.reserve.ensures.state c.self.invariant.tasks
+
 pub invariant_of-self-in-Ok : goal.invariant_of-self-in-Ok
 invariant_of-self-in-Ok c =
     let alive = rw (← c.self.view_is) at c.requires.alive in
     let room = c.serve_request.ensures.room in
-    steady_served c.self.inside.board.state c.reserve.new.self.state c.serve_request.new.board.state c.count_event.new.self.state c.args.who c.args.request.now c.self.invariant alive c.reserve.ensures.state c.in-Ok.ensures.served.state c.count_event.ensures.state room.numbers room.stamps room.events
+    steady_served c.self.inside.board.state c.reserve.new.self.state c.serve_request.new.board.state c.count_event.new.self.state c.args.who c.args.request.now c.self.invariant alive c.reserve.ensures.state c.in-Ok.ensures.served.state c.count_event.ensures.state room.numbers room.stamps room.alive room.events
 
 pub returns-in-Ok-clause-sound : goal.returns-in-Ok-clause-sound
 returns-in-Ok-clause-sound c =
     let alive = rw (← c.self.view_is) at c.requires.alive in
     let room = c.serve_request.ensures.room in
-    (steady_served c.self.inside.board.state c.reserve.new.self.state c.serve_request.new.board.state c.count_event.new.self.state c.args.who c.args.request.now c.self.invariant alive c.reserve.ensures.state c.in-Ok.ensures.served.state c.count_event.ensures.state room.numbers room.stamps room.events).sound
+    (steady_served c.self.inside.board.state c.reserve.new.self.state c.serve_request.new.board.state c.count_event.new.self.state c.args.who c.args.request.now c.self.invariant alive c.reserve.ensures.state c.in-Ok.ensures.served.state c.count_event.ensures.state room.numbers room.stamps room.alive room.events).sound
 
 pub returns-in-Ok-clause-history : goal.returns-in-Ok-clause-history
 returns-in-Ok-clause-history c = λ h fits.

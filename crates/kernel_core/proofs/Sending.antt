@@ -1,0 +1,91 @@
+-- What is handed to a join before a call is sent, and as one is received.
+use Rattle.std.proofs.Common.{◌≡◌, ℕ, ◌+◌, ◌*◌, ◌≤◌, Bool, true, false, inl, inr, Option, None, Some, Result, Ok, Err, refl, ap, sym, subst, ◌∙◌, arith}
+use Rattle.std.specs.Prelude.{◌==◌, if◌then◌else◌, IsSome}
+use Rattle.ipc_ids.specs.Trace.{TraceState}
+use Rattle.ipc_ids.specs.declared.numbers.TaskNo.{TaskNo}
+use Rattle.ipc_ids.specs.declared.numbers.Label.{Label}
+use Rattle.ipc_ids.specs.declared.numbers.Code.{Code}
+use Rattle.ipc_ids.specs.declared.message.Outcome.{Outcome}
+use Rattle.ipc_ids.specs.declared.message.PhoneState.TheVariants.{Connecting}
+use Rattle.ipc_ids.specs.declared.entry.Entry.{Entry}
+use Rattle.ipc_ids.specs.declared.methods.MethodKind.TheVariants.{ConnectToMe, ConnectMeTo}
+use Rattle.ipc_ids.specs.Methods.{kind_of}
+use Rattle.call_slab.specs.declared.call.Call.{Call}
+use Rattle.cleanup.specs.State.{KernelState, BoardState, phone_at}
+use Rattle.cleanup.specs.Board.{IsNewCall}
+use Rattle.cleanup.specs.Kept.{IsLoose, first_usable_of, is_accepted, kept_note, kept_phone, or_refused, phone_of, with_kept}
+use Rattle.cleanup.specs.Joins.{acceptance}
+use Rattle.cleanup.specs.Rooms.{HasRoom, KeepsCalls, UsesRoom}
+use Rattle.cleanup.specs.Serving.{Handed, Serves}
+use Rattle.cleanup.proofs.Soundness.{phone_kept}
+use Rattle.kernel_core.specs.Calling.{sent_to}
+use Rattle.kernel_core.specs.Handing.{IsSent}
+use Rattle.kernel_core.specs.Moments.{before_send, with_fifth}
+
+-- room
+
+pub room_kept : {a b : BoardState} {out : TraceState} {m n l : ℕ} → KeepsCalls a b → HasRoom a out m n l → HasRoom b out m n l
+room_kept s r = record {
+  numbers = rw s.calls r.numbers;
+  stamps = rw s.calls r.stamps;
+  calls = omega (arith, r.calls, s.spare);
+  entries = r.entries;
+}
+
+pub uses_after : {a b c : BoardState} {x y : TraceState} {m n l : ℕ} → KeepsCalls a b → UsesRoom b c x y m n l → UsesRoom a c x y m n l
+uses_after s u = record {
+  numbers = rw s.calls at u.numbers;
+  stamps = rw s.calls at u.stamps;
+  live = rw s.calls at u.live;
+  calls = omega (arith, u.calls, s.spare);
+  entries = u.entries;
+  alive = u.alive ∙ s.alive;
+  places = u.places ∙ s.places;
+  events = u.events ∙ s.events;
+}
+
+-- before a call is sent
+
+pub found_phone : (o : Option Label) (l : Label) → Ok l ≡ or_refused o → o ≡ Some l
+found_phone None l e = absurd (cc e)
+found_phone (Some m) l e = cc
+
+pub no_phone : (o : Option Label) (code : Code) → Err code ≡ or_refused o → o ≡ None
+no_phone None code e = refl
+no_phone (Some m) code e = absurd (cc e)
+
+kept_loose : (k : KernelState) (l : Label) (t : TaskNo) (accepted : Bool) → IsLoose k (Some l) → IsLoose k (if accepted then None else phone_of t (Some l))
+kept_loose k l t true loose = tt
+kept_loose k l t false loose = by_test (l.task.0 == t.0) where
+  by_test : (b : Bool) → IsLoose k (if b then Some l else None)
+  by_test true = loose
+  by_test false = tt
+
+phone_stays : (k : KernelState) (l : Label) (t : TaskNo) (p : ℕ) → IsSome (phone_at k t p) → IsSome (phone_at (with_kept k (Some l) Connecting) t p)
+phone_stays k l t p there = phone_kept k.tasks.phones l.task.0 l.phone.0 t.0 p Connecting there
+
+-- a CONNECT_ME_TO with the phone that its caller keeps
+pub sent_keeping : (old new : BoardState) (c : Call) (note : Option Entry) (l : Label) → IsNewCall old.state c → first_usable_of old.state c.from.task ≡ Some l → kind_of c.request.method ≡ ConnectMeTo → new.state ≡ with_kept old.state (Some l) Connecting → IsLoose new.state (Some l) → note ≡ kept_note (Some l) Connecting
+    → IsSent old new c (record c { msg = with_fifth c.msg (64 * c.from.task.0 + l.phone.0); reserved = Some l }) (Ok note) (before_send old.state c)
+sent_keeping old new c note l s first kind state loose told = rw (kind, first) (record {
+  state = state;
+  call = refl;
+  note = told;
+  new_call = record {
+    number = rw state s.number;
+    caller = s.caller;
+    phone = rw state (phone_stays old.state l c.from.task c.from.phone.0 s.phone);
+    place = rw state s.place;
+    few = rw state s.few;
+    kept = rw kind (kept_loose new.state l c.from.task (is_accepted c.place c.reply.code) loose);
+  };
+})
+
+-- the call that is sent is a new one, and the join gets what was handed to it
+pub sent_new : (old new : BoardState) (c d : Call) (note : Option Entry) (r : Result Handed Code) → IsSent old new c d (Ok note) r → IsNewCall new.state d
+sent_new old new c d note (Ok h) s = s.new_call
+sent_new old new c d note (Err code) s = absurd s
+
+pub sent_served : (old new after : BoardState) (c d : Call) (note : Option Entry) (to : TaskNo) (told : Outcome) (out now : TraceState) (r : Result Handed Code) → IsSent old new c d (Ok note) r → Serves after told out now (acceptance (record { state = new.state; call = d; note = note }) (Some to)) → Serves after told out now (sent_to to old.state c r)
+sent_served old new after c d note to told out now (Ok h) s served = rw (s.state, s.call, s.note) at served
+sent_served old new after c d note to told out now (Err code) s served = absurd s

@@ -1,0 +1,16 @@
+use Rattle.kernel_core.specs.Moments.{before_send}
+use Rattle.kernel_core.proofs.Sending.{room_kept, sent_new, sent_served, uses_after}
+use Rattle.kernel_core.proofs.calling.send.Goals as goal
+
+pub accept-requires-clause-new_call : goal.accept-requires-clause-new_call
+accept-requires-clause-new_call c = sent_new c.args.board.now c.before_send.new.board c.args.call c.before_send.new.call c.in-Ok.note (before_send c.args.board.now.state c.args.call) c.in-Ok.ensures.sent
+
+pub accept-requires-clause-room : goal.accept-requires-clause-room
+accept-requires-clause-room c = room_kept c.before_send.ensures.keeps c.requires.room
+
+pub returns-in-Ok-clause-served : goal.returns-in-Ok-clause-served
+returns-in-Ok-clause-served c =
+    sent_served c.args.board.now c.before_send.new.board c.accept.new.self c.args.call c.before_send.new.call c.in-Ok.note c.args.to c.accept.result c.args.out.now c.accept.new.out (before_send c.args.board.now.state c.args.call) c.in-Ok.ensures.sent c.accept.ensures.served
+
+pub returns-in-Ok-clause-room : goal.returns-in-Ok-clause-room
+returns-in-Ok-clause-room c = uses_after c.before_send.ensures.keeps c.accept.ensures.room
