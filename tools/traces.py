@@ -36,7 +36,7 @@ EFFECTS = {
     "dropped": f"call (?P<call>{NUMBER}) dropped (?P<task>{TASK})",
     "vanished": f"call (?P<call>{NUMBER}) vanished",
     "forgotten": f"call (?P<call>{NUMBER}) forgotten",
-    "phone": f"phone (?P<over>{PHONE}) (?P<state>hungup|slammed)",
+    "phone": f"phone (?P<over>{PHONE}) (?P<state>free|connecting|connected (?P<to>{TASK})|hungup|slammed)",
 }
 OUTCOMES = {
     "refused or done": f"= (?P<code>{CODE})",

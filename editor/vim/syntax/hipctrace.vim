@@ -5,7 +5,7 @@ endif
 syntax case match
 syntax iskeyword @,48-57,_
 syntax match hipcOutcome /^  =\( call\| received\| answer\| EMPTY\)\?/
-syntax keyword hipcEffect accepted received forwarded answered delivered dropped
+syntax keyword hipcEffect accepted received forwarded answered delivered dropped connecting connected free
 syntax keyword hipcEnd vanished forgotten hungup slammed
 syntax keyword hipcWord method to back label by kernel from plain route phone
 syntax match hipcTask /\<t[0-9]\+\(\.[0-9]\+\)\?\>/
