@@ -23,6 +23,12 @@ fn with_fifth(method: u64, number: u64) -> Msg {
     }
 }
 
+/// A call that is accepted with this number.
+fn calling(who: TaskNo, phone: u64, msg: Msg, number: u64) -> (TaskNo, Request, Outcome) {
+    let asked = Request::Call { phone, msg };
+    (who, asked, Outcome::Accepted(CallNo(number)))
+}
+
 #[test]
 fn a_caller_gets_a_phone_to_the_task_that_answers(rt: HostRuntime) -> Result<(), Fail> {
     let mut kernel = Kernel::new(rt.alloc());
@@ -37,14 +43,7 @@ fn a_caller_gets_a_phone_to_the_task_that_answers(rt: HostRuntime) -> Result<(),
     };
     let reply = naming(1);
     let steps = [
-        (
-            one,
-            Request::Call {
-                phone: 0,
-                msg: sent,
-            },
-            Outcome::Accepted(call),
-        ),
+        calling(one, 0, sent, 1),
         (
             two,
             Request::Receive,
@@ -52,14 +51,7 @@ fn a_caller_gets_a_phone_to_the_task_that_answers(rt: HostRuntime) -> Result<(),
         ),
         (two, answer, Outcome::Done),
         (one, Request::Receive, Outcome::Answered { call, reply }),
-        (
-            one,
-            Request::Call {
-                phone: 1,
-                msg: ASKED,
-            },
-            Outcome::Accepted(CallNo(2)),
-        ),
+        calling(one, 1, ASKED, 2),
     ];
     let mut trace = Trace::new(rt.alloc());
     assert!(rt; are_told(&mut kernel, &steps, &mut trace)?);
@@ -81,11 +73,7 @@ fn a_receiver_gets_a_phone_to_the_caller(rt: HostRuntime) -> Result<(), Fail> {
     kernel.wire(one, PhoneNo(0), two);
     let (msg, reply) = (Msg::bare(CONNECT_TO_ME), GIVEN);
     let steps = [
-        (
-            one,
-            Request::Call { phone: 0, msg },
-            Outcome::Accepted(call),
-        ),
+        calling(one, 0, msg, 1),
         (
             two,
             Request::Receive,
@@ -93,14 +81,7 @@ fn a_receiver_gets_a_phone_to_the_caller(rt: HostRuntime) -> Result<(), Fail> {
         ),
         (two, Request::Answer { call: 1, reply }, Outcome::Done),
         (one, Request::Receive, Outcome::Answered { call, reply }),
-        (
-            two,
-            Request::Call {
-                phone: 0,
-                msg: ASKED,
-            },
-            Outcome::Accepted(CallNo(2)),
-        ),
+        calling(two, 0, ASKED, 2),
     ];
     let mut trace = Trace::new(rt.alloc());
     assert!(rt; are_told(&mut kernel, &steps, &mut trace)?);
