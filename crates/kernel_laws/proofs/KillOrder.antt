@@ -12,7 +12,7 @@ use Rattle.ipc_ids.specs.declared.entry.Entry.{Entry}
 use Rattle.ipc_ids.specs.Codes.{ehangup}
 use Rattle.call_slab.specs.declared.call.Call.{Call}
 use Rattle.call_slab.specs.declared.call.Place.{Place}
-use Rattle.call_slab.specs.declared.call.Place.TheVariants.{Incoming, Dispatched, Answers}
+use Rattle.call_slab.specs.declared.call.Place.TheVariants.{Incoming, Dispatched}
 use Rattle.answerbox.specs.Calls.{call_at, same_place}
 use Rattle.cleanup.specs.State.{KernelState, Transition, is_alive, phone_at}
 use Rattle.cleanup.specs.Sound.{IsSound}
