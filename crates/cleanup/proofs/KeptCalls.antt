@@ -113,14 +113,6 @@ unreserved_of User from place code = refl
 pub unreserved_loose : (k : KernelState) (c : Call) → c.reserved ≡ None → IsLoose k (kept_phone c)
 unreserved_loose k c none = rw (none, unreserved_of (kind_of c.request.method) c.from.task c.place c.reply.code) tt
 
--- a call that is accepted keeps no phone
-pub accepted_keeps : (kind : MethodKind) (from caller : TaskNo) (code : Code) (reserved : Option Label) → accepts code ≡ true → kept_of kind from (Answers caller) code reserved ≡ None
-accepted_keeps PhoneHungUp from caller code reserved accept = refl
-accepted_keeps ConnectToMe from caller code reserved accept = refl
-accepted_keeps ConnectMeTo from caller code reserved accept = rw accept refl
-accepted_keeps NotBuilt from caller code reserved accept = refl
-accepted_keeps User from caller code reserved accept = refl
-
 -- a phone that a call has let go is loose
 
 pub loose_after : (k : KernelState) (r : CallTable) (n : ℕ) (c : Call) (kept : Option Label) → AreKept k.tasks.phones k.calls → call_at k.calls n ≡ Some c → (kept ≡ None) ⊎ ((kept ≡ kept_phone c) × (kept_by r n ≡ None)) → ((m : ℕ) → (n ≡ m → ⊥) → kept_by r m ≡ kept_by k.calls m) → IsLoose (with_calls k r) kept

@@ -313,11 +313,6 @@ within_start = record {
 
 -- one task more, with free phones
 
-all_free : (n p : ℕ) (s : PhoneState) → slice_get (replicate n Free) p ≡ Some s → s ≡ Free
-all_free zero p s h = absurd (cc h)
-all_free (suc n) zero s h = cc
-all_free (suc n) (suc p) s h = all_free n p s h
-
 idle_before : (rows : List (List PhoneState)) (limit t p : ℕ) → IsIdle (state_at (rows ++ replicate limit Free ∷ []) t p) → IsIdle (state_at rows t p)
 idle_before rows limit t p idle = by_state (state_at rows t p) refl where
   by_state : (o : Option PhoneState) → state_at rows t p ≡ o → IsIdle o

@@ -143,9 +143,6 @@ pub value_of : {A : Type 0} (o : Option A) → IsSome o → (x : A) × (o ≡ So
 value_of None h = absurd (cc h)
 value_of (Some x) h = (x, refl)
 
-is_some : {A : Type 0} (o : Option A) (x : A) → o ≡ Some x → IsSome o
-is_some o x e = rw e refl
-
 -- the row that a task has after a change of one row
 pub row_after : {A : Type 0} (rows : List A) (a t : ℕ) (old new row : A) → row_at rows a ≡ Some old → row_at rows t ≡ Some row → ((t ≡ a) × (row_at (set rows (a - 1) new) t ≡ Some new)) ⊎ ((t ≡ a → ⊥) × (row_at (set rows (a - 1) new) t ≡ Some row))
 row_after rows a t old new row is has = elim (cases_eq t 0) [

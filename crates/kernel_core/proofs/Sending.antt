@@ -50,10 +50,6 @@ pub found_phone : (o : Option Label) (l : Label) → Ok l ≡ or_refused o → o
 found_phone None l e = absurd (cc e)
 found_phone (Some m) l e = cc
 
-pub no_phone : (o : Option Label) (code : Code) → Err code ≡ or_refused o → o ≡ None
-no_phone None code e = refl
-no_phone (Some m) code e = absurd (cc e)
-
 kept_loose : (k : KernelState) (l : Label) (t : TaskNo) (accepted : Bool) → IsLoose k (Some l) → IsLoose k (if accepted then None else phone_of t (Some l))
 kept_loose k l t true loose = tt
 kept_loose k l t false loose = by_test (l.task.0 == t.0) where

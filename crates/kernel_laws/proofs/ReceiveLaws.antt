@@ -25,7 +25,7 @@ use Rattle.cleanup.specs.State.{KernelState, Transition, nothing, then_do, drain
 use Rattle.cleanup.specs.Sound.{IsSound}
 use Rattle.cleanup.specs.Kept.{kept_phone, kept_note, first_usable_of}
 use Rattle.cleanup.specs.Joins.{drop_answer}
-use Rattle.cleanup.specs.Serving.{Handed, Served, as_it_is}
+use Rattle.cleanup.specs.Serving.{Handed, as_it_is}
 use Rattle.cleanup.proofs.Lookups.{at_remove, chosen, same_call, put_other, gone_here, gone_other}
 use Rattle.cleanup.proofs.Histories.{told_after, none_after, both_after, drain_tells}
 use Rattle.cleanup.proofs.Queues.{sound_drop}
@@ -224,9 +224,6 @@ module _ (k : KernelState) (t : TaskNo) (sound : IsSound k) where
   one_call x c a b le ge =
       let number = sound.calls.stamps_differ x.number.0 c.number.0 x c a b (omega arith) in
       same_call x c (sym a ∙ ap (call_at k.calls) number ∙ b)
-
-  abbrev Done : Option Call → Option Call → Served
-  Done answer incoming = receive_first rest t answer incoming
 
   first_answer : (c : Call) → IsFirst k.calls (IsAwaited t) c → front rest.calls (Answers t) ≡ Some c
   first_answer c f = by_front (front rest.calls (Answers t)) refl where
