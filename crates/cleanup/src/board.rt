@@ -2,7 +2,7 @@
 ghost use Rattle.std.specs.Prelude.{◌≡◌, ℕ, ◌+◌, ◌-◌, ◌^◌, ◌<◌, ◌≤◌, true, Some, None, IsSome, IfSome, IfNone, IfOk, OnOk, OnErr, length};
 ghost use Rattle.std.specs.Option.{option_copied};
 ghost use Rattle.answerbox.specs.Places.{IsAt};
-ghost use Rattle.answerbox.specs.Calls.{call_at, task_of, enqueue, without_call, received, without_caller, active_calls, front, calls_of};
+ghost use Rattle.answerbox.specs.Calls.{call_at, task_of, enqueue, without_call, received, without_caller, active_calls, front, calls_of, calls_at, calls_by};
 ghost use Rattle.phone_table.specs.Phones.{hangup_answer};
 ghost use Rattle.cleanup.specs.State.{state_from, start, is_alive, phone_at, live_calls, with_calls, with_phone, with_task, with_event};
 ghost use Rattle.call_slab.specs.declared.call.Place.TheVariants.{Dispatched, Answers};
@@ -216,6 +216,20 @@ impl Switchboard {
         ensures there { IfSome result (λ n. IsAt self.now.state.calls n.0 place) }
     {
         self.boxes.front(place)
+    }
+
+    /// How many live calls stand at this place.
+    pub fn calls_at(&self, place: Place) -> usize
+        ensures { result ≡ calls_at self.now.state.calls place }
+    {
+        self.boxes.calls_at(place)
+    }
+
+    /// How many live calls that caller made.
+    pub(crate) fn calls_by(&self, caller: TaskNo) -> usize
+        ensures { result ≡ calls_by self.now.state.calls caller }
+    {
+        self.boxes.calls_by(caller)
     }
 
     /// The least number of a live call of that caller.

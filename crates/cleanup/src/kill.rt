@@ -1,6 +1,7 @@
 //! The end of a task, part by part.
 ghost use Rattle.std.specs.Prelude.{◌≡◌, ◌+◌, ◌*◌, ◌^◌, ◌<◌, ◌≤◌, IfOk, OnOk, OnErr, length};
-ghost use Rattle.answerbox.specs.Calls.{task_of};
+ghost use Rattle.answerbox.specs.Calls.{task_of, calls_at, calls_by};
+ghost use Rattle.call_slab.specs.declared.call.Place.TheVariants.{Answers};
 ghost use Rattle.cleanup.specs.State.{live_calls};
 ghost use Rattle.cleanup.specs.Kill.{kill, end_parts, hang_up_own_phones, slam_phones_to, slam_other, slam_phones_of, settle_calls_at, drop_answers, forget_calls_elsewhere};
 ghost use Rattle.cleanup.specs.Board.{IsAdded, IsPendingAt, FewFrom};
@@ -132,13 +133,13 @@ impl Switchboard {
     fn settle_calls_at(&mut self, place: Place, out: &mut Trace)
         requires added { task_of place ≤ length self.old.state.tasks.alive }
         requires pending { IsPendingAt place }
-        requires room { HasRoom self.old out.old 0 (live_calls self.old.state)
-            (2 * live_calls self.old.state) }
+        requires room { HasRoom self.old out.old 0 (calls_at self.old.state.calls place)
+            (2 * calls_at self.old.state.calls place) }
         ensures step { Does self.new out.old out.new (settle_calls_at place self.old.state) }
-        ensures room { UsesRoom self.old self.new out.old out.new 0 (live_calls self.old.state)
-            (2 * live_calls self.old.state) }
+        ensures room { UsesRoom self.old self.new out.old out.new 0
+            (calls_at self.old.state.calls place) (2 * calls_at self.old.state.calls place) }
     {
-        for _ in 0..self.live() {
+        for _ in 0..self.calls_at(place) {
             match self.front(place) {
                 Some(number) => self.settle(number, &Reply::bare(Code::EHANGUP), None, out),
                 None => return,
@@ -149,12 +150,13 @@ impl Switchboard {
     /// Drops each answer at the task.
     fn drop_answers(&mut self, who: TaskNo, out: &mut Trace)
         requires added { IsAdded self.old.state who }
-        requires room { HasRoom self.old out.old 0 0 (2 * live_calls self.old.state) }
+        requires room { HasRoom self.old out.old 0 0
+            (2 * calls_at self.old.state.calls (Answers who)) }
         ensures step { Does self.new out.old out.new (drop_answers who self.old.state) }
         ensures room { UsesRoom self.old self.new out.old out.new 0 0
-            (2 * live_calls self.old.state) }
+            (2 * calls_at self.old.state.calls (Answers who)) }
     {
-        for _ in 0..self.live() {
+        for _ in 0..self.calls_at(Place::Answers(who)) {
             match self.front(Place::Answers(who)) {
                 Some(number) => self.drop_answer(number, who, out),
                 None => return,
@@ -165,11 +167,12 @@ impl Switchboard {
     /// Forgets the task as the caller of each of its calls that stands at another task.
     fn forget_calls_elsewhere(&mut self, who: TaskNo, out: &mut Trace)
         requires added { IsAdded self.old.state who }
-        requires room { HasRoom self.old out.old 0 0 (live_calls self.old.state) }
+        requires room { HasRoom self.old out.old 0 0 (calls_by self.old.state.calls who) }
         ensures step { Does self.new out.old out.new (forget_calls_elsewhere who self.old.state) }
-        ensures room { UsesRoom self.old self.new out.old out.new 0 0 (live_calls self.old.state) }
+        ensures room { UsesRoom self.old self.new out.old out.new 0 0
+            (calls_by self.old.state.calls who) }
     {
-        for _ in 0..self.live() {
+        for _ in 0..self.calls_by(who) {
             match self.calls_of(who) {
                 Some(number) => self.forget(number, out),
                 None => return,
