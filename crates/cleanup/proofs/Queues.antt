@@ -118,7 +118,7 @@ alone_freed marks t k kept q h sound = record { silent = record { ending = recor
   unled (Some l) a p v is = elim (state_changed_at k.tasks.phones l.task.0 l.phone.0 a p Free (Connected v) is) [ inl e ↦ absurd (cc e.2) | inr old ↦ h.unled a p v old.1 ]
 
 -- the record of a call that the kernel has answered, and of one whose caller has ended
-abbrev answered : KernelState → Call → TaskNo → Call
+abbrev pub answered : KernelState → Call → TaskNo → Call
 answered k c u = record (declined_call c (bare_reply ehangup)) { place = Answers u; stamp = k.calls.next_stamp }
 
 abbrev forgotten : Call → Call

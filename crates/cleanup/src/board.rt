@@ -8,14 +8,16 @@ ghost use Rattle.cleanup.specs.State.{state_from, start, is_alive, phone_at, liv
 ghost use Rattle.call_slab.specs.declared.call.Place.TheVariants.{Dispatched, Answers};
 ghost use Rattle.cleanup.specs.Joins.{new_call, code_of};
 ghost use Rattle.cleanup.specs.Kept.{IsLoose, MayReserve, accepts, kept_phone, lent_phone, with_kept, first_usable_of, or_refused};
-ghost use Rattle.cleanup.specs.Counts.{HasCounts};
+ghost use Rattle.cleanup.specs.Counts.{HasCounts, AreNumbered};
 ghost use Rattle.cleanup.specs.Board.{IsPending, IsCallOf, IsLimit, IsSwitched, IsAdded, IsHeldBy, IsNewCall, HasPlaces, LeadsToAdded, TellsAdded, with_hung, with_declined, with_passed, with_reply};
 ghost use Rattle.phone_table.specs.Usable.{IsConnected};
 ghost use Rattle.cleanup.specs.Kill.{width, mark_ended};
+ghost use Rattle.cleanup.specs.KillRoom.{kill_calls as kill_calls_of, kill_entries as kill_entries_of};
 ghost use Rattle.cleanup.specs.Rooms.{KeepsCalls, KeepsRoom};
 
 use crate::counts::{count_out, count_up};
 use crate::kept::{kept_phone, lent_phone, unless_freed};
+use crate::kill_room::{kill_calls, kill_entries};
 use crate::phones::{
     connect_to_answerer, connect_to_caller, hang_phone, keep_to_receive, keep_to_send,
     release_kept, slam_phone, width,
@@ -187,6 +189,7 @@ impl Switchboard {
         ensures number { result.0 ≡ self.now.state.calls.next_number }
         ensures free { call_at self.now.state.calls self.now.state.calls.next_number ≡ None }
         ensures few { live_calls self.now.state < self.now.state.calls.next_number }
+        ensures numbered { AreNumbered self.now.state.calls }
     {
         self.boxes.next_number()
     }
@@ -220,7 +223,8 @@ impl Switchboard {
 
     /// How many live calls stand at this place.
     pub fn calls_at(&self, place: Place) -> usize
-        ensures { result ≡ calls_at self.now.state.calls place }
+        ensures calls { result ≡ calls_at self.now.state.calls place }
+        ensures few { result ≤ live_calls self.now.state }
     {
         self.boxes.calls_at(place)
     }
@@ -230,6 +234,25 @@ impl Switchboard {
         ensures { result ≡ calls_by self.now.state.calls caller }
     {
         self.boxes.calls_by(caller)
+    }
+
+    /// How many calls the end of the task makes at most.
+    pub(crate) fn kill_calls(&self, who: TaskNo) -> usize
+        requires added { IsAdded self.now.state who }
+        ensures calls { result ≡ kill_calls_of self.now.state who }
+        ensures few { result ≤ 64 }
+    {
+        kill_calls(who, &self.phones)
+    }
+
+    /// How many entries the end of the task makes at most; `NoMemory` where no memory has room for
+    /// so many.
+    pub(crate) fn kill_entries(&self, who: TaskNo) -> Result<usize, NoMemory>
+        requires added { IsAdded self.now.state who }
+        requires few_calls { live_calls self.now.state < 2 ^ 61 }
+        ensures { IfOk result (λ n. n ≡ kill_entries_of self.now.state who) }
+    {
+        kill_entries(who, &self.phones, &self.boxes)
     }
 
     /// The least number of a live call of that caller.
