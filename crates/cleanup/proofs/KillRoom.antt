@@ -1,5 +1,5 @@
 -- The room of a kill: what a part adds to, and what a later part finds.
-use Rattle.std.proofs.Common.{◌≡◌, ℕ, zero, suc, ◌+◌, ◌*◌, ◌-◌, ◌<◌, ◌≤◌, Bool, true, false, cond, ◌⊎◌, inl, inr, Option, None, Some, List, length, refl, ap, sym, subst, ◌∙◌, arith, set}
+use Rattle.std.proofs.Common.{◌≡◌, ℕ, zero, suc, ◌+◌, ◌*◌, ◌-◌, ◌<◌, ◌≤◌, Bool, true, false, cond, inl, inr, Option, None, Some, List, length, refl, ap, sym, subst, ◌∙◌, arith, set}
 use Rattle.std.specs.Prelude.{◌==◌, if◌then◌else◌}
 use Rattle.std.specs.Option.{option_map_or}
 use Rattle.std.proofs.lemmas.Option.{slice_get_past}
@@ -14,17 +14,17 @@ use Rattle.ipc_ids.specs.Codes.{ehangup}
 use Rattle.call_slab.specs.declared.call.Call.{Call}
 use Rattle.call_slab.specs.declared.call.Place.{Place}
 use Rattle.call_slab.specs.declared.call.Place.TheVariants.{Incoming, Dispatched, Answers}
-use Rattle.answerbox.specs.Calls.{CallTable, call_at, front, same_place, is_caller, enqueue, put_at, without_call, count_of, calls_at, calls_by}
-use Rattle.answerbox.proofs.Counts.{count-insert, count-replace, count-without_call}
+use Rattle.answerbox.specs.Calls.{call_at, front, same_place, is_caller, enqueue, put_at, without_call, count_of, calls_at, calls_by}
+use Rattle.answerbox.proofs.Counts.{count-len, count-insert, count-replace, count-without_call}
 use Rattle.answerbox.proofs.Fronts.{front_live}
 use Rattle.phone_table.specs.Phones.{row_at, state_at}
-use Rattle.cleanup.specs.State.{KernelState, Transition, alive_in, is_alive, phone_at, with_state_at, with_phone, with_calls, each}
+use Rattle.cleanup.specs.State.{KernelState, Transition, alive_in, is_alive, phone_at, with_state_at, with_calls, live_calls, each}
 use Rattle.cleanup.specs.Counts.{AreNumbered}
 use Rattle.cleanup.specs.Joins.{bare_reply, hangup_call, hang_up, declined_call, settle_for, lives, drop_answer}
 use Rattle.cleanup.specs.Kept.{kept_phone, with_kept}
-use Rattle.cleanup.specs.Kill.{width, task_no, hang_up_at, hang_up_own_phones, slam, slam_at, slam_phones_of, slam_other, slam_phones_to, first_at, settle_call, settle_calls_at, drop_answers}
+use Rattle.cleanup.specs.Kill.{width, task_no, hang_up_at, hang_up_own_phones, slam, slam_at, slam_other, slam_phones_to, first_at, settle_call, settle_calls_at, drop_answers}
 use Rattle.cleanup.specs.Rooms.{calls_of_hangup, entries_of_hangup}
-use Rattle.cleanup.specs.KillRoom.{total, leads_to, own_calls, leading_of, leading_at, leading}
+use Rattle.cleanup.specs.KillRoom.{total, leads_to, own_calls, leading_at, leading, kill_calls, kill_moves}
 use Rattle.cleanup.proofs.Endings.{length_rows}
 use Rattle.cleanup.proofs.Lookups.{at_insert, row_at_set}
 use Rattle.cleanup.proofs.Keeping.{each_with, each_without}
@@ -374,3 +374,10 @@ module _ (t : TaskNo) (k k1 k2 : KernelState) (is1 : k1 ≡ (hang_up_own_phones 
 -- as many phones of other tasks lead to t after the hangups
 pub same_slams : (t : TaskNo) (k j : KernelState) → j ≡ (hang_up_own_phones t k).state → leading t j.tasks.phones ≡ leading t k.tasks.phones
 same_slams t k j is = ap (λ (i : KernelState). leading t i.tasks.phones) is ∙ same_leading t k (hang_up_own_phones t k).state (hangups_keep_others t k)
+
+-- a kill puts a call at a place at most twice for each call that is live, and for each hangup
+pub few_moves : (k : KernelState) (t : TaskNo) → kill_moves k t ≤ 2 * kill_calls k t + 2 * live_calls k
+few_moves k t =
+    let waiting = count-len (λ c. same_place c.place (Incoming t)) k.calls.records in
+    let held = count-len (λ c. same_place c.place (Dispatched t)) k.calls.records in
+    omega (arith, waiting, held)

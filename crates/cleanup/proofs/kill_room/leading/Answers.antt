@@ -1,4 +1,4 @@
-use Rattle.std.proofs.Common.{◌∙◌, arith}
+use Rattle.std.proofs.Common.{arith}
 use Rattle.cleanup.specs.KillRoom.{leading_at}
 use Rattle.cleanup.proofs.KillRoom.{total_next}
 use Rattle.cleanup.proofs.kill_room.leading.Goals as goal

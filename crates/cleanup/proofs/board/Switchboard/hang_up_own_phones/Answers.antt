@@ -1,4 +1,4 @@
-use Rattle.std.proofs.Common.{ℕ, ap, sym, ◌∙◌, arith}
+use Rattle.std.proofs.Common.{ap, ◌∙◌, arith}
 use Rattle.phone_table.specs.Phones.{state_at}
 use Rattle.cleanup.specs.Kill.{hang_up_at}
 use Rattle.cleanup.specs.State.{KernelState, phone_at}
