@@ -38,5 +38,5 @@ most_entries k t (Call p msg) = 2
 most_entries k t Receive = 2 * calls_at k.calls (Answers t) + 2
 most_entries k t (Answer n reply) = 2
 most_entries k t (Forward n p mode change) = 2
-most_entries k t (Hangup p) = 3
+most_entries k t (Hangup p) = 2
 most_entries k t Nothing = 0

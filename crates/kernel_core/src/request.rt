@@ -26,7 +26,7 @@ pub(crate) fn room_of(board: &Switchboard, who: TaskNo, request: &Request) -> (u
         Request::Receive => (0, 2 * board.calls_at(Place::Answers(who)) + 2),
         Request::Answer { .. } => (0, 2),
         Request::Forward { .. } => (0, 2),
-        Request::Hangup { .. } => (1, 3),
+        Request::Hangup { .. } => (1, 2),
         Request::Nothing => (0, 0),
     }
 }
