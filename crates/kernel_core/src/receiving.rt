@@ -17,7 +17,8 @@ use ipc_ids::{CallNo, Outcome, TaskNo, Trace};
 /// else its first call.
 pub(crate) fn receive(board: &mut Switchboard, who: TaskNo, out: &mut Trace) -> Outcome
     requires added { IsAdded board.old.state who }
-    requires room { HasRoom board.old out.old 0 1 (2 * calls_at board.old.state.calls (Answers who) + 2) }
+    requires room { HasRoom board.old out.old 0 1
+        (2 * calls_at board.old.state.calls (Answers who) + 2) }
     ensures served { Serves board.new result out.old out.new (receive_of board.old.state who) }
     ensures room { UsesRoom board.old board.new out.old out.new 0 1
         (2 * calls_at board.old.state.calls (Answers who) + 2) }
@@ -43,7 +44,8 @@ fn next_unawaited(board: &Switchboard, who: TaskNo) -> Option<CallNo>
 /// Drops the answers at the front that nobody waits for.
 fn drop_unawaited(board: &mut Switchboard, who: TaskNo, out: &mut Trace)
     requires added { IsAdded board.old.state who }
-    requires room { HasRoom board.old out.old 0 0 (2 * calls_at board.old.state.calls (Answers who)) }
+    requires room { HasRoom board.old out.old 0 0
+        (2 * calls_at board.old.state.calls (Answers who)) }
     ensures step { Does board.new out.old out.new (drop_unawaited_of who board.old.state) }
     ensures room { UsesRoom board.old board.new out.old out.new 0 0
         (2 * calls_at board.old.state.calls (Answers who)) }

@@ -2,17 +2,20 @@
 use Rattle.std.proofs.Common.{◌≡◌, ℕ, ◌+◌, Bool, true, false, ◌⊎◌, inl, inr, Option, None, Some, List, [], ◌∷◌, ◌++◌, append_assoc, length, refl, ap, sym, subst, ◌∙◌}
 use Rattle.std.specs.Prelude.{◌==◌}
 use Rattle.std.proofs.lemmas.Bool.{cases_eq, eq-eqb, false≢true}
+use Rattle.std.specs.Option.{option_to_list}
 use Rattle.ipc_ids.specs.declared.numbers.TaskNo.{TaskNo}
+use Rattle.ipc_ids.specs.declared.numbers.Label.{Label}
 use Rattle.ipc_ids.specs.declared.message.PhoneState.{PhoneState}
 use Rattle.ipc_ids.specs.declared.message.PhoneState.TheVariants.{Free, Connecting, Connected, HungUp, Slammed}
 use Rattle.ipc_ids.specs.declared.entry.Entry.{Entry}
 use Rattle.ipc_ids.specs.Codes.{ehangup}
 use Rattle.call_slab.specs.declared.call.Call.{Call}
 use Rattle.call_slab.specs.declared.call.Place.{Place}
-use Rattle.call_slab.specs.declared.call.Place.TheVariants.{Incoming, Dispatched, Answers}
+use Rattle.call_slab.specs.declared.call.Place.TheVariants.{Incoming, Dispatched}
 use Rattle.answerbox.specs.Calls.{call_at, calls_at, same_place}
 use Rattle.cleanup.specs.State.{KernelState, Transition, is_alive, phone_at}
 use Rattle.cleanup.specs.Sound.{IsSound}
+use Rattle.cleanup.specs.Kept.{kept_phone, lent_phone, kept_note}
 use Rattle.cleanup.specs.Joins.{bare_reply, settle_for, lives, hang_up}
 use Rattle.cleanup.specs.Kill.{task_no, width, mark_ended, hang_up_at, hang_up_own_phones, slam, slam_at, slam_phones_of, slam_other, slam_phones_to, first_at, settle_call, settle_incoming, settle_dispatched, drop_answers, forget_calls_elsewhere, kill}
 use Rattle.kernel_laws.specs.KillLaws.{Ends, HasEnd, EndsBefore, EndsWaitingFirst}
@@ -22,7 +25,7 @@ use Rattle.cleanup.proofs.Histories.{told_after, none_after, both_after, each_te
 use Rattle.cleanup.proofs.Silence.{IsEnding, IsAlone, own_phones_hung_up, phones_slammed}
 use Rattle.cleanup.proofs.Queues.{IsLive, stands_at, front_at, incoming_alone, incoming_settled}
 use Rattle.cleanup.proofs.Killing.{after_hangups, after_slams, after_incoming, after_dispatched, after_answers}
-use Rattle.kernel_laws.proofs.KilledCalls.{after_phones}
+use Rattle.kernel_laws.proofs.KilledCalls.{answered_call, after_phones}
 
 -- ends in a list that goes on
 
@@ -102,6 +105,11 @@ module _ (n : ℕ) where
       (λ q j i g. other_ends_none t q j i g)
       (length k.tasks.phones) 0 p k h
 
+-- the entry of a phone that a call kept ends no call
+note_ends_none : (n : ℕ) (kept : Option Label) (s : PhoneState) → HasNoEnd n (option_to_list (kept_note kept s))
+note_ends_none n None s h = h
+note_ends_none n (Some l) s h = elim h [ inl x ↦ x | inr x ↦ x ]
+
 -- the kernel ends one call, and leaves each other one
 
 ends_itself : (j : KernelState) (d : Call) (o : Option TaskNo) (b : Bool) → HasEnd d.number.0 (settle_for j d (bare_reply ehangup) None o b).entries
@@ -110,14 +118,14 @@ ends_itself j d (Some u) false = inl refl
 ends_itself j d (Some u) true = inl refl
 
 ends_no_other : (n : ℕ) (j : KernelState) (d : Call) (o : Option TaskNo) (b : Bool) → (d.number.0 ≡ n → ⊥) → HasNoEnd n (settle_for j d (bare_reply ehangup) None o b).entries
-ends_no_other n j d None b ne h = elim h [ inl x ↦ ne x | inr x ↦ x ]
-ends_no_other n j d (Some u) false ne h = elim h [ inl x ↦ ne x | inr x ↦ x ]
-ends_no_other n j d (Some u) true ne h = elim h [ inl x ↦ ne x | inr x ↦ x ]
+ends_no_other n j d None b ne h = elim h [ inl x ↦ ne x | inr x ↦ note_ends_none n (kept_phone d) Free x ]
+ends_no_other n j d (Some u) false ne h = elim h [ inl x ↦ ne x | inr x ↦ note_ends_none n (kept_phone d) Free x ]
+ends_no_other n j d (Some u) true ne h = elim h [ inl x ↦ ne x | inr x ↦ note_ends_none n (lent_phone d) Free x ]
 
 leaves_other : (n : ℕ) (j : KernelState) (d : Call) (o : Option TaskNo) (b : Bool) → (d.number.0 ≡ n → ⊥) → call_at (settle_for j d (bare_reply ehangup) None o b).state.calls n ≡ call_at j.calls n
 leaves_other n j d None b ne = gone_other j.calls d.number.0 n ne
 leaves_other n j d (Some u) false ne = gone_other j.calls d.number.0 n ne
-leaves_other n j d (Some u) true ne = put_other j.calls d.number.0 n (record d { reply = bare_reply ehangup; place = Answers u; stamp = j.calls.next_stamp }) ne
+leaves_other n j d (Some u) true ne = put_other j.calls d.number.0 n (answered_call d u j.calls.next_stamp) ne
 
 module _
     (k : KernelState) (t : TaskNo) (sound : IsSound k) (alive : is_alive k t ≡ true)

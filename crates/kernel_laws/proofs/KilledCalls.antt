@@ -12,7 +12,7 @@ use Rattle.call_slab.specs.declared.call.Place.TheVariants.{Incoming, Dispatched
 use Rattle.answerbox.specs.Calls.{CallTable, call_at, calls_at, calls_by, same_place, is_caller, with_record}
 use Rattle.cleanup.specs.State.{Tasks, KernelState, Transition, alive_in, is_alive, phone_at, with_calls}
 use Rattle.cleanup.specs.Sound.{IsPlaced, IsCaller, IsSound}
-use Rattle.cleanup.specs.Joins.{bare_reply, settle_for, lives, drop_answer, forget_call, hangup_call, hang_up}
+use Rattle.cleanup.specs.Joins.{bare_reply, declined_call, settle_for, lives, drop_answer, forget_call, hangup_call, hang_up}
 use Rattle.cleanup.specs.Kill.{width, mark_ended, hang_up_at, slam, first_at, first_call_of, settle_call, kill}
 use Rattle.cleanup.proofs.Lookups.{same_call, put_here, put_other, gone_here, gone_other}
 use Rattle.cleanup.proofs.Repeats.{by_test, each_keeps, drain_keeps}
@@ -24,6 +24,10 @@ use Rattle.cleanup.proofs.Killing.{KeepsTheRest, HasNothingOf, kill_leaves_nothi
 abbrev pub IsWith : TaskNo → Call → Type 0
 IsWith t c = (same_place c.place (Incoming t) ≡ true) ⊎ (same_place c.place (Dispatched t) ≡ true)
 
+-- the record of a call that the kernel has answered
+abbrev pub answered_call : Call → TaskNo → ℕ → Call
+answered_call c u stamp = record (declined_call c (bare_reply ehangup)) { place = Answers u; stamp = stamp }
+
 -- the kernel has answered a call that waited at t or that t held
 pub record IsAnswered (t : TaskNo) (c : Call) (now : Option Call) : Type 0 where
   pub with_task : IsWith t c
@@ -31,7 +35,7 @@ pub record IsAnswered (t : TaskNo) (c : Call) (now : Option Call) : Type 0 where
   pub is : c.caller ≡ Some caller
   pub other : caller.0 ≡ t.0 → ⊥
   pub stamp : ℕ
-  pub answer : now ≡ Some (record c { reply = bare_reply ehangup; place = Answers caller; stamp = stamp })
+  pub answer : now ≡ Some (answered_call c caller stamp)
 
 -- a call at t is over, since nobody else waits for its answer
 pub record IsOver (t : TaskNo) (c : Call) (now : Option Call) : Type 0 where
@@ -93,7 +97,7 @@ module _ (k : KernelState) (t : TaskNo) (sound : IsSound k) (alive : is_alive k 
   settle_other : (j : KernelState) (d : Call) (o : Option TaskNo) (b : Bool) → (d.number.0 ≡ n → ⊥) → Comes j → Comes (settle_for j d (bare_reply ehangup) None o b).state
   settle_other j d None b ne h = subst (Becomes t c) (sym (gone_other j.calls d.number.0 n ne)) h
   settle_other j d (Some u) false ne h = subst (Becomes t c) (sym (gone_other j.calls d.number.0 n ne)) h
-  settle_other j d (Some u) true ne h = subst (Becomes t c) (sym (put_other j.calls d.number.0 n (record d { reply = bare_reply ehangup; place = Answers u; stamp = j.calls.next_stamp }) ne)) h
+  settle_other j d (Some u) true ne h = subst (Becomes t c) (sym (put_other j.calls d.number.0 n (answered_call d u j.calls.next_stamp) ne)) h
 
   settle_it : (j : KernelState) → KeepsTheRest now_dead j → c.number.0 ≡ n → IsWith t c → (o : Option TaskNo) (b : Bool) → c.caller ≡ o → lives j o ≡ b → Comes (settle_for j c (bare_reply ehangup) None o b).state
   settle_it j s e w None b from l = inr (inr (inl (record { at_task = inl w; alone = λ u f. absurd (none_some u (sym from ∙ f)); over = gone_here j.calls c.number.0 n e })))
@@ -108,7 +112,7 @@ module _ (k : KernelState) (t : TaskNo) (sound : IsSound k) (alive : is_alive k 
     is = from;
     other = caller_other j s u l;
     stamp = j.calls.next_stamp;
-    answer = put_here j.calls c.number.0 n (record c { reply = bare_reply ehangup; place = Answers u; stamp = j.calls.next_stamp }) e;
+    answer = put_here j.calls c.number.0 n (answered_call c u j.calls.next_stamp) e;
   }))
 
   settle_comes : (j : KernelState) (d : Call) → KeepsTheRest now_dead j → IsLive j d → IsWith t d → Comes j → Comes (settle_call j d).state
@@ -117,7 +121,7 @@ module _ (k : KernelState) (t : TaskNo) (sound : IsSound k) (alive : is_alive k 
     here e there (inl was) =
         let same : d ≡ c = same_call d c (sym there ∙ was) in
         subst (λ (x : Call). Comes (settle_call j x).state) (sym same) (settle_it j s (ap (λ (x : Call). x.number.0) (sym same) ∙ e) (subst (IsWith t) same w) c.caller (lives j c.caller) refl refl)
-    here e there (inr (inl a)) = absurd (not_with t a.caller (subst (IsWith t) (same_call d (record c { reply = bare_reply ehangup; place = Answers a.caller; stamp = a.stamp }) (sym there ∙ a.answer)) w))
+    here e there (inr (inl a)) = absurd (not_with t a.caller (subst (IsWith t) (same_call d (answered_call c a.caller a.stamp) (sym there ∙ a.answer)) w))
     here e there (inr (inr (inl o))) = absurd (none_some d (sym o.over ∙ there))
     here e there (inr (inr (inr o))) =
         let same : d ≡ orphan c = same_call d (orphan c) (sym there ∙ o.orphan) in
@@ -134,7 +138,7 @@ module _ (k : KernelState) (t : TaskNo) (sound : IsSound k) (alive : is_alive k 
         let at_task : stands_at (Answers t) c ≡ true = subst (λ (x : Call). stands_at (Answers t) x ≡ true) same w in
         inr (inr (inl (record { at_task = inr at_task; alone = at_answers t k.tasks c.caller c.place (sound.calls.each n c is).place at_task; over = gone_here j.calls d.number.0 n e })))
     here e there (inr (inl a)) =
-        let same : d ≡ record c { reply = bare_reply ehangup; place = Answers a.caller; stamp = a.stamp } = same_call d (record c { reply = bare_reply ehangup; place = Answers a.caller; stamp = a.stamp }) (sym there ∙ a.answer) in
+        let same : d ≡ answered_call c a.caller a.stamp = same_call d (answered_call c a.caller a.stamp) (sym there ∙ a.answer) in
         let at_task : (a.caller.0 == t.0) ≡ true = subst (λ (x : Call). stands_at (Answers t) x ≡ true) same w in
         absurd (a.other (eqb-true a.caller.0 t.0 at_task))
     here e there (inr (inr (inl o))) = absurd (none_some d (sym o.over ∙ there))
@@ -151,7 +155,7 @@ module _ (k : KernelState) (t : TaskNo) (sound : IsSound k) (alive : is_alive k 
         let same : d ≡ c = same_call d c (sym there ∙ was) in
         inr (inr (inr (record { made = subst (λ (x : Call). is_call_of t x ≡ true) same made; orphan = put_here j.calls d.number.0 n (orphan d) e ∙ ap (λ (x : Call). Some (orphan x)) same })))
     here e there (inr (inl a)) =
-        let same : d ≡ record c { reply = bare_reply ehangup; place = Answers a.caller; stamp = a.stamp } = same_call d (record c { reply = bare_reply ehangup; place = Answers a.caller; stamp = a.stamp }) (sym there ∙ a.answer) in
+        let same : d ≡ answered_call c a.caller a.stamp = same_call d (answered_call c a.caller a.stamp) (sym there ∙ a.answer) in
         absurd (a.other (its_caller t a.caller c.caller (subst (λ (x : Call). is_call_of t x ≡ true) same made) a.is))
     here e there (inr (inr (inl o))) = absurd (none_some d (sym o.over ∙ there))
     here e there (inr (inr (inr o))) =
@@ -254,11 +258,11 @@ module _ (k : KernelState) (t : TaskNo) (sound : IsSound k) (alive : is_alive k 
   not_there (inr w) d e p = false≢true (sym (nothing_left.answers n d e) ∙ ap (λ (x : Place). same_place x (Answers t)) p ∙ w)
 
   -- a call of another task that waited at t, or that t held, is answered by the kernel
-  pub kill_answers : (u : TaskNo) → IsWith t c → c.caller ≡ Some u → (u.0 ≡ t.0 → ⊥) → (stamp : ℕ) × (call_at (kill k t).state.calls n ≡ Some (record c { reply = bare_reply ehangup; place = Answers u; stamp = stamp }))
+  pub kill_answers : (u : TaskNo) → IsWith t c → c.caller ≡ Some u → (u.0 ≡ t.0 → ⊥) → (stamp : ℕ) × (call_at (kill k t).state.calls n ≡ Some (answered_call c u stamp))
   kill_answers u w from ne = by_fate kill_becomes where
-    by_fate : Becomes t c (call_at (kill k t).state.calls n) → (stamp : ℕ) × (call_at (kill k t).state.calls n ≡ Some (record c { reply = bare_reply ehangup; place = Answers u; stamp = stamp }))
+    by_fate : Becomes t c (call_at (kill k t).state.calls n) → (stamp : ℕ) × (call_at (kill k t).state.calls n ≡ Some (answered_call c u stamp))
     by_fate (inl e) = absurd (not_there (inl w) c e refl)
-    by_fate (inr (inl a)) = (a.stamp, a.answer ∙ ap (λ (v : TaskNo). Some (record c { reply = bare_reply ehangup; place = Answers v; stamp = a.stamp })) (same_caller a.caller u (sym a.is ∙ from)))
+    by_fate (inr (inl a)) = (a.stamp, a.answer ∙ ap (λ (v : TaskNo). Some (answered_call c v a.stamp)) (same_caller a.caller u (sym a.is ∙ from)))
     by_fate (inr (inr (inl o))) = absurd (ne (o.alone u from))
     by_fate (inr (inr (inr o))) = absurd (ne (its_caller t u c.caller o.made from))
 

@@ -1,28 +1,36 @@
 -- A receive keeps its laws.
-use Rattle.std.proofs.Common.{◌≡◌, ℕ, zero, suc, ◌<◌, ◌≤◌, Bool, true, false, ◌⊎◌, inl, inr, Option, None, Some, List, [], ◌∷◌, ◌++◌, refl, ap, sym, subst, ◌∙◌, arith}
+use Rattle.std.proofs.Common.{◌≡◌, ℕ, zero, suc, ◌<◌, ◌≤◌, Bool, true, false, ◌⊎◌, inl, inr, Option, None, Some, List, [], ◌∷◌, ◌++◌, refl, ap, sym, subst, ◌∙◌, arith, nat_lt}
 use Rattle.std.specs.Prelude.{if◌then◌else◌}
-use Rattle.std.specs.Option.{option_map_or}
+use Rattle.std.specs.Option.{option_map_or, option_to_list}
+use Rattle.std.proofs.lemmas.Bool.Decides.{nat_tests}
 use Rattle.std.proofs.lemmas.Bool.{cases_eq, eqb-true, eq-eqb, ne_eqb, false≢true}
 use Rattle.std.specs.FinMap.{entries}
 use Rattle.ipc_ids.specs.declared.numbers.TaskNo.{TaskNo}
+use Rattle.ipc_ids.specs.declared.numbers.CallNo.{CallNo}
+use Rattle.ipc_ids.specs.declared.numbers.Label.{Label}
+use Rattle.ipc_ids.specs.declared.methods.MethodKind.{MethodKind}
+use Rattle.ipc_ids.specs.declared.methods.MethodKind.TheVariants.{PhoneHungUp, ConnectToMe, ConnectMeTo, NotBuilt, User}
+use Rattle.ipc_ids.specs.declared.message.PhoneState.{PhoneState}
+use Rattle.ipc_ids.specs.declared.message.PhoneState.TheVariants.{Free, Connecting}
 use Rattle.ipc_ids.specs.declared.message.Outcome.TheVariants as outcome
 use Rattle.ipc_ids.specs.declared.entry.Entry.{Entry}
-use Rattle.ipc_ids.specs.declared.entry.Entry.TheVariants.{Dropped}
-use Rattle.ipc_ids.specs.Methods.{phone_hungup}
+use Rattle.ipc_ids.specs.Methods.{phone_hungup, first_user_method, kind_of}
 use Rattle.call_slab.specs.declared.call.Call.{Call}
 use Rattle.call_slab.specs.declared.call.Place.{Place}
 use Rattle.call_slab.specs.declared.call.Place.TheVariants.{Incoming, Dispatched, Answers}
-use Rattle.answerbox.specs.Calls.{CallTable, call_at, calls_at, same_place, front, without_call, count_of}
+use Rattle.answerbox.specs.Calls.{CallTable, call_at, calls_at, same_place, front, put_at, without_call, count_of}
 use Rattle.answerbox.proofs.Counts.{count-without_call}
 use Rattle.answerbox.proofs.Fronts.{front_live, front-is_front, no_front-has_no_calls}
 use Rattle.cleanup.specs.State.{KernelState, Transition, nothing, then_do, drain}
 use Rattle.cleanup.specs.Sound.{IsSound}
-use Rattle.cleanup.specs.Joins.{drop_answer, receive_first}
-use Rattle.cleanup.specs.Serving.{Served}
-use Rattle.cleanup.proofs.Lookups.{at_insert, at_remove, chosen, same_call, gone_here, gone_other}
+use Rattle.cleanup.specs.Kept.{kept_phone, kept_note, first_usable_of}
+use Rattle.cleanup.specs.Joins.{drop_answer}
+use Rattle.cleanup.specs.Serving.{Handed, Served, as_it_is}
+use Rattle.cleanup.proofs.Lookups.{at_remove, chosen, same_call, put_other, gone_here, gone_other}
 use Rattle.cleanup.proofs.Histories.{told_after, none_after, both_after, drain_tells}
 use Rattle.cleanup.proofs.Queues.{sound_drop}
-use Rattle.kernel_core.specs.Receiving.{unawaited, next_unawaited, drop_unawaited, receive}
+use Rattle.kernel_core.specs.Moments.{on_receive_of, on_receive, reply_of, on_delivery}
+use Rattle.kernel_core.specs.Receiving.{unawaited, next_unawaited, drop_unawaited, receive_first, receive}
 use Rattle.kernel_laws.specs.ReceiveLaws.{IsAwaited, IsHangupAnswer, IsFirst, HasNone, TellsAnswer, TellsCall, DropsHangupsOnly, IsLawfulReceive}
 
 -- the steps of a repetition come to an end: where each takes one call out of those that pass a test, and there are no
@@ -43,6 +51,45 @@ module _ (next : KernelState → Option Call) (step : KernelState → Call → T
 drops_both : (t : TaskNo) (k : KernelState) (xs ys : List Entry) → DropsHangupsOnly t k xs → DropsHangupsOnly t k ys → DropsHangupsOnly t k (xs ++ ys)
 drops_both t k [] ys f g = g
 drops_both t k (x ∷ xs) ys f g = (f.0, drops_both t k xs ys f.1 g)
+
+-- the entry of a phone that a call keeps drops no call
+note_drops_none : (t : TaskNo) (k : KernelState) (kept : Option Label) (s : PhoneState) → DropsHangupsOnly t k (option_to_list (kept_note kept s))
+note_drops_none t k None s = tt
+note_drops_none t k (Some l) s = (tt, tt)
+
+-- how a call is told
+
+-- each user's method is of one kind
+user_kind : (method : ℕ) → first_user_method ≤ method → kind_of method ≡ User
+user_kind method user = rw (ne_eqb method 0 (λ e. omega arith), ne_eqb method 1 (λ e. omega arith), ne_eqb method 2 (λ e. omega arith), not_below) refl where
+  not_below : nat_lt method first_user_method ≡ false
+  not_below = grind (arith, nat_tests)
+
+-- what is handed to a join is of this call: a record of it, over the calls as they were, and an entry that drops none
+record IsOfCall (k : KernelState) (c : Call) (h : Handed) : Type 0 where
+  pub calls : h.state.calls ≡ k.calls
+  pub number : h.call.number ≡ c.number
+  pub label : h.call.label ≡ c.label
+  pub note : (t : TaskNo) (j : KernelState) → DropsHangupsOnly t j (option_to_list h.note)
+
+as_it_was : (k : KernelState) (c : Call) → IsOfCall k c (as_it_is k c)
+as_it_was k c = record { calls = refl; number = refl; label = refl; note = λ t j. tt }
+
+received_call : (k : KernelState) (c : Call) (t : TaskNo) → IsOfCall k c (on_receive k c t)
+received_call k c t = by_kind (kind_of c.request.method) where
+  by_kind : (kind : MethodKind) → IsOfCall k c (on_receive_of kind k c t)
+  by_kind PhoneHungUp = as_it_was k c
+  by_kind ConnectToMe = record { calls = refl; number = refl; label = refl; note = λ u j. note_drops_none u j (first_usable_of k t) Connecting }
+  by_kind ConnectMeTo = as_it_was k c
+  by_kind NotBuilt = as_it_was k c
+  by_kind User = as_it_was k c
+
+-- of a user's call the message and the reply stay as they are
+received_message : (k : KernelState) (c : Call) (t : TaskNo) → first_user_method ≤ c.request.method → (on_receive k c t).call.msg ≡ c.msg
+received_message k c t user = ap (λ (kind : MethodKind). (on_receive_of kind k c t).call.msg) (user_kind c.request.method user)
+
+delivered_reply : (k : KernelState) (c : Call) → first_user_method ≤ c.request.method → (on_delivery k c).call.reply ≡ c.reply
+delivered_reply k c user = ap (λ (kind : MethodKind). reply_of kind c) (user_kind c.request.method user)
 
 -- places and tests
 
@@ -119,7 +166,7 @@ module _ (k : KernelState) (t : TaskNo) (sound : IsSound k) where
     fine = sound_drop j t x h.fine it.live;
     left = λ n c there. elim (chosen x.number.0 n None (call_at j.calls n) (Some c) (sym (at_remove j.calls.records x.number.0 n) ∙ there)) [ inl e ↦ absurd (cc e.1) | inr e ↦ h.left n c e.1 ];
     kept = λ n c there. elim (h.kept n c there) [ inl live ↦ stays n c there live (cases_eq x.number.0 n) | inr gone ↦ inr (none_stays j.calls x.number.0 n gone.0, gone.1) ];
-    drops = drops_both t k p (Dropped x.number t ∷ []) h.drops ((refl, x, whole, hangup), tt);
+    drops = drops_both t k p (drop_answer t j x).entries h.drops ((refl, x, whole, hangup), note_drops_none t k (kept_phone x) Free);
   } where
     it : IsNext j x
     it = next_is j x h.fine is
@@ -234,24 +281,28 @@ module _ (k : KernelState) (t : TaskNo) (sound : IsSound k) where
   none_comes n (Some x) i is none = none_stays rest.calls x.number.0 n none
   none_comes n None (Some x) is none = elim (cases_eq x.number.0 n) [
     | inl e ↦ let a = front_call x is in absurd (none_some (call_at rest.calls n) x none (ap (call_at rest.calls) (sym e) ∙ incoming_left x.number.0 x a.0 a.1))
-    | inr ne ↦ at_insert rest.calls.records x.number.0 n (record x { place = Dispatched t; stamp = rest.calls.next_stamp }) ∙ rw (ne_eqb x.number.0 n ne) none
-  ]
+    | inr ne ↦ put_elsewhere (on_receive rest x t) (received_call rest x t) ne ∙ none
+  ] where
+    put_elsewhere : (h : Handed) → IsOfCall rest x h → (x.number.0 ≡ n → ⊥) → call_at (put_at h.state.calls h.call (Dispatched t)) n ≡ call_at rest.calls n
+    put_elsewhere h of ne =
+        put_other h.state.calls h.call.number.0 n (record h.call { place = Dispatched t; stamp = h.state.calls.next_stamp }) (λ e. ne (sym (ap (λ (i : CallNo). i.0) of.number) ∙ e))
+        ∙ ap (λ (q : CallTable). call_at q n) of.calls
   none_comes n None None is none = none
 
-  -- the last entry drops nothing
+  -- the last entries drop nothing
   last_entry : (a i : Option Call) → DropsHangupsOnly t k (receive_first rest t a i).entries
-  last_entry (Some x) i = (tt, tt)
-  last_entry None (Some x) = (tt, tt)
+  last_entry (Some x) i = (tt, note_drops_none t k (kept_phone x) Free)
+  last_entry None (Some x) = (tt, (received_call rest x t).note t k)
   last_entry None None = tt
 
   tells_answer : (c : Call) (a i : Option Call) → a ≡ Some c → TellsAnswer c (receive_first rest t a i).outcome
   tells_answer c None i is = absurd (cc is)
-  tells_answer c (Some x) i is = subst (λ (y : Call). TellsAnswer y (outcome.Answered x.number x.reply)) (same_call x c is) (refl, λ _. refl)
+  tells_answer c (Some x) i is = subst (λ (y : Call). TellsAnswer y (receive_first rest t (Some x) i).outcome) (same_call x c is) (refl, delivered_reply rest x)
 
   tells_call : (c : Call) (a i : Option Call) → a ≡ None → i ≡ Some c → TellsCall c (receive_first rest t a i).outcome
   tells_call c (Some x) i none is = absurd (cc none)
   tells_call c None None none is = absurd (cc is)
-  tells_call c None (Some x) none is = subst (λ (y : Call). TellsCall y (outcome.Received x.number x.msg x.label)) (same_call x c is) (refl, refl, λ _. refl)
+  tells_call c None (Some x) none is = let of = received_call rest x t in subst (λ (y : Call). TellsCall y (receive_first rest t None (Some x)).outcome) (same_call x c is) (of.number, of.label, received_message rest x t)
 
   is_empty : (a i : Option Call) → (receive_first rest t a i).outcome ≡ outcome.Empty → (a ≡ None) × (i ≡ None)
   is_empty (Some x) i e = absurd (cc e)

@@ -1,9 +1,9 @@
 //! Calls that connect two tasks.
-use super::{ASKED, GIVEN, are_same, are_told, first_phone};
+use super::{ASKED, GIVEN, are_told, first_phone};
 use crate::Kernel;
 use ipc_ids::methods::{CONNECT_ME_TO, CONNECT_TO_ME};
 use ipc_ids::{
-    CallNo, Code, Entry, Label, Msg, Outcome, PhoneNo, PhoneState, Reply, Request, TaskNo, Trace,
+    CallNo, Code, Entry, Msg, Outcome, PhoneNo, PhoneState, Reply, Request, TaskNo, Trace,
 };
 use std::test::Fail;
 
@@ -23,6 +23,12 @@ fn with_fifth(method: u64, number: u64) -> Msg {
     }
 }
 
+/// A call that is accepted with this number.
+fn calling(who: TaskNo, phone: u64, msg: Msg, number: u64) -> (TaskNo, Request, Outcome) {
+    let asked = Request::Call { phone, msg };
+    (who, asked, Outcome::Accepted(CallNo(number)))
+}
+
 #[test]
 fn a_caller_gets_a_phone_to_the_task_that_answers(rt: HostRuntime) -> Result<(), Fail> {
     let mut kernel = Kernel::new(rt.alloc());
@@ -37,14 +43,7 @@ fn a_caller_gets_a_phone_to_the_task_that_answers(rt: HostRuntime) -> Result<(),
     };
     let reply = naming(1);
     let steps = [
-        (
-            one,
-            Request::Call {
-                phone: 0,
-                msg: sent,
-            },
-            Outcome::Accepted(call),
-        ),
+        calling(one, 0, sent, 1),
         (
             two,
             Request::Receive,
@@ -52,23 +51,19 @@ fn a_caller_gets_a_phone_to_the_task_that_answers(rt: HostRuntime) -> Result<(),
         ),
         (two, answer, Outcome::Done),
         (one, Request::Receive, Outcome::Answered { call, reply }),
-        (
-            one,
-            Request::Call {
-                phone: 1,
-                msg: ASKED,
-            },
-            Outcome::Accepted(CallNo(2)),
-        ),
+        calling(one, 1, ASKED, 2),
     ];
     let mut trace = Trace::new(rt.alloc());
     assert!(rt; are_told(&mut kernel, &steps, &mut trace)?);
-    let phone = Label {
-        task: one,
-        phone: PhoneNo(1),
-    };
-    let state = PhoneState::Connecting;
-    assert!(rt; are_same(&trace.entries()[1..2], &[Entry::PhoneIs { phone, state }]));
+    assert!(rt;
+        matches!(
+            trace.entries().get(1),
+            Some(Entry::PhoneIs {
+                state: PhoneState::Connecting,
+                ..
+            })
+        )
+    );
     Ok(())
 }
 
@@ -81,11 +76,7 @@ fn a_receiver_gets_a_phone_to_the_caller(rt: HostRuntime) -> Result<(), Fail> {
     kernel.wire(one, PhoneNo(0), two);
     let (msg, reply) = (Msg::bare(CONNECT_TO_ME), GIVEN);
     let steps = [
-        (
-            one,
-            Request::Call { phone: 0, msg },
-            Outcome::Accepted(call),
-        ),
+        calling(one, 0, msg, 1),
         (
             two,
             Request::Receive,
@@ -93,14 +84,7 @@ fn a_receiver_gets_a_phone_to_the_caller(rt: HostRuntime) -> Result<(), Fail> {
         ),
         (two, Request::Answer { call: 1, reply }, Outcome::Done),
         (one, Request::Receive, Outcome::Answered { call, reply }),
-        (
-            two,
-            Request::Call {
-                phone: 0,
-                msg: ASKED,
-            },
-            Outcome::Accepted(CallNo(2)),
-        ),
+        calling(two, 0, ASKED, 2),
     ];
     let mut trace = Trace::new(rt.alloc());
     assert!(rt; are_told(&mut kernel, &steps, &mut trace)?);
