@@ -23,8 +23,8 @@ use Rattle.cleanup.specs.Counts.{AreNumbered}
 use Rattle.cleanup.specs.Joins.{bare_reply, hangup_call, hang_up, declined_call, settle_for, lives, drop_answer}
 use Rattle.cleanup.specs.Kept.{kept_phone, with_kept}
 use Rattle.cleanup.specs.Kill.{width, task_no, hang_up_at, hang_up_own_phones, slam, slam_at, slam_other, slam_phones_to, first_at, settle_call, settle_calls_at, drop_answers}
-use Rattle.cleanup.specs.Rooms.{calls_of_hangup, entries_of_hangup}
-use Rattle.cleanup.specs.KillRoom.{total, leads_to, own_calls, leading_at, leading, kill_calls, kill_moves}
+use Rattle.cleanup.specs.Rooms.{calls_of_hangup}
+use Rattle.cleanup.specs.KillRoom.{total, own_calls, leading_at, leading, kill_calls, kill_moves}
 use Rattle.cleanup.proofs.Endings.{length_rows}
 use Rattle.cleanup.proofs.Lookups.{at_insert, row_at_set}
 use Rattle.cleanup.proofs.Keeping.{each_with, each_without}
@@ -36,15 +36,15 @@ use Rattle.cleanup.proofs.KilledPhones.{written_elsewhere}
 -- sums
 
 -- one number more
-next_from : (f : ℕ → ℕ) (n i : ℕ) → total f (suc n) i ≡ total f n i + f (i + n)
-next_from f zero i = let e : f i ≡ f (i + 0) = ap f (omega arith) in omega (arith, e)
-next_from f (suc n) i =
-    let h = next_from f n (i + 1) in
+total_more : (f : ℕ → ℕ) (n i : ℕ) → total f (suc n) i ≡ total f n i + f (i + n)
+total_more f zero i = let e : f i ≡ f (i + 0) = ap f (omega arith) in omega (arith, e)
+total_more f (suc n) i =
+    let h = total_more f n (i + 1) in
     let e : f (i + 1 + n) ≡ f (i + suc n) = ap f (omega arith) in
     omega (arith, h, e)
 
 pub total_next : (f : ℕ → ℕ) (n : ℕ) → total f (n + 1) 0 ≡ total f n 0 + f n
-total_next f n = let one : n + 1 ≡ suc n = omega arith in let none : f (0 + n) ≡ f n = ap f (omega arith) in ap (λ m. total f m 0) one ∙ next_from f n 0 ∙ ap (λ x. total f n 0 + x) none
+total_next f n = let one : n + 1 ≡ suc n = omega arith in let none : f (0 + n) ≡ f n = ap f (omega arith) in ap (λ m. total f m 0) one ∙ total_more f n 0 ∙ ap (λ x. total f n 0 + x) none
 
 -- more numbers make no less
 pub total_less : (f : ℕ → ℕ) (n m : ℕ) → n ≤ m → total f n 0 ≤ total f m 0
@@ -53,7 +53,7 @@ total_less f (suc n) zero le = absurd (omega (arith, le))
 total_less f n (suc m) le = elim (cases_lt n (suc m)) [
   | inl l ↦
       let h = total_less f n m (omega (arith, l)) in
-      let one : total f (suc m) 0 ≡ total f m 0 + f (0 + m) = next_from f m 0 in
+      let one : total f (suc m) 0 ≡ total f m 0 + f (0 + m) = total_more f m 0 in
       omega (arith, h, one)
   | inr g ↦ let same : n ≡ suc m = omega (arith, le, g) in subst (λ x. total f x 0 ≤ total f (suc m) 0) (sym same) (omega arith)
 ]
@@ -66,41 +66,9 @@ pub total_same : (f g : ℕ → ℕ) (n i : ℕ) → ((q : ℕ) → i ≤ q → 
 total_same f g zero i same = refl
 total_same f g (suc n) i same = let here = same i (omega arith) in let rest = total_same f g n (i + 1) (λ q le. same q (omega (arith, le))) in omega (arith, here, rest)
 
-pub total_most : (f : ℕ → ℕ) (n i : ℕ) → ((q : ℕ) → f q ≤ 1) → total f n i ≤ n
-total_most f zero i few = omega arith
-total_most f (suc n) i few = let here = few i in let rest = total_most f n (i + 1) few in omega (arith, here, rest)
-
-pub total_twice : (f : ℕ → ℕ) (n i : ℕ) → ((q : ℕ) → f q ≤ 2) → total f n i ≤ 2 * n
-total_twice f zero i few = omega arith
-total_twice f (suc n) i few = let here = few i in let rest = total_twice f n (i + 1) few in omega (arith, here, rest)
-
-pub few_calls : (o : Option PhoneState) → calls_of_hangup o ≤ 1
-few_calls None = omega arith
-few_calls (Some Free) = omega arith
-few_calls (Some Connecting) = omega arith
-few_calls (Some (Connected u)) = omega arith
-few_calls (Some HungUp) = omega arith
-few_calls (Some Slammed) = omega arith
-
-pub few_entries : (o : Option PhoneState) → entries_of_hangup o ≤ 2
-few_entries None = omega arith
-few_entries (Some Free) = omega arith
-few_entries (Some Connecting) = omega arith
-few_entries (Some (Connected u)) = omega arith
-few_entries (Some HungUp) = omega arith
-few_entries (Some Slammed) = omega arith
-
 one_or_none : (b : Bool) → (if b then 1 else 0) ≤ 1
 one_or_none true = omega arith
 one_or_none false = omega arith
-
-pub few_leads : (t : TaskNo) (o : Option PhoneState) → leads_to t o ≤ 1
-few_leads t None = omega arith
-few_leads t (Some Free) = omega arith
-few_leads t (Some Connecting) = omega arith
-few_leads t (Some (Connected u)) = one_or_none (u.0 == t.0)
-few_leads t (Some HungUp) = omega arith
-few_leads t (Some Slammed) = omega arith
 
 -- the phones that a step leaves as they were
 

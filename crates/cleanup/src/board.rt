@@ -194,13 +194,6 @@ impl Switchboard {
         self.boxes.next_number()
     }
 
-    /// How many calls are live.
-    pub fn live(&self) -> usize
-        ensures { result ≡ live_calls self.now.state }
-    {
-        self.boxes.live()
-    }
-
     /// The live call with this number.
     pub fn get(&self, call: CallNo) -> Option<&Call>
         ensures call { option_copied result ≡ call_at self.now.state.calls call.0 }
