@@ -3,7 +3,7 @@ ghost use Rattle.std.specs.Prelude.{◌≡◌, ◌+◌, Option, Some, None, IfSo
 ghost use Rattle.std.specs.Option.{option_copied};
 ghost use Rattle.std.specs.Ordering.{nat_cmp};
 ghost use Rattle.std.specs.FinMap.{find};
-ghost use Rattle.answerbox.specs.Calls.{first_at, first_from};
+ghost use Rattle.answerbox.specs.Calls.{first_at, first_from, count_of, same_place, is_caller};
 ghost use Rattle.answerbox.specs.Kept.{keyed, StandsAt};
 
 use call_slab::{Call, Place};
@@ -47,4 +47,30 @@ pub fn first_after(calls: &[Call], caller: TaskNo, after: CallNo) -> Option<&Cal
         }
     }
     None
+}
+
+/// How many of the calls stand at this place.
+pub fn count_at(calls: &[Call], place: Place) -> usize
+    ensures { result ≡ count_of (λ c. same_place c.place place) (keyed calls.now) }
+{
+    let mut count = 0;
+    for call in calls {
+        if call.place == place {
+            count += 1;
+        }
+    }
+    count
+}
+
+/// How many of the calls that caller made.
+pub fn count_by(calls: &[Call], caller: TaskNo) -> usize
+    ensures { result ≡ count_of (λ c. is_caller caller c.caller) (keyed calls.now) }
+{
+    let mut count = 0;
+    for call in calls {
+        if call.caller.is_some_and(|t| t.0 == caller.0) {
+            count += 1;
+        }
+    }
+    count
 }

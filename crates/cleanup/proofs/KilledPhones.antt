@@ -10,8 +10,9 @@ use Rattle.ipc_ids.specs.declared.message.PhoneState.TheVariants.{Free, Connecti
 use Rattle.ipc_ids.specs.Codes.{ehangup}
 use Rattle.call_slab.specs.declared.call.Call.{Call}
 use Rattle.call_slab.specs.declared.call.Place.TheVariants.{Incoming, Dispatched, Answers}
+use Rattle.answerbox.specs.Calls.{calls_at, calls_by}
 use Rattle.phone_table.specs.Phones.{state_at}
-use Rattle.cleanup.specs.State.{KernelState, Transition, live_calls, is_alive, phone_at, with_state_at, with_phone}
+use Rattle.cleanup.specs.State.{KernelState, Transition, is_alive, phone_at, with_state_at, with_phone}
 use Rattle.cleanup.specs.Sound.{IsQuiet, IsSound}
 use Rattle.cleanup.specs.Kept.{AreKept, WaitsIn, kept_phone, lent_phone, kept_rows}
 use Rattle.cleanup.specs.Joins.{bare_reply, settle_for, lives, drop_answer, forget_call, hang_up}
@@ -202,19 +203,19 @@ module _ (k : KernelState) (t : TaskNo) (sound : IsSound k) (alive : is_alive k 
       let s2 : IsAlone marks t (after_slams t k) = phones_slammed marks t (after_hangups t k) s1 in
       let h3 : And (IsAlone marks t) I (after_incoming t k) = drain_keeps (first_at (Incoming t)) settle_call (And (IsAlone marks t) I)
       (λ j c s is. let e = s.fact.silent.ending in record { fact = incoming_alone marks t j c s.fact is; kept = settled j c e (front_at marks j (Incoming t) c e is).0 s.kept })
-      (live_calls (after_slams t k)) (after_slams t k) (record { fact = s2; kept = h2 }) in
+      (calls_at (after_slams t k).calls (Incoming t)) (after_slams t k) (record { fact = s2; kept = h2 }) in
       let s3 : IsUncalled marks t (after_incoming t k) = incoming_settled marks t (after_slams t k) s2 in
       let h4 : And (IsUncalled marks t) I (after_dispatched t k) = drain_keeps (first_at (Dispatched t)) settle_call (And (IsUncalled marks t) I)
       (λ j c s is. let e = s.fact.alone.silent.ending in record { fact = dispatched_uncalled marks t j c s.fact is; kept = settled j c e (front_at marks j (Dispatched t) c e is).0 s.kept })
-      (live_calls (after_incoming t k)) (after_incoming t k) (record { fact = s3; kept = h3.kept }) in
+      (calls_at (after_incoming t k).calls (Dispatched t)) (after_incoming t k) (record { fact = s3; kept = h3.kept }) in
       let s4 : IsIdle marks t (after_dispatched t k) = dispatched_settled marks t (after_incoming t k) s3 in
       let h5 : And (IsIdle marks t) I (after_answers t k) = drain_keeps (first_at (Answers t)) (drop_answer t) (And (IsIdle marks t) I)
       (λ j c s is. let e = s.fact.uncalled.alone.silent.ending in record { fact = drop_idle marks t j c s.fact is; kept = dropped j c e (front_at marks j (Answers t) c e is).0 s.kept })
-      (live_calls (after_dispatched t k)) (after_dispatched t k) (record { fact = s4; kept = h4.kept }) in
+      (calls_at (after_dispatched t k).calls (Answers t)) (after_dispatched t k) (record { fact = s4; kept = h4.kept }) in
       let s5 : IsUnanswered marks t (after_answers t k) = answers_dropped marks t (after_dispatched t k) s4 in
       let h6 : And (IsUnanswered marks t) I (kill k t).state = drain_keeps (first_call_of t) forget_call (And (IsUnanswered marks t) I)
       (λ j c s is. record { fact = forget_unanswered marks t j c s.fact is; kept = forgot j c (call_from marks t j c s.fact.idle.uncalled.alone.silent.ending is).0 s.kept })
-      (live_calls (after_answers t k)) (after_answers t k) (record { fact = s5; kept = h5.kept }) in
+      (calls_by (after_answers t k).calls t) (after_answers t k) (record { fact = s5; kept = h5.kept }) in
       h6.kept
 
 -- a phone is as it was, or waited for a connection and is free

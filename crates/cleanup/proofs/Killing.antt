@@ -3,7 +3,6 @@ use Rattle.std.proofs.Common.{◌≡◌, ℕ, zero, suc, ◌-◌, Bool, true, fa
 use Rattle.std.proofs.Math.ListN.{length-set}
 use Rattle.std.specs.Prelude.{◌==◌, if◌then◌else◌, slice_get, unwrap_or}
 use Rattle.std.proofs.lemmas.Bool.{cases_eq, eq-eqb, ne_eqb, false≢true}
-use Rattle.std.specs.FinMap.{len}
 use Rattle.ipc_ids.specs.declared.numbers.TaskNo.{TaskNo}
 use Rattle.ipc_ids.specs.declared.numbers.Label.{Label}
 use Rattle.ipc_ids.specs.declared.message.Reply.{Reply}
@@ -12,7 +11,7 @@ use Rattle.ipc_ids.specs.declared.message.PhoneState.TheVariants.{Free, Connecti
 use Rattle.call_slab.specs.declared.call.Call.{Call}
 use Rattle.call_slab.specs.declared.call.Place.{Place}
 use Rattle.call_slab.specs.declared.call.Place.TheVariants.{Incoming, Dispatched, Answers}
-use Rattle.answerbox.specs.Calls.{call_at, same_place, is_caller}
+use Rattle.answerbox.specs.Calls.{call_at, calls_at, calls_by, same_place, is_caller}
 use Rattle.phone_table.specs.Phones.{state_at}
 use Rattle.cleanup.specs.State.{KernelState, Transition, alive_in, is_alive, phone_at}
 use Rattle.cleanup.specs.Sound.{IsPlaced, IsCaller, IsQuiet, IsSound}
@@ -102,7 +101,7 @@ settle_steady k j c reply (Some u) false h = record { alive = h.alive; memory = 
 settle_steady k j c reply (Some u) true h = record { alive = h.alive; memory = h.memory; events = h.events }
 
 settles_steady : (place : Place) (k j : KernelState) → KeepsTheRest k j → KeepsTheRest k (settle_calls_at place j).state
-settles_steady place k j h = drain_keeps (first_at place) settle_call (KeepsTheRest k) (λ i c s is. settle_steady k i c (bare_reply Rattle.ipc_ids.specs.Codes.ehangup) c.caller (lives i c.caller) s) (len j.calls.records) j h
+settles_steady place k j h = drain_keeps (first_at place) settle_call (KeepsTheRest k) (λ i c s is. settle_steady k i c (bare_reply Rattle.ipc_ids.specs.Codes.ehangup) c.caller (lives i c.caller) s) (calls_at j.calls place) j h
 
 pub kill_steady : (k : KernelState) (t : TaskNo) → KeepsTheRest (mark_ended k t) (kill k t).state
 kill_steady k t =
@@ -111,8 +110,8 @@ kill_steady k t =
     let h2 : KeepsTheRest k0 (after_slams t k) = slams_keep t (KeepsTheRest k0) (λ u p j s. slam_steady k0 t u j p (phone_at j u p) s) (after_hangups t k) h1 in
     let h3 : KeepsTheRest k0 (after_incoming t k) = settles_steady (Incoming t) k0 (after_slams t k) h2 in
     let h4 : KeepsTheRest k0 (after_dispatched t k) = settles_steady (Dispatched t) k0 (after_incoming t k) h3 in
-    let h5 : KeepsTheRest k0 (after_answers t k) = drain_keeps (first_at (Answers t)) (drop_answer t) (KeepsTheRest k0) (λ j c s is. record { alive = s.alive; memory = s.memory; events = s.events }) (len (after_dispatched t k).calls.records) (after_dispatched t k) h4 in
-    drain_keeps (first_call_of t) forget_call (KeepsTheRest k0) (λ j c s is. record { alive = s.alive; memory = s.memory; events = s.events }) (len (after_answers t k).calls.records) (after_answers t k) h5
+    let h5 : KeepsTheRest k0 (after_answers t k) = drain_keeps (first_at (Answers t)) (drop_answer t) (KeepsTheRest k0) (λ j c s is. record { alive = s.alive; memory = s.memory; events = s.events }) (calls_at (after_dispatched t k).calls (Answers t)) (after_dispatched t k) h4 in
+    drain_keeps (first_call_of t) forget_call (KeepsTheRest k0) (λ j c s is. record { alive = s.alive; memory = s.memory; events = s.events }) (calls_by (after_answers t k).calls t) (after_answers t k) h5
 
 -- what a kill leaves, by the marks from before
 pub killed : (k : KernelState) (t : TaskNo) → IsSound k → is_alive k t ≡ true → IsForgotten k.tasks.alive t (kill k t).state

@@ -15,6 +15,7 @@ pub mod KilledPhones
 pub mod Histories
 pub mod Limits
 pub mod KillExample
+pub mod KillRoom
 pub mod Keepers
 pub mod KeptCalls
 pub mod KeptRows

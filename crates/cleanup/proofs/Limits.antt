@@ -300,7 +300,7 @@ pub within_wire : (k : KernelState) (t : TaskNo) (p : ℕ) (u : TaskNo) → IsWi
 within_wire k t p u h is = within_phone k t p Free (Connected u) h is (λ x. x) (λ e. absurd (cc e))
 
 -- no calls and no phones
-none_counted : (test : Call → Bool) → count_of test (entries no_calls.records) ≡ 0
+pub none_counted : (test : Call → Bool) → count_of test (entries no_calls.records) ≡ 0
 none_counted test = let most = count-len test no_calls.records in let none = len-empty nat_cmp in omega arith
 
 pub within_start : IsWithinLimits start

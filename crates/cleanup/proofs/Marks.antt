@@ -11,9 +11,9 @@ use Rattle.ipc_ids.specs.Codes.{ehangup}
 use Rattle.call_slab.specs.declared.call.Call.{Call}
 use Rattle.call_slab.specs.declared.call.Place.{Place}
 use Rattle.call_slab.specs.declared.call.Place.TheVariants.{Incoming, Dispatched, Answers}
-use Rattle.answerbox.specs.Calls.{CallTable, call_at, enqueue, put_at, without_call, with_record}
+use Rattle.answerbox.specs.Calls.{CallTable, call_at, calls_at, calls_by, enqueue, put_at, without_call, with_record}
 use Rattle.answerbox.proofs.Fronts.{front_live}
-use Rattle.cleanup.specs.State.{KernelState, Transition, alive_in, phone_at, with_phone, label_of, live_calls, nothing, then_do, drain, each}
+use Rattle.cleanup.specs.State.{KernelState, Transition, alive_in, phone_at, with_phone, label_of, nothing, then_do, drain, each}
 use Rattle.cleanup.specs.Joins.{bare_reply, declined_call, lives, settle_for, drop_answer, forget_call, hang_up, hangup_call}
 use Rattle.cleanup.specs.Kill.{task_no, width, hang_up_at, hang_up_own_phones, slam, slam_at, slam_phones_of, slam_other, slam_phones_to, first_at, settle_call, settle_calls_at, settle_incoming, settle_dispatched, drop_answers, first_call_of, forget_calls_elsewhere, end_parts}
 use Rattle.cleanup.proofs.Lookups.{at_insert}
@@ -113,11 +113,11 @@ module _ (marks : List Bool) (t : TaskNo) where
 
   blind_settles : (place : Place) → IsBlind marks t (settle_calls_at place)
   blind_settles place k a =
-      blind_drain (first_at place) settle_call (λ j. refl) (λ c j is b. let f = front_live j.calls place c is in blind_settle c j f.0 f.1 b) (live_calls k) k a
+      blind_drain (first_at place) settle_call (λ j. refl) (λ c j is b. let f = front_live j.calls place c is in blind_settle c j f.0 f.1 b) (calls_at k.calls place) k a
 
   blind_drops : IsBlind marks t (drop_answers t)
   blind_drops k a =
-      blind_drain (first_at (Answers t)) (drop_answer t) (λ j. refl) (λ c j is b. (refl, record { task = b.task; callers = agree_remove j c.number.0 b })) (live_calls k) k a
+      blind_drain (first_at (Answers t)) (drop_answer t) (λ j. refl) (λ c j is b. (refl, record { task = b.task; callers = agree_remove j c.number.0 b })) (calls_at k.calls (Answers t)) k a
 
   blind_forget : (c : Call) (k : KernelState) → Agree marks t k → (forget_call (with_marks marks k) c ≡ remarked marks (forget_call k c)) × Agree marks t (forget_call k c).state
   blind_forget c k a = (refl, record { task = a.task; callers = by_call (call_at k.calls c.number.0) }) where
@@ -128,7 +128,7 @@ module _ (marks : List Bool) (t : TaskNo) where
         agree_insert k e.number.0 e (with_record k.calls e) a (λ m. at_insert k.calls.records e.number.0 m e) tt
 
   blind_forgets : IsBlind marks t (forget_calls_elsewhere t)
-  blind_forgets k a = blind_drain (first_call_of t) forget_call (λ j. refl) (λ c j is b. blind_forget c j b) (live_calls k) k a
+  blind_forgets k a = blind_drain (first_call_of t) forget_call (λ j. refl) (λ c j is b. blind_forget c j b) (calls_by k.calls t) k a
 
   blind_hangups : IsBlind marks t (hang_up_own_phones t)
   blind_hangups k a = blind_each (hang_up_at t) (λ p j b. blind_hang_up p j (phone_at j t p) b) (width k.tasks.phones t.0) 0 k a

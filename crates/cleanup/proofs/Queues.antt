@@ -13,8 +13,8 @@ use Rattle.ipc_ids.specs.Codes.{ehangup}
 use Rattle.call_slab.specs.declared.call.Call.{Call}
 use Rattle.call_slab.specs.declared.call.Place.{Place}
 use Rattle.call_slab.specs.declared.call.Place.TheVariants.{Incoming, Dispatched, Answers}
-use Rattle.answerbox.specs.Calls.{CallTable, call_at, front, calls_of, same_place, is_caller, put_at, without_call, with_record, count_of}
-use Rattle.answerbox.proofs.Counts.{insert-remove, ties, count-len, count-without_call, count-replace}
+use Rattle.answerbox.specs.Calls.{CallTable, call_at, front, calls_of, same_place, is_caller, put_at, without_call, with_record, count_of, calls_at, calls_by}
+use Rattle.answerbox.proofs.Counts.{insert-remove, ties, count-without_call, count-replace}
 use Rattle.answerbox.proofs.Fronts.{front_live, no_front-has_no_calls}
 use Rattle.answerbox.proofs.Steps.{with_change-record}
 use Rattle.answerbox.proofs.Callers.{calls_of_live, calls_of_none}
@@ -118,7 +118,7 @@ alone_freed marks t k kept q h sound = record { silent = record { ending = recor
   unled (Some l) a p v is = elim (state_changed_at k.tasks.phones l.task.0 l.phone.0 a p Free (Connected v) is) [ inl e ↦ absurd (cc e.2) | inr old ↦ h.unled a p v old.1 ]
 
 -- the record of a call that the kernel has answered, and of one whose caller has ended
-abbrev answered : KernelState → Call → TaskNo → Call
+abbrev pub answered : KernelState → Call → TaskNo → Call
 answered k c u = record (declined_call c (bare_reply ehangup)) { place = Answers u; stamp = k.calls.next_stamp }
 
 abbrev forgotten : Call → Call
@@ -219,10 +219,10 @@ incoming_alone marks t k c h is = let f = front_at marks k (Incoming t) c h.sile
 
 pub incoming_settled : (marks : List Bool) (t : TaskNo) (k : KernelState) → IsAlone marks t k → IsUncalled marks t (settle_incoming t k).state
 incoming_settled marks t k h = record {
-  alone = drain_keeps (first_at (Incoming t)) settle_call (IsAlone marks t) (incoming_alone marks t) (len k.calls.records) k h;
+  alone = drain_keeps (first_at (Incoming t)) settle_call (IsAlone marks t) (incoming_alone marks t) (calls_at k.calls (Incoming t)) k h;
   incoming = drain_empties (first_at (Incoming t)) settle_call (IsAlone marks t) (incoming_alone marks t) (stands_at (Incoming t)) (λ j e. no_front-has_no_calls j.calls (Incoming t) e)
       (λ j c i is. let f = front_at marks j (Incoming t) c i.silent.ending is in settle_less (stands_at (Incoming t)) j c f.0 f.1 (λ u. refl))
-      (len k.calls.records) k h (count-len (stands_at (Incoming t)) k.calls.records);
+      (calls_at k.calls (Incoming t)) k h (omega arith);
 }
 
 -- no call is held by t
@@ -238,10 +238,10 @@ dispatched_uncalled marks t k c h is = let f = front_at marks k (Dispatched t) c
 
 pub dispatched_settled : (marks : List Bool) (t : TaskNo) (k : KernelState) → IsUncalled marks t k → IsIdle marks t (settle_dispatched t k).state
 dispatched_settled marks t k h = record {
-  uncalled = drain_keeps (first_at (Dispatched t)) settle_call (IsUncalled marks t) (dispatched_uncalled marks t) (len k.calls.records) k h;
+  uncalled = drain_keeps (first_at (Dispatched t)) settle_call (IsUncalled marks t) (dispatched_uncalled marks t) (calls_at k.calls (Dispatched t)) k h;
   dispatched = drain_empties (first_at (Dispatched t)) settle_call (IsUncalled marks t) (dispatched_uncalled marks t) (stands_at (Dispatched t)) (λ j e. no_front-has_no_calls j.calls (Dispatched t) e)
       (λ j c i is. let f = front_at marks j (Dispatched t) c i.alone.silent.ending is in settle_less (stands_at (Dispatched t)) j c f.0 f.1 (λ u. refl))
-      (len k.calls.records) k h (count-len (stands_at (Dispatched t)) k.calls.records);
+      (calls_at k.calls (Dispatched t)) k h (omega arith);
 }
 
 -- no answer stands at t
@@ -260,10 +260,10 @@ drop_idle marks t k c h is = record {
 
 pub answers_dropped : (marks : List Bool) (t : TaskNo) (k : KernelState) → IsIdle marks t k → IsUnanswered marks t (drop_answers t k).state
 answers_dropped marks t k h = record {
-  idle = drain_keeps (first_at (Answers t)) (drop_answer t) (IsIdle marks t) (drop_idle marks t) (len k.calls.records) k h;
+  idle = drain_keeps (first_at (Answers t)) (drop_answer t) (IsIdle marks t) (drop_idle marks t) (calls_at k.calls (Answers t)) k h;
   answers = drain_empties (first_at (Answers t)) (drop_answer t) (IsIdle marks t) (drop_idle marks t) (stands_at (Answers t)) (λ j e. no_front-has_no_calls j.calls (Answers t) e)
       (λ j c i is. let f = front_at marks j (Answers t) c i.uncalled.alone.silent.ending is in over_less (stands_at (Answers t)) j c f.0 f.1)
-      (len k.calls.records) k h (count-len (stands_at (Answers t)) k.calls.records);
+      (calls_at k.calls (Answers t)) k h (omega arith);
 }
 
 -- no call is one of t
@@ -291,8 +291,8 @@ forget_unanswered marks t k c h is =
 
 pub calls_forgotten : (marks : List Bool) (t : TaskNo) (k : KernelState) → IsUnanswered marks t k → IsForgotten marks t (forget_calls_elsewhere t k).state
 calls_forgotten marks t k h = record {
-  unanswered = drain_keeps (first_call_of t) forget_call (IsUnanswered marks t) (forget_unanswered marks t) (len k.calls.records) k h;
+  unanswered = drain_keeps (first_call_of t) forget_call (IsUnanswered marks t) (forget_unanswered marks t) (calls_by k.calls t) k h;
   callers = drain_empties (first_call_of t) forget_call (IsUnanswered marks t) (forget_unanswered marks t) (is_call_of t) (λ j e n c is. calls_of_none j.calls t n c e is)
       (λ j c i is. let f = call_from marks t j c i.idle.uncalled.alone.silent.ending is in forget_less (is_call_of t) j c f.0 f.1 refl)
-      (len k.calls.records) k h (count-len (is_call_of t) k.calls.records);
+      (calls_by k.calls t) k h (omega arith);
 }

@@ -4,7 +4,7 @@ use Rattle.ipc_ids.specs.Trace.{TraceState}
 use Rattle.call_slab.specs.declared.call.Call.{Call}
 use Rattle.cleanup.specs.State.{KernelState, BoardState, Transition, drain, each}
 use Rattle.cleanup.proofs.Loops.{drained_state, drained_entries, each_state, each_entries}
-use Rattle.cleanup.specs.Rooms.{UsesRoom}
+use Rattle.cleanup.specs.Rooms.{HasRoom, UsesRoom}
 use Rattle.cleanup.specs.Serving.{Does, Completes}
 
 -- a call that was next
@@ -45,4 +45,13 @@ uses_less s f g h = record {
   alive = s.alive;
   places = s.places;
   events = s.events;
+}
+
+-- the room that is left
+pub room_left : {a b : BoardState} {x y : TraceState} {c m l d n k c' m' l' : ℕ} → HasRoom a x c m l → UsesRoom a b x y d n k → d + c' ≤ c → n + m' ≤ m → k + l' ≤ l → HasRoom b y c' m' l'
+room_left h s f g i = record {
+  numbers = omega (arith, h.numbers, s.numbers, f);
+  stamps = omega (arith, h.stamps, s.stamps, g);
+  calls = omega (arith, h.calls, s.calls, f);
+  entries = omega (arith, h.entries, s.entries, i);
 }

@@ -27,9 +27,13 @@ counts_without counts caller from = if is_caller from.task caller then recount (
 abbrev pub IsCounted : List (List ℕ) → CallTable → Type 0
 IsCounted counts calls = (t p n : ℕ) → count_at counts t p ≡ Some n → n ≡ active_calls calls (label_at t p)
 
+-- each call stands under its number
+abbrev pub AreNumbered : CallTable → Type 0
+AreNumbered calls = (n : ℕ) (c : Call) → call_at calls n ≡ Some c → c.number.0 ≡ n
+
 -- each call has its number and a phone, each phone has a right count, and there are fewer calls than numbers given
 pub record HasCounts (phones : List (List PhoneState)) (counts : List (List ℕ)) (calls : CallTable) : Type 0 where
-  pub numbered : (n : ℕ) (c : Call) → call_at calls n ≡ Some c → c.number.0 ≡ n
+  pub numbered : AreNumbered calls
   pub over_phone : (n : ℕ) (c : Call) → call_at calls n ≡ Some c → IsSome (state_at phones c.from.task.0 c.from.phone.0)
   pub shaped : (t p : ℕ) → IsSome (state_at phones t p) → IsSome (count_at counts t p)
   pub counted : IsCounted counts calls

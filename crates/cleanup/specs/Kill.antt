@@ -9,9 +9,9 @@ use Rattle.ipc_ids.specs.Codes.{ehangup}
 use Rattle.call_slab.specs.declared.call.Call.{Call}
 use Rattle.call_slab.specs.declared.call.Place.{Place}
 use Rattle.call_slab.specs.declared.call.Place.TheVariants.{Incoming, Dispatched, Answers}
-use Rattle.answerbox.specs.Calls.{front, calls_of}
+use Rattle.answerbox.specs.Calls.{front, calls_of, calls_at, calls_by}
 use Rattle.phone_table.specs.Phones.{row_at}
-use Rattle.cleanup.specs.State.{KernelState, Transition, live_calls, nothing, then_do, each, drain, phone_at, with_phone, label_of}
+use Rattle.cleanup.specs.State.{KernelState, Transition, nothing, then_do, each, drain, phone_at, with_phone, label_of}
 use Rattle.cleanup.specs.Joins.{bare_reply, settle, drop_answer, forget_call, hang_up}
 
 abbrev pub task_no : ℕ → TaskNo
@@ -59,7 +59,7 @@ slam_other t k i = if i + 1 == t.0 then nothing k else slam_phones_of t (task_no
 abbrev pub slam_phones_to : TaskNo → KernelState → Transition
 slam_phones_to t k = each (slam_other t) (length k.tasks.phones) 0 k
 
--- then the kernel answers the calls that wait at t, from the first on; there are no more than live calls
+-- then the kernel answers the calls that wait at t, from the first on, as many as stand there
 abbrev pub first_at : Place → KernelState → Option Call
 first_at place k = front k.calls place
 
@@ -67,7 +67,7 @@ abbrev pub settle_call : KernelState → Call → Transition
 settle_call k c = settle k c (bare_reply ehangup) None
 
 abbrev pub settle_calls_at : Place → KernelState → Transition
-settle_calls_at place k = drain (first_at place) settle_call (live_calls k) k
+settle_calls_at place k = drain (first_at place) settle_call (calls_at k.calls place) k
 
 abbrev pub settle_incoming : TaskNo → KernelState → Transition
 settle_incoming t k = settle_calls_at (Incoming t) k
@@ -78,14 +78,14 @@ settle_dispatched t k = settle_calls_at (Dispatched t) k
 
 -- then the answers to t are dropped, from the first on
 abbrev pub drop_answers : TaskNo → KernelState → Transition
-drop_answers t k = drain (first_at (Answers t)) (drop_answer t) (live_calls k) k
+drop_answers t k = drain (first_at (Answers t)) (drop_answer t) (calls_at k.calls (Answers t)) k
 
 -- then the calls of t that stand at other tasks are forgotten, by number
 abbrev pub first_call_of : TaskNo → KernelState → Option Call
 first_call_of t k = calls_of k.calls t
 
 abbrev pub forget_calls_elsewhere : TaskNo → KernelState → Transition
-forget_calls_elsewhere t k = drain (first_call_of t) forget_call (live_calls k) k
+forget_calls_elsewhere t k = drain (first_call_of t) forget_call (calls_by k.calls t) k
 
 -- the parts in their order
 abbrev pub end_parts : TaskNo → KernelState → Transition

@@ -9,3 +9,4 @@ pub mod Limits
 pub mod Board
 pub mod Ending
 pub mod Rooms
+pub mod KillRoom

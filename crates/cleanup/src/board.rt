@@ -2,20 +2,22 @@
 ghost use Rattle.std.specs.Prelude.{◌≡◌, ℕ, ◌+◌, ◌-◌, ◌^◌, ◌<◌, ◌≤◌, true, Some, None, IsSome, IfSome, IfNone, IfOk, OnOk, OnErr, length};
 ghost use Rattle.std.specs.Option.{option_copied};
 ghost use Rattle.answerbox.specs.Places.{IsAt};
-ghost use Rattle.answerbox.specs.Calls.{call_at, task_of, enqueue, without_call, received, without_caller, active_calls, front, calls_of};
+ghost use Rattle.answerbox.specs.Calls.{call_at, task_of, enqueue, without_call, received, without_caller, active_calls, front, calls_of, calls_at, calls_by};
 ghost use Rattle.phone_table.specs.Phones.{hangup_answer};
 ghost use Rattle.cleanup.specs.State.{state_from, start, is_alive, phone_at, live_calls, with_calls, with_phone, with_task, with_event};
 ghost use Rattle.call_slab.specs.declared.call.Place.TheVariants.{Dispatched, Answers};
 ghost use Rattle.cleanup.specs.Joins.{new_call, code_of};
 ghost use Rattle.cleanup.specs.Kept.{IsLoose, MayReserve, accepts, kept_phone, lent_phone, with_kept, first_usable_of, or_refused};
-ghost use Rattle.cleanup.specs.Counts.{HasCounts};
+ghost use Rattle.cleanup.specs.Counts.{HasCounts, AreNumbered};
 ghost use Rattle.cleanup.specs.Board.{IsPending, IsCallOf, IsLimit, IsSwitched, IsAdded, IsHeldBy, IsNewCall, HasPlaces, LeadsToAdded, TellsAdded, with_hung, with_declined, with_passed, with_reply};
 ghost use Rattle.phone_table.specs.Usable.{IsConnected};
 ghost use Rattle.cleanup.specs.Kill.{width, mark_ended};
+ghost use Rattle.cleanup.specs.KillRoom.{kill_calls as kill_calls_of, kill_entries as kill_entries_of};
 ghost use Rattle.cleanup.specs.Rooms.{KeepsCalls, KeepsRoom};
 
 use crate::counts::{count_out, count_up};
 use crate::kept::{kept_phone, lent_phone, unless_freed};
+use crate::kill_room::{kill_calls, kill_entries};
 use crate::phones::{
     connect_to_answerer, connect_to_caller, hang_phone, keep_to_receive, keep_to_send,
     release_kept, slam_phone, width,
@@ -187,15 +189,9 @@ impl Switchboard {
         ensures number { result.0 ≡ self.now.state.calls.next_number }
         ensures free { call_at self.now.state.calls self.now.state.calls.next_number ≡ None }
         ensures few { live_calls self.now.state < self.now.state.calls.next_number }
+        ensures numbered { AreNumbered self.now.state.calls }
     {
         self.boxes.next_number()
-    }
-
-    /// How many calls are live.
-    pub fn live(&self) -> usize
-        ensures { result ≡ live_calls self.now.state }
-    {
-        self.boxes.live()
     }
 
     /// The live call with this number.
@@ -216,6 +212,40 @@ impl Switchboard {
         ensures there { IfSome result (λ n. IsAt self.now.state.calls n.0 place) }
     {
         self.boxes.front(place)
+    }
+
+    /// How many live calls stand at this place.
+    pub fn calls_at(&self, place: Place) -> usize
+        ensures calls { result ≡ calls_at self.now.state.calls place }
+        ensures few { result ≤ live_calls self.now.state }
+    {
+        self.boxes.calls_at(place)
+    }
+
+    /// How many live calls that caller made.
+    pub(crate) fn calls_by(&self, caller: TaskNo) -> usize
+        ensures { result ≡ calls_by self.now.state.calls caller }
+    {
+        self.boxes.calls_by(caller)
+    }
+
+    /// How many calls the end of the task makes at most.
+    pub(crate) fn kill_calls(&self, who: TaskNo) -> usize
+        requires added { IsAdded self.now.state who }
+        ensures calls { result ≡ kill_calls_of self.now.state who }
+        ensures few { result ≤ 64 }
+    {
+        kill_calls(who, &self.phones)
+    }
+
+    /// How many entries the end of the task makes at most; `NoMemory` where no memory has room for
+    /// so many.
+    pub(crate) fn kill_entries(&self, who: TaskNo) -> Result<usize, NoMemory>
+        requires added { IsAdded self.now.state who }
+        requires few_calls { live_calls self.now.state < 2 ^ 61 }
+        ensures { IfOk result (λ n. n ≡ kill_entries_of self.now.state who) }
+    {
+        kill_entries(who, &self.phones, &self.boxes)
     }
 
     /// The least number of a live call of that caller.

@@ -6,7 +6,7 @@ ghost use Rattle.cleanup.specs.Kill.{end_parts};
 ghost use Rattle.cleanup.specs.Ending.{IsJustEnded, HasFewActive, HasNumbers, UsesNumbers, state_of, all_alive};
 
 use crate::board::Switchboard;
-use crate::kill::{MOST_PHONES, most_entries};
+use crate::kill_room::{kill_calls, kill_entries};
 use answerbox::Boxes;
 use ipc_ids::{NoMemory, TaskNo, Trace};
 use phone_table::PhoneRows;
@@ -52,8 +52,9 @@ pub fn end_task(
     let tasks = phones.tasks() as usize;
     let alloc = boxes.alloc();
     let marks = all_alive(alloc, tasks)?;
-    boxes.reserve(MOST_PHONES)?;
-    out.reserve(most_entries(boxes.live(), tasks)?)?;
+    let entries = kill_entries(who, phones, boxes)?;
+    boxes.reserve(kill_calls(who, phones))?;
+    out.reserve(entries)?;
     let mut board = Switchboard::of(
         marks,
         mem::replace(phones, PhoneRows::new(alloc)),

@@ -8,7 +8,8 @@ ghost use Rattle.cleanup.specs.Kept.{IsLoose, MayReserve, accepts, kept_phone};
 ghost use Rattle.cleanup.specs.Joins.{on_call, acceptance, answer_at_once, passage, reception_live, delivery_live, releasing, drop_answer, vanishing, forget_call, answer_to, declined, accepted_to_me, accepted_me_to, settle_live, hang_up, hangup_refusal};
 ghost use Rattle.cleanup.specs.Kill.{slam_at};
 ghost use Rattle.cleanup.specs.Board.{IsAdded, IsPending, IsCallOf, IsHeldBy, IsNewCall};
-ghost use Rattle.cleanup.specs.Rooms.{HasRoom, UsesRoom};
+ghost use Rattle.cleanup.specs.KillRoom.{leads_to};
+ghost use Rattle.cleanup.specs.Rooms.{HasRoom, UsesRoom, HasRoomToHangUp, UsesRoomToHangUp};
 ghost use Rattle.cleanup.specs.Serving.{Does, Serves, as_it_is};
 
 use crate::board::Switchboard;
@@ -385,13 +386,15 @@ impl Switchboard {
     pub fn hang_up(&mut self, from: Label, out: &mut Trace) -> Result<(), Code>
         requires added { IsAdded self.old.state from.task }
         requires few { active_calls self.old.state.calls from < 2 ^ 31 }
-        requires room { HasRoom self.old out.old 1 1 3 }
+        requires room { HasRoomToHangUp self.old out.old
+            (phone_at self.old.state from.task from.phone.0) }
         ensures step { Does self.new out.old out.new (hang_up self.old.state from.task from.phone.0
             (phone_at self.old.state from.task from.phone.0)) }
         ensures answer { result
             ≡ hangup_refusal (phone_at self.old.state from.task from.phone.0) }
         ensures free { call_at self.old.state.calls self.old.state.calls.next_number ≡ None }
-        ensures room { UsesRoom self.old self.new out.old out.new 1 1 3 }
+        ensures room { UsesRoomToHangUp self.old self.new out.old out.new
+            (phone_at self.old.state from.task from.phone.0) }
     {
         let _next = self.next_number();
         match self.hang_phone(from) {
@@ -403,7 +406,13 @@ impl Switchboard {
             Ok(Hung::Sent(to)) => {
                 let mut call = self.new_call(from, &Msg::bare(PHONE_HUNGUP), Place::Incoming(to));
                 call.discard = true;
-                let _accepted = self.accept(call, None, Some(to), out);
+                out.push(Entry::Accepted {
+                    call: call.number,
+                    from,
+                    method: PHONE_HUNGUP,
+                    to: Some(to),
+                });
+                self.enqueue(call);
                 tell_hung_up(from, out);
                 Ok(())
             }
@@ -413,10 +422,12 @@ impl Switchboard {
     /// Slams the phone of another task, where it leads to the task that comes to its end.
     pub fn slam(&mut self, who: TaskNo, phone: Label, out: &mut Trace)
         requires added { IsAdded self.old.state phone.task }
-        requires room { HasRoom self.old out.old 0 0 1 }
+        requires room { HasRoom self.old out.old 0 0
+            (leads_to who (phone_at self.old.state phone.task phone.phone.0)) }
         ensures step { Does self.new out.old out.new
             (slam_at who phone.task self.old.state phone.phone.0) }
-        ensures room { UsesRoom self.old self.new out.old out.new 0 0 1 }
+        ensures room { UsesRoom self.old self.new out.old out.new 0 0
+            (leads_to who (phone_at self.old.state phone.task phone.phone.0)) }
     {
         match self.phone(phone.task, u64::from(phone.phone.0)) {
             Some(PhoneState::Connected(to)) if to.0 == who.0 => {

@@ -1,9 +1,11 @@
 //! The end of a task, part by part.
-ghost use Rattle.std.specs.Prelude.{◌≡◌, ◌+◌, ◌*◌, ◌^◌, ◌<◌, ◌≤◌, IfOk, OnOk, OnErr, length};
-ghost use Rattle.answerbox.specs.Calls.{task_of};
-ghost use Rattle.cleanup.specs.State.{live_calls};
+ghost use Rattle.std.specs.Prelude.{◌≡◌, ◌+◌, ◌*◌, ◌^◌, ◌<◌, ◌≤◌, false, IfOk, OnOk, OnErr, length};
+ghost use Rattle.answerbox.specs.Calls.{task_of, calls_at, calls_by};
+ghost use Rattle.call_slab.specs.declared.call.Place.TheVariants.{Answers};
+ghost use Rattle.cleanup.specs.State.{live_calls, is_alive};
 ghost use Rattle.cleanup.specs.Kill.{kill, end_parts, hang_up_own_phones, slam_phones_to, slam_other, slam_phones_of, settle_calls_at, drop_answers, forget_calls_elsewhere};
 ghost use Rattle.cleanup.specs.Board.{IsAdded, IsPendingAt, FewFrom};
+ghost use Rattle.cleanup.specs.KillRoom.{kill_calls, kill_moves, kill_entries, own_entries, leading, leading_at, leading_of};
 ghost use Rattle.cleanup.specs.Rooms.{HasRoom, UsesRoom};
 ghost use Rattle.cleanup.specs.Serving.{Does, Leaves};
 
@@ -11,9 +13,6 @@ use crate::board::Switchboard;
 use crate::counts::label;
 use call_slab::Place;
 use ipc_ids::{Code, NoMemory, Reply, TaskNo, Trace};
-
-/// The most phones of a task.
-pub(crate) const MOST_PHONES: usize = 64;
 
 impl Switchboard {
     /// Marks the task as ended, and brings it to its end.
@@ -34,8 +33,9 @@ impl Switchboard {
         ensures unchanged { OnErr result (Leaves self.old self.new out.old out.new) }
     {
         let _next = self.next_number();
-        self.reserve(MOST_PHONES)?;
-        out.reserve(most_entries(self.live(), self.tasks() as usize)?)?;
+        let entries = self.kill_entries(who)?;
+        self.reserve(self.kill_calls(who))?;
+        out.reserve(entries)?;
         self.end_reserved(who, out);
         Ok(())
     }
@@ -44,8 +44,9 @@ impl Switchboard {
     pub(crate) fn end_reserved(&mut self, who: TaskNo, out: &mut Trace)
         requires added { IsAdded self.old.state who }
         requires few_active { FewFrom self.old.state who 0 }
-        requires room { HasRoom self.old out.old 64 (2 * live_calls self.old.state + 192)
-            (7 * live_calls self.old.state + 64 * length self.old.state.tasks.alive + 640) }
+        requires few_phones { kill_calls self.old.state who ≤ 64 }
+        requires room { HasRoom self.old out.old (kill_calls self.old.state who)
+            (kill_moves self.old.state who) (kill_entries self.old.state who) }
         ensures step { Does self.new out.old out.new (kill self.old.state who) }
         ensures numbers { self.new.state.calls.next_number ≤ self.old.state.calls.next_number + 64 }
         ensures stamps { self.new.state.calls.next_stamp ≤ self.old.state.calls.next_stamp + 2 *
@@ -60,14 +61,15 @@ impl Switchboard {
     /// The parts in their order.
     fn do_parts(&mut self, who: TaskNo, out: &mut Trace)
         requires added { IsAdded self.old.state who }
+        requires ended { is_alive self.old.state who ≡ false }
         requires few_active { FewFrom self.old.state who 0 }
-        requires room { HasRoom self.old out.old 64 (2 * live_calls self.old.state + 192)
-            (7 * live_calls self.old.state + 64 * length self.old.state.tasks.alive + 640) }
+        requires room { HasRoom self.old out.old (kill_calls self.old.state who)
+            (kill_moves self.old.state who) (kill_entries self.old.state who) }
         ensures step { Does self.new out.old out.new (end_parts who self.old.state) }
-        ensures room { UsesRoom self.old self.new out.old out.new 64
-            (2 * live_calls self.old.state + 192)
-            (7 * live_calls self.old.state + 64 * length self.old.state.tasks.alive + 640) }
+        ensures room { UsesRoom self.old self.new out.old out.new (kill_calls self.old.state who)
+            (kill_moves self.old.state who) (kill_entries self.old.state who) }
     {
+        let _next = self.next_number();
         self.hang_up_own_phones(who, out);
         self.slam_phones_to(who, out);
         self.settle_calls_at(Place::Incoming(who), out);
@@ -80,9 +82,11 @@ impl Switchboard {
     fn hang_up_own_phones(&mut self, who: TaskNo, out: &mut Trace)
         requires added { IsAdded self.old.state who }
         requires few_active { FewFrom self.old.state who 0 }
-        requires room { HasRoom self.old out.old 64 64 192 }
+        requires room { HasRoom self.old out.old (kill_calls self.old.state who)
+            (kill_calls self.old.state who) (own_entries self.old.state.tasks.phones who) }
         ensures step { Does self.new out.old out.new (hang_up_own_phones who self.old.state) }
-        ensures room { UsesRoom self.old self.new out.old out.new 64 64 192 }
+        ensures room { UsesRoom self.old self.new out.old out.new (kill_calls self.old.state who)
+            (kill_calls self.old.state who) (own_entries self.old.state.tasks.phones who) }
     {
         for phone in 0..self.width(who) {
             let _told = self.hang_up(label(who, phone), out);
@@ -91,10 +95,10 @@ impl Switchboard {
 
     /// Slams each phone of another task that leads to the task.
     fn slam_phones_to(&mut self, who: TaskNo, out: &mut Trace)
-        requires room { HasRoom self.old out.old 0 0 (64 * length self.old.state.tasks.alive) }
+        requires room { HasRoom self.old out.old 0 0 (leading who self.old.state.tasks.phones) }
         ensures step { Does self.new out.old out.new (slam_phones_to who self.old.state) }
         ensures room { UsesRoom self.old self.new out.old out.new 0 0
-            (64 * length self.old.state.tasks.alive) }
+            (leading who self.old.state.tasks.phones) }
     {
         for i in 0..self.tasks() {
             self.slam_other(who, i, out);
@@ -106,9 +110,11 @@ impl Switchboard {
     fn slam_other(&mut self, who: TaskNo, i: u64, out: &mut Trace)
         requires added { i < length self.old.state.tasks.alive }
         requires few { i + 1 < 2 ^ 64 }
-        requires room { HasRoom self.old out.old 0 0 64 }
+        requires room { HasRoom self.old out.old 0 0
+            (leading_at who self.old.state.tasks.phones i) }
         ensures step { Does self.new out.old out.new (slam_other who self.old.state i) }
-        ensures room { UsesRoom self.old self.new out.old out.new 0 0 64 }
+        ensures room { UsesRoom self.old self.new out.old out.new 0 0
+            (leading_at who self.old.state.tasks.phones i) }
     {
         if i + 1 != who.0 {
             self.slam_phones_of(who, TaskNo(i + 1), out);
@@ -118,9 +124,11 @@ impl Switchboard {
     /// Slams each phone of one task that leads to the task.
     fn slam_phones_of(&mut self, who: TaskNo, other: TaskNo, out: &mut Trace)
         requires added { IsAdded self.old.state other }
-        requires room { HasRoom self.old out.old 0 0 64 }
+        requires room { HasRoom self.old out.old 0 0
+            (leading_of who self.old.state.tasks.phones other.0) }
         ensures step { Does self.new out.old out.new (slam_phones_of who other self.old.state) }
-        ensures room { UsesRoom self.old self.new out.old out.new 0 0 64 }
+        ensures room { UsesRoom self.old self.new out.old out.new 0 0
+            (leading_of who self.old.state.tasks.phones other.0) }
     {
         for phone in 0..self.width(other) {
             self.slam(who, label(other, phone), out);
@@ -132,13 +140,13 @@ impl Switchboard {
     fn settle_calls_at(&mut self, place: Place, out: &mut Trace)
         requires added { task_of place ≤ length self.old.state.tasks.alive }
         requires pending { IsPendingAt place }
-        requires room { HasRoom self.old out.old 0 (live_calls self.old.state)
-            (2 * live_calls self.old.state) }
+        requires room { HasRoom self.old out.old 0 (calls_at self.old.state.calls place)
+            (2 * calls_at self.old.state.calls place) }
         ensures step { Does self.new out.old out.new (settle_calls_at place self.old.state) }
-        ensures room { UsesRoom self.old self.new out.old out.new 0 (live_calls self.old.state)
-            (2 * live_calls self.old.state) }
+        ensures room { UsesRoom self.old self.new out.old out.new 0
+            (calls_at self.old.state.calls place) (2 * calls_at self.old.state.calls place) }
     {
-        for _ in 0..self.live() {
+        for _ in 0..self.calls_at(place) {
             match self.front(place) {
                 Some(number) => self.settle(number, &Reply::bare(Code::EHANGUP), None, out),
                 None => return,
@@ -149,12 +157,13 @@ impl Switchboard {
     /// Drops each answer at the task.
     fn drop_answers(&mut self, who: TaskNo, out: &mut Trace)
         requires added { IsAdded self.old.state who }
-        requires room { HasRoom self.old out.old 0 0 (2 * live_calls self.old.state) }
+        requires room { HasRoom self.old out.old 0 0
+            (2 * calls_at self.old.state.calls (Answers who)) }
         ensures step { Does self.new out.old out.new (drop_answers who self.old.state) }
         ensures room { UsesRoom self.old self.new out.old out.new 0 0
-            (2 * live_calls self.old.state) }
+            (2 * calls_at self.old.state.calls (Answers who)) }
     {
-        for _ in 0..self.live() {
+        for _ in 0..self.calls_at(Place::Answers(who)) {
             match self.front(Place::Answers(who)) {
                 Some(number) => self.drop_answer(number, who, out),
                 None => return,
@@ -165,34 +174,16 @@ impl Switchboard {
     /// Forgets the task as the caller of each of its calls that stands at another task.
     fn forget_calls_elsewhere(&mut self, who: TaskNo, out: &mut Trace)
         requires added { IsAdded self.old.state who }
-        requires room { HasRoom self.old out.old 0 0 (live_calls self.old.state) }
+        requires room { HasRoom self.old out.old 0 0 (calls_by self.old.state.calls who) }
         ensures step { Does self.new out.old out.new (forget_calls_elsewhere who self.old.state) }
-        ensures room { UsesRoom self.old self.new out.old out.new 0 0 (live_calls self.old.state) }
+        ensures room { UsesRoom self.old self.new out.old out.new 0 0
+            (calls_by self.old.state.calls who) }
     {
-        for _ in 0..self.live() {
+        for _ in 0..self.calls_by(who) {
             match self.calls_of(who) {
                 Some(number) => self.forget(number, out),
                 None => return,
             }
         }
-    }
-}
-
-/// How many entries the end of a task makes at most: three for each of its phones, one for each
-/// phone that leads to it, and for each call two in each of three parts and one in the last.
-///
-/// # Errors
-///
-/// `NoMemory` where no memory has room for so many.
-pub(crate) fn most_entries(calls: usize, tasks: usize) -> Result<usize, NoMemory>
-    requires { calls < 2 ^ 61 }
-    ensures { IfOk result (λ n. n ≡ 7 * calls + 64 * tasks + 640) }
-{
-    match MOST_PHONES.checked_mul(tasks) {
-        Some(slams) => match slams.checked_add(7 * calls + 10 * MOST_PHONES) {
-            Some(entries) => Ok(entries),
-            None => Err(NoMemory),
-        },
-        None => Err(NoMemory),
     }
 }

@@ -12,6 +12,7 @@ mod ending;
 mod joins;
 mod kept;
 mod kill;
+mod kill_room;
 mod laws;
 mod phones;
 #[cfg(test)]

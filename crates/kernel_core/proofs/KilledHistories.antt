@@ -2,7 +2,6 @@
 use Rattle.std.proofs.Common.{ℕ, suc, zero, ◌≡◌, ◌+◌, ◌-◌, ◌⊎◌, Bool, true, false, not, Option, Some, None, List, [], ◌∷◌, ◌++◌, length, refl, sym, ◌∙◌, ap, subst, inl, inr, arith, set}
 use Rattle.std.specs.Prelude.{◌==◌, if◌then◌else◌, slice_get, unwrap_or}
 use Rattle.std.proofs.lemmas.Bool.{eqb-true, cases_eq, eq-eqb, ne_eqb, false≢true}
-use Rattle.std.specs.FinMap.{len}
 use Rattle.ipc_ids.specs.declared.numbers.TaskNo.{TaskNo}
 use Rattle.ipc_ids.specs.declared.entry.Entry.{Entry}
 use Rattle.ipc_ids.specs.declared.message.PhoneState.{PhoneState}
@@ -16,7 +15,7 @@ use Rattle.ipc_ids.proofs.Pasts.{head_follows, event_is_killed, past-append}
 use Rattle.call_slab.specs.declared.call.Call.{Call}
 use Rattle.call_slab.specs.declared.call.Place.{Place}
 use Rattle.call_slab.specs.declared.call.Place.TheVariants as place
-use Rattle.answerbox.specs.Calls.{call_at, same_place, is_caller, with_record}
+use Rattle.answerbox.specs.Calls.{call_at, calls_at, calls_by, same_place, is_caller, with_record}
 use Rattle.cleanup.specs.State.{KernelState, Transition, then_do, phone_at, alive_in, is_alive}
 use Rattle.cleanup.specs.Joins.{bare_reply, drop_answer, forget_call}
 use Rattle.cleanup.specs.Kill.{width, task_no, mark_ended, hang_up_at, hang_up_own_phones, slam, slam_at, slam_phones_of, slam_other, slam_phones_to, first_at, settle_call, settle_incoming, settle_dispatched, drop_answers, first_call_of, forget_calls_elsewhere, kill}
@@ -152,21 +151,21 @@ incoming_told t p k inside =
     drain_tells (List Tale) and_then (λ _. refl) and_then-append (first_at (place.Incoming t)) settle_call (InKill t)
     (λ q j c i is. let f = front_at (Kill t.0) q j i (place.Incoming t) c is in
     settled (Kill t.0) q j i c (bare_reply ehangup) None (Incoming c.from.task.0 t.0) f.0 (ap (life_at c.from.task.0) f.1) refl (λ dead. (dead, i.now)) (λ lives. (refl, i.now, lives)))
-    (len k.calls.records) p k inside
+    (calls_at k.calls (place.Incoming t)) p k inside
 
 dispatched_told : (t : TaskNo) (p : List Tale) (k : KernelState) → InKill t p k → InKill t (and_then (settle_dispatched t k).entries p) (settle_dispatched t k).state
 dispatched_told t p k inside =
     drain_tells (List Tale) and_then (λ _. refl) and_then-append (first_at (place.Dispatched t)) settle_call (InKill t)
     (λ q j c i is. let f = front_at (Kill t.0) q j i (place.Dispatched t) c is in
     settled (Kill t.0) q j i c (bare_reply ehangup) None (Dispatched c.from.task.0 t.0) f.0 (ap (life_at c.from.task.0) f.1) refl (λ dead. (dead, inl i.now)) (λ lives. inl (refl, i.now, lives)))
-    (len k.calls.records) p k inside
+    (calls_at k.calls (place.Dispatched t)) p k inside
 
 -- the answers to t are dropped
 answers_told : (t : TaskNo) (p : List Tale) (k : KernelState) → InKill t p k → InKill t (and_then (drop_answers t k).entries p) (drop_answers t k).state
 answers_told t p k inside =
     drain_tells (List Tale) and_then (λ _. refl) and_then-append (first_at (place.Answers t)) (drop_answer t) (InKill t)
     (λ q j c i is. let f = front_at (Kill t.0) q j i (place.Answers t) c is in dropped (Kill t.0) q j i t c (inr refl) f.0 f.1)
-    (len k.calls.records) p k inside
+    (calls_at k.calls (place.Answers t)) p k inside
 
 -- the calls of t elsewhere are forgotten
 
@@ -207,7 +206,7 @@ module _ (marks : List Bool) (t : TaskNo) where
   forgotten_told p k late =
       drain_tells (List Tale) and_then (λ _. refl) and_then-append (first_call_of t) forget_call IsLate
       (λ q j c i is. (forget_told q j c i is, forget_unanswered marks t j c i.1 is))
-      (len k.calls.records) p k late
+      (calls_by k.calls t) p k late
 
 -- the kill is over
 

@@ -24,14 +24,14 @@ use Rattle.ipc_ids.specs.Tables.{most_active}
 use Rattle.call_slab.specs.declared.call.Call.{Call}
 use Rattle.call_slab.specs.declared.call.Place.{Place}
 use Rattle.call_slab.specs.declared.call.Place.TheVariants.{Incoming, Dispatched, Answers}
-use Rattle.answerbox.specs.Calls.{call_at, front, enqueue, put_at, without_call, same_place, active_calls}
+use Rattle.answerbox.specs.Calls.{call_at, calls_at, front, enqueue, put_at, without_call, same_place, active_calls}
 use Rattle.phone_table.specs.Phones.{is_usable}
 use Rattle.forwarding.specs.declared.passing.Forwarded.{Forwarded}
 use Rattle.forwarding.specs.declared.passing.ForwardFault.{ForwardFault}
 use Rattle.forwarding.specs.declared.passing.ForwardFault.TheVariants.{NotHeld, NotForwardable, NotConnected}
 use Rattle.forwarding.specs.Forwarding.{msg_after, label_after}
 use Rattle.forwarding.specs.Routes.{forward_answer}
-use Rattle.cleanup.specs.State.{KernelState, Transition, live_calls, phone_at, with_calls, with_event, label_of}
+use Rattle.cleanup.specs.State.{KernelState, Transition, phone_at, with_calls, with_event, label_of}
 use Rattle.cleanup.specs.Kept.{accepts, kept_phone, lent_phone, with_kept, first_usable_of}
 use Rattle.cleanup.specs.Sound.{IsSound}
 use Rattle.cleanup.specs.Joins.{bare_reply, new_call, answer_at_once, reception, answer_to, code_of, lives, passed_call, passage, drop_answer}
@@ -211,7 +211,7 @@ record IsFine (j : KernelState) : Type 0 where
 drops_fine : (t : TaskNo) (k : KernelState) → IsFine k → IsFine (drop_unawaited t k).state
 drops_fine t k h = drain_keeps (next_unawaited t) (drop_answer t) IsFine
     (λ j c s is. record { sound = sound_drop j t c s.sound (front_at j (Answers t) c s.sound (unawaited_front (front j.calls (Answers t)) c is)); within = within_drop t j c s.within s.sound.kept (front_at j (Answers t) c s.sound (unawaited_front (front j.calls (Answers t)) c is)) })
-    (live_calls k) k h
+    (calls_at k.calls (Answers t)) k h
 
 serves_within : (k : KernelState) (t : TaskNo) (asked : Request) → IsSound k → IsWithinLimits k → IsWithinLimits (serve_request k t asked).state
 serves_within k t (request.Call p msg) h w = called t k h w p msg (phone_at k t p) refl

@@ -2,7 +2,6 @@
 use Rattle.std.proofs.Common.{◌≡◌, ℕ, ◌+◌, ◌*◌, Bool, true, false, not, Option, None, Some, Result, Ok, Err, List, refl, ap, sym, ◌∙◌, nat_le}
 use Rattle.std.specs.Prelude.{◌==◌, if◌then◌else◌, IsSome}
 use Rattle.std.proofs.lemmas.Bool.{false≢true}
-use Rattle.std.specs.FinMap.{len}
 use Rattle.ipc_ids.specs.declared.numbers.TaskNo.{TaskNo}
 use Rattle.ipc_ids.specs.declared.numbers.Label.{Label}
 use Rattle.ipc_ids.specs.declared.numbers.Code.{Code}
@@ -21,7 +20,7 @@ use Rattle.ipc_ids.specs.Tables.{most_active}
 use Rattle.call_slab.specs.declared.call.Call.{Call}
 use Rattle.call_slab.specs.declared.call.Place.{Place}
 use Rattle.call_slab.specs.declared.call.Place.TheVariants.{Incoming, Dispatched, Answers}
-use Rattle.answerbox.specs.Calls.{call_at, front, enqueue, same_place, active_calls}
+use Rattle.answerbox.specs.Calls.{call_at, calls_at, front, enqueue, same_place, active_calls}
 use Rattle.answerbox.proofs.Fronts.{front_live}
 use Rattle.forwarding.specs.declared.passing.Forwarded.{Forwarded}
 use Rattle.forwarding.specs.declared.passing.ForwardFault.{ForwardFault}
@@ -227,7 +226,7 @@ drop_less : (t : TaskNo) (k j : KernelState) (c : Call) → IsLess k j → next_
 drop_less t k j c s is = record { sound = sound_drop j t c s.sound (front_at j (Answers t) c s.sound (unawaited_front (front j.calls (Answers t)) c is)); alive = s.alive }
 
 drops_less : (t : TaskNo) (k : KernelState) → IsSound k → IsLess k (drop_unawaited t k).state
-drops_less t k h = drain_keeps (next_unawaited t) (drop_answer t) (IsLess k) (λ j c s is. drop_less t k j c s is) (len k.calls.records) k (record { sound = h; alive = refl })
+drops_less t k h = drain_keeps (next_unawaited t) (drop_answer t) (IsLess k) (λ j c s is. drop_less t k j c s is) (calls_at k.calls (Answers t)) k (record { sound = h; alive = refl })
 
 serves : (k : KernelState) (t : TaskNo) (request : Request) → IsSound k → is_alive k t ≡ true → IsSound (serve_request k t request).state
 serves k t (R.Call p msg) h alive = called t k alive h p msg (phone_at k t p) refl

@@ -4,8 +4,8 @@ use Rattle.ipc_ids.specs.declared.numbers.TaskNo.{TaskNo}
 use Rattle.ipc_ids.specs.declared.message.Outcome.TheVariants.{Empty}
 use Rattle.call_slab.specs.declared.call.Call.{Call}
 use Rattle.call_slab.specs.declared.call.Place.TheVariants.{Incoming, Answers}
-use Rattle.answerbox.specs.Calls.{front}
-use Rattle.cleanup.specs.State.{KernelState, Transition, live_calls, drain}
+use Rattle.answerbox.specs.Calls.{front, calls_at}
+use Rattle.cleanup.specs.State.{KernelState, Transition, drain}
 use Rattle.cleanup.specs.Joins.{drop_answer, delivery, reception}
 use Rattle.cleanup.specs.Serving.{Served, then_serve}
 use Rattle.kernel_core.specs.Moments.{on_receive, on_delivery}
@@ -27,9 +27,9 @@ unawaited (Some c) = if c.discard then Some c else None
 abbrev pub next_unawaited : TaskNo → KernelState → Option Call
 next_unawaited t k = unawaited (front k.calls (Answers t))
 
--- the answers at the front that nobody waits for; there are no more than live calls
+-- the answers at the front that nobody waits for, as many at most as stand there
 abbrev pub drop_unawaited : TaskNo → KernelState → Transition
-drop_unawaited t k = drain (next_unawaited t) (drop_answer t) (live_calls k) k
+drop_unawaited t k = drain (next_unawaited t) (drop_answer t) (calls_at k.calls (Answers t)) k
 
 abbrev pub receive : KernelState → TaskNo → Served
 receive k t = then_serve (drop_unawaited t k) (receive_now t)

@@ -4,7 +4,9 @@ use Rattle.ipc_ids.specs.declared.numbers.TaskNo.{TaskNo}
 use Rattle.ipc_ids.specs.declared.message.Request.{Request}
 use Rattle.ipc_ids.specs.declared.message.Request.TheVariants.{Call, Receive, Answer, Forward, Hangup, Nothing}
 use Rattle.ipc_ids.specs.declared.message.Outcome.TheVariants.{Done}
-use Rattle.cleanup.specs.State.{KernelState, live_calls}
+use Rattle.call_slab.specs.declared.call.Place.TheVariants.{Answers}
+use Rattle.answerbox.specs.Calls.{calls_at}
+use Rattle.cleanup.specs.State.{KernelState}
 use Rattle.cleanup.specs.Serving.{Served}
 use Rattle.kernel_core.specs.Calling.{call}
 use Rattle.kernel_core.specs.Receiving.{receive}
@@ -30,11 +32,11 @@ most_calls (Forward n p mode change) = 0
 most_calls (Hangup p) = 1
 most_calls Nothing = 0
 
--- how many entries a request makes at most: a receive two for each call that it drops
-abbrev pub most_entries : KernelState → Request → ℕ
-most_entries k (Call p msg) = 2
-most_entries k Receive = 2 * live_calls k + 2
-most_entries k (Answer n reply) = 2
-most_entries k (Forward n p mode change) = 2
-most_entries k (Hangup p) = 3
-most_entries k Nothing = 0
+-- how many entries task t makes at most with a request: a receive two for each answer that stands at the task
+abbrev pub most_entries : KernelState → TaskNo → Request → ℕ
+most_entries k t (Call p msg) = 2
+most_entries k t Receive = 2 * calls_at k.calls (Answers t) + 2
+most_entries k t (Answer n reply) = 2
+most_entries k t (Forward n p mode change) = 2
+most_entries k t (Hangup p) = 2
+most_entries k t Nothing = 0

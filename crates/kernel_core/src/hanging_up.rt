@@ -12,9 +12,9 @@ use ipc_ids::{Code, Outcome, TaskNo, Trace};
 pub(crate) fn hangup(board: &mut Switchboard, who: TaskNo, phone: u64, out: &mut Trace) -> Outcome
     requires added { IsAdded board.old.state who }
     requires few { FewActive board.old.state }
-    requires room { HasRoom board.old out.old 1 1 3 }
+    requires room { HasRoom board.old out.old 1 1 2 }
     ensures served { Serves board.new result out.old out.new (hangup_of board.old.state who phone) }
-    ensures room { UsesRoom board.old board.new out.old out.new 1 1 3 }
+    ensures room { UsesRoom board.old board.new out.old out.new 1 1 2 }
 {
     match board.phone(who, phone) {
         None => Outcome::Refused(Code::ENOENT),

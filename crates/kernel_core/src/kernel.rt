@@ -118,7 +118,7 @@ impl Kernel {
             (serve self.old who request.now)) self.new) }
     {
         let _next = self.board.next_number();
-        let (calls, entries) = room_of(&self.board, request);
+        let (calls, entries) = room_of(&self.board, who, request);
         self.board.reserve(calls)?;
         out.reserve(entries)?;
         match serve_request(&mut self.board, who, request, out) {

@@ -1,9 +1,8 @@
 //! What a task receives: answers first, and then calls.
 ghost use Rattle.std.specs.Prelude.{◌≡◌, ◌+◌, ◌*◌, IsSome, IfSome, IfNone, None};
-ghost use Rattle.call_slab.specs.declared.call.Place.TheVariants.{Incoming};
-ghost use Rattle.answerbox.specs.Calls.{call_at};
+ghost use Rattle.call_slab.specs.declared.call.Place.TheVariants.{Incoming, Answers};
+ghost use Rattle.answerbox.specs.Calls.{call_at, calls_at};
 ghost use Rattle.answerbox.specs.Places.{IsAt};
-ghost use Rattle.cleanup.specs.State.{live_calls};
 ghost use Rattle.cleanup.specs.Board.{IsAdded};
 ghost use Rattle.cleanup.specs.Rooms.{HasRoom, UsesRoom};
 ghost use Rattle.cleanup.specs.Serving.{Does, Serves};
@@ -18,10 +17,11 @@ use ipc_ids::{CallNo, Outcome, TaskNo, Trace};
 /// else its first call.
 pub(crate) fn receive(board: &mut Switchboard, who: TaskNo, out: &mut Trace) -> Outcome
     requires added { IsAdded board.old.state who }
-    requires room { HasRoom board.old out.old 0 1 (2 * live_calls board.old.state + 2) }
+    requires room { HasRoom board.old out.old 0 1
+        (2 * calls_at board.old.state.calls (Answers who) + 2) }
     ensures served { Serves board.new result out.old out.new (receive_of board.old.state who) }
     ensures room { UsesRoom board.old board.new out.old out.new 0 1
-        (2 * live_calls board.old.state + 2) }
+        (2 * calls_at board.old.state.calls (Answers who) + 2) }
 {
     drop_unawaited(board, who, out);
     receive_now(board, who, out)
@@ -44,12 +44,13 @@ fn next_unawaited(board: &Switchboard, who: TaskNo) -> Option<CallNo>
 /// Drops the answers at the front that nobody waits for.
 fn drop_unawaited(board: &mut Switchboard, who: TaskNo, out: &mut Trace)
     requires added { IsAdded board.old.state who }
-    requires room { HasRoom board.old out.old 0 0 (2 * live_calls board.old.state) }
+    requires room { HasRoom board.old out.old 0 0
+        (2 * calls_at board.old.state.calls (Answers who)) }
     ensures step { Does board.new out.old out.new (drop_unawaited_of who board.old.state) }
     ensures room { UsesRoom board.old board.new out.old out.new 0 0
-        (2 * live_calls board.old.state) }
+        (2 * calls_at board.old.state.calls (Answers who)) }
 {
-    for _ in 0..board.live() {
+    for _ in 0..board.calls_at(Place::Answers(who)) {
         match next_unawaited(board, who) {
             Some(number) => board.drop_answer(number, who, out),
             None => return,

@@ -11,21 +11,22 @@ use crate::calling::call;
 use crate::forward::forward;
 use crate::hanging_up::hangup;
 use crate::receiving::receive;
+use call_slab::Place;
 use cleanup::Switchboard;
 use ipc_ids::{CallNo, NoMemory, Outcome, Request, TaskNo, Trace};
 
-/// How many calls the request adds at most, and how many entries it makes.
-pub(crate) fn room_of(board: &Switchboard, request: &Request) -> (usize, usize)
+/// How many calls the task's request adds at most, and how many entries it makes.
+pub(crate) fn room_of(board: &Switchboard, who: TaskNo, request: &Request) -> (usize, usize)
     requires { live_calls board.now.state < 2 ^ 62 }
     ensures calls { result.0 ≡ most_calls request.now }
-    ensures entries { result.1 ≡ most_entries board.now.state request.now }
+    ensures entries { result.1 ≡ most_entries board.now.state who request.now }
 {
     match request {
         Request::Call { .. } => (1, 2),
-        Request::Receive => (0, 2 * board.live() + 2),
+        Request::Receive => (0, 2 * board.calls_at(Place::Answers(who)) + 2),
         Request::Answer { .. } => (0, 2),
         Request::Forward { .. } => (0, 2),
-        Request::Hangup { .. } => (1, 3),
+        Request::Hangup { .. } => (1, 2),
         Request::Nothing => (0, 0),
     }
 }
@@ -41,11 +42,11 @@ pub(crate) fn serve_request(
     requires few { FewActive board.old.state }
     requires few_tasks { length board.old.state.tasks.alive ≤ 64 }
     requires room { HasRoom board.old out.old (most_calls request.now) 1
-        (most_entries board.old.state request.now) }
+        (most_entries board.old.state who request.now) }
     ensures served { ServesOrLeaves result board.old board.new out.old out.new
         (serve_request_of board.old.state who request.now) }
     ensures room { UsesRoom board.old board.new out.old out.new 1 1
-        (most_entries board.old.state request.now) }
+        (most_entries board.old.state who request.now) }
 {
     match request {
         Request::Call { phone, msg } => call(board, who, *phone, msg, out),

@@ -2,7 +2,6 @@
 use Rattle.std.proofs.Common.{◌≡◌, ℕ, ◌+◌, Bool, true, false, ◌⊎◌, inl, inr, Option, None, Some, List, [], ◌∷◌, ◌++◌, append_assoc, length, refl, ap, sym, subst, ◌∙◌}
 use Rattle.std.specs.Prelude.{◌==◌}
 use Rattle.std.proofs.lemmas.Bool.{cases_eq, eq-eqb, false≢true}
-use Rattle.std.specs.FinMap.{len}
 use Rattle.std.specs.Option.{option_to_list}
 use Rattle.ipc_ids.specs.declared.numbers.TaskNo.{TaskNo}
 use Rattle.ipc_ids.specs.declared.numbers.Label.{Label}
@@ -13,7 +12,7 @@ use Rattle.ipc_ids.specs.Codes.{ehangup}
 use Rattle.call_slab.specs.declared.call.Call.{Call}
 use Rattle.call_slab.specs.declared.call.Place.{Place}
 use Rattle.call_slab.specs.declared.call.Place.TheVariants.{Incoming, Dispatched}
-use Rattle.answerbox.specs.Calls.{call_at, same_place}
+use Rattle.answerbox.specs.Calls.{call_at, calls_at, same_place}
 use Rattle.cleanup.specs.State.{KernelState, Transition, is_alive, phone_at}
 use Rattle.cleanup.specs.Sound.{IsSound}
 use Rattle.cleanup.specs.Kept.{kept_phone, lent_phone, kept_note}
@@ -177,7 +176,7 @@ module _
   told_waiting = told_first ++ (settle_incoming t (after_slams t k)).entries
 
   all_waiting : Waits told_waiting (after_incoming t k)
-  all_waiting = drain_tells (List Entry) told_after none_after both_after (first_at (Incoming t)) settle_call Waits goes_on (len (after_slams t k).calls.records) told_first (after_slams t k) begun
+  all_waiting = drain_tells (List Entry) told_after none_after both_after (first_at (Incoming t)) settle_call Waits goes_on (calls_at (after_slams t k).calls (Incoming t)) told_first (after_slams t k) begun
 
   m_ends : HasEnd m told_waiting
   m_ends = elim all_waiting.first [

@@ -2,7 +2,6 @@
 use Rattle.std.proofs.Common.{◌≡◌, ℕ, ◌<◌, Bool, true, false, ◌⊎◌, inl, inr, Option, None, Some, List, refl, ap, sym, subst, ◌∙◌, arith}
 use Rattle.std.specs.Prelude.{◌==◌}
 use Rattle.std.proofs.lemmas.Bool.{cases_eq, eqb-true, false≢true}
-use Rattle.std.specs.FinMap.{len}
 use Rattle.ipc_ids.specs.declared.numbers.TaskNo.{TaskNo}
 use Rattle.ipc_ids.specs.declared.message.PhoneState.{PhoneState}
 use Rattle.ipc_ids.specs.declared.message.PhoneState.TheVariants.{Free, Connecting, Connected, HungUp, Slammed}
@@ -10,7 +9,7 @@ use Rattle.ipc_ids.specs.Codes.{ehangup}
 use Rattle.call_slab.specs.declared.call.Call.{Call}
 use Rattle.call_slab.specs.declared.call.Place.{Place}
 use Rattle.call_slab.specs.declared.call.Place.TheVariants.{Incoming, Dispatched, Answers}
-use Rattle.answerbox.specs.Calls.{CallTable, call_at, same_place, is_caller, with_record}
+use Rattle.answerbox.specs.Calls.{CallTable, call_at, calls_at, calls_by, same_place, is_caller, with_record}
 use Rattle.cleanup.specs.State.{Tasks, KernelState, Transition, alive_in, is_alive, phone_at, with_calls}
 use Rattle.cleanup.specs.Sound.{IsPlaced, IsCaller, IsSound}
 use Rattle.cleanup.specs.Joins.{bare_reply, declined_call, settle_for, lives, drop_answer, forget_call, hangup_call, hang_up}
@@ -221,7 +220,7 @@ module _ (k : KernelState) (t : TaskNo) (sound : IsSound k) (alive : is_alive k 
   comes_incoming : IsOn (IsAlone marks t) (after_incoming t k)
   comes_incoming = drain_keeps (first_at (Incoming t)) settle_call (IsOn (IsAlone marks t))
       (λ j d h e. let f = front_at marks j (Incoming t) d h.calls.silent.ending e in record { calls = incoming_alone marks t j d h.calls e; steady = settled_steady j d h.steady; comes = settle_comes j d h.steady f.0 (inl f.1) h.comes })
-      (len (after_slams t k).calls.records) (after_slams t k) (record { calls = alone_first; steady = steady_phones; comes = inl after_phones })
+      (calls_at (after_slams t k).calls (Incoming t)) (after_slams t k) (record { calls = alone_first; steady = steady_phones; comes = inl after_phones })
 
   uncalled : IsUncalled marks t (after_incoming t k)
   uncalled = incoming_settled marks t (after_slams t k) alone_first
@@ -229,7 +228,7 @@ module _ (k : KernelState) (t : TaskNo) (sound : IsSound k) (alive : is_alive k 
   comes_dispatched : IsOn (IsUncalled marks t) (after_dispatched t k)
   comes_dispatched = drain_keeps (first_at (Dispatched t)) settle_call (IsOn (IsUncalled marks t))
       (λ j d h e. let f = front_at marks j (Dispatched t) d h.calls.alone.silent.ending e in record { calls = dispatched_uncalled marks t j d h.calls e; steady = settled_steady j d h.steady; comes = settle_comes j d h.steady f.0 (inr f.1) h.comes })
-      (len (after_incoming t k).calls.records) (after_incoming t k) (record { calls = uncalled; steady = comes_incoming.steady; comes = comes_incoming.comes })
+      (calls_at (after_incoming t k).calls (Dispatched t)) (after_incoming t k) (record { calls = uncalled; steady = comes_incoming.steady; comes = comes_incoming.comes })
 
   idle : IsIdle marks t (after_dispatched t k)
   idle = dispatched_settled marks t (after_incoming t k) uncalled
@@ -237,7 +236,7 @@ module _ (k : KernelState) (t : TaskNo) (sound : IsSound k) (alive : is_alive k 
   comes_answers : IsOn (IsIdle marks t) (after_answers t k)
   comes_answers = drain_keeps (first_at (Answers t)) (drop_answer t) (IsOn (IsIdle marks t))
       (λ j d h e. let f = front_at marks j (Answers t) d h.calls.uncalled.alone.silent.ending e in record { calls = drop_idle marks t j d h.calls e; steady = record { alive = h.steady.alive; memory = h.steady.memory; events = h.steady.events }; comes = drop_comes j d f.0 f.1 h.comes })
-      (len (after_dispatched t k).calls.records) (after_dispatched t k) (record { calls = idle; steady = comes_dispatched.steady; comes = comes_dispatched.comes })
+      (calls_at (after_dispatched t k).calls (Answers t)) (after_dispatched t k) (record { calls = idle; steady = comes_dispatched.steady; comes = comes_dispatched.comes })
 
   unanswered : IsUnanswered marks t (after_answers t k)
   unanswered = answers_dropped marks t (after_dispatched t k) idle
@@ -245,7 +244,7 @@ module _ (k : KernelState) (t : TaskNo) (sound : IsSound k) (alive : is_alive k 
   comes_last : IsOn (IsUnanswered marks t) (kill k t).state
   comes_last = drain_keeps (first_call_of t) forget_call (IsOn (IsUnanswered marks t))
       (λ j d h e. let f = call_from marks t j d h.calls.idle.uncalled.alone.silent.ending e in record { calls = forget_unanswered marks t j d h.calls e; steady = record { alive = h.steady.alive; memory = h.steady.memory; events = h.steady.events }; comes = forget_comes j d f.0 f.1 h.comes })
-      (len (after_answers t k).calls.records) (after_answers t k) (record { calls = unanswered; steady = comes_answers.steady; comes = comes_answers.comes })
+      (calls_by (after_answers t k).calls t) (after_answers t k) (record { calls = unanswered; steady = comes_answers.steady; comes = comes_answers.comes })
 
   pub kill_becomes : Becomes t c (call_at (kill k t).state.calls n)
   kill_becomes = comes_last.comes

@@ -4,7 +4,7 @@ use Rattle.std.specs.Prelude.{if◌then◌else◌}
 use Rattle.std.specs.Option.{option_map_or, option_to_list}
 use Rattle.std.proofs.lemmas.Bool.Decides.{nat_tests}
 use Rattle.std.proofs.lemmas.Bool.{cases_eq, eqb-true, eq-eqb, ne_eqb, false≢true}
-use Rattle.std.specs.FinMap.{len, entries}
+use Rattle.std.specs.FinMap.{entries}
 use Rattle.ipc_ids.specs.declared.numbers.TaskNo.{TaskNo}
 use Rattle.ipc_ids.specs.declared.numbers.CallNo.{CallNo}
 use Rattle.ipc_ids.specs.declared.numbers.Label.{Label}
@@ -18,8 +18,8 @@ use Rattle.ipc_ids.specs.Methods.{phone_hungup, first_user_method, kind_of}
 use Rattle.call_slab.specs.declared.call.Call.{Call}
 use Rattle.call_slab.specs.declared.call.Place.{Place}
 use Rattle.call_slab.specs.declared.call.Place.TheVariants.{Incoming, Dispatched, Answers}
-use Rattle.answerbox.specs.Calls.{CallTable, call_at, same_place, front, put_at, without_call, count_of}
-use Rattle.answerbox.proofs.Counts.{count-len, count-without_call}
+use Rattle.answerbox.specs.Calls.{CallTable, call_at, calls_at, same_place, front, put_at, without_call, count_of}
+use Rattle.answerbox.proofs.Counts.{count-without_call}
 use Rattle.answerbox.proofs.Fronts.{front_live, front-is_front, no_front-has_no_calls}
 use Rattle.cleanup.specs.State.{KernelState, Transition, nothing, then_do, drain}
 use Rattle.cleanup.specs.Sound.{IsSound}
@@ -187,7 +187,7 @@ module _ (k : KernelState) (t : TaskNo) (sound : IsSound k) where
   rest = (drop_unawaited t k).state
 
   dropped : IsRest (drop_unawaited t k).entries rest
-  dropped = drain_tells (List Entry) told_after none_after both_after (next_unawaited t) (drop_answer t) IsRest drops_next (len k.calls.records) [] k
+  dropped = drain_tells (List Entry) told_after none_after both_after (next_unawaited t) (drop_answer t) IsRest drops_next (calls_at k.calls (Answers t)) [] k
       (record { fine = sound; left = λ n c is. is; kept = λ n c is. inl is; drops = tt })
 
   -- then none stands first
@@ -195,7 +195,7 @@ module _ (k : KernelState) (t : TaskNo) (sound : IsSound k) where
   none_next = drain_stops (next_unawaited t) (drop_answer t) IsSound (λ c. same_place c.place (Answers t))
       (λ j x s is. sound_drop j t x s (next_is j x s is).live)
       (λ j x s is. let it = next_is j x s is in let sum = rw it.at at (count-without_call (λ c. same_place c.place (Answers t)) j.calls x.number.0 x it.live) in omega arith)
-      (len k.calls.records) k sound (count-len (λ c. same_place c.place (Answers t)) k.calls.records)
+      (calls_at k.calls (Answers t)) k sound (omega arith)
 
   -- the first answer and the first call of what is left
 

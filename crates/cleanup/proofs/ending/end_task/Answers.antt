@@ -1,7 +1,9 @@
-use Rattle.std.proofs.Common.{◌≡◌, ap, refl, ◌∙◌, ◌++◌}
-use Rattle.answerbox.specs.Calls.{CallTable}
+use Rattle.std.proofs.Common.{◌≡◌, ap, refl, ◌∙◌, ◌++◌, arith}
+use Rattle.answerbox.specs.Calls.{CallTable, BoxesState}
 use Rattle.cleanup.specs.State.{KernelState, Transition, state_from}
 use Rattle.cleanup.specs.Kill.{end_parts, kill}
+use Rattle.cleanup.specs.KillRoom.{kill_calls, kill_moves, kill_entries}
+use Rattle.cleanup.proofs.KillRoom.{few_moves}
 use Rattle.cleanup.proofs.Marks.{remarked}
 use Rattle.cleanup.proofs.SoundBoards.{same_end, switched, few_from, whole}
 use Rattle.cleanup.proofs.ending.end_task.Given as given
@@ -21,6 +23,28 @@ end_reserved-requires-clause-few_active g c =
     let phones = c.args.phones.now in
     rw (c.of-board.ensures.state, c.replace-2.ensures.value, c.reserve.ensures.calls)
     (few_from g.alive c.args.who phones.states c.args.boxes.now.calls c.requires.0 c.requires.1.0 phones.counts c.requires.1.1.0 c.check_counts.ensures)
+
+pub end_reserved-requires-clause-room : goal.end_reserved-requires-clause-room
+end_reserved-requires-clause-room g c =
+    let phones = c.args.phones.now.states in
+    let boxes = c.args.boxes.now in
+    let k = whole g.alive c.args.who phones boxes.calls c.requires.0 c.requires.1.0 in
+    let same : c.of-board.result.state ≡ k = rw (c.of-board.ensures.state, c.in_ok-marks.ensures, c.tasks-tasks.ensures.tasks, c.replace.ensures.value, c.replace-2.ensures.value, c.reserve.ensures.calls) refl in
+    let calls = ap (λ (j : KernelState). kill_calls j c.args.who) same in
+    let moves = ap (λ (j : KernelState). kill_moves j c.args.who) same in
+    let entries = ap (λ (j : KernelState). kill_entries j c.args.who) same in
+    let number = ap (λ (j : KernelState). j.calls.next_number) same in
+    let stamp = ap (λ (j : KernelState). j.calls.next_stamp) same in
+    let spare = c.of-board.ensures.spare ∙ ap (λ (b : BoxesState). b.spare) c.replace-2.ensures.value in
+    let few = few_moves k c.args.who in
+    let counted = c.kill_calls.ensures in
+    let most = c.requires.1.1.1.0 in
+    record {
+      numbers = omega (arith, number, calls, counted.calls, counted.few, most.numbers);
+      stamps = omega (arith, stamp, moves, few, counted.calls, counted.few, most.numbers, most.stamps, c.next_number-next.ensures.few);
+      calls = omega (arith, calls, spare, counted.calls, c.in_ok-reserve.ensures.room);
+      entries = omega (arith, entries, c.in_ok-entries.ensures, c.in_ok-reserve-2.ensures.room);
+    }
 
 module _ (g : given.Over) (c : goal.After-drop-boxes g) where
   board : c.of-board.result.state ≡ whole g.alive c.args.who c.args.phones.now.states c.args.boxes.now.calls c.requires.0 c.requires.1.0

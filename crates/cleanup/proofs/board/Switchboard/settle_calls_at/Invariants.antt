@@ -1,6 +1,7 @@
 use Rattle.std.proofs.Common.{◌-◌, ◌*◌}
+use Rattle.answerbox.specs.Calls.{calls_at}
 use Rattle.cleanup.specs.Kill.{first_at, settle_call, settle_calls_at}
-use Rattle.cleanup.specs.State.{live_calls, drain}
+use Rattle.cleanup.specs.State.{drain}
 use Rattle.cleanup.specs.Rooms.{UsesRoom}
 use Rattle.cleanup.specs.Serving.{Completes}
 use Rattle.cleanup.proofs.board.Switchboard.settle_calls_at.Given as goal
@@ -9,6 +10,6 @@ use Rattle.cleanup.proofs.board.Switchboard.settle_calls_at.Given as goal
 abbrev pub invariant-loop : goal.invariant-loop
 invariant-loop l =
     record {
-      step : Completes l.self l.fn.out l.out (drain (first_at l.place) settle_call (live_calls l.fn.self.state - l.counter) l.self.state) (settle_calls_at l.place l.fn.self.state);
+      step : Completes l.self l.fn.out l.out (drain (first_at l.place) settle_call (calls_at l.fn.self.state.calls l.place - l.counter) l.self.state) (settle_calls_at l.place l.fn.self.state);
       room : UsesRoom l.fn.self l.self l.fn.out l.out 0 l.counter (2 * l.counter);
     }

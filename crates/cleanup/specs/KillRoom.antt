@@ -1,0 +1,58 @@
+-- The room that the end of task t takes at most, counted from the phones and the calls that it can touch.
+use Rattle.std.specs.Prelude.{ℕ, zero, suc, ◌+◌, ◌*◌, ◌==◌, if◌then◌else◌, Option, None, Some, List, length}
+use Rattle.ipc_ids.specs.declared.numbers.TaskNo.{TaskNo}
+use Rattle.ipc_ids.specs.declared.message.PhoneState.{PhoneState}
+use Rattle.ipc_ids.specs.declared.message.PhoneState.TheVariants.{Free, Connecting, Connected, HungUp, Slammed}
+use Rattle.call_slab.specs.declared.call.Place.TheVariants.{Incoming, Dispatched, Answers}
+use Rattle.answerbox.specs.Calls.{calls_at, calls_by}
+use Rattle.phone_table.specs.Phones.{state_at}
+use Rattle.cleanup.specs.State.{KernelState}
+use Rattle.cleanup.specs.Kill.{width}
+use Rattle.cleanup.specs.Rooms.{calls_of_hangup, entries_of_hangup}
+
+-- the sum of these for so many numbers, from i on
+abbrev pub total : (ℕ → ℕ) → ℕ → ℕ → ℕ
+total f zero i = 0
+total f (suc most) i = f i + total f most (i + 1)
+
+-- 1 where a phone in this state leads to task t
+abbrev pub leads_to : TaskNo → Option PhoneState → ℕ
+leads_to t None = 0
+leads_to t (Some Free) = 0
+leads_to t (Some Connecting) = 0
+leads_to t (Some (Connected u)) = if u.0 == t.0 then 1 else 0
+leads_to t (Some HungUp) = 0
+leads_to t (Some Slammed) = 0
+
+-- how many calls and entries the hangups of the phones of task t make
+abbrev pub own_calls : List (List PhoneState) → TaskNo → ℕ
+own_calls rows t = total (λ p. calls_of_hangup (state_at rows t.0 p)) (width rows t.0) 0
+
+abbrev pub own_entries : List (List PhoneState) → TaskNo → ℕ
+own_entries rows t = total (λ p. entries_of_hangup (state_at rows t.0 p)) (width rows t.0) 0
+
+-- how many phones of the task numbered u lead to task t
+abbrev pub leading_of : TaskNo → List (List PhoneState) → ℕ → ℕ
+leading_of t rows u = total (λ p. leads_to t (state_at rows u p)) (width rows u) 0
+
+-- likewise of the task numbered i + 1, unless it is itself task t
+abbrev pub leading_at : TaskNo → List (List PhoneState) → ℕ → ℕ
+leading_at t rows i = if i + 1 == t.0 then 0 else leading_of t rows (i + 1)
+
+-- how many phones of other tasks lead to task t
+abbrev pub leading : TaskNo → List (List PhoneState) → ℕ
+leading t rows = total (leading_at t rows) (length rows) 0
+
+-- how many calls the end of task t makes: those of its hangups
+abbrev pub kill_calls : KernelState → TaskNo → ℕ
+kill_calls k t = own_calls k.tasks.phones t
+
+-- how many times it puts a call at a place: those of its hangups, which may come to t itself, and the calls that wait
+-- at t or that t holds
+abbrev pub kill_moves : KernelState → TaskNo → ℕ
+kill_moves k t = 2 * own_calls k.tasks.phones t + calls_at k.calls (Incoming t) + calls_at k.calls (Dispatched t)
+
+-- how many entries it makes: those of its hangups, one for each phone that is slammed, two for each call at t, one for
+-- each call of t, and for each call of a hangup three more, which may come to t itself and is one of t
+abbrev pub kill_entries : KernelState → TaskNo → ℕ
+kill_entries k t = own_entries k.tasks.phones t + leading t k.tasks.phones + 2 * (calls_at k.calls (Incoming t) + calls_at k.calls (Dispatched t) + calls_at k.calls (Answers t)) + calls_by k.calls t + 3 * own_calls k.tasks.phones t
