@@ -1,8 +1,8 @@
 -- What the invariant of the memory gives, and how it is kept.
-use Rattle.std.proofs.Common.{◌≡◌, ℕ, zero, suc, ◌+◌, ◌-◌, ◌*◌, ◌<◌, ◌≤◌, ◌==◌, Bool, true, false, cond, ◌&&◌, List, [], ◌∷◌, ◌++◌, length, get_or, Option, Some, None, refl, sym, ap, ◌∙◌, subst, arith, All, take, drop}
+use Rattle.std.proofs.Common.{◌≡◌, ℕ, zero, suc, ◌+◌, ◌-◌, ◌*◌, ◌<◌, ◌≤◌, ◌==◌, Bool, true, false, cond, ◌&&◌, List, [], ◌∷◌, length, get_or, Option, Some, None, refl, sym, ◌∙◌, subst, arith, All}
 use Rattle.std.proofs.lemmas.Grind.{common_steps}
 use Rattle.std.proofs.Math.ListN.{set}
-use Rattle.std.specs.Prelude.{if◌then◌else◌, ◌||◌, remove, nat_le, slice_get, slice_set, option_map, IsSome, replicate, Result, Ok, Err, OnOk, OnErr}
+use Rattle.std.specs.Prelude.{if◌then◌else◌, ◌||◌, remove, nat_le, slice_get, option_map, IsSome, replicate, Result, Ok, Err, OnOk, OnErr}
 use Rattle.ipc_ids.specs.declared.trace.NoMemory.{NoMemory}
 use Rattle.std.specs.List.{list_any}
 use Rattle.std.specs.Option.{unwrap_or}
@@ -10,12 +10,12 @@ use Rattle.std.specs.Ordering.{nat_cmp, eq_by_cmp}
 use Rattle.std.specs.Cmp.{nat_cmp_total}
 use Rattle.std.specs.FinMap.{FinMap, get, insert, get-insert, get-remove}
 use Rattle.std.specs.FinMap as fin
-use Rattle.std.proofs.lemmas.List.Elements.{All-nil, All-cons, All-head, All-tail, All-set, All-push, All-weaker, All-get_or}
+use Rattle.std.proofs.lemmas.List.Elements.{All-nil, All-cons, All-head, All-tail, All-set, All-weaker, All-get_or}
 use Rattle.std.proofs.lemmas.Option.{slice_get_read}
 use Rattle.std.proofs.lemmas.Bool.Decides.{nat_tests}
 use Rattle.address_space.specs.declared.area.Right.{Right}
 use Rattle.address_space.specs.Areas.{Area, holder, holds, allows, end_of, stands_over}
-use Rattle.address_space.specs.Stores.{StoreTable, HasBytes, written_over, write_at, with_zeros, with_bytes}
+use Rattle.address_space.specs.Stores.{StoreTable, HasBytes, written_over, write_at, with_zeros}
 use Rattle.address_space.specs.Kept.{IsOver, AreOver}
 use Rattle.address_space.specs.Memory.{is_used}
 

@@ -1,5 +1,5 @@
 -- A list of stores by rising number, and the map that it stands for.
-use Rattle.std.proofs.Common.{◌≡◌, ℕ, zero, suc, ◌+◌, ◌<◌, ◌≤◌, Bool, true, false, cond, ◌&&◌, List, [], ◌∷◌, ◌++◌, length, get_or, Option, Some, None, refl, sym, ap, ◌∙◌, map, arith, T}
+use Rattle.std.proofs.Common.{◌≡◌, ℕ, zero, suc, ◌+◌, ◌<◌, ◌≤◌, Bool, true, false, cond, ◌&&◌, List, [], ◌∷◌, ◌++◌, length, get_or, Option, Some, None, refl, sym, ap, ◌∙◌, arith, T}
 use Rattle.std.proofs.Math.ListN.{set}
 use Rattle.std.specs.Prelude.{remove}
 use Rattle.address_space.specs.declared.stores.Store.{Store}
@@ -7,12 +7,12 @@ use Rattle.address_space.specs.Stores.{StoreTable, HasBytes, written_over, with_
 use Rattle.address_space.specs.Kept.{keyed, RisesWithin, map_of, StandsAt}
 use Rattle.std.specs.Ordering.{nat_cmp, eq_by_cmp}
 use Rattle.std.specs.Cmp.{nat_cmp_is, nat_cmp_total}
-use Rattle.std.specs.declared.cmp.Ordering.TheVariants.{Less, Equal, Greater}
-use Rattle.std.specs.FinMap.{find, is_sorted, same_map, nat_cmp-IsAntisymmetric, get-insert, get-remove, get-from_sorted, get-empty, entries-from_sorted, get, empty, from_sorted}
+use Rattle.std.specs.declared.cmp.Ordering.TheVariants.{Less}
+use Rattle.std.specs.FinMap.{find, is_sorted, same_map, nat_cmp-IsAntisymmetric, get-insert, get-remove, get-from_sorted, get-empty, get, empty}
 use Rattle.std.specs.FinMap as fin
 use Rattle.std.specs.FinMap.Entries.{below_all}
 use Rattle.std.proofs.lemmas.Bool.Decides.{nat_tests}
-use Rattle.std.specs.Prelude.{slice_get, IsSome, IfNone, Contains, count_by}
+use Rattle.std.specs.Prelude.{slice_get, IsSome, IfNone}
 use Rattle.std.proofs.lemmas.Option.{slice_get_read}
 
 less : (x y : ℕ) → x < y → nat_cmp x y ≡ Less

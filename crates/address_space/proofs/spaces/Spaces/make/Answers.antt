@@ -1,4 +1,4 @@
-use Rattle.std.proofs.Common.{◌≡◌, ◌*◌, refl}
+use Rattle.std.proofs.Common.{◌*◌}
 use Rattle.std.specs.Prelude.{replicate}
 use Rattle.address_space.proofs.Keeping.{over_new, length-replicate}
 use Rattle.address_space.proofs.spaces.Spaces.make.Goals as goal

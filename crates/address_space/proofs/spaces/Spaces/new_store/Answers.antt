@@ -1,4 +1,3 @@
-use Rattle.std.proofs.Common.{◌≡◌}
 use Rattle.address_space.proofs.Keeping.{store_kept}
 use Rattle.address_space.proofs.spaces.Spaces.new_store.Goals as goal
 

@@ -1,6 +1,4 @@
-use Rattle.std.proofs.Common.{◌≡◌, ◌<◌, ◌-◌, ℕ, List, [], length, arith, sym, ap, All, Some}
-use Rattle.std.specs.Prelude.{slice_get}
-use Rattle.std.specs.Option.{unwrap_or}
+use Rattle.std.proofs.Common.{◌<◌, ◌-◌, ℕ, length, arith}
 use Rattle.address_space.specs.Areas.{Area}
 use Rattle.address_space.specs.Kept.{IsOver}
 use Rattle.address_space.proofs.Keeping.{task_areas, task_kept, all_at, all_removed, all_got, is_there}
@@ -8,7 +6,7 @@ use Rattle.address_space.proofs.spaces.Spaces.take_area.Goals as goal
 
 pub invariant_of-self : goal.invariant_of-self
 invariant_of-self c =
-    let positive = c.requires.added.positive in
+    let positive = c.requires.added.from_one in
     let range = rw (← c.self.view_is) at c.requires.added.in_range in
     let i : ℕ = c.args.t.0 - 1 in
     let lt : i < length c.self.inside.tasks.items = omega arith in
@@ -20,21 +18,21 @@ invariant_of-self c =
 
 pub returns-clause-area : goal.returns-clause-area
 returns-clause-area c =
-    let positive = c.requires.added.positive in
+    let positive = c.requires.added.from_one in
     let range = rw (← c.self.view_is) at c.requires.added.in_range in
     let lt : c.args.t.0 - 1 < length c.self.inside.tasks.items = omega arith in
     rw (← c.self.view_is, task_areas c.self.inside.tasks.items (c.args.t.0 - 1) c.index_mut.result.now lt c.index_mut.ensures.value) c.remove.ensures.area
 
 pub returns-clause-areas : goal.returns-clause-areas
 returns-clause-areas c =
-    let positive = c.requires.added.positive in
+    let positive = c.requires.added.from_one in
     let range = rw (← c.self.view_is) at c.requires.added.in_range in
     let lt : c.args.t.0 - 1 < length c.self.inside.tasks.items = omega arith in
     rw (← c.self.view_is, c.remove.ensures.areas, task_areas c.self.inside.tasks.items (c.args.t.0 - 1) c.index_mut.result.now lt c.index_mut.ensures.value)
 
 pub returns-clause-there : goal.returns-clause-there
 returns-clause-there c =
-    let positive = c.requires.added.positive in
+    let positive = c.requires.added.from_one in
     let range = rw (← c.self.view_is) at c.requires.added.in_range in
     let lt : c.args.t.0 - 1 < length c.self.inside.tasks.items = omega arith in
     let P : Area → Type 0 = IsOver c.self.inside.stores.stores c.self.inside.stores.next_store in

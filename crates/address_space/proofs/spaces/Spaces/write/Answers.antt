@@ -1,7 +1,5 @@
-use Rattle.std.proofs.Common.{◌≡◌, length}
 use Rattle.address_space.specs.Kept.{IsOver}
 use Rattle.address_space.specs.Stores.{write_at}
-use Rattle.std.specs.FinMap.{get}
 use Rattle.address_space.proofs.Keeping.{over_written, all_weaker}
 use Rattle.address_space.proofs.spaces.Spaces.write.Goals as goal
 
