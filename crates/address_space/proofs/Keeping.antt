@@ -1,5 +1,5 @@
 -- What the invariant of the memory gives, and how it is kept.
-use Rattle.std.proofs.Common.{◌≡◌, ℕ, zero, suc, ◌+◌, ◌-◌, ◌*◌, ◌<◌, ◌≤◌, ◌==◌, Bool, true, false, cond, ◌&&◌, List, [], ◌∷◌, length, get_or, Option, Some, None, refl, sym, ◌∙◌, subst, arith, All}
+use Rattle.std.proofs.Common.{◌≡◌, ℕ, zero, suc, ◌+◌, ◌-◌, ◌*◌, ◌<◌, ◌≤◌, ◌==◌, Bool, true, false, cond, ◌&&◌, List, [], ◌∷◌, ◌++◌, length, get_or, Option, Some, None, refl, sym, ◌∙◌, subst, arith, All}
 use Rattle.std.proofs.lemmas.Grind.{common_steps}
 use Rattle.std.proofs.Math.ListN.{set}
 use Rattle.std.specs.Prelude.{if◌then◌else◌, ◌||◌, remove, nat_le, slice_get, option_map, IsSome, replicate, Result, Ok, Err, OnOk, OnErr}
@@ -10,13 +10,16 @@ use Rattle.std.specs.Ordering.{nat_cmp, eq_by_cmp}
 use Rattle.std.specs.Cmp.{nat_cmp_total}
 use Rattle.std.specs.FinMap.{FinMap, get, insert, get-insert, get-remove}
 use Rattle.std.specs.FinMap as fin
-use Rattle.std.proofs.lemmas.List.Elements.{All-nil, All-cons, All-head, All-tail, All-set, All-weaker, All-get_or}
+use Rattle.std.proofs.lemmas.List.Elements.{All-push, All-nil, All-cons, All-head, All-tail, All-set, All-weaker, All-get_or}
 use Rattle.std.proofs.lemmas.Option.{slice_get_read}
 use Rattle.std.proofs.lemmas.Bool.Decides.{nat_tests}
+use Rattle.std.proofs.lemmas.List.Edits.{length-remove}
+use Rattle.std.proofs.lemmas.List.Quantifiers.{all_pairs_push, all_pairs_remove}
+use Rattle.std.proofs.lemmas.List.{length-append}
 use Rattle.address_space.specs.declared.area.Right.{Right}
-use Rattle.address_space.specs.Areas.{Area, holder, holds, allows, end_of, stands_over}
+use Rattle.address_space.specs.Areas.{Area, IsInRange, holder, holds, allows, end_of, overlaps, stands_over, is_taken}
 use Rattle.address_space.specs.Stores.{StoreTable, HasBytes, written_over, write_at, with_zeros}
-use Rattle.address_space.specs.Kept.{IsOver, AreOver}
+use Rattle.address_space.specs.Sound.{IsOver, IsSound, AreLawful, AreApart}
 use Rattle.address_space.specs.Memory.{is_used}
 
 -- the area that holds a range is one of the areas
@@ -127,6 +130,12 @@ task_areas xs i x h e = let is : slice_get xs i ≡ Some x = slice_get_read xs (
 pub task_kept : (P : Area → Type 0) (xs : List (List Area)) (i : ℕ) (x : List Area) → i < length xs → x ≡ get_or xs i x → All (All P) xs → All P x
 task_kept P xs i x h e all = subst (All P) (sym e) (All-get_or (All P) xs i x h all)
 
+pub task_lawful : (xs : List (List Area)) (i : ℕ) (x : List Area) → i < length xs → x ≡ get_or xs i x → All AreLawful xs → AreLawful x
+task_lawful xs i x h e all = subst AreLawful (sym e) (All-get_or AreLawful xs i x h all)
+
+pub lawful_at : (xs : List (List Area)) (i : ℕ) (x : List Area) → AreLawful x → All AreLawful xs → All AreLawful (set xs i x)
+lawful_at xs i x each all = All-set AreLawful xs i x each all
+
 -- one task's areas change
 pub all_at : (P : Area → Type 0) (xs : List (List Area)) (i : ℕ) (x : List Area) → All P x → All (All P) xs → All (All P) (set xs i x)
 all_at P xs i x each all = All-set (All P) xs i x each all
@@ -147,7 +156,30 @@ all_got P (x ∷ xs) (suc i) a e all = all_got P xs i a e (All-tail P x xs all)
 pub length-replicate : (n x : ℕ) → length (replicate n x) ≡ n
 length-replicate n x = grind (arith, common_steps)
 
-pub store_kept : (r : Result ℕ NoMemory) (s t : StoreTable) (count : ℕ) (areas : List (List Area)) → OnOk r (t ≡ with_zeros s count) → OnErr r (t ≡ s) → AreOver areas s.stores s.next_store → AreOver areas t.stores t.next_store
+-- one area less
+pub lawful_removed : (areas : List Area) (i : ℕ) → i < length areas → AreLawful areas → AreLawful (remove areas i)
+lawful_removed areas i h l =
+    record {
+      few = let n = length-remove areas i h in let few = l.few in omega arith;
+      in_range = all_removed (λ a. IsInRange a.base a.pages a.rights) areas i h l.in_range;
+      apart = all_pairs_remove AreApart areas i h l.apart;
+    }
+
+none_at : {X : Type 0} (q : X → Bool) (xs : List X) (k : ℕ) (d : X) → list_any q xs ≡ false → k < length xs → q (get_or xs k d) ≡ false
+none_at q [] k d h lt = absurd (omega arith)
+none_at q (x ∷ xs) zero d h lt = (none_any (q x) (list_any q xs) h).0
+none_at q (x ∷ xs) (suc k) d h lt = none_at q xs k d (none_any (q x) (list_any q xs) h).1 (omega arith)
+
+-- one area more
+pub lawful_pushed : (areas : List Area) (a : Area) → length areas < 16 → IsInRange a.base a.pages a.rights → is_taken a.base a.pages areas ≡ false → AreLawful areas → AreLawful (areas ++ a ∷ [])
+lawful_pushed areas a room range free l =
+    record {
+      few = let n = length-append areas (a ∷ []) in omega (arith, n);
+      in_range = All-push (λ b. IsInRange b.base b.pages b.rights) areas a l.in_range range;
+      apart = all_pairs_push AreApart areas a l.apart (λ k d lt. none_at (overlaps a.base (end_of a)) areas k d free lt);
+    }
+
+pub store_kept : (r : Result ℕ NoMemory) (s t : StoreTable) (count : ℕ) (areas : List (List Area)) → OnOk r (t ≡ with_zeros s count) → OnErr r (t ≡ s) → IsSound (record { areas = areas; stores = s.stores; next_store = s.next_store }) → IsSound (record { areas = areas; stores = t.stores; next_store = t.next_store })
 store_kept (Ok n) s t count areas ok err k =
-    rw ok (record { each = all_weaker (IsOver s.stores s.next_store) (IsOver (insert s.stores s.next_store (replicate count 0)) (s.next_store + 1)) areas (λ a o. over_added s.stores s.next_store (replicate count 0) a o) k.each })
+    rw ok (record { lawful = k.lawful; over = all_weaker (IsOver s.stores s.next_store) (IsOver (insert s.stores s.next_store (replicate count 0)) (s.next_store + 1)) areas (λ a o. over_added s.stores s.next_store (replicate count 0) a o) k.over })
 store_kept (Err e) s t count areas ok err k = rw err k

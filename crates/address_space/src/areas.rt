@@ -1,5 +1,5 @@
 //! The areas of one task.
-ghost use Rattle.std.specs.Prelude.{◌≡◌, ◌+◌, ◌*◌, ◌^◌, ◌<◌, ◌≤◌, [], ◌∷◌, ◌++◌, remove, length, IfNone, IfSome, Some, slice_get};
+ghost use Rattle.std.specs.Prelude.{◌≡◌, ◌+◌, ◌*◌, ◌^◌, ◌<◌, ◌≤◌, [], ◌∷◌, ◌++◌, remove, length, IfNone, IfSome, Some, false, slice_get};
 ghost use Rattle.std.specs.List.{list_any};
 ghost use Rattle.std.specs.Option.{option_copied};
 ghost use Rattle.address_space.specs.Areas.{IsInRange, holder, place_of, stands_over, is_taken, least_base, refusal};
@@ -66,6 +66,7 @@ impl TaskAreas {
     pub fn refusal(&self, base: u64, pages: u64, rights: u64) -> Option<Code>
         ensures refusal { result ≡ refusal base pages rights self.now }
         ensures in_range { IfNone result (IsInRange base pages rights) }
+        ensures free { IfNone result (is_taken base pages self.now ≡ false) }
         ensures room { IfNone result (length self.now < 16) }
     {
         if is_malformed(base, pages, rights) {

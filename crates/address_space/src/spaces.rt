@@ -1,8 +1,9 @@
 //! The areas of all tasks.
-ghost use Rattle.std.specs.Prelude.{◌≡◌, ◌+◌, ◌^◌, ◌<◌, ◌≤◌, length, IfSome, IfOk, OnOk, OnErr, slice_get, All, remove, IsSome, Some, ◌++◌, ◌∷◌, []};
+ghost use Rattle.std.specs.Prelude.{◌≡◌, ◌+◌, ◌^◌, ◌<◌, ◌≤◌, length, IfSome, IfOk, OnOk, OnErr, slice_get, All, remove, IsSome, Some, false, ◌++◌, ◌∷◌, []};
 ghost use Rattle.std.specs.FinMap.{get};
+ghost use Rattle.address_space.specs.Areas.{IsInRange, is_taken};
 ghost use Rattle.address_space.specs.Stores.{HasBytes};
-ghost use Rattle.address_space.specs.Kept.{IsOver};
+ghost use Rattle.address_space.specs.Sound.{IsOver};
 ghost use Rattle.address_space.specs.Memory.{Did, Tells, IsAdded, no_memory, with_task, areas_of, spot_of, bytes_at, with_areas, with_store, is_used, release, make, drop_area, read, peek, write, first_area};
 
 use crate::area::{HeldArea, PAGE, Right};
@@ -35,8 +36,8 @@ pub struct Spaces {
 }
 
 impl Model for Spaces {
-    ghost use Rattle.address_space.specs.Kept.{AreOver};
     ghost use Rattle.address_space.specs.Memory.{Memory, memory_code};
+    ghost use Rattle.address_space.specs.Sound.{IsSound};
 
     ghost Value = { Memory };
 
@@ -48,7 +49,11 @@ impl Model for Spaces {
       next_store = a.stores.next_store;
     } };
 
-    ghost invariant = { λ a. AreOver a.tasks.items a.stores.stores a.stores.next_store };
+    ghost invariant = { λ a. IsSound (record {
+      areas = a.tasks.items;
+      stores = a.stores.stores;
+      next_store = a.stores.next_store;
+    }) };
 }
 
 impl Spaces {
@@ -244,6 +249,8 @@ impl Spaces {
         requires added { IsAdded self.old t }
         requires room { length (areas_of self.old t) < 16 }
         requires over { IsOver self.old.stores self.old.next_store area }
+        requires in_range { IsInRange area.base area.pages area.rights }
+        requires free { is_taken area.base area.pages (areas_of self.old t) ≡ false }
         ensures { self.new ≡ with_areas self.old t (areas_of self.old t ++ area ∷ []) }
     {
         self.tasks[t.0 as usize - 1].push(area);

@@ -1,6 +1,6 @@
 use Rattle.std.proofs.Common.{◌≡◌, sym, Some}
 use Rattle.address_space.specs.Areas.{holder}
-use Rattle.address_space.specs.Kept.{IsOver}
+use Rattle.address_space.specs.Sound.{IsOver}
 use Rattle.address_space.proofs.Keeping.{in_holder, within, room}
 use Rattle.address_space.proofs.spaces.Spaces.spot.Goals as goal
 
