@@ -76,7 +76,7 @@ over_put : (stores : FinMap nat_cmp (List ℕ)) (next n : ℕ) (xs ys : List ℕ
 over_put stores next n xs ys a is same o =
     record {
       bytes =
-        rw (get-insert nat_cmp_total stores n ys a.store)
+          rw (get-insert nat_cmp_total stores n ys a.store)
           (over_cond (eq_by_cmp nat_cmp a.store n) ys None (get stores a.store) (a.pages * 4096) (λ t. rw (eq_keys a.store n t, is, same) refl) o.bytes);
       old = o.old;
     }
@@ -146,7 +146,6 @@ some_of (Some xs) n e = refl
 
 pub is_there : (stores : FinMap nat_cmp (List ℕ)) (next : ℕ) (a : Area) → IsOver stores next a → IsSome (get stores a.store)
 is_there stores next a o = some_of (get stores a.store) (a.pages * 4096) o.bytes
-
 
 pub all_got : (P : Area → Type 0) (xs : List Area) (i : ℕ) (a : Area) → slice_get xs i ≡ Some a → All P xs → P a
 all_got P [] i a e all = absurd (cc e)

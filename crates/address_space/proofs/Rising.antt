@@ -175,7 +175,6 @@ pub stands : (p : Option ℕ) (cs : List Store) (high n : ℕ) (q : StoreTable) 
 stands None cs high n q m r none live = let e = look cs high n q m r ∙ none in rw e at live
 stands (Some i) cs high n q m r none live = refl
 
-
 pub written_at : (cs : List Store) (high n i at : ℕ) (bytes : List ℕ) (c : Store) → RisesWithin 1 cs high → StandsAt cs n i → c ≡ get_or cs i c → ◌≡◌ {A = StoreTable} (record { stores = map_of (set cs i (record c { bytes = written_over c.bytes at bytes })); next_store = high }) (with_bytes (record { stores = map_of cs; next_store = high }) n at bytes)
 written_at cs high n i at bytes c r s e =
     rw (look_at cs high n i c (record { stores = map_of cs; next_store = high }) refl r s e, insert_at 1 cs high i c (record c { bytes = written_over c.bytes at bytes }) r s.in_range e refl, is_numbered cs n i c s e)

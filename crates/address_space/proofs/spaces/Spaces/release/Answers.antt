@@ -1,5 +1,4 @@
 use Rattle.std.proofs.Common.{◌≡◌, false, ◌∙◌, sym}
-
 use Rattle.address_space.specs.Memory.{is_used}
 use Rattle.address_space.proofs.Keeping.{all_taken}
 use Rattle.address_space.proofs.spaces.Spaces.release.Goals as goal
