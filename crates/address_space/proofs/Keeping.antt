@@ -23,7 +23,7 @@ use Rattle.address_space.specs.Sound.{IsOver, IsSound, AreLawful, AreApart}
 use Rattle.address_space.specs.Memory.{is_used}
 
 -- the area that holds a range is one of the areas
-tested : (P : Area → Type 0) (at count : ℕ) (right : Right) (b : Bool) (a h : Area) (areas : List Area) → holds at count right a ≡ b → P a → (if b then Some a else holder at count right areas) ≡ Some h → (holder at count right areas ≡ Some h → P h × (holds at count right h ≡ true)) → P h × (holds at count right h ≡ true)
+pub tested : (P : Area → Type 0) (at count : ℕ) (right : Right) (b : Bool) (a h : Area) (areas : List Area) → holds at count right a ≡ b → P a → (if b then Some a else holder at count right areas) ≡ Some h → (holder at count right areas ≡ Some h → P h × (holds at count right h ≡ true)) → P h × (holds at count right h ≡ true)
 tested P at count right true a h areas is p e rest = let same : a ≡ h = cc in (subst P same p, subst (λ x. holds at count right x ≡ true) same is)
 tested P at count right false a h areas is p e rest = rest e
 

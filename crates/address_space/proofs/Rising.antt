@@ -86,7 +86,7 @@ find-push low (d ∷ cs) n c q e r =
     let h = rises_le (d.number + 1) cs n r.1 in
     swapped (eq_by_cmp nat_cmp q d.number) (eq_by_cmp nat_cmp q c.number) (Some c.bytes) (find nat_cmp q (keyed cs)) _ (Some d.bytes) (find-push (d.number + 1) cs n c q e r.1) (apart_keys q d.number c.number (omega arith))
 
--- a new call at the end
+-- a new store at the end
 pub insert_last : (low : ℕ) (cs : List Store) (n : ℕ) (c : Store) → c.number ≡ n → RisesWithin low cs n → map_of (cs ++ c ∷ []) ≡ fin.insert (map_of cs) c.number c.bytes
 insert_last low cs n c e r =
     same_map nat_cmp_total nat_cmp-IsAntisymmetric _ _ (λ q.
@@ -94,7 +94,7 @@ insert_last low cs n c e r =
     ∙ find-push low cs n c q e r
     ∙ sym (get-insert nat_cmp_total (map_of cs) c.number c.bytes q ∙ ap (cond (eq_by_cmp nat_cmp q c.number) (Some c.bytes)) (get-map_of low cs n q r)))
 
--- the number of a call further on
+-- the number of a store further on
 pub rises_at : (low : ℕ) (cs : List Store) (high i : ℕ) (c : Store) → RisesWithin low cs high → i < length cs → c ≡ get_or cs i c → (low ≤ c.number) × (c.number < high)
 rises_at low [] high i c r h e = absurd (omega arith)
 rises_at low (d ∷ cs) high zero c r h e = rw e (r.0, let g = rises_le (d.number + 1) cs high r.1 in omega arith)
@@ -121,7 +121,7 @@ find-set low (b ∷ cs) high (suc i) c d q r h e k =
     let g = rises_at (b.number + 1) cs high i c r.1 (omega arith) e in
     swapped (eq_by_cmp nat_cmp q b.number) (eq_by_cmp nat_cmp q d.number) (Some d.bytes) (find nat_cmp q (keyed cs)) _ (Some b.bytes) (find-set (b.number + 1) cs high i c d q r.1 (omega arith) e k) (apart_keys q b.number d.number (omega arith))
 
--- a call that is replaced by one of its number
+-- a store that is replaced by one of its number
 pub insert_at : (low : ℕ) (cs : List Store) (high i : ℕ) (c d : Store) → RisesWithin low cs high → i < length cs → c ≡ get_or cs i c → d.number ≡ c.number → map_of (set cs i d) ≡ fin.insert (map_of cs) d.number d.bytes
 insert_at low cs high i c d r h e k =
     same_map nat_cmp_total nat_cmp-IsAntisymmetric _ _ (λ q.
@@ -150,7 +150,7 @@ find-remove low (b ∷ cs) high (suc i) c q r h e =
     let g = rises_at (b.number + 1) cs high i c r.1 (omega arith) e in
     swapped (eq_by_cmp nat_cmp q b.number) (eq_by_cmp nat_cmp q c.number) None (find nat_cmp q (keyed cs)) _ (Some b.bytes) (find-remove (b.number + 1) cs high i c q r.1 (omega arith) e) (apart_keys q b.number c.number (omega arith))
 
--- a call that is without_store out
+-- a store that is taken out
 pub remove_at : (low : ℕ) (cs : List Store) (high i : ℕ) (c : Store) → RisesWithin low cs high → i < length cs → c ≡ get_or cs i c → map_of (remove cs i) ≡ fin.remove (map_of cs) c.number
 remove_at low cs high i c r h e =
     same_map nat_cmp_total nat_cmp-IsAntisymmetric _ _ (λ q.

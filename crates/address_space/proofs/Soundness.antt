@@ -25,10 +25,10 @@ each_has P (x ∷ xs) (suc i) none all = each_has P xs i none (All-tail P x xs a
 lawful_none : AreLawful []
 lawful_none = record { few = omega arith; in_range = All-nil (λ a. IsInRange a.base a.pages a.rights); apart = λ i j d below within. absurd (omega arith) }
 
-lawful_of : (m : Memory) (t : TaskNo) → IsSound m → AreLawful (areas_of m t)
+pub lawful_of : (m : Memory) (t : TaskNo) → IsSound m → AreLawful (areas_of m t)
 lawful_of m t s = each_has AreLawful m.areas (t.0 - 1) lawful_none s.lawful
 
-over_of : (m : Memory) (t : TaskNo) → IsSound m → All (IsOver m.stores m.next_store) (areas_of m t)
+pub over_of : (m : Memory) (t : TaskNo) → IsSound m → All (IsOver m.stores m.next_store) (areas_of m t)
 over_of m t s = each_has (All (IsOver m.stores m.next_store)) m.areas (t.0 - 1) (All-nil (IsOver m.stores m.next_store)) s.over
 
 pub sound_task : (m : Memory) → IsSound m → IsSound (with_task m)

@@ -16,5 +16,5 @@ mod stores;
 mod tests;
 
 pub use ids::{Short, StoreNo};
-pub use laws::requests_keep_memory_sound;
+pub use laws::{requests_keep_memory_sound, writes_are_read_back};
 pub use spaces::{SpaceFault, Spaces};
