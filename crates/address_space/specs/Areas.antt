@@ -65,6 +65,7 @@ lower (Some least) base = if nat_lt base least then Some base else Some least
 abbrev pub least_base : List Area → Option ℕ
 least_base areas = fold (λ least a. lower least a.base) None areas
 
+-- the code for addresses that are taken
 abbrev pub eexist : Code
 eexist = record { 0 = 3 }
 

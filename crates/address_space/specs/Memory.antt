@@ -65,6 +65,7 @@ pub record IsAdded (m : Memory) (t : TaskNo) : Type 0 where
 abbrev pub areas_of : Memory → TaskNo → List Area
 areas_of m t = unwrap_or (slice_get m.areas (t.0 - 1)) []
 
+-- the areas of a task are these
 abbrev pub with_areas : Memory → TaskNo → List Area → Memory
 with_areas m t areas = record { areas = slice_set m.areas (t.0 - 1) areas; stores = m.stores; next_store = m.next_store }
 
@@ -76,6 +77,7 @@ with_store m count = record { areas = m.areas; stores = insert m.stores m.next_s
 abbrev pub made_area : Memory → TaskNo → Area → Memory
 made_area m t a = with_areas (with_store m (a.pages * 4096)) t (areas_of m t ++ a ∷ [])
 
+-- the area is made where there is no cause against it
 abbrev pub make_unless : Memory → TaskNo → Area → Option Code → Step StoreNo
 make_unless m t a (Some code) = refused m code
 make_unless m t a None = record { memory = made_area m t a; told = Ok (record { 0 = m.next_store }) }
@@ -92,10 +94,12 @@ is_used store areas = list_any (list_any (stands_over store)) areas
 abbrev pub release : Memory → ℕ → Memory
 release m store = record { areas = m.areas; stores = if is_used store m.areas then m.stores else map.remove m.stores store; next_store = m.next_store }
 
+-- the area at a place of the list goes
 abbrev pub drop_place : Memory → TaskNo → ℕ → Option Area → Memory
 drop_place m t i None = m
 drop_place m t i (Some a) = release (with_areas m t (remove (areas_of m t) i)) a.store
 
+-- it goes where there is such a place
 abbrev pub drop_at : Memory → TaskNo → Option ℕ → Step Unit
 drop_at m t None = refused m enoent
 drop_at m t (Some i) = record { memory = drop_place m t i (slice_get (areas_of m t) i); told = Ok tt }
@@ -113,9 +117,11 @@ spot_in at (Some a) = Some (record { store = a.store; offset = at - a.base })
 abbrev pub spot_of : Memory → TaskNo → ℕ → ℕ → Right → Option Spot
 spot_of m t at count right = spot_in at (holder at count right (areas_of m t))
 
+-- so many bytes of a store, from a spot on
 abbrev pub bytes_at : Memory → Spot → ℕ → List ℕ
 bytes_at m s count = bytes_from (unwrap_or (get m.stores s.store) []) s.offset count
 
+-- they are told where there is such a spot
 abbrev pub read_at : Memory → ℕ → Option Spot → Result (List ℕ) Code
 read_at m count None = Err eperm
 read_at m count (Some s) = Ok (bytes_at m s count)
@@ -128,6 +134,7 @@ read m t at count = if count == 0 then Ok [] else read_at m count (spot_of m t a
 abbrev pub peek : Memory → TaskNo → ℕ → ℕ → Result (List ℕ) Code
 peek m t at count = if nat_lt 64 count then Err einval else read m t at count
 
+-- bytes are written from a spot on, where there is one
 abbrev pub write_spot : Memory → List ℕ → Option Spot → Step (Option StoreNo)
 write_spot m new None = refused m eperm
 write_spot m new (Some s) =

@@ -39,6 +39,7 @@ with_zeros s count = record { stores = insert s.stores s.next_store (replicate c
 abbrev pub write_at : FinMap nat_cmp (List ℕ) → ℕ → ℕ → List ℕ → FinMap nat_cmp (List ℕ)
 write_at stores n at new = option_map_or (λ bytes. insert stores n (written_over bytes at new)) (get stores n) stores
 
+-- likewise with the next number
 abbrev pub with_bytes : StoreTable → ℕ → ℕ → List ℕ → StoreTable
 with_bytes s n at new = record { stores = write_at s.stores n at new; next_store = s.next_store }
 

@@ -1,5 +1,5 @@
 //! The areas of all tasks.
-ghost use Rattle.std.specs.Prelude.{◌≡◌, ◌+◌, ◌^◌, ◌<◌, ◌≤◌, length, IfSome, IfOk, OnOk, OnErr, slice_get, All, remove, IsSome, Some, false, ◌++◌, ◌∷◌, []};
+ghost use Rattle.std.specs.Prelude.{◌≡◌, ◌+◌, ◌^◌, ◌<◌, ◌≤◌, length, IfSome, IfOk, IsOk, OnOk, OnErr, slice_get, All, remove, IsSome, Some, false, ◌++◌, ◌∷◌, []};
 ghost use Rattle.std.specs.FinMap.{get};
 ghost use Rattle.address_space.specs.Areas.{IsInRange, is_taken};
 ghost use Rattle.address_space.specs.Stores.{HasBytes};
@@ -129,14 +129,15 @@ impl Spaces {
         Ok(())
     }
 
-    /// The bytes of a task from `at` on.
+    /// The bytes of a task from `at` on; 0 bytes take no memory.
     ///
     /// # Errors
     ///
     /// `EPERM` where no area with the right to read holds them all; `NoMemory`.
     pub fn read(&self, alloc: Global, t: TaskNo, at: u64, count: u64) -> Result<Buffer, SpaceFault>
         requires added { IsAdded self.now t }
-        ensures { Tells result (read self.now t at count) }
+        ensures told { Tells result (read self.now t at count) }
+        ensures empty { count ≡ 0 → IsOk result }
     {
         if count == 0 {
             return Ok(Buffer::new(alloc));
