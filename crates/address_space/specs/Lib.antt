@@ -1,0 +1,5 @@
+pub mod Areas
+pub mod Kept
+pub mod Memory
+pub mod Sound
+pub mod Stores

@@ -1,0 +1,20 @@
+//! The memory of all tasks: areas of addresses over stores of bytes.
+//!
+//! An area is 1 to 16 pages of 4,096 bytes, with rights to read, to write or both. Its store has
+//! the bytes, and lives as long as an area stands over it. Each call of `Spaces` does just what
+//! the definition of its name says, and after a refusal nothing has changed.
+#![tactic(auto)]
+
+mod area;
+mod areas;
+mod bytes;
+mod ids;
+mod laws;
+mod spaces;
+mod stores;
+#[cfg(test)]
+mod tests;
+
+pub use ids::{Short, StoreNo};
+pub use laws::{requests_keep_memory_sound, writes_are_read_back};
+pub use spaces::{SpaceFault, Spaces};
