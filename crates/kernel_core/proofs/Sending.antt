@@ -61,9 +61,9 @@ phone_stays : (k : KernelState) (l : Label) (t : TaskNo) (p : ℕ) → IsSome (p
 phone_stays k l t p there = phone_kept k.tasks.phones l.task.0 l.phone.0 t.0 p Connecting there
 
 -- a CONNECT_ME_TO with the phone that its caller keeps
-pub sent_keeping : (old new : BoardState) (c : Call) (note : Option Entry) (l : Label) → IsNewCall old.state c → first_usable_of old.state c.from.task ≡ Some l → kind_of c.request.method ≡ ConnectMeTo → new.state ≡ with_kept old.state (Some l) Connecting → IsLoose new.state (Some l) → note ≡ kept_note (Some l) Connecting
-    → IsSent old new c (record c { msg = with_fifth c.msg (64 * c.from.task.0 + l.phone.0); reserved = Some l }) (Ok note) (before_send old.state c)
-sent_keeping old new c note l s first kind state loose told = rw (kind, first) (record {
+pub sent_keeping : (old new : BoardState) (c : Call) (noted : Option Entry) (l : Label) → IsNewCall old.state c → first_usable_of old.state c.from.task ≡ Some l → kind_of c.request.method ≡ ConnectMeTo → new.state ≡ with_kept old.state (Some l) Connecting → IsLoose new.state (Some l) → noted ≡ kept_note (Some l) Connecting
+    → IsSent old new c (record c { msg = with_fifth c.msg (64 * c.from.task.0 + l.phone.0); reserved = Some l }) (Ok noted) (before_send old.state c)
+sent_keeping old new c noted l s first kind state loose told = rw (kind, first) (record {
   state = state;
   call = refl;
   note = told;
@@ -78,10 +78,10 @@ sent_keeping old new c note l s first kind state loose told = rw (kind, first) (
 })
 
 -- the call that is sent is a new one, and the join gets what was handed to it
-pub sent_new : (old new : BoardState) (c d : Call) (note : Option Entry) (r : Result Handed Code) → IsSent old new c d (Ok note) r → IsNewCall new.state d
-sent_new old new c d note (Ok h) s = s.new_call
-sent_new old new c d note (Err code) s = absurd s
+pub sent_new : (old new : BoardState) (c d : Call) (noted : Option Entry) (r : Result Handed Code) → IsSent old new c d (Ok noted) r → IsNewCall new.state d
+sent_new old new c d noted (Ok h) s = s.new_call
+sent_new old new c d noted (Err code) s = absurd s
 
-pub sent_served : (old new after : BoardState) (c d : Call) (note : Option Entry) (to : TaskNo) (told : Outcome) (out now : TraceState) (r : Result Handed Code) → IsSent old new c d (Ok note) r → Serves after told out now (acceptance (record { state = new.state; call = d; note = note }) (Some to)) → Serves after told out now (sent_to to old.state c r)
-sent_served old new after c d note to told out now (Ok h) s served = rw (s.state, s.call, s.note) at served
-sent_served old new after c d note to told out now (Err code) s served = absurd s
+pub sent_served : (old new after : BoardState) (c d : Call) (noted : Option Entry) (to : TaskNo) (told : Outcome) (out now : TraceState) (r : Result Handed Code) → IsSent old new c d (Ok noted) r → Serves after told out now (acceptance (record { state = new.state; call = d; note = noted }) (Some to)) → Serves after told out now (sent_to to old.state c r)
+sent_served old new after c d noted to told out now (Ok h) s served = rw (s.state, s.call, s.note) at served
+sent_served old new after c d noted to told out now (Err code) s served = absurd s

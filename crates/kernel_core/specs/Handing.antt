@@ -30,9 +30,9 @@ pub record IsUnsent (old new : BoardState) (before now : Call) (given wanted : C
   pub code : given ≡ wanted
 
 abbrev pub IsSent : BoardState → BoardState → Call → Call → Result (Option Entry) Code → Result Handed Code → Type 0
-IsSent old new before now (Ok note) (Ok handed) = IsHanded new now note handed
+IsSent old new before now (Ok noted) (Ok handed) = IsHanded new now noted handed
 IsSent old new before now (Err given) (Err code) = IsUnsent old new before now given code
-IsSent old new before now (Ok note) (Err code) = ⊥
+IsSent old new before now (Ok noted) (Err code) = ⊥
 IsSent old new before now (Err given) (Ok handed) = ⊥
 
 -- the code left this state, and what the call is to take with it makes the record that is handed on
