@@ -1,7 +1,7 @@
 -- The methods of calls by their names: the kernel's own, and where users' methods begin.
 use Rattle.std.specs.Prelude.{ℕ, ◌==◌, if◌then◌else◌, nat_lt}
 use Rattle.ipc_ids.specs.declared.methods.MethodKind.{MethodKind}
-use Rattle.ipc_ids.specs.declared.methods.MethodKind.TheVariants.{PhoneHungUp, ConnectToMe, ConnectMeTo, NotBuilt, User}
+use Rattle.ipc_ids.specs.declared.methods.MethodKind.TheVariants.{PhoneHungUp, ConnectToMe, ConnectMeTo, DataWrite, DataRead, NotBuilt, User}
 
 -- a phone that led to the receiver was hung up
 abbrev pub phone_hungup : ℕ
@@ -41,5 +41,7 @@ kind_of method =
     if method == phone_hungup then PhoneHungUp
     else if method == connect_to_me then ConnectToMe
     else if method == connect_me_to then ConnectMeTo
+    else if method == data_write then DataWrite
+    else if method == data_read then DataRead
     else if nat_lt method first_user_method then NotBuilt
     else User

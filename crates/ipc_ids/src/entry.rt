@@ -1,10 +1,10 @@
 //! The entries of a trace.
 
 use crate::message::{Outcome, PhoneState, Reply, Request};
-use crate::numbers::{CallNo, Label, TaskNo};
+use crate::numbers::{CallNo, Label, StoreNo, TaskNo};
 
 /// One line of a trace: the head of an event, an effect, or an outcome.
-#[derive(Clone, Copy)]
+#[derive(Drop)]
 pub enum Entry {
     /// The task asks for this.
     Head(TaskNo, Request),
@@ -53,6 +53,26 @@ pub enum Entry {
     PhoneIs {
         phone: Label,
         state: PhoneState,
+    },
+    /// The task has a new area of so many pages, over that store.
+    AreaMade {
+        task: TaskNo,
+        base: u64,
+        pages: u64,
+        rights: u64,
+        store: StoreNo,
+    },
+    /// The task has no longer the area with this base.
+    AreaGone {
+        task: TaskNo,
+        base: u64,
+    },
+    /// So many bytes, at least one, were written from an address of the task on, into that store.
+    Wrote {
+        task: TaskNo,
+        at: u64,
+        count: u64,
+        store: StoreNo,
     },
     Outcome(Outcome),
 }

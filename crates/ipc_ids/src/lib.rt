@@ -2,8 +2,8 @@
 //! replies, what a task asks and is told, what a script says, and the entries of a trace. The laws
 //! of calls stand here too, over a list of entries alone.
 //!
-//! Contracts see every type as the record or enum that it is, but for the lists `Ops`, `Bodies` and
-//! `Buffer`, which they see as lists, and `Trace`, a list of entries with room for more.
+//! Contracts see every type as the record or enum that it is, but for `Ops`, `Bodies`,
+//! `Buffer` and `Short`, which they see as lists, and `Trace`, a list of entries with room for more.
 #![tactic(auto)]
 
 mod buffer;
@@ -13,6 +13,7 @@ mod message;
 pub mod methods;
 mod numbers;
 mod op;
+mod short;
 #[cfg(test)]
 mod tests;
 mod trace;
@@ -22,6 +23,7 @@ pub use entry::Entry;
 pub use laws::lawful_lists_keep_the_laws;
 pub use message::{Event, Mode, Msg, Outcome, PhoneState, Reply, Request};
 pub use methods::MethodKind;
-pub use numbers::{CallNo, Code, Label, PhoneNo, TaskNo};
+pub use numbers::{CallNo, Code, Label, PhoneNo, StoreNo, TaskNo};
 pub use op::{Bodies, Body, Op, Ops, Value};
+pub use short::Short;
 pub use trace::{NoMemory, Trace};

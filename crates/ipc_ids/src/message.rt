@@ -3,6 +3,7 @@
 ghost use Rattle.std.specs.Prelude.{◌≡◌, replicate};
 
 use crate::numbers::{CallNo, Code, Label, TaskNo};
+use crate::short::Short;
 use std::fmt;
 
 /// What a call asks: a method, one of `methods` or a user's own, and five arguments.
@@ -37,7 +38,7 @@ pub enum Mode {
 }
 
 /// What a task asks of the kernel in one step.
-#[derive(Clone, Copy)]
+#[derive(Drop)]
 pub enum Request {
     Call {
         phone: u64,
@@ -58,11 +59,32 @@ pub enum Request {
     Hangup {
         phone: u64,
     },
+    /// Makes an area of so many pages from `base` on. Rights are 1 to read, 2 to write, 3 for
+    /// both.
+    AreaMake {
+        base: u64,
+        pages: u64,
+        rights: u64,
+    },
+    /// Drops the area with this base.
+    AreaDrop {
+        base: u64,
+    },
+    /// Writes these bytes from an address on.
+    Poke {
+        at: u64,
+        bytes: Short,
+    },
+    /// Reads so many bytes from an address on.
+    Peek {
+        at: u64,
+        count: u64,
+    },
     Nothing,
 }
 
 /// What the kernel tells the task.
-#[derive(Clone, Copy, Debug, PartialEq, Eq)]
+#[derive(Debug, PartialEq, Eq, Drop)]
 pub enum Outcome {
     Done,
     Refused(Code),
@@ -77,6 +99,8 @@ pub enum Outcome {
         reply: Reply,
     },
     Empty,
+    /// What a peek read.
+    Bytes(Short),
 }
 
 /// One event of a schedule.
@@ -88,6 +112,30 @@ pub enum Event {
     Kill(TaskNo),
     /// The phone of the task is hung up.
     Hangup(TaskNo, u64),
+}
+
+impl Outcome {
+    /// The same outcome once more.
+    pub fn copy(&self) -> Outcome
+        ensures { result ≡ self.now }
+    {
+        match self {
+            Outcome::Done => Outcome::Done,
+            Outcome::Refused(code) => Outcome::Refused(*code),
+            Outcome::Accepted(call) => Outcome::Accepted(*call),
+            Outcome::Received { call, msg, label } => Outcome::Received {
+                call: *call,
+                msg: *msg,
+                label: *label,
+            },
+            Outcome::Answered { call, reply } => Outcome::Answered {
+                call: *call,
+                reply: *reply,
+            },
+            Outcome::Empty => Outcome::Empty,
+            Outcome::Bytes(bytes) => Outcome::Bytes(bytes.copy()),
+        }
+    }
 }
 
 impl Msg {

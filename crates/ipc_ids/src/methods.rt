@@ -36,6 +36,10 @@ pub enum MethodKind {
     ConnectToMe,
     /// Asks for a phone that leads to the task that answers.
     ConnectMeTo,
+    /// Offers bytes of the caller's memory to the receiver.
+    DataWrite,
+    /// Asks for bytes of the receiver's memory.
+    DataRead,
     /// A method of the system that no call is accepted with.
     NotBuilt,
     /// Means what the two tasks make of it.
@@ -51,6 +55,8 @@ impl MethodKind {
             PHONE_HUNGUP => MethodKind::PhoneHungUp,
             CONNECT_TO_ME => MethodKind::ConnectToMe,
             CONNECT_ME_TO => MethodKind::ConnectMeTo,
+            DATA_WRITE => MethodKind::DataWrite,
+            DATA_READ => MethodKind::DataRead,
             0..FIRST_USER_METHOD => MethodKind::NotBuilt,
             FIRST_USER_METHOD.. => MethodKind::User,
         }

@@ -1,4 +1,4 @@
-//! Numbers of tasks, phones and calls, and the codes of answers.
+//! Numbers of tasks, phones, calls and stores, and the codes of answers.
 
 use std::fmt;
 
@@ -13,6 +13,10 @@ pub struct PhoneNo(pub u32);
 /// A call, from 1 on in the order of acceptance. No number is used twice.
 #[derive(Clone, Copy, Debug, PartialEq, Eq)]
 pub struct CallNo(pub u64);
+
+/// A store of bytes, from 1 on in the order in which stores are made. No number is used twice.
+#[derive(Clone, Copy, Debug, PartialEq, Eq)]
+pub struct StoreNo(pub u64);
 
 /// What an answer says. 0 is success; a task may answer with any number.
 #[derive(Clone, Copy, Debug, PartialEq, Eq)]

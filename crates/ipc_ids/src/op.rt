@@ -2,6 +2,7 @@
 ghost use Rattle.std.specs.Prelude.{◌≡◌, [], ◌∷◌, ◌++◌, OnOk, OnErr};
 
 use crate::message::Mode;
+use crate::short::Short;
 use crate::trace::NoMemory;
 use std::alloc::Global;
 use std::marker::Model;
@@ -14,7 +15,7 @@ pub enum Value {
 }
 
 /// One operation of a body. An argument that the script leaves out is `Value::Number(0)`.
-#[derive(Clone, Copy, Debug, PartialEq, Eq)]
+#[derive(Debug, PartialEq, Eq, Drop)]
 pub enum Op {
     Call {
         phone: Value,
@@ -40,6 +41,20 @@ pub enum Op {
         args: [Value; 5],
     },
     Hangup(Value),
+    Area {
+        base: Value,
+        pages: Value,
+        rights: Value,
+    },
+    Unarea(Value),
+    Poke {
+        at: Value,
+        bytes: Short,
+    },
+    Peek {
+        at: Value,
+        count: Value,
+    },
     Set {
         register: u32,
         value: Value,
@@ -55,6 +70,83 @@ pub enum Op {
         right: Value,
         to: u32,
     },
+}
+
+impl Op {
+    /// The same operation once more.
+    pub fn copy(&self) -> Op
+        ensures { result ≡ self.now }
+    {
+        match self {
+            Op::Call {
+                phone,
+                method,
+                args,
+            } => Op::Call {
+                phone: *phone,
+                method: *method,
+                args: *args,
+            },
+            Op::Receive => Op::Receive,
+            Op::Answer { call, code, args } => Op::Answer {
+                call: *call,
+                code: *code,
+                args: *args,
+            },
+            Op::Forward { call, phone, mode } => Op::Forward {
+                call: *call,
+                phone: *phone,
+                mode: *mode,
+            },
+            Op::ForwardWith {
+                call,
+                phone,
+                mode,
+                method,
+                args,
+            } => Op::ForwardWith {
+                call: *call,
+                phone: *phone,
+                mode: *mode,
+                method: *method,
+                args: *args,
+            },
+            Op::Hangup(phone) => Op::Hangup(*phone),
+            Op::Area {
+                base,
+                pages,
+                rights,
+            } => Op::Area {
+                base: *base,
+                pages: *pages,
+                rights: *rights,
+            },
+            Op::Unarea(base) => Op::Unarea(*base),
+            Op::Poke { at, bytes } => Op::Poke {
+                at: *at,
+                bytes: bytes.copy(),
+            },
+            Op::Peek { at, count } => Op::Peek {
+                at: *at,
+                count: *count,
+            },
+            Op::Set { register, value } => Op::Set {
+                register: *register,
+                value: *value,
+            },
+            Op::Jump(to) => Op::Jump(*to),
+            Op::JumpEqual { left, right, to } => Op::JumpEqual {
+                left: *left,
+                right: *right,
+                to: *to,
+            },
+            Op::JumpDiffer { left, right, to } => Op::JumpDiffer {
+                left: *left,
+                right: *right,
+                to: *to,
+            },
+        }
+    }
 }
 
 /// Operations in their order.

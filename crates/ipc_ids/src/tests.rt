@@ -48,3 +48,21 @@ fn a_buffer_has_the_bytes_it_was_made_of(rt: HostRuntime) -> Result<(), Fail> {
     assert!(rt; Buffer::new(rt.alloc()).as_slice().is_empty());
     Ok(())
 }
+
+#[test]
+fn short_bytes_are_copied_with_their_operation(rt: HostRuntime) -> Result<(), Fail> {
+    assert!(rt; Short::from_slice(&[7; 65]).is_none());
+    let Some(bytes) = Short::from_slice(&[10, 255]) else {
+        return Err(Fail::new("two bytes are short"));
+    };
+    assert_eq!(rt; bytes.as_slice(), [10u8, 255].as_slice());
+    let poke = Op::Poke {
+        at: Value::Number(4096),
+        bytes,
+    };
+    let copy = poke.copy();
+    assert_eq!(rt; copy, poke);
+    let told = Outcome::Refused(Code::EPERM);
+    assert_eq!(rt; told.copy(), told);
+    Ok(())
+}
