@@ -10,7 +10,7 @@ use Rattle.ipc_ids.specs.declared.numbers.TaskNo.{TaskNo}
 use Rattle.ipc_ids.specs.Codes.{enoent, eperm, einval}
 use Rattle.address_space.specs.declared.area.Right.{Right}
 use Rattle.address_space.specs.declared.area.Right.TheVariants.{Read, Write}
-use Rattle.address_space.specs.declared.ids.StoreNo.{StoreNo}
+use Rattle.ipc_ids.specs.declared.numbers.StoreNo.{StoreNo}
 use Rattle.address_space.specs.declared.spaces.Spot.{Spot}
 use Rattle.address_space.specs.declared.spaces.SpaceFault.{SpaceFault}
 use Rattle.address_space.specs.declared.spaces.SpaceFault.TheVariants.{Refused, NoMemory}

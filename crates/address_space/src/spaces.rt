@@ -8,9 +8,8 @@ ghost use Rattle.address_space.specs.Memory.{Did, Tells, IsAdded, no_memory, wit
 
 use crate::area::{HeldArea, PAGE, Right};
 use crate::areas::TaskAreas;
-use crate::ids::{Short, StoreNo};
 use crate::stores::Stores;
-use ipc_ids::{Buffer, Code, NoMemory, TaskNo};
+use ipc_ids::{Buffer, Code, NoMemory, Short, StoreNo, TaskNo};
 use std::alloc::Global;
 use std::marker::Model;
 

@@ -1,8 +1,8 @@
 //! What a task does with its areas, and what is refused.
 ghost use Rattle.address_space.specs.Memory.{IsAdded};
 
-use crate::{SpaceFault, Spaces, StoreNo};
-use ipc_ids::{Code, TaskNo};
+use crate::{SpaceFault, Spaces};
+use ipc_ids::{Code, StoreNo, TaskNo};
 use std::process::Abort;
 use std::test::Fail;
 
