@@ -9,7 +9,7 @@ use Rattle.script_reader.specs.declared.fault.Reason.{Reason}
 use Rattle.script_reader.specs.declared.fault.Reason.TheVariants.{Fault}
 use Rattle.script_reader.specs.declared.word.OpVerb.{OpVerb}
 use Rattle.script_reader.specs.declared.word.OpVerb.TheVariants as verbs
-use Rattle.script_reader.specs.Word.{value, register, mode_of, number_below}
+use Rattle.script_reader.specs.Word.{value, register, mode_of, number_below, bytes_of}
 
 -- a step that may be at fault
 infixl 10 ◌>>=◌
@@ -81,6 +81,36 @@ unfoldable pub hangup_op : List (List ℕ) → Result Op Reason
 hangup_op (phone ∷ []) = needed (value phone) >>= λ phone. Ok (ops.Hangup phone)
 hangup_op _ = Err Fault
 
+-- V V V: base, pages, rights
+unfoldable pub area_op : List (List ℕ) → Result Op Reason
+area_op (base ∷ pages ∷ rights ∷ []) = do
+  base ← needed (value base)
+  pages ← needed (value pages)
+  rights ← needed (value rights)
+  Ok (ops.Area base pages rights)
+area_op _ = Err Fault
+
+-- V
+unfoldable pub unarea_op : List (List ℕ) → Result Op Reason
+unarea_op (base ∷ []) = needed (value base) >>= λ base. Ok (ops.Unarea base)
+unarea_op _ = Err Fault
+
+-- V HEX
+unfoldable pub poke_op : List (List ℕ) → Result Op Reason
+poke_op (at ∷ bytes ∷ []) = do
+  at ← needed (value at)
+  bytes ← needed (bytes_of bytes)
+  Ok (ops.Poke at bytes)
+poke_op _ = Err Fault
+
+-- V V: address, count
+unfoldable pub peek_op : List (List ℕ) → Result Op Reason
+peek_op (at ∷ count ∷ []) = do
+  at ← needed (value at)
+  count ← needed (value count)
+  Ok (ops.Peek at count)
+peek_op _ = Err Fault
+
 -- R V
 unfoldable pub set_op : List (List ℕ) → Result Op Reason
 set_op (target ∷ source ∷ []) = do
@@ -116,6 +146,10 @@ op_of verbs.Receive words = receive_op words
 op_of verbs.Answer words = answer_op words
 op_of verbs.Forward words = forward_op words
 op_of verbs.Hangup words = hangup_op words
+op_of verbs.Area words = area_op words
+op_of verbs.Unarea words = unarea_op words
+op_of verbs.Poke words = poke_op words
+op_of verbs.Peek words = peek_op words
 op_of verbs.Set words = set_op words
 op_of verbs.Jump words = jump_op words
 op_of verbs.JumpEqual words = jump_equal_op words

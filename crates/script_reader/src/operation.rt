@@ -2,10 +2,10 @@
 ghost use Rattle.std.specs.Prelude.{◌≡◌, ◌≤◌, ◌<◌, length, IfOk, IfSome, All};
 ghost use Rattle.script_reader.specs.Ranges.{IsInRange, KeepsRanges};
 ghost use Rattle.script_reader.specs.Text.{texts};
-ghost use Rattle.script_reader.specs.Operation.{arguments, two_and_arguments, call_op, answer_op, forward_op, receive_op, set_op, jump_op, hangup_op, two_and_place, jump_equal_op, jump_differ_op, op_of};
+ghost use Rattle.script_reader.specs.Operation.{arguments, two_and_arguments, call_op, answer_op, forward_op, receive_op, set_op, jump_op, hangup_op, area_op, unarea_op, poke_op, peek_op, two_and_place, jump_equal_op, jump_differ_op, op_of};
 
 use crate::fault::Reason;
-use crate::word::{OpVerb, mode_of, number_below, register, value};
+use crate::word::{OpVerb, bytes_of, mode_of, number_below, register, value};
 use ipc_ids::{Op, Value};
 
 /// Up to five arguments, with 0 for those that are left out.
@@ -114,6 +114,67 @@ fn hangup_op(words: &[&[u8]]) -> Result<Op, Reason>
     }
 }
 
+#[tactic(auto, unfolding(crate::specs::Operation::area_op))]
+fn area_op(words: &[&[u8]]) -> Result<Op, Reason>
+    ensures value { result ≡ area_op (texts words.now) }
+    ensures ranges { IfOk result KeepsRanges }
+{
+    match words {
+        [base, pages, rights] => {
+            let base = value(*base).ok_or(Reason::Fault)?;
+            let pages = value(*pages).ok_or(Reason::Fault)?;
+            let rights = value(*rights).ok_or(Reason::Fault)?;
+            Ok(Op::Area {
+                base,
+                pages,
+                rights,
+            })
+        }
+        _ => Err(Reason::Fault),
+    }
+}
+
+#[tactic(auto, unfolding(crate::specs::Operation::unarea_op))]
+fn unarea_op(words: &[&[u8]]) -> Result<Op, Reason>
+    ensures value { result ≡ unarea_op (texts words.now) }
+    ensures ranges { IfOk result KeepsRanges }
+{
+    match words {
+        [base] => Ok(Op::Unarea(value(*base).ok_or(Reason::Fault)?)),
+        _ => Err(Reason::Fault),
+    }
+}
+
+#[tactic(auto, unfolding(crate::specs::Operation::poke_op))]
+fn poke_op(words: &[&[u8]]) -> Result<Op, Reason>
+    ensures value { result ≡ poke_op (texts words.now) }
+    ensures ranges { IfOk result KeepsRanges }
+{
+    match words {
+        [at, bytes] => {
+            let at = value(*at).ok_or(Reason::Fault)?;
+            let bytes = bytes_of(*bytes).ok_or(Reason::Fault)?;
+            Ok(Op::Poke { at, bytes })
+        }
+        _ => Err(Reason::Fault),
+    }
+}
+
+#[tactic(auto, unfolding(crate::specs::Operation::peek_op))]
+fn peek_op(words: &[&[u8]]) -> Result<Op, Reason>
+    ensures value { result ≡ peek_op (texts words.now) }
+    ensures ranges { IfOk result KeepsRanges }
+{
+    match words {
+        [at, count] => {
+            let at = value(*at).ok_or(Reason::Fault)?;
+            let count = value(*count).ok_or(Reason::Fault)?;
+            Ok(Op::Peek { at, count })
+        }
+        _ => Err(Reason::Fault),
+    }
+}
+
 #[tactic(auto, unfolding(crate::specs::Operation::set_op))]
 fn set_op(words: &[&[u8]]) -> Result<Op, Reason>
     ensures value { result ≡ set_op (texts words.now) }
@@ -189,6 +250,10 @@ pub fn op_of(verb: OpVerb, words: &[&[u8]]) -> Result<Op, Reason>
         OpVerb::Answer => answer_op(words),
         OpVerb::Forward => forward_op(words),
         OpVerb::Hangup => hangup_op(words),
+        OpVerb::Area => area_op(words),
+        OpVerb::Unarea => unarea_op(words),
+        OpVerb::Poke => poke_op(words),
+        OpVerb::Peek => peek_op(words),
         OpVerb::Set => set_op(words),
         OpVerb::Jump => jump_op(words),
         OpVerb::JumpEqual => jump_equal_op(words),

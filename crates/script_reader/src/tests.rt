@@ -5,7 +5,7 @@ ghost use Rattle.script_reader.specs.Ranges.{KeepsRanges};
 ghost use Rattle.script_reader.specs.Schedule.{IsOnTaskOf};
 
 use crate::{Kind, Reason, ScheduleFault, Script, ScriptFault, read_schedule, read_script};
-use ipc_ids::{Event, Mode, Op, TaskNo, Value};
+use ipc_ids::{Event, Mode, Op, Short, TaskNo, Value};
 use std::test::Fail;
 
 const SCRIPT: &[u8] = b"# two tasks and two wires
@@ -72,10 +72,10 @@ fn number(number: u64) -> Value {
 }
 
 /// The operation at a place of a task's body.
-fn op(script: &Script, task: usize, place: usize) -> Option<Op> {
+fn op(script: &Script, task: usize, place: usize) -> Option<&Op> {
     let task = script.tasks.as_slice().get(task)?;
     let body = task.bodies.as_slice().get(0)?;
-    body.ops.as_slice().get(place).copied()
+    body.ops.as_slice().get(place)
 }
 
 const FIVE: [Value; 5] = [
@@ -141,7 +141,7 @@ fn operations_of_messages_are_read(rt: HostRuntime) {
         },
     ];
     for (place, want) in wanted.iter().enumerate() {
-        assert_eq!(rt; op(&script, 0, place), Some(*want), "at {place}");
+        assert_eq!(rt; op(&script, 0, place), Some(want), "at {place}");
     }
 }
 
@@ -171,8 +171,85 @@ fn other_operations_are_read(rt: HostRuntime) {
         },
     ];
     for (place, want) in wanted.iter().enumerate() {
-        assert_eq!(rt; op(&script, 1, place), Some(*want), "at {place}");
+        assert_eq!(rt; op(&script, 1, place), Some(want), "at {place}");
     }
+}
+
+const MEMORY_SCRIPT: &[u8] = b"task a raw
+area 4096 0x1 RW
+area r1 r2 R
+unarea r31
+poke 4096 0aFf
+poke r0 00
+peek W 64
+";
+
+#[test]
+fn operations_of_memory_are_read(rt: HostRuntime) {
+    let script = read_script(rt.alloc(), MEMORY_SCRIPT).expect(&rt, "a script");
+    let wanted = [
+        Op::Area {
+            base: number(4096),
+            pages: number(1),
+            rights: number(3),
+        },
+        Op::Area {
+            base: Value::Register(1),
+            pages: Value::Register(2),
+            rights: number(1),
+        },
+        Op::Unarea(Value::Register(31)),
+        Op::Poke {
+            at: number(4096),
+            bytes: Short::from_slice(&[10, 255]).expect(&rt, "two bytes"),
+        },
+        Op::Poke {
+            at: Value::Register(0),
+            bytes: Short::from_slice(&[0]).expect(&rt, "one byte"),
+        },
+        Op::Peek {
+            at: number(2),
+            count: number(64),
+        },
+    ];
+    for (place, want) in wanted.iter().enumerate() {
+        assert_eq!(rt; op(&script, 0, place), Some(want), "at {place}");
+    }
+    assert_eq!(rt; op(&script, 0, 6), None);
+}
+
+#[test]
+fn the_words_of_memory_are_counted_and_of_their_kinds(rt: HostRuntime) {
+    let faults: [&[u8]; 14] = [
+        b"task a raw\narea 4096 1",
+        b"task a raw\narea 4096 1 RW 0",
+        b"task a raw\narea 4096 1 RX",
+        b"task a raw\nunarea",
+        b"task a raw\nunarea 0 0",
+        b"task a raw\npoke 0",
+        b"task a raw\npoke 0 -",
+        b"task a raw\npoke 0 0",
+        b"task a raw\npoke 0 000",
+        b"task a raw\npoke 0 0x00",
+        b"task a raw\npoke 0 0g",
+        b"task a raw\npoke 0 00 00",
+        b"task a raw\npeek 0",
+        b"task a raw\npeek 0 1 2",
+    ];
+    for bytes in faults {
+        assert_eq!(rt; fault_of_script(&rt, bytes), Some(2));
+    }
+}
+
+#[test]
+fn a_poke_has_64_bytes_at_most(rt: HostRuntime) -> Result<(), Fail> {
+    for (digits, fault) in [(128, None), (130, Some(2))] {
+        let mut text = Vec::new(rt.alloc());
+        text.extend_from_slice(b"task a raw\npoke 0 ")?;
+        text.extend_from_slice(vec![in rt.alloc(); b'7'; digits]?.as_slice())?;
+        assert_eq!(rt; fault_of_script(&rt, text.as_slice()), fault);
+    }
+    Ok(())
 }
 
 /// The line of the first fault, or `None` where the bytes spell a script.
