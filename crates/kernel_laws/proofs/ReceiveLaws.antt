@@ -61,7 +61,7 @@ note_drops_none t k (Some l) s = (tt, tt)
 
 -- each user's method is of one kind
 user_kind : (method : ℕ) → first_user_method ≤ method → kind_of method ≡ User
-user_kind method user = rw (ne_eqb method 0 (λ e. omega arith), ne_eqb method 1 (λ e. omega arith), ne_eqb method 2 (λ e. omega arith), not_below) refl where
+user_kind method user = rw (ne_eqb method 0 (λ e. omega arith), ne_eqb method 1 (λ e. omega arith), ne_eqb method 2 (λ e. omega arith), ne_eqb method 3 (λ e. omega arith), ne_eqb method 4 (λ e. omega arith), not_below) refl where
   not_below : nat_lt method first_user_method ≡ false
   not_below = grind (arith, nat_tests)
 
