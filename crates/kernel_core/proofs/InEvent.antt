@@ -61,9 +61,9 @@ abbrev pub Agrees : List Bool → Life → Option Origin → Bool → ℕ → Op
 Agrees alive l o lost n None = IsGone l
 Agrees alive l o lost n (Some c) = IsRecord alive l o lost n c
 
--- what a moment hands to a join: this reply, and this phone reserved, where a phone that is kept is in state s
-abbrev pub handed : KernelState → Call → Reply → Option Label → Option Label → PhoneState → Handed
-handed k c reply reserved kept s = record { state = with_kept k kept s; call = record c { reply = reply; reserved = reserved }; note = kept_note kept s }
+-- what a moment hands to a join: this reply, this phone reserved and these bytes, where a phone that is kept is in state s
+abbrev pub handed : KernelState → Call → Reply → Option Label → List ℕ → Option Label → PhoneState → Handed
+handed k c reply reserved bytes kept s = record { state = with_kept k kept s; call = record c { reply = reply; reserved = reserved; buffer = bytes }; note = kept_note kept s }
 
 -- holds after each entry
 pub record Core (p : List Tale) (alive : List Bool) (table : CallTable) : Type 0 where
@@ -227,13 +227,13 @@ module _ (e : Event) (p : List Tale) (k : KernelState) (inside : InEvent e p k) 
       let fits : (u.0 ≡ c.from.task.0) × IsTask k.tasks.alive c.from.task.0 = subst (CallerFits k.tasks.alive c.from.task) is it.caller in
       (fits.0, flipped b (is_ended k.tasks.alive c.from.task.0) (sym lives' ∙ ap (alive_in k.tasks.alive) fits.0 ∙ fits.1))
 
-  -- the call goes back to its caller with this reply, with this phone reserved
-  pub answered : (c : Call) (reply : Reply) (reserved : Option Label) (by : Option TaskNo) (u : TaskNo) (l : Life) → call_at k.calls c.number.0 ≡ Some c → life_at c.from.task.0 c.place ≡ l → caller_of l ≡ c.from.task.0 → c.caller ≡ Some u → is_alive k u ≡ true → (is_killed c.from.task.0 p ≡ false → Allowed p c.number.0 (Answered reply.code.0 (author by)) l) → (kept : Option Label) (s : PhoneState) → MayLead e k.tasks.alive s → AfterStep e p (answer_to (handed k c reply reserved kept s) by u)
-  answered c reply reserved by u l h at mine is lives' answer kept s leads =
+  -- the call goes back to its caller with this reply and these bytes, with this phone reserved
+  pub answered : (c : Call) (reply : Reply) (reserved : Option Label) (bytes : List ℕ) (by : Option TaskNo) (u : TaskNo) (l : Life) → call_at k.calls c.number.0 ≡ Some c → life_at c.from.task.0 c.place ≡ l → caller_of l ≡ c.from.task.0 → c.caller ≡ Some u → is_alive k u ≡ true → (is_killed c.from.task.0 p ≡ false → Allowed p c.number.0 (Answered reply.code.0 (author by)) l) → (kept : Option Label) (s : PhoneState) → MayLead e k.tasks.alive s → AfterStep e p (answer_to (handed k c reply reserved bytes kept s) by u)
+  answered c reply reserved bytes by u l h at mine is lives' answer kept s leads =
       let it = is_told e p k inside c.number.0 c h in
       let caller = caller_told c u true h is lives' in
-      let d : Call = record c { reply = reply; reserved = reserved; place = place.Answers u; stamp = k.calls.next_stamp } in
-      let table : CallTable = put_at k.calls (record c { reply = reply; reserved = reserved }) (place.Answers u) in
+      let d : Call = record c { reply = reply; reserved = reserved; buffer = bytes; place = place.Answers u; stamp = k.calls.next_stamp } in
+      let table : CallTable = put_at k.calls (record c { reply = reply; reserved = reserved; buffer = bytes }) (place.Answers u) in
       joined e p k (On c.number.0 (Answered reply.code.0 (author by))) table
       (noted e p k inside c.number.0 (Answered reply.code.0 (author by)) l table (Some d)
       (it.place ∙ at) (answer (inside.core.ended c.from.task.0 ∙ caller.1)) (λ x s d. absurd (false≢true (sym caller.1 ∙ rw (← s, mine) at d))) tt inside.core.number
@@ -251,7 +251,7 @@ module _ (e : Event) (p : List Tale) (k : KernelState) (inside : InEvent e p k) 
         vanished c l h at (vanish (inside.core.ended c.from.task.0 ∙ dead))
     by_caller (Some u) false is lives' = vanished c l h at (vanish (inside.core.ended c.from.task.0 ∙ (caller_told c u false h is lives').1))
     by_caller (Some u) true is lives' =
-        answered c reply (unless_freed (lent_phone c) c.reserved) by u l h at mine is lives' answer (lent_phone c) phone.Free (free_leads e k.tasks.alive)
+        answered c reply (unless_freed (lent_phone c) c.reserved) c.buffer by u l h at mine is lives' answer (lent_phone c) phone.Free (free_leads e k.tasks.alive)
 
   -- an answer is dropped
   pub dropped : (t : TaskNo) (c : Call) → (e ≡ Step t.0 Receive) ⊎ (e ≡ Kill t.0) → call_at k.calls c.number.0 ≡ Some c → c.place ≡ place.Answers t → AfterStep e p (drop_answer t k c)

@@ -36,16 +36,18 @@ use Rattle.forwarding.specs.Forwarding.{is_held, is_forwardable, msg_after, labe
 use Rattle.forwarding.specs.Routes.{callee_of, receiver_of, as_forwarded}
 use Rattle.address_space.specs.Memory.{Memory}
 use Rattle.address_space.specs.Memory as spaces
+use Rattle.data_hooks.specs.DataMoments.{address_of, count_of, write_before_send, read_before_send, write_accept, read_accept, read_deliver}
 use Rattle.cleanup.specs.Areas.{made_note, gone_note, wrote_note}
+use Rattle.cleanup.specs.Data.{reply_told, bytes_told, written_at_answer, written_at_delivery, delivered_read}
 use Rattle.cleanup.specs.State.{KernelState, Transition, with_calls, with_memory, with_event, phone_at, label_of, alive_in, is_alive}
 use Rattle.cleanup.specs.Kept.{accepts, first_usable_of, kept_phone, lent_phone, with_kept, kept_note}
 use Rattle.cleanup.specs.Joins.{bare_reply, drop_answer, new_call, hangup_call, hang_up, answer_at_once, passed_call, vanishing, answer_to, code_of, lives, reception, delivery, with_delivery}
 use Rattle.cleanup.specs.Sound.{IsSound, IsPlaced, IsCaller}
 use Rattle.cleanup.proofs.Lookups.{at_insert, at_remove}
 use Rattle.cleanup.proofs.Histories.{drain_tells}
-use Rattle.cleanup.specs.Serving.{Served}
+use Rattle.cleanup.specs.Serving.{Handed, Served}
 use Rattle.kernel_core.proofs.ServedLimits.{serve_within}
-use Rattle.kernel_core.specs.Moments.{keeping_to_send, before_send_of, on_receive_of, on_accept_of, reply_of}
+use Rattle.kernel_core.specs.Moments.{keeping_to_send, carrying, asking, before_send_of, on_receive_of, on_accept_of, reply_of, brings_bytes}
 use Rattle.kernel_core.specs.Calling.{sent_to, call_through, is_callable, call_tested, call_over}
 use Rattle.kernel_core.specs.Receiving.{receive_first, receive_now, unawaited, next_unawaited, drop_unawaited}
 use Rattle.kernel_core.specs.Answering.{held_call, accept_for, answer_held}
@@ -134,21 +136,29 @@ module _ (t : TaskNo) (r : Ask) (p : List Tale) (k : KernelState) (inside : InEv
     c : Call
     c = new_call k t q msg (place.Incoming u)
 
-    accepted : (seen : Msg) (reserved : Option Label) → InEvent (Step t.0 r) (On k.calls.next_number (Accepted t.0 q msg.method (To u.0)) ∷ p) (with_calls k (enqueue k.calls (record c { msg = seen; reserved = reserved })))
-    accepted seen reserved = one.accepted (Step t.0 r) p k inside (record c { msg = seen; reserved = reserved }) u refl refl refl refl (inside.leads t.0 q u h)
+    accepted : (seen : Msg) (reserved : Option Label) (bytes : List ℕ) → InEvent (Step t.0 r) (On k.calls.next_number (Accepted t.0 q msg.method (To u.0)) ∷ p) (with_calls k (enqueue k.calls (record c { msg = seen; reserved = reserved; buffer = bytes })))
+    accepted seen reserved bytes = one.accepted (Step t.0 r) p k inside (record c { msg = seen; reserved = reserved; buffer = bytes }) u refl refl refl refl (inside.leads t.0 q u h)
 
     keeping : (kept : Option Label) → Is (sent_to u k c (keeping_to_send k c kept))
     keeping None = back_told (Step t.0 r) p k inside t q msg elimit refl
-    keeping (Some l) = joined (Step t.0 r) p k (On k.calls.next_number (Accepted t.0 q msg.method (To u.0))) _ (accepted _ (Some l)) (Some l) phone.Connecting (λ v x. cc)
+    keeping (Some l) = joined (Step t.0 r) p k (On k.calls.next_number (Accepted t.0 q msg.method (To u.0))) _ (accepted _ (Some l) []) (Some l) phone.Connecting (λ v x. cc)
+
+    with_bytes : (told : Result (List ℕ) Code) → Is (sent_to u k c (carrying k c told))
+    with_bytes (Ok bytes) = accepted msg None bytes
+    with_bytes (Err code) = back_told (Step t.0 r) p k inside t q msg code refl
+
+    wanting : (told : Result Unit Code) → Is (sent_to u k c (asking k c told))
+    wanting (Ok done) = accepted msg None []
+    wanting (Err code) = back_told (Step t.0 r) p k inside t q msg code refl
 
     by_kind : (kind : MethodKind) → Is (sent_to u k c (before_send_of kind k c))
-    by_kind PhoneHungUp = accepted msg None
-    by_kind ConnectToMe = accepted msg None
+    by_kind PhoneHungUp = accepted msg None []
+    by_kind ConnectToMe = accepted msg None []
     by_kind ConnectMeTo = keeping (first_usable_of k t)
-    by_kind DataWrite = accepted msg None
-    by_kind DataRead = accepted msg None
-    by_kind NotBuilt = accepted msg None
-    by_kind User = accepted msg None
+    by_kind DataWrite = with_bytes (write_before_send k.memory t msg.args)
+    by_kind DataRead = wanting (read_before_send msg.args)
+    by_kind NotBuilt = accepted msg None []
+    by_kind User = accepted msg None []
 
   through : (q : ℕ) (msg : Msg) (s : PhoneState) → phone_at k t q ≡ Some s → Is (call_through k t q msg s)
   through q msg phone.Free h = inside
@@ -193,10 +203,17 @@ module _ (t : TaskNo) (r : Ask) (p : List Tale) (k : KernelState) (inside : InEv
     gone : is_ended k.tasks.alive c.from.task.0 ≡ true → AfterStep (Step t.0 r) p (vanishing k c)
     gone dead = one.vanished (Step t.0 r) p k inside c (Dispatched c.from.task.0 t.0) h here (inside.core.ended c.from.task.0 ∙ dead, inr (inl (rw (← number, ← is) inside.now)))
 
-    answered : (u : TaskNo) → c.caller ≡ Some u → is_alive k u ≡ true → (given : Reply) (kept : Option Label) (s : PhoneState) → MayLead (Step t.0 r) k.tasks.alive s → AfterStep (Step t.0 r) p (answer_to (handed k c given c.reserved kept s) (Some t) u)
-    answered u made lives' given kept s leads =
-        one.answered (Step t.0 r) p k inside c given c.reserved (Some t) u (Dispatched c.from.task.0 t.0) h here refl made lives'
+    with_bytes : (u : TaskNo) → c.caller ≡ Some u → is_alive k u ≡ true → (given : Reply) (bytes : List ℕ) (kept : Option Label) (s : PhoneState) → MayLead (Step t.0 r) k.tasks.alive s → AfterStep (Step t.0 r) p (answer_to (handed k c given c.reserved bytes kept s) (Some t) u)
+    with_bytes u made lives' given bytes kept s leads =
+        one.answered (Step t.0 r) p k inside c given c.reserved bytes (Some t) u (Dispatched c.from.task.0 t.0) h here refl made lives'
         (λ live. (refl, rw (← number, ← is) inside.now, live)) kept s leads
+
+    answered : (u : TaskNo) → c.caller ≡ Some u → is_alive k u ≡ true → (given : Reply) (kept : Option Label) (s : PhoneState) → MayLead (Step t.0 r) k.tasks.alive s → AfterStep (Step t.0 r) p (answer_to (handed k c given c.reserved c.buffer kept s) (Some t) u)
+    answered u made lives' given kept s leads = with_bytes u made lives' given c.buffer kept s leads
+
+    written : (u : TaskNo) → c.caller ≡ Some u → is_alive k u ≡ true → (step : spaces.Step (Option StoreNo)) → AfterStep (Step t.0 r) p (answer_to (written_at_answer k c reply t step) (Some t) u)
+    written u made lives' step =
+        wrote_told (Step t.0 r) _ _ (answered u made lives' (reply_told reply step.told) None phone.Free (free_leads (Step t.0 r) k.tasks.alive)) t step.memory (address_of reply.args) (count_of reply.args) step.told
 
     by_kind : (u : TaskNo) → c.caller ≡ Some u → is_alive k u ≡ true → (kind : MethodKind) → AfterStep (Step t.0 r) p (answer_to (on_accept_of kind k c reply t u) (Some t) u)
     by_kind u made lives' PhoneHungUp = answered u made lives' reply None phone.Free (free_leads (Step t.0 r) k.tasks.alive)
@@ -206,8 +223,9 @@ module _ (t : TaskNo) (r : Ask) (p : List Tale) (k : KernelState) (inside : InEv
         (λ v x d. let same : v ≡ u = cc in absurd (false≢true (sym caller.1 ∙ ap (is_ended k.tasks.alive) (sym caller.0) ∙ rw same at d)))
     by_kind u made lives' ConnectMeTo =
         answered u made lives' reply (kept_phone c) (phone.Connected t) (λ v x d. let same : t ≡ v = cc in absurd (step_kill t.0 t.0 r (inside.acts (rw (← same) at d))))
-    by_kind u made lives' DataWrite = answered u made lives' reply None phone.Free (free_leads (Step t.0 r) k.tasks.alive)
-    by_kind u made lives' DataRead = answered u made lives' reply None phone.Free (free_leads (Step t.0 r) k.tasks.alive)
+    by_kind u made lives' DataWrite = written u made lives' (write_accept k.memory t c.buffer reply)
+    by_kind u made lives' DataRead =
+        let told = read_accept k.memory t c.request.args reply in with_bytes u made lives' (reply_told reply told) (bytes_told told c.buffer) None phone.Free (free_leads (Step t.0 r) k.tasks.alive)
     by_kind u made lives' NotBuilt = answered u made lives' reply None phone.Free (free_leads (Step t.0 r) k.tasks.alive)
     by_kind u made lives' User = answered u made lives' reply None phone.Free (free_leads (Step t.0 r) k.tasks.alive)
 
@@ -264,15 +282,19 @@ module _ (t : TaskNo) (r : Ask) (p : List Tale) (k : KernelState) (inside : InEv
       (λ _. inside)
 
 module _ (t : TaskNo) (p : List Tale) (k : KernelState) (inside : InEvent (Step t.0 Receive) p k) where
-  delivered : (c : Call) (reply : Reply) → call_at k.calls c.number.0 ≡ Some c → c.place ≡ place.Answers t → AfterServed (Step t.0 Receive) p (delivery t (with_delivery k c reply))
-  delivered c reply h at =
+  over : (c : Call) → call_at k.calls c.number.0 ≡ Some c → c.place ≡ place.Answers t → InEvent (Step t.0 Receive) (On c.number.0 (Delivered t.0) ∷ p) (with_calls k (without_call k.calls c.number.0))
+  over c h at =
       let it = is_told (Step t.0 Receive) p k inside c.number.0 c h in
       let home : t.0 ≡ c.from.task.0 = subst (IsHome c.from.task.0) at it.home in
-      let table : CallTable = without_call k.calls c.number.0 in
-      joined (Step t.0 Receive) p k (On c.number.0 (Delivered t.0)) table
-      (noted (Step t.0 Receive) p k inside c.number.0 (Delivered t.0) (Answers c.from.task.0) table None
-      (it.place ∙ ap (life_at c.from.task.0) at) (home, rw (← home) inside.now) (λ u s. absurd s) tt inside.core.number (λ m. at_remove k.calls.records c.number.0 m) tt)
-      (kept_phone c) phone.Free (free_leads (Step t.0 Receive) k.tasks.alive)
+      noted (Step t.0 Receive) p k inside c.number.0 (Delivered t.0) (Answers c.from.task.0) (without_call k.calls c.number.0) None
+      (it.place ∙ ap (life_at c.from.task.0) at) (home, rw (← home) inside.now) (λ u s. absurd s) tt inside.core.number (λ m. at_remove k.calls.records c.number.0 m) tt
+
+  delivered : (c : Call) (reply : Reply) → call_at k.calls c.number.0 ≡ Some c → c.place ≡ place.Answers t → AfterServed (Step t.0 Receive) p (delivery t (with_delivery k c reply))
+  delivered c reply h at =
+      joined (Step t.0 Receive) p k (On c.number.0 (Delivered t.0)) (without_call k.calls c.number.0) (over c h at) (kept_phone c) phone.Free (free_leads (Step t.0 Receive) k.tasks.alive)
+
+  written_back : (c : Call) (step : spaces.Step (Option StoreNo)) → call_at k.calls c.number.0 ≡ Some c → c.place ≡ place.Answers t → AfterServed (Step t.0 Receive) p (delivery t (written_at_delivery k c t step))
+  written_back c step h at = wrote_told (Step t.0 Receive) _ _ (over c h at) t step.memory (address_of c.request.args) (length c.buffer) step.told
 
   received : (c : Call) → call_at k.calls c.number.0 ≡ Some c → c.place ≡ place.Incoming t → (kind : MethodKind) → AfterServed (Step t.0 Receive) p (reception t (on_receive_of kind k c t))
   received c h at = by_kind where
@@ -300,7 +322,9 @@ module _ (t : TaskNo) (p : List Tale) (k : KernelState) (inside : InEvent (Step 
   receive_told : (a i : Option Call) → front k.calls (place.Answers t) ≡ a → front k.calls (place.Incoming t) ≡ i → AfterServed (Step t.0 Receive) p (receive_first k t a i)
   receive_told (Some c) i h g =
       let f = front_at (Step t.0 Receive) p k inside (place.Answers t) c h in
-      delivered c (reply_of (kind_of c.request.method) c) f.0 f.1
+      by_test (λ (d : Handed). AfterServed (Step t.0 Receive) p (delivery t d)) (brings_bytes c) (delivered_read k c t) _
+      (λ _. written_back c (read_deliver k.memory t c.request.args c.buffer) f.0 f.1)
+      (λ _. delivered c (reply_of (kind_of c.request.method) c) f.0 f.1)
   receive_told None (Some c) h g =
       let f = front_at (Step t.0 Receive) p k inside (place.Incoming t) c g in
       received c f.0 f.1 (kind_of c.request.method)

@@ -1,5 +1,5 @@
 -- A request leaves few active calls on each phone, and a call is accepted only where there are fewer than 64.
-use Rattle.std.proofs.Common.{◌≡◌, ℕ, ◌+◌, ◌*◌, ◌<◌, Bool, true, false, not, Option, None, Some, Result, Ok, Err, refl, ap, sym, subst, ◌∙◌, arith, nat_le}
+use Rattle.std.proofs.Common.{◌≡◌, ℕ, ◌+◌, ◌*◌, ◌<◌, Bool, true, false, not, List, [], Option, None, Some, Result, Ok, Err, refl, ap, sym, subst, ◌∙◌, arith, nat_le}
 use Rattle.std.specs.Prelude.{⊤}
 use Rattle.std.proofs.lemmas.Bool.{false≢true}
 use Rattle.std.proofs.lemmas.Bool.Decides.{nat_tests}
@@ -35,8 +35,10 @@ use Rattle.address_space.specs.Memory.{Memory}
 use Rattle.cleanup.specs.State.{KernelState, Transition, phone_at, with_calls, with_memory, with_event, label_of}
 use Rattle.cleanup.specs.Kept.{accepts, kept_phone, lent_phone, with_kept, first_usable_of}
 use Rattle.cleanup.specs.Sound.{IsSound}
-use Rattle.cleanup.specs.Joins.{bare_reply, new_call, answer_at_once, reception, answer_to, code_of, lives, passed_call, passage, drop_answer}
-use Rattle.cleanup.specs.Serving.{Served}
+use Rattle.cleanup.specs.Joins.{bare_reply, new_call, acceptance, answer_at_once, reception, delivery, answer_to, code_of, lives, passed_call, passage, drop_answer}
+use Rattle.data_hooks.specs.DataMoments.{write_before_send, read_before_send, write_accept, read_accept, read_deliver}
+use Rattle.cleanup.specs.Data.{reply_told, bytes_told, delivered_read}
+use Rattle.cleanup.specs.Serving.{Handed, Served, as_it_is}
 use Rattle.cleanup.specs.Limits.{IsIdle, IsWithinLimits}
 use Rattle.cleanup.proofs.Repeats.{by_test, drain_keeps}
 use Rattle.cleanup.proofs.Soundness.{next_free}
@@ -44,7 +46,7 @@ use Rattle.cleanup.proofs.Usable.{IsUsable, usable_is, kept_waits, lent_waits}
 use Rattle.cleanup.proofs.KilledPhones.{written_elsewhere}
 use Rattle.cleanup.proofs.Queues.{IsLive, sound_drop}
 use Rattle.cleanup.proofs.Limits.{within_call, within_kept, within_taken, within_over, within_put, within_settle, within_drop, within_hang_up}
-use Rattle.kernel_core.specs.Moments.{with_fifth, number_of, keeping_to_send, before_send_of, on_receive_of, on_accept_of}
+use Rattle.kernel_core.specs.Moments.{with_fifth, number_of, keeping_to_send, carrying, asking, before_send_of, on_receive_of, on_accept_of, brings_bytes}
 use Rattle.kernel_core.specs.Calling.{is_callable, sent_to, call_through, call_tested, call_over, call}
 use Rattle.kernel_core.specs.Receiving.{receive_first, next_unawaited, drop_unawaited}
 use Rattle.kernel_core.specs.Answering.{held_call, accept_for, answer_call, answer_held}
@@ -89,6 +91,10 @@ still_connected k t p u l usable is = written_elsewhere k.tasks.phones l.task.0 
   never : (x : PhoneState) (n : ℕ) → is_usable x n ≡ true → Some x ≡ Some (Connected u) → ⊥
   never x n is e = let same : x ≡ Connected u = cc in false≢true (sym (ap (λ (y : PhoneState). is_usable y n) same) ∙ is)
 
+-- memory is no matter of the limits
+within_memory : (k : KernelState) (m : Memory) → IsWithinLimits k → IsWithinLimits (with_memory k m)
+within_memory k m w = record { awaited = w.awaited; hangups = w.hangups; hung_up = w.hung_up; idle = w.idle }
+
 -- each request
 
 module _ (t : TaskNo) (k : KernelState) (h : IsSound k) (w : IsWithinLimits k) where
@@ -97,12 +103,12 @@ module _ (t : TaskNo) (k : KernelState) (h : IsSound k) (w : IsWithinLimits k) w
 
   -- a new call with a method that a task may call with, over a phone with few active calls
   module _ (p : ℕ) (msg : Msg) (callable : not (is_callable (kind_of msg.method)) ≡ false) (few : nat_le most_active (active_calls k.calls (label_of t p)) ≡ false) where
-    made : (s : PhoneState) (place : Place) (reply : Reply) → phone_at k t p ≡ Some s → (IsIdle (Some s) → ⊥) → IsWithinLimits (with_calls k (enqueue k.calls (record (new_call k t p msg place) { reply = reply })))
-    made s place reply is busy =
-        within_call k (record (new_call k t p msg place) { reply = reply }) w (next_free k.tasks k.calls h.calls) (λ idle. busy (subst IsIdle is idle)) (sym (callable_method msg.method callable)) (few_of (active_calls k.calls (label_of t p)) few)
+    made : (s : PhoneState) (place : Place) (reply : Reply) (bytes : List ℕ) → phone_at k t p ≡ Some s → (IsIdle (Some s) → ⊥) → IsWithinLimits (with_calls k (enqueue k.calls (record (new_call k t p msg place) { reply = reply; buffer = bytes })))
+    made s place reply bytes is busy =
+        within_call k (record (new_call k t p msg place) { reply = reply; buffer = bytes }) w (next_free k.tasks k.calls h.calls) (λ idle. busy (subst IsIdle is idle)) (sym (callable_method msg.method callable)) (few_of (active_calls k.calls (label_of t p)) few)
 
     at_once : (s : PhoneState) (code : Code) → phone_at k t p ≡ Some s → (IsIdle (Some s) → ⊥) → Keeps (answer_at_once k (new_call k t p msg (Answers t)) code)
-    at_once s code is busy = made s (Answers t) (bare_reply code) is busy
+    at_once s code is busy = made s (Answers t) (bare_reply code) [] is busy
 
     keeping : (u : TaskNo) → phone_at k t p ≡ Some (Connected u) → (o : Option Label) → first_usable_of k t ≡ o → Keeps (sent_to u k (new_call k t p msg (Incoming u)) (keeping_to_send k (new_call k t p msg (Incoming u)) o))
     keeping u is None first = at_once (Connected u) elimit is (λ x. x)
@@ -111,14 +117,25 @@ module _ (t : TaskNo) (k : KernelState) (h : IsSound k) (w : IsWithinLimits k) w
         let after = still_connected k t p u l (usable_is k t l first) is in
         within_call (with_kept k (Some l) Connecting) d (within_taken k t (Some l) w first) (next_free k.tasks k.calls h.calls) (λ idle. subst IsIdle after idle) (sym (callable_method msg.method callable)) (few_of (active_calls k.calls (label_of t p)) few)
 
+    plain : (u : TaskNo) → phone_at k t p ≡ Some (Connected u) → Keeps (acceptance (as_it_is k (new_call k t p msg (Incoming u))) (Some u))
+    plain u is = made (Connected u) (Incoming u) (bare_reply eok) [] is (λ x. x)
+
+    with_bytes : (u : TaskNo) → phone_at k t p ≡ Some (Connected u) → (told : Result (List ℕ) Code) → Keeps (sent_to u k (new_call k t p msg (Incoming u)) (carrying k (new_call k t p msg (Incoming u)) told))
+    with_bytes u is (Ok bytes) = made (Connected u) (Incoming u) (bare_reply eok) bytes is (λ x. x)
+    with_bytes u is (Err code) = at_once (Connected u) code is (λ x. x)
+
+    wanting : (u : TaskNo) → phone_at k t p ≡ Some (Connected u) → (told : Result Unit Code) → Keeps (sent_to u k (new_call k t p msg (Incoming u)) (asking k (new_call k t p msg (Incoming u)) told))
+    wanting u is (Ok done) = plain u is
+    wanting u is (Err code) = at_once (Connected u) code is (λ x. x)
+
     sent : (u : TaskNo) → phone_at k t p ≡ Some (Connected u) → (kind : MethodKind) → Keeps (sent_to u k (new_call k t p msg (Incoming u)) (before_send_of kind k (new_call k t p msg (Incoming u))))
-    sent u is PhoneHungUp = made (Connected u) (Incoming u) (bare_reply eok) is (λ x. x)
-    sent u is ConnectToMe = made (Connected u) (Incoming u) (bare_reply eok) is (λ x. x)
+    sent u is PhoneHungUp = plain u is
+    sent u is ConnectToMe = plain u is
     sent u is ConnectMeTo = keeping u is (first_usable_of k t) refl
-    sent u is DataWrite = made (Connected u) (Incoming u) (bare_reply eok) is (λ x. x)
-    sent u is DataRead = made (Connected u) (Incoming u) (bare_reply eok) is (λ x. x)
-    sent u is NotBuilt = made (Connected u) (Incoming u) (bare_reply eok) is (λ x. x)
-    sent u is User = made (Connected u) (Incoming u) (bare_reply eok) is (λ x. x)
+    sent u is DataWrite = with_bytes u is (write_before_send k.memory t msg.args)
+    sent u is DataRead = wanting u is (read_before_send msg.args)
+    sent u is NotBuilt = plain u is
+    sent u is User = plain u is
 
     through : (s : PhoneState) → phone_at k t p ≡ Some s → Keeps (call_through k t p msg s)
     through Free is = w
@@ -164,8 +181,10 @@ module _ (t : TaskNo) (k : KernelState) (h : IsSound k) (w : IsWithinLimits k) w
     accepted reply u PhoneHungUp = put_answered k reply u w live
     accepted reply u ConnectToMe = put_answered (with_kept k (kept_phone c) (Connected u)) (record { code = code_of (kept_phone c); args = reply.args }) u (kept_on (Connected u)) live
     accepted reply u ConnectMeTo = put_answered (with_kept k (kept_phone c) (Connected t)) reply u (kept_on (Connected t)) live
-    accepted reply u DataWrite = put_answered k reply u w live
-    accepted reply u DataRead = put_answered k reply u w live
+    accepted reply u DataWrite =
+        let step = write_accept k.memory t c.buffer reply in put_answered (with_memory k step.memory) (reply_told reply step.told) u (within_memory k step.memory w) live
+    accepted reply u DataRead =
+        let told = read_accept k.memory t c.request.args reply in within_put k c (record c { reply = reply_told reply told; buffer = bytes_told told c.buffer }) (Answers u) w live refl refl refl
     accepted reply u NotBuilt = put_answered k reply u w live
     accepted reply u User = put_answered k reply u w live
 
@@ -183,7 +202,10 @@ module _ (t : TaskNo) (k : KernelState) (h : IsSound k) (w : IsWithinLimits k) w
         within_put (with_kept k (lent_phone c) Free) c (passed_call msg label c) (Incoming to) freed live refl refl refl
 
   received : (a i : Option Call) → front k.calls (Answers t) ≡ a → front k.calls (Incoming t) ≡ i → Keeps (receive_first k t a i)
-  received (Some c) i first second = gone c (front_at k (Answers t) c h first)
+  received (Some c) i first second =
+      let live = front_at k (Answers t) c h first in
+      let m = (read_deliver k.memory t c.request.args c.buffer).memory in
+      by_test (λ (d : Handed). Keeps (delivery t d)) (brings_bytes c) (delivered_read k c t) _ (λ _. within_over (with_memory k m) c (within_memory k m w) live) (λ _. gone c live)
   received None (Some c) first second = taken_on c (front_at k (Incoming t) c h second) (kind_of c.request.method)
   received None None first second = w
 
@@ -219,10 +241,6 @@ drops_fine : (t : TaskNo) (k : KernelState) → IsFine k → IsFine (drop_unawai
 drops_fine t k h = drain_keeps (next_unawaited t) (drop_answer t) IsFine
     (λ j c s is. record { sound = sound_drop j t c s.sound (front_at j (Answers t) c s.sound (unawaited_front (front j.calls (Answers t)) c is)); within = within_drop t j c s.within s.sound.kept (front_at j (Answers t) c s.sound (unawaited_front (front j.calls (Answers t)) c is)) })
     (calls_at k.calls (Answers t)) k h
-
--- nor is memory
-within_memory : (k : KernelState) (m : Memory) → IsWithinLimits k → IsWithinLimits (with_memory k m)
-within_memory k m w = record { awaited = w.awaited; hangups = w.hangups; hung_up = w.hung_up; idle = w.idle }
 
 serves_within : (k : KernelState) (t : TaskNo) (asked : Request) → IsSound k → IsWithinLimits k → IsWithinLimits (serve_request k t asked).state
 serves_within k t (request.Call p msg) h w = called t k h w p msg (phone_at k t p) refl

@@ -28,21 +28,25 @@ use Rattle.forwarding.specs.declared.passing.ForwardFault.TheVariants.{NotHeld, 
 use Rattle.forwarding.specs.Forwarding.{msg_after, label_after}
 use Rattle.forwarding.specs.Routes.{forward_answer}
 use Rattle.address_space.specs.Memory.{Memory}
+use Rattle.data_hooks.specs.DataMoments.{write_before_send, read_before_send}
+use Rattle.data_hooks.proofs.Lengths.{write_length}
 use Rattle.cleanup.specs.State.{KernelState, Transition, is_alive, phone_at, with_calls, with_memory, label_of}
 use Rattle.cleanup.specs.Kept.{accepts, first_usable_of}
 use Rattle.cleanup.specs.Sound.{IsPlaced, NeedsPhone, Carries, HasSoundMemory, IsSound}
-use Rattle.cleanup.specs.Joins.{bare_reply, new_call, acceptance, answer_at_once, reception, answer_to, settle, lives, drop_answer, hang_up}
-use Rattle.cleanup.specs.Serving.{Served, as_it_is}
+use Rattle.cleanup.specs.Joins.{bare_reply, new_call, acceptance, answer_at_once, reception, delivery, answer_to, settle, lives, drop_answer, hang_up}
+use Rattle.cleanup.specs.Data.{delivered_read}
+use Rattle.cleanup.specs.Serving.{Handed, Served, as_it_is}
 use Rattle.cleanup.specs.Board.{IsPendingAt}
 use Rattle.cleanup.proofs.Usable.{usable_is}
 use Rattle.cleanup.proofs.Soundness.{carries_none, answer_carries}
 use Rattle.cleanup.proofs.SoundMemory.{memory_make, memory_drop, memory_write}
 use Rattle.cleanup.proofs.SoundStates.{sound_enqueued, keeps_none, no_phone}
 use Rattle.cleanup.proofs.SoundJoins.{incoming_pending, held_pending, sound_gone, sound_passage, sound_accepted_to_me, sound_accepted_me_to, sound_finished, sound_received_to_me, sound_received, sound_sent}
+use Rattle.cleanup.proofs.SoundData.{sound_accepted_write, sound_accepted_read, sound_delivered_read}
 use Rattle.cleanup.proofs.Repeats.{by_test, drain_keeps}
 use Rattle.cleanup.proofs.Queues.{IsLive, sound_settle_for, sound_drop}
 use Rattle.cleanup.proofs.Silence.{sound_hang_up}
-use Rattle.kernel_core.specs.Moments.{with_fifth, number_of, keeping_to_send, before_send_of, on_receive_of, on_accept_of}
+use Rattle.kernel_core.specs.Moments.{with_fifth, number_of, keeping_to_send, carrying, asking, before_send_of, on_receive_of, on_accept_of, brings_bytes_of, brings_bytes}
 use Rattle.kernel_core.specs.Calling.{is_callable, sent_to, call_through, call_tested, call_over}
 use Rattle.kernel_core.specs.Receiving.{receive_first, unawaited, next_unawaited, drop_unawaited}
 use Rattle.kernel_core.specs.Answering.{held_call, accept_for, answer_call, answer_held}
@@ -83,6 +87,16 @@ declined_needless DataRead t code declines needs = needs
 declined_needless NotBuilt t code declines needs = needs
 declined_needless User t code declines needs = needs
 
+-- an answer that brings bytes is that of a DATA_READ
+brings_read : (kind : MethodKind) (code : Code) → brings_bytes_of kind code ≡ true → kind ≡ DataRead
+brings_read PhoneHungUp code h = absurd (false≢true h)
+brings_read ConnectToMe code h = absurd (false≢true h)
+brings_read ConnectMeTo code h = absurd (false≢true h)
+brings_read DataWrite code h = absurd (false≢true h)
+brings_read DataRead code h = refl
+brings_read NotBuilt code h = absurd (false≢true h)
+brings_read User code h = absurd (false≢true h)
+
 -- the requests of a task that is alive
 
 module _ (t : TaskNo) (k : KernelState) (alive : is_alive k t ≡ true) (h : IsSound k) where
@@ -96,9 +110,11 @@ module _ (t : TaskNo) (k : KernelState) (alive : is_alive k t ≡ true) (h : IsS
       let c : Call = record (new_call k t p msg place) { reply = reply; buffer = bytes } in
       sound_enqueued k c h refl placed (refl, alive) (is_some (phone_at k t p) s is) (callable_method msg.method callable) (no_phone k.tasks.phones c refl needless) carries (keeps_none c refl)
 
+  back : (p : ℕ) (msg : Msg) (s : PhoneState) (code : Code) → phone_at k t p ≡ Some s → not (is_callable (kind_of msg.method)) ≡ false → (NeedsPhone (kind_of msg.method) (Answers t) code → ⊥) → Follows (answer_at_once k (new_call k t p msg (Answers t)) code)
+  back p msg s code is callable needless = made p msg s (Answers t) (bare_reply code) [] is callable refl needless (answer_carries (kind_of msg.method) t [] (slice_index msg.args 1))
+
   at_once : (p : ℕ) (msg : Msg) (s : PhoneState) (code : Code) → phone_at k t p ≡ Some s → not (is_callable (kind_of msg.method)) ≡ false → accepts code ≡ false → Follows (answer_at_once k (new_call k t p msg (Answers t)) code)
-  at_once p msg s code is callable declines =
-      made p msg s (Answers t) (bare_reply code) [] is callable refl (declined_needless (kind_of msg.method) t code declines) (answer_carries (kind_of msg.method) t [] (slice_index msg.args 1))
+  at_once p msg s code is callable declines = back p msg s code is callable (declined_needless (kind_of msg.method) t code declines)
 
   -- what the moment before it is sent makes of a new call over a phone that leads to task u
   module _ (p : ℕ) (msg : Msg) (u : TaskNo) (is : phone_at k t p ≡ Some (Connected u)) (callable : not (is_callable (kind_of msg.method)) ≡ false) where
@@ -115,12 +131,21 @@ module _ (t : TaskNo) (k : KernelState) (alive : is_alive k t ≡ true) (h : IsS
         let d : Call = record c { msg = with_fifth msg (64 * t.0 + l.phone.0); reserved = Some l } in
         sound_sent k d l h (usable_is k t l first) refl (h.tasks.leads t.0 p u is) (refl, alive) (is_some (phone_at k t p) (Connected u) is) (callable_method msg.method callable) kind tt refl
 
+    with_bytes : (told : Result (List ℕ) Code) → write_before_send k.memory t msg.args ≡ told → kind_of msg.method ≡ DataWrite → Follows (sent_to u k c (carrying k c told))
+    with_bytes (Ok bytes) copied kind =
+        made p msg (Connected u) (Incoming u) c.reply bytes is callable (h.tasks.leads t.0 p u is) (λ needs. rw kind at needs) (rw kind (write_length k.memory t msg.args bytes h.memory.spaces copied).all)
+    with_bytes (Err code) copied kind = back p msg (Connected u) code is callable (λ needs. rw kind at needs)
+
+    wanting : (told : Result Unit Code) → kind_of msg.method ≡ DataRead → Follows (sent_to u k c (asking k c told))
+    wanting (Ok done) kind = plain DataRead kind (λ needs. needs) (λ e. cc)
+    wanting (Err code) kind = back p msg (Connected u) code is callable (λ needs. rw kind at needs)
+
     sent : (kind : MethodKind) → kind_of msg.method ≡ kind → Follows (sent_to u k c (before_send_of kind k c))
     sent PhoneHungUp kind = plain PhoneHungUp kind (λ needs. needs) (λ e. cc)
     sent ConnectToMe kind = plain ConnectToMe kind (λ needs. needs) (λ e. cc)
     sent ConnectMeTo kind = keeping (first_usable_of k t) refl kind
-    sent DataWrite kind = absurd (let never = rw kind at callable in cc)
-    sent DataRead kind = plain DataRead kind (λ needs. needs) (λ e. cc)
+    sent DataWrite kind = with_bytes (write_before_send k.memory t msg.args) refl kind
+    sent DataRead kind = wanting (read_before_send msg.args) kind
     sent NotBuilt kind = plain NotBuilt kind (λ needs. needs) (λ e. cc)
     sent User kind = plain User kind (λ needs. needs) (λ e. cc)
 
@@ -157,7 +182,9 @@ module _ (t : TaskNo) (k : KernelState) (alive : is_alive k t ≡ true) (h : IsS
   taken_on c live here User kind = taken_plain c live here (λ e. cc)
 
   received : (a i : Option Call) → front k.calls (Answers t) ≡ a → front k.calls (Incoming t) ≡ i → Follows (receive_first k t a i)
-  received (Some c) i first second = sound_gone k c h (front_at k (Answers t) c h first)
+  received (Some c) i first second =
+      let live = front_at k (Answers t) c h first in
+      by_test (λ (d : Handed). Follows (delivery t d)) (brings_bytes c) (delivered_read k c t) _ (λ brings. sound_delivered_read k c t h live (brings_read (kind_of c.request.method) c.reply.code brings)) (λ _. sound_gone k c h live)
   received None (Some c) first second = taken_on c (front_at k (Incoming t) c h second) (front_stands k (Incoming t) c second) (kind_of c.request.method) refl
   received None None first second = h
 
@@ -173,8 +200,8 @@ module _ (t : TaskNo) (k : KernelState) (alive : is_alive k t ≡ true) (h : IsS
     accepted reply u accepting from PhoneHungUp kind = sound_finished k c reply (Some t) u h live (rw kind tt) pending from
     accepted reply u accepting from ConnectToMe kind = sound_accepted_to_me k c reply (Some t) u h live kind pending from
     accepted reply u accepting from ConnectMeTo kind = sound_accepted_me_to k c reply t (Some t) u h live kind pending accepting alive from
-    accepted reply u accepting from DataWrite kind = sound_finished k c reply (Some t) u h live (rw kind tt) pending from
-    accepted reply u accepting from DataRead kind = sound_finished k c reply (Some t) u h live (rw kind tt) pending from
+    accepted reply u accepting from DataWrite kind = sound_accepted_write k c reply t (Some t) u h live kind pending from
+    accepted reply u accepting from DataRead kind = sound_accepted_read k c reply t (Some t) u h live kind pending from
     accepted reply u accepting from NotBuilt kind = sound_finished k c reply (Some t) u h live (rw kind tt) pending from
     accepted reply u accepting from User kind = sound_finished k c reply (Some t) u h live (rw kind tt) pending from
 

@@ -1,5 +1,5 @@
 -- How many stores there are after a request and after a kill: areas alone make them, one each.
-use Rattle.std.proofs.Common.{◌≡◌, ℕ, ◌+◌, ◌≤◌, Bool, true, false, not, Option, None, Some, Result, Ok, Err, refl, ap, ◌∙◌, arith, nat_le}
+use Rattle.std.proofs.Common.{◌≡◌, ℕ, ◌+◌, ◌≤◌, Bool, true, false, not, List, Option, None, Some, Result, Ok, Err, refl, ap, ◌∙◌, arith, nat_le}
 use Rattle.ipc_ids.specs.declared.numbers.TaskNo.{TaskNo}
 use Rattle.ipc_ids.specs.declared.numbers.Label.{Label}
 use Rattle.ipc_ids.specs.declared.numbers.Code.{Code}
@@ -19,18 +19,21 @@ use Rattle.call_slab.specs.declared.call.Call.{Call}
 use Rattle.call_slab.specs.declared.call.Place.TheVariants.{Incoming, Dispatched, Answers}
 use Rattle.answerbox.specs.Calls.{call_at, calls_at, front, same_place, active_calls}
 use Rattle.address_space.proofs.Numbers.{next_at_make, next_at_drop, next_at_write}
+use Rattle.data_hooks.specs.DataMoments.{write_before_send, read_before_send}
+use Rattle.data_hooks.proofs.Keeping.{write_accept_keeps, read_deliver_keeps}
 use Rattle.forwarding.specs.declared.passing.Forwarded.{Forwarded}
 use Rattle.forwarding.specs.declared.passing.ForwardFault.{ForwardFault}
 use Rattle.forwarding.specs.declared.passing.ForwardFault.TheVariants.{NotHeld, NotForwardable, NotConnected}
 use Rattle.forwarding.specs.Routes.{forward_answer}
 use Rattle.cleanup.specs.State.{KernelState, Transition, phone_at, label_of}
 use Rattle.cleanup.specs.Kept.{accepts, first_usable_of}
-use Rattle.cleanup.specs.Joins.{bare_reply, new_call, reception, answer_to, settle_for, lives, drop_answer}
-use Rattle.cleanup.specs.Serving.{Served}
+use Rattle.cleanup.specs.Joins.{bare_reply, new_call, reception, delivery, answer_to, settle_for, lives, drop_answer}
+use Rattle.cleanup.specs.Data.{delivered_read}
+use Rattle.cleanup.specs.Serving.{Handed, Served}
 use Rattle.cleanup.specs.Kill.{mark_ended, kill}
 use Rattle.cleanup.proofs.Killing.{areas_last, calls_steady}
 use Rattle.cleanup.proofs.Repeats.{by_test, drain_keeps}
-use Rattle.kernel_core.specs.Moments.{keeping_to_send, before_send_of, on_receive_of, on_accept_of}
+use Rattle.kernel_core.specs.Moments.{keeping_to_send, carrying, asking, before_send_of, on_receive_of, on_accept_of, brings_bytes}
 use Rattle.kernel_core.specs.Calling.{is_callable, sent_to, call_through, call_tested, call_over}
 use Rattle.kernel_core.specs.Receiving.{receive_first, next_unawaited, drop_unawaited}
 use Rattle.kernel_core.specs.Answering.{held_call, accept_for, answer_call, answer_held}
@@ -51,12 +54,20 @@ module _ (k : KernelState) (t : TaskNo) (p : ℕ) (msg : Msg) where
   keeping u None = refl
   keeping u (Some l) = refl
 
+  with_bytes : (u : TaskNo) (told : Result (List ℕ) Code) → Keeps k (sent_to u k (new_call k t p msg (Incoming u)) (carrying k (new_call k t p msg (Incoming u)) told))
+  with_bytes u (Ok bytes) = refl
+  with_bytes u (Err code) = refl
+
+  wanting : (u : TaskNo) (told : Result Unit Code) → Keeps k (sent_to u k (new_call k t p msg (Incoming u)) (asking k (new_call k t p msg (Incoming u)) told))
+  wanting u (Ok done) = refl
+  wanting u (Err code) = refl
+
   sent : (u : TaskNo) (kind : MethodKind) → Keeps k (sent_to u k (new_call k t p msg (Incoming u)) (before_send_of kind k (new_call k t p msg (Incoming u))))
   sent u PhoneHungUp = refl
   sent u ConnectToMe = refl
   sent u ConnectMeTo = keeping u (first_usable_of k t)
-  sent u DataWrite = refl
-  sent u DataRead = refl
+  sent u DataWrite = with_bytes u (write_before_send k.memory t msg.args)
+  sent u DataRead = wanting u (read_before_send msg.args)
   sent u NotBuilt = refl
   sent u User = refl
 
@@ -101,7 +112,7 @@ module _ (k : KernelState) (t : TaskNo) (c : Call) (reply : Reply) where
   accepted u PhoneHungUp = refl
   accepted u ConnectToMe = refl
   accepted u ConnectMeTo = refl
-  accepted u DataWrite = refl
+  accepted u DataWrite = (write_accept_keeps k.memory t c.buffer reply).next
   accepted u DataRead = refl
   accepted u NotBuilt = refl
   accepted u User = refl
@@ -129,7 +140,7 @@ taken_on k t c NotBuilt = refl
 taken_on k t c User = refl
 
 received : (k : KernelState) (t : TaskNo) (a i : Option Call) → Keeps k (receive_first k t a i)
-received k t (Some c) i = refl
+received k t (Some c) i = by_test (λ (d : Handed). Keeps k (delivery t d)) (brings_bytes c) (delivered_read k c t) _ (λ _. (read_deliver_keeps k.memory t c.request.args c.buffer).next) (λ _. refl)
 received k t None (Some c) = taken_on k t c (kind_of c.request.method)
 received k t None None = refl
 

@@ -36,8 +36,8 @@ abbrev pub is_callable : MethodKind → Bool
 is_callable PhoneHungUp = false
 is_callable ConnectToMe = true
 is_callable ConnectMeTo = true
-is_callable DataWrite = false
-is_callable DataRead = false
+is_callable DataWrite = true
+is_callable DataRead = true
 is_callable NotBuilt = false
 is_callable User = true
 

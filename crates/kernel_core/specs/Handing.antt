@@ -6,6 +6,8 @@ use Rattle.ipc_ids.specs.declared.numbers.Code.{Code}
 use Rattle.ipc_ids.specs.declared.methods.MethodKind.{MethodKind}
 use Rattle.ipc_ids.specs.declared.entry.Entry.{Entry}
 use Rattle.ipc_ids.specs.Methods.{kind_of}
+use Rattle.address_space.specs.declared.spaces.SpaceFault.{SpaceFault}
+use Rattle.address_space.specs.declared.spaces.SpaceFault.TheVariants.{Refused, NoMemory}
 use Rattle.call_slab.specs.declared.call.Call.{Call}
 use Rattle.call_slab.specs.declared.call.Place.TheVariants.{Dispatched}
 use Rattle.cleanup.specs.declared.joins.Arrival.{Arrival}
@@ -29,11 +31,13 @@ pub record IsUnsent (old new : BoardState) (before now : Call) (given wanted : C
   pub call : now ≡ before
   pub code : given ≡ wanted
 
-abbrev pub IsSent : BoardState → BoardState → Call → Call → Result (Option Entry) Code → Result Handed Code → Type 0
+-- where memory was wanting, the state is as it was
+abbrev pub IsSent : BoardState → BoardState → Call → Call → Result (Option Entry) SpaceFault → Result Handed Code → Type 0
 IsSent old new before now (Ok noted) (Ok handed) = IsHanded new now noted handed
-IsSent old new before now (Err given) (Err code) = IsUnsent old new before now given code
+IsSent old new before now (Err (Refused given)) (Err code) = IsUnsent old new before now given code
 IsSent old new before now (Ok noted) (Err code) = ⊥
-IsSent old new before now (Err given) (Ok handed) = ⊥
+IsSent old new before now (Err (Refused given)) (Ok handed) = ⊥
+IsSent old new before now (Err NoMemory) told = new.state ≡ old.state
 
 -- the code left this state, and what the call is to take with it makes the record that is handed on
 pub record IsArriving (new : BoardState) (arrival : Arrival) (old : KernelState) (who : TaskNo) (c : Call) : Type 0 where

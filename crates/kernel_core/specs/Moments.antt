@@ -1,7 +1,7 @@
 -- The four moments of a call at which its method does more than carry a message: before it is sent, as it is received,
 -- as it is accepted, and as its answer is delivered. Each hands the state, the record of the call and one entry more
 -- at most to a join.
-use Rattle.std.specs.Prelude.{ℕ, ◌+◌, ◌*◌, if◌then◌else◌, Option, None, Some, Result, Ok, Err, slice_set}
+use Rattle.std.specs.Prelude.{ℕ, ◌+◌, ◌*◌, Bool, false, if◌then◌else◌, List, Option, None, Some, Result, Ok, Err, slice_set}
 use Rattle.ipc_ids.specs.declared.numbers.TaskNo.{TaskNo}
 use Rattle.ipc_ids.specs.declared.numbers.Label.{Label}
 use Rattle.ipc_ids.specs.declared.numbers.Code.{Code}
@@ -15,7 +15,9 @@ use Rattle.ipc_ids.specs.Methods.{kind_of}
 use Rattle.call_slab.specs.declared.call.Call.{Call}
 use Rattle.cleanup.specs.State.{KernelState}
 use Rattle.cleanup.specs.Kept.{accepts, first_usable_of, kept_note, with_kept}
+use Rattle.data_hooks.specs.DataMoments.{write_before_send, read_before_send}
 use Rattle.cleanup.specs.Joins.{accepted_to_me, accepted_me_to, with_delivery}
+use Rattle.cleanup.specs.Data.{accepted_write, accepted_read, delivered_read}
 use Rattle.cleanup.specs.Serving.{Handed, as_it_is}
 
 -- the message, and the reply, with this fifth argument
@@ -35,12 +37,22 @@ keeping_to_send k c (Some l) =
       note = kept_note (Some l) Connecting;
     })
 
+-- before a DATA_WRITE is sent, the caller's bytes are copied
+abbrev pub carrying : KernelState → Call → Result (List ℕ) Code → Result Handed Code
+carrying k c (Ok bytes) = Ok (as_it_is k (record c { buffer = bytes }))
+carrying k c (Err code) = Err code
+
+-- a DATA_READ is sent where it asks for few bytes
+abbrev pub asking : KernelState → Call → Result Unit Code → Result Handed Code
+asking k c (Ok done) = Ok (as_it_is k c)
+asking k c (Err code) = Err code
+
 abbrev pub before_send_of : MethodKind → KernelState → Call → Result Handed Code
 before_send_of PhoneHungUp k c = Ok (as_it_is k c)
 before_send_of ConnectToMe k c = Ok (as_it_is k c)
 before_send_of ConnectMeTo k c = keeping_to_send k c (first_usable_of k c.from.task)
-before_send_of DataWrite k c = Ok (as_it_is k c)
-before_send_of DataRead k c = Ok (as_it_is k c)
+before_send_of DataWrite k c = carrying k c (write_before_send k.memory c.from.task c.request.args)
+before_send_of DataRead k c = asking k c (read_before_send c.request.args)
 before_send_of NotBuilt k c = Ok (as_it_is k c)
 before_send_of User k c = Ok (as_it_is k c)
 
@@ -72,13 +84,14 @@ on_receive_of User k c t = as_it_is k c
 abbrev pub on_receive : KernelState → Call → TaskNo → Handed
 on_receive k c t = on_receive_of (kind_of c.request.method) k c t
 
--- as task t accepts a call of this caller, the kept phone leads to the other of the two
+-- as task t accepts a call of this caller, the kept phone leads to the other of the two; a DATA_WRITE writes its bytes, and
+-- a DATA_READ reads those that it takes with it
 abbrev pub on_accept_of : MethodKind → KernelState → Call → Reply → TaskNo → TaskNo → Handed
 on_accept_of PhoneHungUp k c reply t caller = as_it_is k (record c { reply = reply })
 on_accept_of ConnectToMe k c reply t caller = accepted_to_me k c reply caller
 on_accept_of ConnectMeTo k c reply t caller = accepted_me_to k c reply t
-on_accept_of DataWrite k c reply t caller = as_it_is k (record c { reply = reply })
-on_accept_of DataRead k c reply t caller = as_it_is k (record c { reply = reply })
+on_accept_of DataWrite k c reply t caller = accepted_write k c reply t
+on_accept_of DataRead k c reply t caller = accepted_read k c reply t
 on_accept_of NotBuilt k c reply t caller = as_it_is k (record c { reply = reply })
 on_accept_of User k c reply t caller = as_it_is k (record c { reply = reply })
 
@@ -99,5 +112,19 @@ reply_of DataRead c = c.reply
 reply_of NotBuilt c = c.reply
 reply_of User c = c.reply
 
-abbrev pub on_delivery : KernelState → Call → Handed
-on_delivery k c = with_delivery k c (reply_of (kind_of c.request.method) c)
+-- whether the answer brings bytes: that of a DATA_READ that was accepted
+abbrev pub brings_bytes_of : MethodKind → Code → Bool
+brings_bytes_of PhoneHungUp code = false
+brings_bytes_of ConnectToMe code = false
+brings_bytes_of ConnectMeTo code = false
+brings_bytes_of DataWrite code = false
+brings_bytes_of DataRead code = accepts code
+brings_bytes_of NotBuilt code = false
+brings_bytes_of User code = false
+
+abbrev pub brings_bytes : Call → Bool
+brings_bytes c = brings_bytes_of (kind_of c.request.method) c.reply.code
+
+-- as the answer is delivered to task t
+abbrev pub on_delivery : KernelState → Call → TaskNo → Handed
+on_delivery k c t = if brings_bytes c then delivered_read k c t else with_delivery k c (reply_of (kind_of c.request.method) c)

@@ -12,7 +12,7 @@ use Rattle.kernel_core.specs.Moments.{on_receive, on_delivery}
 
 -- of the first answer and the first incoming call the answer
 abbrev pub receive_first : KernelState → TaskNo → Option Call → Option Call → Served
-receive_first k t (Some answer) incoming = delivery t (on_delivery k answer)
+receive_first k t (Some answer) incoming = delivery t (on_delivery k answer t)
 receive_first k t None (Some c) = reception t (on_receive k c t)
 receive_first k t None None = record { state = k; outcome = Empty; entries = [] }
 

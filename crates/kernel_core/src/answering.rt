@@ -5,8 +5,8 @@ ghost use Rattle.cleanup.specs.Board.{IsAdded};
 ghost use Rattle.cleanup.specs.Joins.{lives, on_call};
 ghost use Rattle.cleanup.specs.Kept.{accepts};
 ghost use Rattle.cleanup.specs.Rooms.{HasRoom, UsesRoom};
-ghost use Rattle.cleanup.specs.Serving.{Does, ServesOrLeaves};
-ghost use Rattle.kernel_core.specs.Answering.{answer as answer_of, accept_for};
+ghost use Rattle.cleanup.specs.Serving.{DoesOrLeaves, ServesOrLeaves};
+ghost use Rattle.kernel_core.specs.Answering.{answer as answer_of, answer_held, accept_for};
 ghost use Rattle.kernel_core.specs.Handing.{IsHeldOf};
 
 use crate::moments::on_accept;
@@ -31,14 +31,36 @@ pub(crate) fn answer(
     match board.get(call) {
         Some(held) if is_held(held, who) => {
             let (caller, kind) = (held.caller, MethodKind::of(held.request.method));
-            if reply.code == Code::EOK {
-                accept(board, call, kind, reply, who, caller, out);
-            } else {
-                board.settle_for(call, caller, reply, Some(who), out);
-            }
-            Ok(Outcome::Done)
+            answer_held(board, call, kind, reply, who, caller, out)
         }
         _ => Ok(Outcome::Refused(Code::ENOENT)),
+    }
+}
+
+/// Answers the call, which the task holds.
+fn answer_held(
+    board: &mut Switchboard,
+    call: CallNo,
+    kind: MethodKind,
+    reply: &Reply,
+    who: TaskNo,
+    caller: Option<TaskNo>,
+    out: &mut Trace,
+) -> Result<Outcome, NoMemory>
+    requires held { IsHeldOf (call_at board.old.state.calls call.0) call kind who caller }
+    requires added { IsAdded board.old.state who }
+    requires room { HasRoom board.old out.old 0 1 2 }
+    ensures served { ServesOrLeaves result board.old board.new out.old out.new
+        (answer_held board.old.state who reply.now (call_at board.old.state.calls call.0)) }
+    ensures room { UsesRoom board.old board.new out.old out.new 0 1 2 }
+{
+    if reply.code != Code::EOK {
+        board.settle_for(call, caller, reply, Some(who), out);
+        return Ok(Outcome::Done);
+    }
+    match accept(board, call, kind, reply, who, caller, out) {
+        Ok(()) => Ok(Outcome::Done),
+        Err(NoMemory) => Err(NoMemory),
     }
 }
 
@@ -51,20 +73,23 @@ fn accept(
     who: TaskNo,
     caller: Option<TaskNo>,
     out: &mut Trace,
-)
+) -> Result<(), NoMemory>
     requires held { IsHeldOf (call_at board.old.state.calls call.0) call kind who caller }
     requires accepts { accepts reply.now.code ≡ true }
     requires added { IsAdded board.old.state who }
     requires room { HasRoom board.old out.old 0 1 2 }
-    ensures step { Does board.new out.old out.new
+    ensures step { DoesOrLeaves result board.old board.new out.old out.new
         (on_call (λ k c. accept_for k who reply.now c c.caller (lives k c.caller))
         board.old.state call.0) }
     ensures room { UsesRoom board.old board.new out.old out.new 0 1 2 }
 {
     match caller {
         Some(caller) if board.is_alive(caller) => {
-            on_accept(board, call, kind, reply, who, caller, out);
+            on_accept(board, call, kind, reply, who, caller, out)
         }
-        _ => board.vanish(call, out),
+        _ => {
+            board.vanish(call, out);
+            Ok(())
+        }
     }
 }

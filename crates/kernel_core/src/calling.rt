@@ -4,11 +4,12 @@ ghost use Rattle.answerbox.specs.Calls.{active_calls};
 ghost use Rattle.cleanup.specs.State.{phone_at};
 ghost use Rattle.cleanup.specs.Board.{IsAdded, IsNewCall, LeadsToAdded};
 ghost use Rattle.cleanup.specs.Rooms.{HasRoom, UsesRoom};
-ghost use Rattle.cleanup.specs.Serving.{Serves, ServesOrLeaves};
+ghost use Rattle.cleanup.specs.Serving.{ServesOrLeaves};
 ghost use Rattle.kernel_core.specs.Calling.{call as call_of, call_tested, call_through, is_callable, sent_to};
 ghost use Rattle.kernel_core.specs.Moments.{before_send};
 
 use crate::moments::before_send;
+use address_space::SpaceFault;
 use call_slab::{Call, Place};
 use cleanup::{Switchboard, label};
 use ipc_ids::{Code, Label, MethodKind, Msg, NoMemory, Outcome, PhoneState, TaskNo, Trace};
@@ -72,11 +73,12 @@ fn is_callable(kind: MethodKind) -> bool
     ensures { result ≡ is_callable kind }
 {
     match kind {
-        MethodKind::ConnectToMe | MethodKind::ConnectMeTo | MethodKind::User => true,
-        MethodKind::PhoneHungUp
+        MethodKind::ConnectToMe
+        | MethodKind::ConnectMeTo
         | MethodKind::DataWrite
         | MethodKind::DataRead
-        | MethodKind::NotBuilt => false,
+        | MethodKind::User => true,
+        MethodKind::PhoneHungUp | MethodKind::NotBuilt => false,
     }
 }
 
@@ -102,7 +104,7 @@ fn call_through(
         PhoneState::Free | PhoneState::Connecting => Ok(Outcome::Refused(Code::ENOENT)),
         PhoneState::Connected(to) => {
             let call = board.new_call(from, msg, Place::Incoming(to));
-            Ok(send(board, call, to, out))
+            send(board, call, to, out)
         }
         PhoneState::HungUp => {
             let call = board.new_call(from, msg, Place::Answers(from.task));
@@ -117,21 +119,27 @@ fn call_through(
 
 /// Sends the new call to the task, or answers it at once where its method does not allow it to be
 /// sent.
-fn send(board: &mut Switchboard, mut call: Call, to: TaskNo, out: &mut Trace) -> Outcome
+fn send(
+    board: &mut Switchboard,
+    mut call: Call,
+    to: TaskNo,
+    out: &mut Trace,
+) -> Result<Outcome, NoMemory>
     requires new_call { IsNewCall board.old.state call }
     requires added { IsAdded board.old.state call.from.task }
     requires few { call.from.task.0 ≤ 64 }
     requires unreserved { call.reserved ≡ None }
     requires room { HasRoom board.old out.old 1 1 2 }
-    ensures served { Serves board.new result out.old out.new
+    ensures served { ServesOrLeaves result board.old board.new out.old out.new
         (sent_to to board.old.state call (before_send board.old.state call)) }
     ensures room { UsesRoom board.old board.new out.old out.new 1 1 2 }
 {
     match before_send(board, &mut call) {
-        Ok(note) => board.accept(call, note, Some(to), out),
-        Err(code) => {
+        Ok(note) => Ok(board.accept(call, note, Some(to), out)),
+        Err(SpaceFault::Refused(code)) => {
             call.place = Place::Answers(call.from.task);
-            board.answer_at_once(call, code, out)
+            Ok(board.answer_at_once(call, code, out))
         }
+        Err(SpaceFault::NoMemory) => Err(NoMemory),
     }
 }

@@ -9,24 +9,33 @@ ghost use Rattle.cleanup.specs.Board.{IsAdded, IsHeldBy, IsNewCall};
 ghost use Rattle.cleanup.specs.Joins.{on_call, answer_to};
 ghost use Rattle.cleanup.specs.Kept.{accepts};
 ghost use Rattle.cleanup.specs.Rooms.{HasRoom, KeepsCalls, UsesRoom};
-ghost use Rattle.cleanup.specs.Serving.{Does};
-ghost use Rattle.kernel_core.specs.Moments.{with_fifth, with_phone_named, number_of, reply_of, before_send as before_send_of, on_receive as on_receive_of, on_accept as on_accept_of};
+ghost use Rattle.cleanup.specs.Serving.{DoesOrLeaves};
+ghost use Rattle.kernel_core.specs.Moments.{with_fifth, with_phone_named, number_of, reply_of, brings_bytes, before_send as before_send_of, on_receive as on_receive_of, on_accept as on_accept_of};
 ghost use Rattle.kernel_core.specs.Handing.{IsSent, Arrives};
 
+use address_space::SpaceFault;
 use call_slab::Call;
 use cleanup::{Arrival, Switchboard, kept_note};
-use ipc_ids::{CallNo, Code, Entry, Label, MethodKind, Msg, PhoneState, Reply, TaskNo, Trace};
+use data_hooks::read_before_send;
+use ipc_ids::{
+    CallNo, Code, Entry, Label, MethodKind, Msg, NoMemory, PhoneState, Reply, TaskNo, Trace,
+};
 
 /// The phone number that a CONNECT_TO_ME names where its receiver has no usable phone.
 const NO_PHONE: u64 = 64;
 
 /// Before the new call is sent: the caller of a CONNECT_ME_TO keeps its first usable phone for it,
-/// and the message names the caller and the phone. Returns what is told of it.
+/// and the message names the caller and the phone; a DATA_WRITE takes the caller's bytes with it.
+/// Returns what is told of it.
 ///
 /// # Errors
 ///
-/// The code with which the call is answered at once; then nothing has changed.
-pub(crate) fn before_send(board: &mut Switchboard, call: &mut Call) -> Result<Option<Entry>, Code>
+/// `Refused` with the code with which the call is answered at once; `NoMemory`. Then nothing has
+/// changed.
+pub(crate) fn before_send(
+    board: &mut Switchboard,
+    call: &mut Call,
+) -> Result<Option<Entry>, SpaceFault>
     requires new_call { IsNewCall board.old.state call.old }
     requires added { IsAdded board.old.state call.old.from.task }
     requires few { call.old.from.task.0 ≤ 64 }
@@ -42,12 +51,21 @@ pub(crate) fn before_send(board: &mut Switchboard, call: &mut Call) -> Result<Op
                 call.reserved = Some(kept);
                 Ok(kept_note(Some(kept), PhoneState::Connecting))
             }
-            Err(code) => Err(code),
+            Err(code) => Err(SpaceFault::Refused(code)),
+        },
+        MethodKind::DataWrite => match board.bytes_to_send(call.from.task, &call.request.args) {
+            Ok(bytes) => {
+                call.buffer = bytes;
+                Ok(None)
+            }
+            Err(fault) => Err(fault),
+        },
+        MethodKind::DataRead => match read_before_send(&call.request.args) {
+            Ok(()) => Ok(None),
+            Err(code) => Err(SpaceFault::Refused(code)),
         },
         MethodKind::PhoneHungUp
         | MethodKind::ConnectToMe
-        | MethodKind::DataWrite
-        | MethodKind::DataRead
         | MethodKind::NotBuilt
         | MethodKind::User => Ok(None),
     }
@@ -88,7 +106,11 @@ pub(crate) fn on_receive(board: &mut Switchboard, number: CallNo, who: TaskNo) -
 }
 
 /// As the task accepts a call of that caller: a phone that was kept for it leads to the other of
-/// the two.
+/// the two, the bytes of a DATA_WRITE are written, and those of a DATA_READ are taken along.
+///
+/// # Errors
+///
+/// `NoMemory` where no memory was found for bytes; then nothing has changed.
 pub(crate) fn on_accept(
     board: &mut Switchboard,
     number: CallNo,
@@ -97,32 +119,55 @@ pub(crate) fn on_accept(
     who: TaskNo,
     caller: TaskNo,
     out: &mut Trace,
-)
+) -> Result<(), NoMemory>
     requires number { IfSome (call_at board.old.state.calls number.0) (λ c. c.number ≡ number) }
     requires held { IsHeldBy (call_at board.old.state.calls number.0) kind who caller }
     requires accepts { accepts reply.now.code ≡ true }
     requires added { IsAdded board.old.state who }
     requires alive { is_alive board.old.state caller ≡ true }
     requires room { HasRoom board.old out.old 0 1 2 }
-    ensures step { Does board.new out.old out.new
+    ensures step { DoesOrLeaves result board.old board.new out.old out.new
         (on_call (λ k c. answer_to (on_accept_of k c reply.now who caller) (Some who) caller)
         board.old.state number.0) }
     ensures room { UsesRoom board.old board.new out.old out.new 0 1 2 }
 {
     match kind {
-        MethodKind::ConnectToMe => board.accept_to_me(number, reply, who, caller, out),
-        MethodKind::ConnectMeTo => board.accept_me_to(number, reply, who, caller, out),
-        MethodKind::PhoneHungUp
-        | MethodKind::DataWrite
-        | MethodKind::DataRead
-        | MethodKind::NotBuilt
-        | MethodKind::User => {
+        MethodKind::ConnectToMe => {
+            board.accept_to_me(number, reply, who, caller, out);
+            Ok(())
+        }
+        MethodKind::ConnectMeTo => {
+            board.accept_me_to(number, reply, who, caller, out);
+            Ok(())
+        }
+        MethodKind::DataWrite => {
+            board.accept_write(number, reply, who, caller, out);
+            Ok(())
+        }
+        MethodKind::DataRead => board.accept_read(number, reply, who, caller, out),
+        MethodKind::PhoneHungUp | MethodKind::NotBuilt | MethodKind::User => {
             board.finish(number, reply, who, caller, out);
+            Ok(())
         }
     }
 }
 
-/// As the answer is delivered: the answer of a CONNECT_ME_TO that was accepted names the phone.
+/// Whether the answer brings bytes: that of a DATA_READ that was accepted.
+pub(crate) fn brings_bytes(call: &Call) -> bool
+    ensures { result ≡ brings_bytes call.now }
+{
+    match MethodKind::of(call.request.method) {
+        MethodKind::DataRead => call.reply.code == Code::EOK,
+        MethodKind::PhoneHungUp
+        | MethodKind::ConnectToMe
+        | MethodKind::ConnectMeTo
+        | MethodKind::DataWrite
+        | MethodKind::NotBuilt
+        | MethodKind::User => false,
+    }
+}
+
+/// As an answer is delivered that brings no bytes: the answer of a CONNECT_ME_TO that was accepted names the phone.
 /// Returns the reply that its caller is told.
 pub(crate) fn on_delivery(call: &Call) -> Reply
     ensures { result ≡ reply_of (kind_of call.now.request.method) call.now }

@@ -8,7 +8,7 @@ ghost use Rattle.cleanup.specs.Rooms.{HasRoom, UsesRoom};
 ghost use Rattle.cleanup.specs.Serving.{Does, Serves};
 ghost use Rattle.kernel_core.specs.Receiving.{receive as receive_of, receive_first, receive_now as receive_now_of, next_unawaited as next_unawaited_of, drop_unawaited as drop_unawaited_of};
 
-use crate::moments::{on_delivery, on_receive};
+use crate::moments::{brings_bytes, on_delivery, on_receive};
 use call_slab::Place;
 use cleanup::Switchboard;
 use ipc_ids::{CallNo, Outcome, TaskNo, Trace};
@@ -77,12 +77,17 @@ fn receive_now(board: &mut Switchboard, who: TaskNo, out: &mut Trace) -> Outcome
 /// Delivers the answer to the task.
 fn give_answer(board: &mut Switchboard, number: CallNo, who: TaskNo, out: &mut Trace) -> Outcome
     requires live { IsSome (call_at board.old.state.calls number.0) }
+    requires added { IsAdded board.old.state who }
     requires room { HasRoom board.old out.old 0 0 2 }
     ensures served { Serves board.new result out.old out.new
         (receive_first board.old.state who (call_at board.old.state.calls number.0) None) }
     ensures room { UsesRoom board.old board.new out.old out.new 0 0 2 }
 {
-    let reply = on_delivery(board.get(number).unwrap());
+    let call = board.get(number).unwrap();
+    if brings_bytes(call) {
+        return board.deliver_read(number, who, out);
+    }
+    let reply = on_delivery(call);
     board.deliver(number, reply, who, out)
 }
 

@@ -6,7 +6,7 @@ pub accept-requires-clause-new_call : goal.accept-requires-clause-new_call
 accept-requires-clause-new_call c = sent_new c.args.board.now c.before_send.new.board c.args.call c.before_send.new.call c.in-Ok.note (before_send c.args.board.now.state c.args.call) c.in-Ok.ensures.sent
 
 pub answer_at_once-requires-clause-new_call : goal.answer_at_once-requires-clause-new_call
-answer_at_once-requires-clause-new_call c = unsent_new c.args.board.now c.before_send.new.board c.args.call c.before_send.new.call c.in-Err.code (before_send c.args.board.now.state c.args.call) c.requires.new_call c.requires.unreserved c.requires.added c.in-Err.ensures.sent
+answer_at_once-requires-clause-new_call c = unsent_new c.args.board.now c.before_send.new.board c.args.call c.before_send.new.call c.in-Err-Refused.code (before_send c.args.board.now.state c.args.call) c.requires.new_call c.requires.unreserved c.requires.added (rw c.in-Err-Refused.field-0-is at c.in-Err-Refused.ensures.sent)
 
 pub accept-requires-clause-room : goal.accept-requires-clause-room
 accept-requires-clause-room c = room_kept c.before_send.ensures.keeps c.requires.room
