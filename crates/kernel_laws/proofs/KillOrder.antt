@@ -17,14 +17,14 @@ use Rattle.cleanup.specs.State.{KernelState, Transition, is_alive, phone_at}
 use Rattle.cleanup.specs.Sound.{IsSound}
 use Rattle.cleanup.specs.Kept.{kept_phone, lent_phone, kept_note}
 use Rattle.cleanup.specs.Joins.{bare_reply, settle_for, lives, hang_up}
-use Rattle.cleanup.specs.Kill.{task_no, width, mark_ended, hang_up_at, hang_up_own_phones, slam, slam_at, slam_phones_of, slam_other, slam_phones_to, first_at, settle_call, settle_incoming, settle_dispatched, drop_answers, forget_calls_elsewhere, kill}
+use Rattle.cleanup.specs.Kill.{task_no, width, mark_ended, hang_up_at, hang_up_own_phones, slam, slam_at, slam_phones_of, slam_other, slam_phones_to, first_at, settle_call, settle_incoming, settle_dispatched, drop_answers, forget_calls_elsewhere, drop_areas, kill}
 use Rattle.kernel_laws.specs.KillLaws.{Ends, HasEnd, EndsBefore, EndsWaitingFirst}
 use Rattle.cleanup.proofs.Lookups.{same_call, put_other, gone_other}
 use Rattle.cleanup.proofs.Repeats.{by_test}
 use Rattle.cleanup.proofs.Histories.{told_after, none_after, both_after, each_tells, drain_tells}
 use Rattle.cleanup.proofs.Silence.{IsEnding, IsAlone, own_phones_hung_up, phones_slammed}
 use Rattle.cleanup.proofs.Queues.{IsLive, stands_at, front_at, incoming_alone, incoming_settled}
-use Rattle.cleanup.proofs.Killing.{after_hangups, after_slams, after_incoming, after_dispatched, after_answers}
+use Rattle.cleanup.proofs.Killing.{after_hangups, after_slams, after_incoming, after_dispatched, after_answers, after_calls}
 use Rattle.kernel_laws.proofs.KilledCalls.{answered_call, after_phones}
 
 -- ends in a list that goes on
@@ -193,13 +193,20 @@ module _
   abbrev told_last : List Entry
   told_last = (forget_calls_elsewhere t (after_answers t k)).entries
 
-  whole : told_waiting ++ (told_held ++ (told_answers ++ told_last)) ≡ (kill k t).entries
+  abbrev told_areas : List Entry
+  told_areas = (drop_areas t (after_calls t k)).entries
+
+  abbrev told_rest : List Entry
+  told_rest = told_held ++ (told_answers ++ (told_last ++ told_areas))
+
+  whole : told_waiting ++ told_rest ≡ (kill k t).entries
   whole =
-      sym (append_assoc told_waiting told_held (told_answers ++ told_last))
-      ∙ sym (append_assoc (told_waiting ++ told_held) told_answers told_last)
+      sym (append_assoc told_waiting told_held (told_answers ++ (told_last ++ told_areas)))
+      ∙ (sym (append_assoc (told_waiting ++ told_held) told_answers (told_last ++ told_areas))
+      ∙ sym (append_assoc ((told_waiting ++ told_held) ++ told_answers) told_last told_areas))
 
   pub ends_before : EndsBefore m n (kill k t).entries
-  ends_before = subst (EndsBefore m n) whole (before_rest m n told_waiting (told_held ++ (told_answers ++ told_last)) m_ends all_waiting.none)
+  ends_before = subst (EndsBefore m n) whole (before_rest m n told_waiting told_rest m_ends all_waiting.none)
 
 -- what waits at the task ends before what it holds
 pub kill_ends_waiting_first : (k : KernelState) (t : TaskNo) → IsSound k → is_alive k t ≡ true → EndsWaitingFirst t k (kill k t).entries

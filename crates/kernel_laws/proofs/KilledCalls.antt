@@ -18,7 +18,8 @@ use Rattle.cleanup.proofs.Lookups.{same_call, put_here, put_other, gone_here, go
 use Rattle.cleanup.proofs.Repeats.{by_test, each_keeps, drain_keeps}
 use Rattle.cleanup.proofs.Silence.{IsEnding, IsAlone, slams_keep, own_phones_hung_up, phones_slammed}
 use Rattle.cleanup.proofs.Queues.{IsLive, IsUncalled, IsIdle, IsUnanswered, stands_at, is_call_of, front_at, call_from, forget_step, forget_unanswered, incoming_alone, incoming_settled, dispatched_uncalled, dispatched_settled, drop_idle, answers_dropped}
-use Rattle.cleanup.proofs.Killing.{KeepsTheRest, HasNothingOf, kill_leaves_nothing, ended_here, alive_elsewhere, hang_up_steady, slam_steady, settle_steady, after_hangups, after_slams, after_incoming, after_dispatched, after_answers}
+use Rattle.cleanup.proofs.MarkChanges.{ended_here, alive_elsewhere}
+use Rattle.cleanup.proofs.Killing.{KeepsTheRest, HasNothingOf, kill_leaves_nothing, areas_last, hang_up_steady, slam_steady, settle_steady, after_hangups, after_slams, after_incoming, after_dispatched, after_answers, after_calls}
 
 -- a call stands at a task as one that waits or is held
 abbrev pub IsWith : TaskNo → Call → Type 0
@@ -241,13 +242,13 @@ module _ (k : KernelState) (t : TaskNo) (sound : IsSound k) (alive : is_alive k 
   unanswered : IsUnanswered marks t (after_answers t k)
   unanswered = answers_dropped marks t (after_dispatched t k) idle
 
-  comes_last : IsOn (IsUnanswered marks t) (kill k t).state
-  comes_last = drain_keeps (first_call_of t) forget_call (IsOn (IsUnanswered marks t))
+  comes_calls : IsOn (IsUnanswered marks t) (after_calls t k)
+  comes_calls = drain_keeps (first_call_of t) forget_call (IsOn (IsUnanswered marks t))
       (λ j d h e. let f = call_from marks t j d h.calls.idle.uncalled.alone.silent.ending e in record { calls = forget_unanswered marks t j d h.calls e; steady = record { alive = h.steady.alive; memory = h.steady.memory; events = h.steady.events }; comes = forget_comes j d f.0 f.1 h.comes })
       (calls_by (after_answers t k).calls t) (after_answers t k) (record { calls = unanswered; steady = comes_answers.steady; comes = comes_answers.comes })
 
   pub kill_becomes : Becomes t c (call_at (kill k t).state.calls n)
-  kill_becomes = comes_last.comes
+  kill_becomes = areas_last k t Comes (λ j base h. h) comes_calls.comes
 
   nothing_left : HasNothingOf t (kill k t).state
   nothing_left = kill_leaves_nothing k t sound alive

@@ -1,4 +1,5 @@
 mod KilledCalls
 mod KillOrder
+mod KilledAreas
 mod KillLaws
 mod ReceiveLaws

@@ -1,6 +1,6 @@
 -- A receive keeps its laws.
 use Rattle.std.proofs.Common.{◌≡◌, ℕ, zero, suc, ◌<◌, ◌≤◌, Bool, true, false, ◌⊎◌, inl, inr, Option, None, Some, List, [], ◌∷◌, ◌++◌, refl, ap, sym, subst, ◌∙◌, arith, nat_lt}
-use Rattle.std.specs.Prelude.{if◌then◌else◌}
+use Rattle.std.specs.Prelude.{if◌then◌else◌, length, Result, Ok, Err}
 use Rattle.std.specs.Option.{option_map_or, option_to_list}
 use Rattle.std.proofs.lemmas.Bool.Decides.{nat_tests}
 use Rattle.std.proofs.lemmas.Bool.{cases_eq, eqb-true, eq-eqb, ne_eqb, false≢true}
@@ -8,6 +8,8 @@ use Rattle.std.specs.FinMap.{entries}
 use Rattle.ipc_ids.specs.declared.numbers.TaskNo.{TaskNo}
 use Rattle.ipc_ids.specs.declared.numbers.CallNo.{CallNo}
 use Rattle.ipc_ids.specs.declared.numbers.Label.{Label}
+use Rattle.ipc_ids.specs.declared.numbers.Code.{Code}
+use Rattle.ipc_ids.specs.declared.numbers.StoreNo.{StoreNo}
 use Rattle.ipc_ids.specs.declared.methods.MethodKind.{MethodKind}
 use Rattle.ipc_ids.specs.declared.methods.MethodKind.TheVariants.{PhoneHungUp, ConnectToMe, ConnectMeTo, DataWrite, DataRead, NotBuilt, User}
 use Rattle.ipc_ids.specs.declared.message.PhoneState.{PhoneState}
@@ -24,12 +26,15 @@ use Rattle.answerbox.proofs.Fronts.{front_live, front-is_front, no_front-has_no_
 use Rattle.cleanup.specs.State.{KernelState, Transition, nothing, then_do, drain}
 use Rattle.cleanup.specs.Sound.{IsSound}
 use Rattle.cleanup.specs.Kept.{kept_phone, kept_note, first_usable_of}
-use Rattle.cleanup.specs.Joins.{drop_answer}
+use Rattle.cleanup.specs.Joins.{drop_answer, with_delivery}
+use Rattle.cleanup.specs.Areas.{wrote_note}
+use Rattle.cleanup.specs.Data.{delivered_read}
+use Rattle.data_hooks.specs.DataMoments.{address_of, read_deliver}
 use Rattle.cleanup.specs.Serving.{Handed, as_it_is}
 use Rattle.cleanup.proofs.Lookups.{at_remove, chosen, same_call, put_other, gone_here, gone_other}
 use Rattle.cleanup.proofs.Histories.{told_after, none_after, both_after, drain_tells}
 use Rattle.cleanup.proofs.Queues.{sound_drop}
-use Rattle.kernel_core.specs.Moments.{on_receive_of, on_receive, reply_of, on_delivery}
+use Rattle.kernel_core.specs.Moments.{on_receive_of, on_receive, reply_of, brings_bytes_of, brings_bytes, on_delivery}
 use Rattle.kernel_core.specs.Receiving.{unawaited, next_unawaited, drop_unawaited, receive_first, receive}
 use Rattle.kernel_laws.specs.ReceiveLaws.{IsAwaited, IsHangupAnswer, IsFirst, HasNone, TellsAnswer, TellsCall, DropsHangupsOnly, IsLawfulReceive}
 
@@ -61,7 +66,7 @@ note_drops_none t k (Some l) s = (tt, tt)
 
 -- each user's method is of one kind
 user_kind : (method : ℕ) → first_user_method ≤ method → kind_of method ≡ User
-user_kind method user = rw (ne_eqb method 0 (λ e. omega arith), ne_eqb method 1 (λ e. omega arith), ne_eqb method 2 (λ e. omega arith), not_below) refl where
+user_kind method user = rw (ne_eqb method 0 (λ e. omega arith), ne_eqb method 1 (λ e. omega arith), ne_eqb method 2 (λ e. omega arith), ne_eqb method 3 (λ e. omega arith), ne_eqb method 4 (λ e. omega arith), not_below) refl where
   not_below : nat_lt method first_user_method ≡ false
   not_below = grind (arith, nat_tests)
 
@@ -86,12 +91,26 @@ received_call k c t = by_kind (kind_of c.request.method) where
   by_kind NotBuilt = as_it_was k c
   by_kind User = as_it_was k c
 
+-- an entry of bytes that were written drops no call
+wrote_drops_none : (t u : TaskNo) (k : KernelState) (at count : ℕ) (told : Result (Option StoreNo) Code) → DropsHangupsOnly t k (option_to_list (wrote_note u at count told))
+wrote_drops_none t u k at count (Ok (Some store)) = (tt, tt)
+wrote_drops_none t u k at count (Ok None) = tt
+wrote_drops_none t u k at count (Err code) = tt
+
+delivered_call : (k : KernelState) (c : Call) (t : TaskNo) → IsOfCall k c (on_delivery k c t)
+delivered_call k c t = by_bytes (brings_bytes c) where
+  by_bytes : (brings : Bool) → IsOfCall k c (if brings then delivered_read k c t else with_delivery k c (reply_of (kind_of c.request.method) c))
+  by_bytes true = record { calls = refl; number = refl; label = refl; note = λ u j. wrote_drops_none u t j (address_of c.request.args) (length c.buffer) (read_deliver k.memory t c.request.args c.buffer).told }
+  by_bytes false = record { calls = refl; number = refl; label = refl; note = λ u j. note_drops_none u j (kept_phone c) Free }
+
 -- of a user's call the message and the reply stay as they are
 received_message : (k : KernelState) (c : Call) (t : TaskNo) → first_user_method ≤ c.request.method → (on_receive k c t).call.msg ≡ c.msg
 received_message k c t user = ap (λ (kind : MethodKind). (on_receive_of kind k c t).call.msg) (user_kind c.request.method user)
 
-delivered_reply : (k : KernelState) (c : Call) → first_user_method ≤ c.request.method → (on_delivery k c).call.reply ≡ c.reply
-delivered_reply k c user = ap (λ (kind : MethodKind). reply_of kind c) (user_kind c.request.method user)
+delivered_reply : (k : KernelState) (c : Call) (t : TaskNo) → first_user_method ≤ c.request.method → (on_delivery k c t).call.reply ≡ c.reply
+delivered_reply k c t user =
+    ap (λ (kind : MethodKind). (if brings_bytes_of kind c.reply.code then delivered_read k c t else with_delivery k c (reply_of kind c)).call.reply)
+    (user_kind c.request.method user)
 
 -- places and tests
 
@@ -277,7 +296,9 @@ module _ (k : KernelState) (t : TaskNo) (sound : IsSound k) where
 
   -- the last step takes none that is gone back
   none_comes : (n : ℕ) (a i : Option Call) → front rest.calls (Incoming t) ≡ i → call_at rest.calls n ≡ None → call_at (receive_first rest t a i).state.calls n ≡ None
-  none_comes n (Some x) i is none = none_stays rest.calls x.number.0 n none
+  none_comes n (Some x) i is none =
+      let of = delivered_call rest x t in
+      none_stays (on_delivery rest x t).state.calls (on_delivery rest x t).call.number.0 n (ap (λ (q : CallTable). call_at q n) of.calls ∙ none)
   none_comes n None (Some x) is none = elim (cases_eq x.number.0 n) [
     | inl e ↦ let a = front_call x is in absurd (none_some (call_at rest.calls n) x none (ap (call_at rest.calls) (sym e) ∙ incoming_left x.number.0 x a.0 a.1))
     | inr ne ↦ put_elsewhere (on_receive rest x t) (received_call rest x t) ne ∙ none
@@ -290,13 +311,13 @@ module _ (k : KernelState) (t : TaskNo) (sound : IsSound k) where
 
   -- the last entries drop nothing
   last_entry : (a i : Option Call) → DropsHangupsOnly t k (receive_first rest t a i).entries
-  last_entry (Some x) i = (tt, note_drops_none t k (kept_phone x) Free)
+  last_entry (Some x) i = (tt, (delivered_call rest x t).note t k)
   last_entry None (Some x) = (tt, (received_call rest x t).note t k)
   last_entry None None = tt
 
   tells_answer : (c : Call) (a i : Option Call) → a ≡ Some c → TellsAnswer c (receive_first rest t a i).outcome
   tells_answer c None i is = absurd (cc is)
-  tells_answer c (Some x) i is = subst (λ (y : Call). TellsAnswer y (receive_first rest t (Some x) i).outcome) (same_call x c is) (refl, delivered_reply rest x)
+  tells_answer c (Some x) i is = subst (λ (y : Call). TellsAnswer y (receive_first rest t (Some x) i).outcome) (same_call x c is) ((delivered_call rest x t).number, delivered_reply rest x t)
 
   tells_call : (c : Call) (a i : Option Call) → a ≡ None → i ≡ Some c → TellsCall c (receive_first rest t a i).outcome
   tells_call c (Some x) i none is = absurd (cc none)

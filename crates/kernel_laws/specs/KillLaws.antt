@@ -1,5 +1,7 @@
--- What a kill of task t comes to, in the words of calls, phones and entries.
-use Rattle.std.specs.Prelude.{◌≡◌, ℕ, ◌⊎◌, ◌++◌, false, ⊤, List, [], ◌∷◌, Option, None, Some}
+-- What a kill of task t comes to, in the words of calls, phones, areas and entries.
+use Rattle.std.specs.Prelude.{◌≡◌, ℕ, ◌≤◌, ◌⊎◌, ◌++◌, true, false, ⊤, List, [], ◌∷◌, Option, None, Some}
+use Rattle.std.specs.List.{list_any}
+use Rattle.std.specs.FinMap.{get}
 use Rattle.ipc_ids.specs.declared.numbers.TaskNo.{TaskNo}
 use Rattle.ipc_ids.specs.declared.message.PhoneState.{PhoneState}
 use Rattle.ipc_ids.specs.declared.message.PhoneState.TheVariants.{Free, Connecting, Connected, HungUp, Slammed}
@@ -11,6 +13,8 @@ use Rattle.call_slab.specs.declared.call.Place.{Place}
 use Rattle.call_slab.specs.declared.call.Place.TheVariants.{Incoming, Dispatched, Answers}
 use Rattle.answerbox.specs.Calls.{call_at, task_of}
 use Rattle.phone_table.specs.Phones.{state_at}
+use Rattle.address_space.specs.Areas.{stands_over}
+use Rattle.address_space.specs.Memory.{areas_of}
 use Rattle.cleanup.specs.State.{KernelState, is_alive, phone_at}
 use Rattle.cleanup.specs.Joins.{bare_reply}
 
@@ -103,3 +107,22 @@ pub record ClosesCalls (t : TaskNo) (before after : KernelState) : Type 0 where
   -- and each other call stays as it is
   pub others : (n : ℕ) (c : Call) → call_at before.calls n ≡ Some c → (task_of c.place ≡ t.0 → ⊥) →
       (c.caller ≡ Some t → ⊥) → call_at after.calls n ≡ Some c
+
+-- an area of task u stands over that store
+abbrev pub HasAreaOver : KernelState → TaskNo → ℕ → Type 0
+HasAreaOver k u store = list_any (stands_over store) (areas_of k.memory u) ≡ true
+
+-- what becomes of each area and each store while t ends, from one state to another
+pub record ClosesAreas (t : TaskNo) (before after : KernelState) : Type 0 where
+  -- its own areas are dropped
+  pub own : areas_of after.memory t ≡ []
+  -- those of others stay as they are
+  pub others : (u : TaskNo) → 1 ≤ u.0 → (u.0 ≡ t.0 → ⊥) →
+      areas_of after.memory u ≡ areas_of before.memory u
+  -- a store that an area of another task stands over keeps its bytes
+  pub bytes : (u : TaskNo) (store : ℕ) → 1 ≤ u.0 → (u.0 ≡ t.0 → ⊥) → HasAreaOver before u store →
+      get after.memory.stores store ≡ get before.memory.stores store
+  -- and one that areas of t alone stood over is gone
+  pub gone : (store : ℕ) → HasAreaOver before t store →
+      ((u : TaskNo) → 1 ≤ u.0 → (u.0 ≡ t.0 → ⊥) → HasAreaOver before u store → ⊥) →
+      get after.memory.stores store ≡ None

@@ -5,11 +5,11 @@ ghost use Rattle.cleanup.specs.State.{KernelState, is_alive};
 ghost use Rattle.cleanup.specs.Sound.{IsSound};
 ghost use Rattle.cleanup.specs.Kill.{kill};
 ghost use Rattle.kernel_core.specs.Receiving.{receive};
-ghost use Rattle.kernel_laws.specs.KillLaws.{EndsTask, LeavesNothingOf, EndsWaitingFirst, ClosesPhones, ClosesCalls};
+ghost use Rattle.kernel_laws.specs.KillLaws.{EndsTask, LeavesNothingOf, EndsWaitingFirst, ClosesPhones, ClosesCalls, ClosesAreas};
 ghost use Rattle.kernel_laws.specs.ReceiveLaws.{IsLawfulReceive};
 
 /// A kill ends the task and no other, leaves nothing of it, ends what waited at it before what it
-/// held, and closes its phones and its calls, and no others.
+/// held, and closes its phones, its calls and its areas, and no others.
 pub fn kills_leave_nothing()
     ensures task { (k : KernelState) (t : TaskNo) → is_alive k t ≡ true
         → EndsTask t k (kill k t).state }
@@ -21,6 +21,8 @@ pub fn kills_leave_nothing()
         → ClosesPhones t k (kill k t).state }
     ensures calls { (k : KernelState) (t : TaskNo) → IsSound k → is_alive k t ≡ true
         → ClosesCalls t k (kill k t).state }
+    ensures areas { (k : KernelState) (t : TaskNo) → is_alive k t ≡ true
+        → ClosesAreas t k (kill k t).state }
 {}
 
 /// A receive drops the answers of hangups that came before all others, and no other call; then it

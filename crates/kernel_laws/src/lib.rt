@@ -1,4 +1,4 @@
-//! Laws of the kernel's definitions, in the words of calls, phones, entries and outcomes.
+//! Laws of the kernel's definitions, in the words of calls, phones, areas, entries and outcomes.
 //!
 //! The definitions of a kill and of a receive go through the same steps as the code, so that a wrong
 //! step in both would still be proved. The laws here name no step: they say what a kill and a receive

@@ -1,5 +1,6 @@
 use Rattle.kernel_laws.proofs.KillOrder.{kill_ends_waiting_first}
 use Rattle.kernel_laws.proofs.KillLaws.{kill_ends_task, kill_leaves_nothing_of, kill_closes_phones, kill_closes_calls}
+use Rattle.kernel_laws.proofs.KilledAreas.{kill_closes_areas}
 use Rattle.kernel_laws.proofs.laws.kills_leave_nothing.Goals as goal
 
 pub returns-clause-task : goal.returns-clause-task
@@ -16,3 +17,6 @@ returns-clause-phones c = kill_closes_phones
 
 pub returns-clause-calls : goal.returns-clause-calls
 returns-clause-calls c = kill_closes_calls
+
+pub returns-clause-areas : goal.returns-clause-areas
+returns-clause-areas c = kill_closes_areas
