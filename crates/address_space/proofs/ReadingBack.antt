@@ -10,7 +10,7 @@ use Rattle.std.proofs.lemmas.Grind.{common_steps}
 use Rattle.std.proofs.lemmas.List.{nil_from_length}
 use Rattle.std.proofs.lemmas.Bool.Decides.{nat_tests}
 use Rattle.ipc_ids.specs.declared.numbers.TaskNo.{TaskNo}
-use Rattle.address_space.specs.declared.ids.StoreNo.{StoreNo}
+use Rattle.ipc_ids.specs.declared.numbers.StoreNo.{StoreNo}
 use Rattle.address_space.specs.declared.area.Right.{Right}
 use Rattle.address_space.specs.declared.area.Right.TheVariants.{Read, Write}
 use Rattle.address_space.specs.Areas.{Area, holder, holds}

@@ -8,9 +8,9 @@ use Rattle.std.proofs.lemmas.List.Elements.{All-push, All-nil, All-head, All-tai
 use Rattle.std.proofs.lemmas.Bool.Decides.{nat_tests}
 use Rattle.ipc_ids.specs.declared.numbers.Code.{Code}
 use Rattle.ipc_ids.specs.declared.numbers.TaskNo.{TaskNo}
-use Rattle.ipc_ids.specs.Codes.{einval, elimit}
+use Rattle.ipc_ids.specs.Codes.{eexist, einval, elimit}
 use Rattle.address_space.specs.declared.area.Right.TheVariants.{Write}
-use Rattle.address_space.specs.Areas.{Area, IsInRange, is_malformed, is_taken, is_full, refusal, eexist, holder, place_of}
+use Rattle.address_space.specs.Areas.{Area, IsInRange, is_malformed, is_taken, is_full, refusal, holder, place_of}
 use Rattle.address_space.specs.Stores.{write_at}
 use Rattle.address_space.specs.Memory.{Memory, areas_of, with_areas, with_task, with_store, make, make_unless, is_used, drop_place, drop_at, drop_area, spot_in, write_spot, write}
 use Rattle.address_space.specs.Sound.{IsSound, AreLawful, IsOver}

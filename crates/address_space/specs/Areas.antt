@@ -3,7 +3,7 @@ use Rattle.std.specs.Prelude.{◌≡◌, ℕ, ◌+◌, ◌*◌, ◌^◌, ◌%◌
 use Rattle.std.specs.List.{list_any}
 use Rattle.std.specs.Coded.{Coded, code_by, coded×, coded_ℕ}
 use Rattle.ipc_ids.specs.declared.numbers.Code.{Code}
-use Rattle.ipc_ids.specs.Codes.{einval, elimit}
+use Rattle.ipc_ids.specs.Codes.{eexist, einval, elimit}
 use Rattle.address_space.specs.declared.area.Right.{Right}
 use Rattle.address_space.specs.declared.area.Right.TheVariants.{Read, Write}
 
@@ -64,10 +64,6 @@ lower (Some least) base = if nat_lt base least then Some base else Some least
 -- the least base of these areas
 abbrev pub least_base : List Area → Option ℕ
 least_base areas = fold (λ least a. lower least a.base) None areas
-
--- the code for addresses that are taken
-abbrev pub eexist : Code
-eexist = record { 0 = 3 }
 
 -- whether there can be no such area, in any task
 abbrev pub is_malformed : ℕ → ℕ → ℕ → Bool

@@ -1,5 +1,5 @@
 -- The areas of all tasks over the stores, and what a task may do with them.
-use Rattle.std.specs.Prelude.{◌≡◌, ℕ, ◌+◌, ◌-◌, ◌*◌, ◌≤◌, ◌==◌, Bool, if◌then◌else◌, List, [], ◌∷◌, ◌++◌, length, Option, None, Some, Result, Ok, Err, OnErr, nat_lt, refl, slice_get, slice_set, replicate, remove, unwrap_or}
+use Rattle.std.specs.Prelude.{◌≡◌, ℕ, ◌+◌, ◌-◌, ◌*◌, ◌≤◌, ◌==◌, Bool, if◌then◌else◌, List, [], ◌∷◌, ◌++◌, length, Option, None, Some, Result, Ok, Err, OnErr, nat_lt, refl, slice_get, slice_set, take, replicate, remove, unwrap_or}
 use Rattle.std.specs.List.{list_any}
 use Rattle.std.specs.Coded.{Coded, code_by, coded×, coded_ℕ, coded_list}
 use Rattle.std.specs.Ordering.{nat_cmp}
@@ -10,7 +10,7 @@ use Rattle.ipc_ids.specs.declared.numbers.TaskNo.{TaskNo}
 use Rattle.ipc_ids.specs.Codes.{enoent, eperm, einval}
 use Rattle.address_space.specs.declared.area.Right.{Right}
 use Rattle.address_space.specs.declared.area.Right.TheVariants.{Read, Write}
-use Rattle.address_space.specs.declared.ids.StoreNo.{StoreNo}
+use Rattle.ipc_ids.specs.declared.numbers.StoreNo.{StoreNo}
 use Rattle.address_space.specs.declared.spaces.Spot.{Spot}
 use Rattle.address_space.specs.declared.spaces.SpaceFault.{SpaceFault}
 use Rattle.address_space.specs.declared.spaces.SpaceFault.TheVariants.{Refused, NoMemory}
@@ -56,6 +56,10 @@ no_memory = record { areas = []; stores = empty; next_store = 1 }
 abbrev pub with_task : Memory → Memory
 with_task m = record { areas = m.areas ++ [] ∷ []; stores = m.stores; next_store = m.next_store }
 
+-- the task that was added last is gone
+abbrev pub without_last : Memory → Memory
+without_last m = record { areas = take (length m.areas - 1) m.areas; stores = m.stores; next_store = m.next_store }
+
 -- the task was added; tasks are numbered from 1
 pub record IsAdded (m : Memory) (t : TaskNo) : Type 0 where
   pub from_one : 1 ≤ t.0
@@ -64,6 +68,10 @@ pub record IsAdded (m : Memory) (t : TaskNo) : Type 0 where
 -- the areas of a task, in the order in which they were made
 abbrev pub areas_of : Memory → TaskNo → List Area
 areas_of m t = unwrap_or (slice_get m.areas (t.0 - 1)) []
+
+-- how many they are
+abbrev pub count_areas : Memory → TaskNo → ℕ
+count_areas m t = length (areas_of m t)
 
 -- the areas of a task are these
 abbrev pub with_areas : Memory → TaskNo → List Area → Memory

@@ -33,6 +33,13 @@ impl TaskAreas {
         }
     }
 
+    pub fn len(&self) -> usize
+        ensures count { result ≡ length self.now }
+        ensures few { result ≤ 16 }
+    {
+        self.areas.len()
+    }
+
     /// The area that holds all these bytes with that right.
     pub fn holder(&self, at: u64, count: u64, right: Right) -> Option<&HeldArea>
         ensures { option_copied result ≡ holder at count right self.now }
@@ -75,7 +82,7 @@ impl TaskAreas {
         if self.is_taken(base, pages) {
             return Some(Code::EEXIST);
         }
-        if self.areas.len() >= 16 {
+        if self.len() >= 16 {
             return Some(Code::ELIMIT);
         }
         None

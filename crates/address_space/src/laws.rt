@@ -2,7 +2,7 @@
 ghost use Rattle.std.specs.Prelude.{◌≡◌, List, Option, Ok, ℕ, length};
 ghost use Rattle.ipc_ids.specs.declared.numbers.TaskNo.{TaskNo};
 ghost use Rattle.address_space.specs.Memory.{Memory, with_task, make, drop_area, read, write};
-ghost use Rattle.address_space.specs.declared.ids.StoreNo.{StoreNo};
+ghost use Rattle.ipc_ids.specs.declared.numbers.StoreNo.{StoreNo};
 ghost use Rattle.address_space.specs.Sound.{IsSound};
 
 /// A memory that is sound is so after each request, of any task.

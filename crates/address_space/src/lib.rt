@@ -8,13 +8,11 @@
 mod area;
 mod areas;
 mod bytes;
-mod ids;
 mod laws;
 mod spaces;
 mod stores;
 #[cfg(test)]
 mod tests;
 
-pub use ids::{Short, StoreNo};
 pub use laws::{requests_keep_memory_sound, writes_are_read_back};
 pub use spaces::{SpaceFault, Spaces};

@@ -4,13 +4,12 @@ ghost use Rattle.std.specs.FinMap.{get};
 ghost use Rattle.address_space.specs.Areas.{IsInRange, is_taken};
 ghost use Rattle.address_space.specs.Stores.{HasBytes};
 ghost use Rattle.address_space.specs.Sound.{IsOver};
-ghost use Rattle.address_space.specs.Memory.{Did, Tells, IsAdded, no_memory, with_task, areas_of, spot_of, bytes_at, with_areas, with_store, is_used, release, make, drop_area, read, peek, write, first_area};
+ghost use Rattle.address_space.specs.Memory.{Did, Tells, IsAdded, no_memory, with_task, without_last, areas_of, count_areas, spot_of, bytes_at, with_areas, with_store, is_used, release, make, drop_area, read, peek, write, first_area};
 
 use crate::area::{HeldArea, PAGE, Right};
 use crate::areas::TaskAreas;
-use crate::ids::{Short, StoreNo};
 use crate::stores::Stores;
-use ipc_ids::{Buffer, Code, NoMemory, TaskNo};
+use ipc_ids::{Buffer, Code, NoMemory, Short, StoreNo, TaskNo};
 use std::alloc::Global;
 use std::marker::Model;
 
@@ -81,6 +80,14 @@ impl Spaces {
         }
         self.tasks.push_reserved(TaskAreas::new());
         Ok(())
+    }
+
+    /// Takes back the task that was added last, which has no areas; it takes no memory.
+    pub fn take_back(&mut self)
+        requires no_areas { self.old ≡ with_task (without_last self.old) }
+        ensures { self.new ≡ without_last self.old }
+    {
+        self.tasks.pop();
     }
 
     /// Makes an area of zeros for a task, and tells the number of its store.
@@ -192,6 +199,15 @@ impl Spaces {
             }
             None => Err(Code::EPERM),
         }
+    }
+
+    /// How many areas a task has.
+    pub fn count_areas(&self, t: TaskNo) -> usize
+        requires added { IsAdded self.now t }
+        ensures count { result ≡ count_areas self.now t }
+        ensures few { result ≤ 16 }
+    {
+        self.areas(t).len()
     }
 
     /// The least base of a task's areas; `None` where it has none.

@@ -1,8 +1,9 @@
 //! What a task does with its areas, and what is refused.
 ghost use Rattle.address_space.specs.Memory.{IsAdded};
 
-use crate::{SpaceFault, Spaces, StoreNo};
-use ipc_ids::{Code, TaskNo};
+use crate::{SpaceFault, Spaces};
+use ipc_ids::{Code, StoreNo, TaskNo};
+use std::alloc::Global;
 use std::process::Abort;
 use std::test::Fail;
 
@@ -16,6 +17,16 @@ fn peeked(spaces: &Spaces, at: u64, count: u64) -> Result<usize, Code>
     match spaces.peek(TASK, at, count) {
         Ok(bytes) => Ok(bytes.as_slice().len()),
         Err(code) => Err(code),
+    }
+}
+
+/// How many bytes a read tells.
+fn read_bytes(spaces: &Spaces, alloc: Global, at: u64, count: u64) -> Result<usize, SpaceFault>
+    requires { IsAdded spaces.now (record { 0 = 1 }) }
+{
+    match spaces.read(alloc, TASK, at, count) {
+        Ok(bytes) => Ok(bytes.as_slice().len()),
+        Err(fault) => Err(fault),
     }
 }
 
@@ -56,6 +67,43 @@ fn the_first_cause_is_told(rt: HostRuntime) -> Result<(), Fail> {
     assert_eq!(rt; peeked(&spaces, 4096, 0), Ok(0));
     assert_eq!(rt; spaces.drop_area(TASK, 4096), Ok(()));
     assert_eq!(rt; peeked(&spaces, 4096, 1), Err(Code::EPERM));
+    Ok(())
+}
+
+#[test]
+fn areas_reach_both_ends_of_the_range(rt: HostRuntime) -> Result<(), Fail> {
+    let mut spaces = Spaces::new(rt.alloc());
+    spaces.add_task()?;
+    let end = 1 << 32;
+    let malformed = Err(SpaceFault::Refused(Code::EINVAL));
+    assert_eq!(rt; spaces.write(TASK, end, &[]), Ok(None));
+    assert_eq!(rt; read_bytes(&spaces, rt.alloc(), end, 0), Ok(0));
+    assert_eq!(rt; spaces.make(TASK, end - 4096, 2, 3), malformed);
+    assert_eq!(rt; spaces.make(TASK, end - 4096, 1, 3), Ok(StoreNo(1)));
+    assert_eq!(rt; spaces.make(TASK, 0, 1, 3), Ok(StoreNo(2)));
+    assert_eq!(rt; spaces.write(TASK, end - 1, &[7]), Ok(Some(StoreNo(1))));
+    assert_eq!(rt; spaces.write(TASK, end - 1, &[7, 8]), Err(Code::EPERM));
+    assert_eq!(rt; spaces.write(TASK, 0, &[9]), Ok(Some(StoreNo(2))));
+    let refused = Err(SpaceFault::Refused(Code::EPERM));
+    assert_eq!(rt; read_bytes(&spaces, rt.alloc(), 4095, 2), refused);
+    assert_eq!(rt; read_bytes(&spaces, rt.alloc(), 0, 4097), refused);
+    assert_eq!(rt; read_bytes(&spaces, rt.alloc(), 0, 4096), Ok(4096));
+    assert_eq!(rt; read_bytes(&spaces, rt.alloc(), end - 1, 1), Ok(1));
+    assert_eq!(rt; spaces.first_area(TASK), Some(0));
+    assert_eq!(rt; spaces.count_areas(TASK), 2);
+    Ok(())
+}
+
+#[test]
+fn a_task_is_taken_back(rt: HostRuntime) -> Result<(), Fail> {
+    let mut spaces = Spaces::new(rt.alloc());
+    spaces.add_task()?;
+    assert_eq!(rt; spaces.make(TASK, 4096, 1, 3), Ok(StoreNo(1)));
+    spaces.add_task()?;
+    assert_eq!(rt; spaces.count_areas(TaskNo(2)), 0);
+    spaces.take_back();
+    spaces.add_task()?;
+    assert_eq!(rt; spaces.count_areas(TASK), 1);
     Ok(())
 }
 

@@ -11,6 +11,8 @@ use Rattle.call_slab.specs.declared.call.Call.{Call}
 use Rattle.call_slab.specs.declared.call.Place.TheVariants.{Dispatched}
 use Rattle.answerbox.specs.Calls.{CallTable, enqueue, no_calls}
 use Rattle.answerbox.proofs.Steps.{call_at-no_calls}
+use Rattle.address_space.specs.Memory.{no_memory}
+use Rattle.address_space.specs.Memory as spaces
 use Rattle.cleanup.specs.State.{KernelState, start, state_from, with_task}
 use Rattle.cleanup.specs.Sound.{IsSound}
 use Rattle.cleanup.specs.Counts.{IsCounted, label_at}
@@ -37,7 +39,7 @@ no_counts = (0 ∷ 0 ∷ []) ∷ []
 pub alone_ended : IsJustEnded (false ∷ []) one
 alone_ended = record { marked = refl; from_one = omega arith; task = omega arith }
 
-pub alone_sound : IsSound (state_from (true ∷ []) own_phones no_calls 0)
+pub alone_sound : IsSound (state_from (true ∷ []) own_phones no_calls (spaces.with_task no_memory) 0)
 alone_sound = kept_wired (with_task start 2) one 0 one (kept_task start 2 sound_start) refl refl refl
 
 pub alone_few : HasFewActive no_counts no_calls
@@ -88,8 +90,8 @@ module _ (reply : Reply) (buffer : List ℕ) where
   abbrev its_calls : CallTable
   its_calls = enqueue no_calls (held reply buffer)
 
-  pub held_sound : IsSound (state_from (true ∷ true ∷ []) free_phones its_calls 0)
-  held_sound = sound_enqueued two (held reply buffer) two_sound refl refl (refl, refl) refl refl (no_phone free_phones (held reply buffer) refl (λ n. n)) refl
+  pub held_sound : IsSound (state_from (true ∷ true ∷ []) free_phones its_calls (spaces.with_task (spaces.with_task no_memory)) 0)
+  held_sound = sound_enqueued two (held reply buffer) two_sound refl refl (refl, refl) refl refl (no_phone free_phones (held reply buffer) refl (λ n. n)) tt refl
 
   pub held_few : HasFewActive one_count its_calls
   held_few =

@@ -3,4 +3,4 @@ use Rattle.cleanup.specs.declared.board.Switchboard.TheInside.{Inside}
 use Rattle.cleanup.specs.State.{KernelState, state_from}
 
 abbrev pub inner : Inside → KernelState
-inner a = state_from a.alive.items a.phones.states a.boxes.calls a.events
+inner a = state_from a.alive.items a.phones.states a.boxes.calls a.spaces a.events

@@ -24,7 +24,8 @@ use Rattle.cleanup.proofs.Keepers.{state_here}
 use Rattle.cleanup.proofs.Usable.{kept_waits, lent_waits}
 use Rattle.cleanup.proofs.Silence.{IsEnding, IsSilent, IsAlone, own_phones_hung_up, phones_slammed, slam_silent, slams_keep}
 use Rattle.cleanup.proofs.Queues.{IsLive, IsUncalled, IsIdle, IsUnanswered, front_at, call_from, incoming_alone, incoming_settled, dispatched_uncalled, dispatched_settled, drop_idle, answers_dropped, forget_unanswered}
-use Rattle.cleanup.proofs.Killing.{HasNothingOf, kill_leaves_nothing, after_hangups, after_slams, after_incoming, after_dispatched, after_answers}
+use Rattle.cleanup.specs.Areas.{lose_area}
+use Rattle.cleanup.proofs.Killing.{after_calls, areas_last, HasNothingOf, kill_leaves_nothing, after_hangups, after_slams, after_incoming, after_dispatched, after_answers}
 
 -- what a hangup makes of a phone
 abbrev pub hung : PhoneState → PhoneState
@@ -195,7 +196,8 @@ record And (F I : KernelState → Type 0) (j : KernelState) : Type 0 where
 module _ (k : KernelState) (t : TaskNo) (sound : IsSound k) (alive : is_alive k t ≡ true) (I : KernelState → Type 0)
     (settled : (j : KernelState) (c : Call) → IsEnding k.tasks.alive j → IsLive j c → I j → I (settle_call j c).state)
     (dropped : (j : KernelState) (c : Call) → IsEnding k.tasks.alive j → IsLive j c → I j → I (drop_answer t j c).state)
-    (forgot : (j : KernelState) (c : Call) → IsLive j c → I j → I (forget_call j c).state) where
+    (forgot : (j : KernelState) (c : Call) → IsLive j c → I j → I (forget_call j c).state)
+    (lost : (j : KernelState) (base : ℕ) → I j → I (lose_area t j base).state) where
   pub calls_keep : I (after_slams t k) → I (kill k t).state
   calls_keep h2 =
       let marks : List Bool = k.tasks.alive in
@@ -213,10 +215,10 @@ module _ (k : KernelState) (t : TaskNo) (sound : IsSound k) (alive : is_alive k 
       (λ j c s is. let e = s.fact.uncalled.alone.silent.ending in record { fact = drop_idle marks t j c s.fact is; kept = dropped j c e (front_at marks j (Answers t) c e is).0 s.kept })
       (calls_at (after_dispatched t k).calls (Answers t)) (after_dispatched t k) (record { fact = s4; kept = h4.kept }) in
       let s5 : IsUnanswered marks t (after_answers t k) = answers_dropped marks t (after_dispatched t k) s4 in
-      let h6 : And (IsUnanswered marks t) I (kill k t).state = drain_keeps (first_call_of t) forget_call (And (IsUnanswered marks t) I)
+      let h6 : And (IsUnanswered marks t) I (after_calls t k) = drain_keeps (first_call_of t) forget_call (And (IsUnanswered marks t) I)
       (λ j c s is. record { fact = forget_unanswered marks t j c s.fact is; kept = forgot j c (call_from marks t j c s.fact.idle.uncalled.alone.silent.ending is).0 s.kept })
       (calls_by (after_answers t k).calls t) (after_answers t k) (record { fact = s5; kept = h5.kept }) in
-      h6.kept
+      areas_last k t I lost h6.kept
 
 -- a phone is as it was, or waited for a connection and is free
 abbrev IsFreed : Option PhoneState → Option PhoneState → Type 0
@@ -296,7 +298,7 @@ module _ (k : KernelState) (t : TaskNo) (sound : IsSound k) (alive : is_alive k 
       calls_keep k t sound alive (λ j. IsFreed o (phone_at j u q))
       (λ j c e is h. settle_frees j c u.0 q o e.sound.kept is h)
       (λ j c e is h. kept_freed j.tasks.phones (kept_phone c) u.0 q o (kept_waits j.tasks.phones j.calls c.number.0 c e.sound.kept is) h)
-      (λ j c is h. h) (inl refl)
+      (λ j c is h. h) (λ j base h. h) (inl refl)
 
   -- a phone of the task
   pub kill_own_phone : (q : ℕ) → (phone_at k t q ≡ Some Connecting → ⊥) → phone_at (kill k t).state t q ≡ option_map hung (phone_at k t q)

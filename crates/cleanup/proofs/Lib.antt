@@ -3,6 +3,8 @@ pub mod Rows
 pub mod Usable
 pub mod Loops
 pub mod Soundness
+pub mod MarkChanges
+pub mod SoundMemory
 pub mod SoundStates
 pub mod SoundJoins
 pub mod Counting

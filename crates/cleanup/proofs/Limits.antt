@@ -355,6 +355,7 @@ within_kill k t sound alive h =
     (λ j c e is s. within_settle j c (bare_reply ehangup) None s e.sound.kept is)
     (λ j c e is s. within_drop t j c s e.sound.kept is)
     (λ j c is s. within_forget j c s is)
+    (λ j base s. record { awaited = s.awaited; hangups = s.hangups; hung_up = s.hung_up; idle = s.idle })
     h2
 
 -- a phone that is handed out

@@ -15,7 +15,9 @@ use Rattle.answerbox.specs.Calls.{CallTable, call_at, calls_at, calls_by, enqueu
 use Rattle.answerbox.proofs.Fronts.{front_live}
 use Rattle.cleanup.specs.State.{KernelState, Transition, alive_in, phone_at, with_phone, label_of, nothing, then_do, drain, each}
 use Rattle.cleanup.specs.Joins.{bare_reply, declined_call, lives, settle_for, drop_answer, forget_call, hang_up, hangup_call}
-use Rattle.cleanup.specs.Kill.{task_no, width, hang_up_at, hang_up_own_phones, slam, slam_at, slam_phones_of, slam_other, slam_phones_to, first_at, settle_call, settle_calls_at, settle_incoming, settle_dispatched, drop_answers, first_call_of, forget_calls_elsewhere, end_parts}
+use Rattle.cleanup.specs.Kill.{task_no, width, hang_up_at, hang_up_own_phones, slam, slam_at, slam_phones_of, slam_other, slam_phones_to, first_at, settle_call, settle_calls_at, settle_incoming, settle_dispatched, drop_answers, first_call_of, forget_calls_elsewhere, end_phones_and_calls, drop_first_area, drop_areas, end_parts}
+use Rattle.address_space.specs.Memory.{first_area, count_areas}
+use Rattle.cleanup.specs.Areas.{lose_first_area}
 use Rattle.cleanup.proofs.Lookups.{at_insert}
 use Rattle.cleanup.proofs.Keeping.{each_with, each_without}
 use Rattle.cleanup.proofs.Silence.{with_marks}
@@ -137,8 +139,8 @@ module _ (marks : List Bool) (t : TaskNo) where
   blind_slams k a = blind_each (slam_other t) blind_other (length k.tasks.phones) 0 k a
 
   -- all parts do the same
-  pub blind_parts : IsBlind marks t (end_parts t)
-  blind_parts =
+  blind_calls : IsBlind marks t (end_phones_and_calls t)
+  blind_calls =
       blind_then (λ k. then_do (then_do (then_do (then_do (hang_up_own_phones t k) (slam_phones_to t)) (settle_incoming t)) (settle_dispatched t)) (drop_answers t)) (forget_calls_elsewhere t)
       (blind_then (λ k. then_do (then_do (then_do (hang_up_own_phones t k) (slam_phones_to t)) (settle_incoming t)) (settle_dispatched t)) (drop_answers t)
       (blind_then (λ k. then_do (then_do (hang_up_own_phones t k) (slam_phones_to t)) (settle_incoming t)) (settle_dispatched t)
@@ -148,3 +150,13 @@ module _ (marks : List Bool) (t : TaskNo) where
       (blind_settles (Dispatched t)))
       blind_drops)
       blind_forgets
+
+  blind_lose : (k : KernelState) (o : Option ℕ) → Agree marks t k → (lose_first_area t (with_marks marks k) o ≡ remarked marks (lose_first_area t k o)) × Agree marks t (lose_first_area t k o).state
+  blind_lose k None a = (refl, a)
+  blind_lose k (Some base) a = (refl, record { task = a.task; callers = a.callers })
+
+  blind_areas : IsBlind marks t (drop_areas t)
+  blind_areas k a = blind_each (drop_first_area t) (λ i j b. blind_lose j (first_area j.memory t) b) (count_areas k.memory t) 0 k a
+
+  pub blind_parts : IsBlind marks t (end_parts t)
+  blind_parts = blind_then (end_phones_and_calls t) (drop_areas t) blind_calls blind_areas

@@ -165,6 +165,7 @@ forget_alone marks t k c h is made none =
       phone = was.phone;
       discard = was.discard;
       reserved = record { there = was.reserved.there; owner = was.reserved.owner; needed = was.reserved.needed };
+      carries = was.carries;
     } in
     subst (IsAlone marks t) (sym (forget_step k c is))
     (alone_with marks t k (with_record k.calls (forgotten c)) h

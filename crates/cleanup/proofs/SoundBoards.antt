@@ -15,6 +15,7 @@ use Rattle.answerbox.specs.Calls.{CallTable, call_at, count_of, active_calls, is
 use Rattle.answerbox.proofs.Fronts.{first, second, greater, ties, not_tied}
 use Rattle.phone_table.specs.Phones.{AreCounted, row_at, state_at, count_at}
 use Rattle.cleanup.proofs.Lookups.{row_at_set}
+use Rattle.address_space.specs.Memory.{Memory}
 use Rattle.cleanup.specs.State.{KernelState, alive_in, state_from, label_of}
 use Rattle.cleanup.specs.Sound.{IsCaller, IsSound}
 use Rattle.cleanup.specs.Counts.{IsCounted}
@@ -63,15 +64,18 @@ other_phone c l ne = elim (cases_eq c.from.task.0 l.task.0) [
   | inr nt ↦ rw (ne_eqb c.from.task.0 l.task.0 nt) refl
 ]
 
-module _ (alive : List Bool) (who : TaskNo) (phones : List (List PhoneState)) (calls : CallTable) (ended : IsJustEnded alive who) (sound : IsSound (state_from (set alive (who.0 - 1) true) phones calls 0)) where
+module _ (alive : List Bool) (who : TaskNo) (phones : List (List PhoneState)) (calls : CallTable) (memory : Memory) (ended : IsJustEnded alive who) (sound : IsSound (state_from (set alive (who.0 - 1) true) phones calls memory 0)) where
   abbrev before : List Bool
   before = set alive (who.0 - 1) true
 
   pub paired : length phones ≡ length alive
   paired = sound.tasks.paired ∙ length-set alive (who.0 - 1) true
 
+  pub areas_paired : length memory.areas ≡ length phones
+  areas_paired = sound.memory.paired ∙ sym sound.tasks.paired
+
   abbrev pub whole : KernelState
-  whole = state_from (all_alive (length phones)) phones calls 0
+  whole = state_from (all_alive (length phones)) phones calls memory 0
 
   all_long : length (all_alive (length phones)) ≡ length phones
   all_long = length-replicate (length phones) true
@@ -103,7 +107,7 @@ module _ (alive : List Bool) (who : TaskNo) (phones : List (List PhoneState)) (c
     by_caller from (Some u) h = one_mark u.0 h.1
 
   -- the parts of the end do the same by the caller's marks
-  pub same_end : (k : KernelState) → k ≡ whole → remarked alive (kill k who) ≡ end_parts who (state_from alive phones calls 0)
+  pub same_end : (k : KernelState) → k ≡ whole → remarked alive (kill k who) ≡ end_parts who (state_from alive phones calls memory 0)
   same_end k is = ap (λ (j : KernelState). remarked alive (kill j who)) is ∙ sym (blind_parts alive who (mark_ended whole who) agree).0
 
   -- all that there is makes a switchboard

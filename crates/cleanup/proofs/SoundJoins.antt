@@ -1,6 +1,6 @@
 -- A sound state stays sound with each join of a call for which a phone is reserved.
 use Rattle.std.proofs.Common.{◌≡◌, ℕ, Bool, true, false, ◌⊎◌, inl, inr, Option, None, Some, List, refl, ap, sym, subst, ◌∙◌}
-use Rattle.std.specs.Prelude.{◌==◌, ⊤, if◌then◌else◌, IsSome}
+use Rattle.std.specs.Prelude.{◌==◌, ⊤, if◌then◌else◌, IsSome, slice_index}
 use Rattle.std.proofs.lemmas.Bool.{eq-eqb, eqb-true, false≢true}
 use Rattle.ipc_ids.specs.declared.numbers.TaskNo.{TaskNo}
 use Rattle.ipc_ids.specs.declared.numbers.Label.{Label}
@@ -10,7 +10,7 @@ use Rattle.ipc_ids.specs.declared.message.Reply.{Reply}
 use Rattle.ipc_ids.specs.declared.message.PhoneState.{PhoneState}
 use Rattle.ipc_ids.specs.declared.message.PhoneState.TheVariants.{Free, Connecting, Connected}
 use Rattle.ipc_ids.specs.declared.methods.MethodKind.{MethodKind}
-use Rattle.ipc_ids.specs.declared.methods.MethodKind.TheVariants.{PhoneHungUp, ConnectToMe, ConnectMeTo, NotBuilt, User}
+use Rattle.ipc_ids.specs.declared.methods.MethodKind.TheVariants.{PhoneHungUp, ConnectToMe, ConnectMeTo, DataWrite, DataRead, NotBuilt, User}
 use Rattle.ipc_ids.specs.Methods.{kind_of}
 use Rattle.call_slab.specs.declared.call.Call.{Call}
 use Rattle.call_slab.specs.declared.call.Place.{Place}
@@ -19,13 +19,13 @@ use Rattle.answerbox.specs.Calls.{CallTable, call_at, enqueue, put_at, without_c
 use Rattle.phone_table.specs.Phones.{state_at, is_usable}
 use Rattle.cleanup.specs.State.{Tasks, KernelState, alive_in, is_alive, phone_at, with_calls}
 use Rattle.cleanup.specs.Kept.{accepts, phone_of, held_phone, is_accepted, asked_phone, kept_of, kept_phone, lent_of, lent_phone, unless_freed, kept_rows, with_kept, kept_by}
-use Rattle.cleanup.specs.Sound.{IsPlaced, IsCaller, IsLentAt, IsReservedAt, IsOpenAt, NeedsPhone, HasSoundPhone, AreSoundCalls, IsQuiet, AreSoundTasks, IsSound}
+use Rattle.cleanup.specs.Sound.{IsPlaced, IsCaller, IsLentAt, IsReservedAt, IsOpenAt, NeedsPhone, HasSoundPhone, Carries, AreSoundCalls, IsQuiet, AreSoundTasks, IsSound}
 use Rattle.cleanup.specs.Joins.{answer_to, declined, accepted_to_me, accepted_me_to, passage}
 use Rattle.cleanup.specs.Serving.{as_it_is}
 use Rattle.cleanup.specs.Board.{IsPendingAt}
 use Rattle.cleanup.proofs.Lookups.{at_insert, at_remove}
 use Rattle.cleanup.proofs.Usable.{IsUsable}
-use Rattle.cleanup.proofs.Soundness.{next_free, sound_enqueue, sound_put, sound_under, sound_without, phone_kept, sound_quieted, sound_wired}
+use Rattle.cleanup.proofs.Soundness.{carried, carries_none, answer_carries, next_free, sound_enqueue, sound_put, sound_under, sound_without, phone_kept, sound_quieted, sound_wired}
 use Rattle.cleanup.proofs.Keepers.{state_here, kept_here, kept_other, kept_of_call, kept_same, keepers_same, all_same, not_waiting, kept_phone_changed, let_go_kept, let_go_unkept, let_go_keepers, taken_kept, taken_keepers}
 use Rattle.cleanup.proofs.SoundStates.{keeps_none, no_phone, sound_moved}
 
@@ -84,12 +84,13 @@ connected k (Some l) u from to s = sound_wired k.tasks l.task.0 l.phone.0 u s (f
 let_go : (k : KernelState) (q : CallTable) (n : ℕ) (kept : Option Label) (x : PhoneState) → IsSound k → kept_by k.calls n ≡ kept → kept_by q n ≡ None → ((m : ℕ) → (n ≡ m → ⊥) → kept_by q m ≡ kept_by k.calls m) → AreSoundCalls k.tasks q → AreSoundTasks (with_kept k kept x).tasks → (x ≡ Connecting → ⊥) → IsSound (with_calls (with_kept k kept x) q)
 let_go k q n None x s was is others calls tasks not =
     let same : (m : ℕ) → kept_by q m ≡ kept_by k.calls m = all_same k.calls q n (is ∙ sym was) others in
-    record { calls = calls_with k q None x calls; tasks = tasks; kept = kept_same q same s.kept; keepers = keepers_same q same s.keepers }
+    record { calls = calls_with k q None x calls; tasks = tasks; kept = kept_same q same s.kept; keepers = keepers_same q same s.keepers; memory = s.memory }
 let_go k q n (Some l) x s was is others calls tasks not = record {
   calls = calls_with k q (Some l) x calls;
   tasks = tasks;
   kept = kept_phone_changed l.task.0 l.phone.0 x (let_go_kept k.calls q n l was is others s.kept) (let_go_unkept k.calls q n l was is others s.kept);
   keepers = let_go_keepers k.calls q n l was is others x not s.keepers;
+  memory = s.memory;
 }
 
 -- the call is over, and a phone that it keeps is free
@@ -123,19 +124,19 @@ module _ (k : KernelState) (c : Call) (s : IsSound k) (live : call_at k.calls c.
   put_others : (m : ℕ) → (c.number.0 ≡ m → ⊥) → kept_by table m ≡ kept_by k.calls m
   put_others = kept_other k.calls table c.number.0 (Some (record d { place = place; stamp = k.calls.next_stamp })) at
 
-  put_sound : IsPlaced k.tasks c.caller place → HasSoundPhone k.tasks.phones (record d { place = place }) → AreSoundCalls k.tasks table
-  put_sound placed phone = sound_put k.tasks k.calls c.number.0 c d place s.calls live refl refl refl refl refl placed phone
+  put_sound : IsPlaced k.tasks c.caller place → HasSoundPhone k.tasks.phones (record d { place = place }) → Carries (kind_of c.request.method) place c.buffer (slice_index c.request.args 1) → AreSoundCalls k.tasks table
+  put_sound placed phone carries = sound_put k.tasks k.calls c.number.0 c d place s.calls live refl refl refl refl refl placed phone carries
 
   -- it keeps no phone there
-  put_without : (x : PhoneState) → IsPlaced k.tasks c.caller place → HasSoundPhone k.tasks.phones (record d { place = place }) → kept_phone (record d { place = place }) ≡ None → AreSoundTasks (with_kept k (kept_phone c) x).tasks → (x ≡ Connecting → ⊥) → IsSound (with_calls (with_kept k (kept_phone c) x) table)
-  put_without x placed phone none tasks not =
-      let_go k table c.number.0 (kept_phone c) x s (kept_of_call k.calls c.number.0 c live) (put_keeps ∙ none) put_others (put_sound placed phone) tasks not
+  put_without : (x : PhoneState) → IsPlaced k.tasks c.caller place → HasSoundPhone k.tasks.phones (record d { place = place }) → Carries (kind_of c.request.method) place c.buffer (slice_index c.request.args 1) → kept_phone (record d { place = place }) ≡ None → AreSoundTasks (with_kept k (kept_phone c) x).tasks → (x ≡ Connecting → ⊥) → IsSound (with_calls (with_kept k (kept_phone c) x) table)
+  put_without x placed phone carries none tasks not =
+      let_go k table c.number.0 (kept_phone c) x s (kept_of_call k.calls c.number.0 c live) (put_keeps ∙ none) put_others (put_sound placed phone carries) tasks not
 
   -- it keeps there what it kept
-  put_alike : IsPlaced k.tasks c.caller place → HasSoundPhone k.tasks.phones (record d { place = place }) → kept_phone (record d { place = place }) ≡ kept_phone c → IsSound (with_calls (with_kept k None Free) table)
-  put_alike placed phone same =
-      let m = sound_moved k c d place s live refl refl refl refl refl placed phone same in
-      record { calls = calls_with k table None Free m.calls; tasks = quieted k None Free tt m.tasks; kept = m.kept; keepers = m.keepers }
+  put_alike : IsPlaced k.tasks c.caller place → HasSoundPhone k.tasks.phones (record d { place = place }) → Carries (kind_of c.request.method) place c.buffer (slice_index c.request.args 1) → kept_phone (record d { place = place }) ≡ kept_phone c → IsSound (with_calls (with_kept k None Free) table)
+  put_alike placed phone carries same =
+      let m = sound_moved k c d place s live refl refl refl refl refl placed phone carries same in
+      record { calls = calls_with k table None Free m.calls; tasks = quieted k None Free tt m.tasks; kept = m.kept; keepers = m.keepers; memory = m.memory }
 
 -- a call that its holder lets go
 
@@ -164,6 +165,8 @@ module _ (from : TaskNo) (old new : Place) (was code : Code) (reserved : Option 
   left_keeps PhoneHungUp = inl (refl, refl)
   left_keeps ConnectToMe = inl (refl, unheld new left (freed ConnectToMe))
   left_keeps ConnectMeTo = inr (refl, rw (left_unaccepted new code left, pending_unaccepted old was pending) refl)
+  left_keeps DataWrite = inl (refl, refl)
+  left_keeps DataRead = inl (refl, refl)
   left_keeps NotBuilt = inl (refl, refl)
   left_keeps User = inl (refl, refl)
 
@@ -171,6 +174,8 @@ module _ (from : TaskNo) (old new : Place) (was code : Code) (reserved : Option 
   left_owner PhoneHungUp owner l is = owner l is
   left_owner ConnectToMe owner l is = absurd (none_some (freed ConnectToMe) l (freed_none old reserved pending owner) is)
   left_owner ConnectMeTo owner l is = owner l is
+  left_owner DataWrite owner l is = owner l is
+  left_owner DataRead owner l is = owner l is
   left_owner NotBuilt owner l is = owner l is
   left_owner User owner l is = owner l is
 
@@ -178,6 +183,8 @@ module _ (from : TaskNo) (old new : Place) (was code : Code) (reserved : Option 
   left_needed PhoneHungUp needed needs = absurd needs
   left_needed ConnectToMe needed needs = absurd needs
   left_needed ConnectMeTo needed needs = needed (pending_open old was pending)
+  left_needed DataWrite needed needs = absurd needs
+  left_needed DataRead needed needs = absurd needs
   left_needed NotBuilt needed needs = absurd needs
   left_needed User needed needs = absurd needs
 
@@ -191,6 +198,7 @@ pub sound_left : (k : KernelState) (c : Call) (msg : Msg) (label : Label) (reply
 sound_left k c msg label reply place s live pending left placed =
     let kind : MethodKind = kind_of c.request.method in
     let was = (s.calls.each c.number.0 c live).reserved in
+    let carries = carried kind c.place place c.buffer (slice_index c.request.args 1) pending (s.calls.each c.number.0 c live).carries in
     let freed : Option Label = unless_freed (lent_phone c) c.reserved in
     let phone : HasSoundPhone k.tasks.phones (record c { msg = msg; label = label; reply = reply; reserved = freed; place = place }) = record {
       there = λ l is. was.there l (unfreed (lent_phone c) c.reserved l is);
@@ -200,10 +208,10 @@ sound_left k c msg label reply place s live pending left placed =
     elim (left_keeps c.from.task c.place place c.reply.code reply.code c.reserved pending left kind) [
       | inl e ↦
           subst (λ (o : Option Label). IsSound (with_calls (with_kept k o Free) (put_at k.calls (changed c msg label reply freed) place))) (sym e.0)
-          (put_without k c s live msg label reply freed place Free placed phone e.1 (quieted k (kept_phone c) Free tt s.tasks) (λ e. cc e))
+          (put_without k c s live msg label reply freed place Free placed phone carries e.1 (quieted k (kept_phone c) Free tt s.tasks) (λ e. cc e))
       | inr e ↦
           subst (λ (o : Option Label). IsSound (with_calls (with_kept k o Free) (put_at k.calls (changed c msg label reply freed) place))) (sym e.0)
-          (put_alike k c s live msg label reply freed place placed phone e.1)
+          (put_alike k c s live msg label reply freed place placed phone carries e.1)
     ]
 
 -- the call is declined, and goes to the answers of its caller
@@ -220,13 +228,15 @@ sound_passage k c msg label by to s live pending alive = sound_left k c msg labe
 pub sound_connected : (k : KernelState) (c : Call) (reply : Reply) (u to : TaskNo) → IsSound k → call_at k.calls c.number.0 ≡ Some c → c.caller ≡ Some u → kept_phone (record c { reply = reply; place = Answers u }) ≡ None → HasSoundPhone k.tasks.phones (record c { reply = reply; place = Answers u }) → ((l : Label) → kept_phone c ≡ Some l → alive_in k.tasks.alive l.task.0 ≡ true) → is_alive k to ≡ true
     → IsSound (with_calls (with_kept k (kept_phone c) (Connected to)) (put_at k.calls (record c { reply = reply }) (Answers u)))
 sound_connected k c reply u to s live from none phone owner alive =
-    put_without k c s live c.msg c.label reply c.reserved (Answers u) (Connected to) from phone none (connected k (kept_phone c) to owner alive s.tasks) (λ e. cc e)
+    put_without k c s live c.msg c.label reply c.reserved (Answers u) (Connected to) from phone (answer_carries (kind_of c.request.method) u c.buffer (slice_index c.request.args 1)) none (connected k (kept_phone c) to owner alive s.tasks) (λ e. cc e)
 
 -- the record of an answer, where the phone stays reserved
 answered_owner : (kind : MethodKind) (from : TaskNo) (place : Place) (u : TaskNo) (l : Label) → IsReservedAt kind from place l → IsReservedAt kind from (Answers u) l
 answered_owner PhoneHungUp from place u l h = h
 answered_owner ConnectToMe from place u l h = tt
 answered_owner ConnectMeTo from place u l h = h
+answered_owner DataWrite from place u l h = h
+answered_owner DataRead from place u l h = h
 answered_owner NotBuilt from place u l h = h
 answered_owner User from place u l h = h
 
@@ -234,6 +244,8 @@ pending_needs : (kind : MethodKind) (old new : Place) (was code : Code) → IsPe
 pending_needs PhoneHungUp old new was code pending needs = needs
 pending_needs ConnectToMe old new was code pending needs = needs
 pending_needs ConnectMeTo old new was code pending needs = pending_open old was pending
+pending_needs DataWrite old new was code pending needs = needs
+pending_needs DataRead old new was code pending needs = needs
 pending_needs NotBuilt old new was code pending needs = needs
 pending_needs User old new was code pending needs = needs
 
@@ -289,6 +301,8 @@ abbrev pub IsPlain : MethodKind → Type 0
 IsPlain PhoneHungUp = ⊤
 IsPlain ConnectToMe = ⊥
 IsPlain ConnectMeTo = ⊥
+IsPlain DataWrite = ⊤
+IsPlain DataRead = ⊤
 IsPlain NotBuilt = ⊤
 IsPlain User = ⊤
 
@@ -296,13 +310,15 @@ plain_keeps : (kind : MethodKind) (from : TaskNo) (place : Place) (code : Code) 
 plain_keeps PhoneHungUp from place code reserved plain = refl
 plain_keeps ConnectToMe from place code reserved plain = absurd plain
 plain_keeps ConnectMeTo from place code reserved plain = absurd plain
+plain_keeps DataWrite from place code reserved plain = refl
+plain_keeps DataRead from place code reserved plain = refl
 plain_keeps NotBuilt from place code reserved plain = refl
 plain_keeps User from place code reserved plain = refl
 
 -- another call is answered
 pub sound_finished : (k : KernelState) (c : Call) (reply : Reply) (by : Option TaskNo) (u : TaskNo) → IsSound k → call_at k.calls c.number.0 ≡ Some c → IsPlain (kind_of c.request.method) → IsPendingAt c.place → c.caller ≡ Some u → IsSound (answer_to (as_it_is k (record c { reply = reply })) by u).state
 sound_finished k c reply by u s live plain pending from =
-    sound_moved k c (record c { reply = reply }) (Answers u) s live refl refl refl refl refl from (answered_sound k.tasks.phones c reply u pending (s.calls.each c.number.0 c live).reserved)
+    sound_moved k c (record c { reply = reply }) (Answers u) s live refl refl refl refl refl from (answered_sound k.tasks.phones c reply u pending (s.calls.each c.number.0 c live).reserved) (answer_carries (kind_of c.request.method) u c.buffer (slice_index c.request.args 1))
     (plain_keeps (kind_of c.request.method) c.from.task (Answers u) reply.code c.reserved plain ∙ sym (plain_keeps (kind_of c.request.method) c.from.task c.place c.reply.code c.reserved plain))
 
 -- a call that takes a phone
@@ -324,6 +340,7 @@ taken k q n t l s takes was is others calls =
       tasks = quieted k (Some l) Connecting tt s.tasks;
       kept = taken_kept k.calls q n l is others (kept_phone_changed l.task.0 l.phone.0 Connecting s.kept unkept) (state_here k.tasks.phones l.task.0 l.phone.0 Connecting (usable_there k t l takes)) (λ m has. unkept m l has (refl, refl));
       keepers = taken_keepers k.calls q n l is others was s.keepers;
+      memory = s.memory;
     }
 
 same_label : (x l : Label) → Some x ≡ Some l → x ≡ l
@@ -352,10 +369,13 @@ sound_received_to_me k c msg t kept s live kind comes alive takes = by_kept kept
   before : kept_phone c ≡ None
   before = rw kind (unreceived c.place t c.reserved comes)
 
+  carries : Carries (kind_of c.request.method) (Dispatched t) c.buffer (slice_index c.request.args 1)
+  carries = carries_none (kind_of c.request.method) (Dispatched t) c.buffer (slice_index c.request.args 1) (λ e. let g : ConnectToMe ≡ DataWrite = sym kind ∙ e in cc g)
+
   by_kept : (kept : Option Label) → ((l : Label) → kept ≡ Some l → IsUsable k t l) → IsSound (with_calls (with_kept k kept Connecting) (put_at k.calls (record c { msg = msg; reserved = kept }) (Dispatched t)))
   by_kept None takes =
       let d : Call = record c { msg = msg; reserved = None; place = Dispatched t } in
-      put_alike k c s live msg c.label c.reply None (Dispatched t) alive (no_phone k.tasks.phones d refl (λ n. rw kind at n)) (keeps_none d refl ∙ sym before)
+      put_alike k c s live msg c.label c.reply None (Dispatched t) alive (no_phone k.tasks.phones d refl (λ n. rw kind at n)) carries (keeps_none d refl ∙ sym before)
   by_kept (Some l) takes =
       let d : Call = record c { msg = msg; reserved = Some l; place = Dispatched t } in
       let usable : IsUsable k t l = takes l refl in
@@ -364,12 +384,14 @@ sound_received_to_me k c msg t kept s live kind comes alive takes = by_kept kept
       taken k (put_at k.calls (record c { msg = msg; reserved = Some l }) (Dispatched t)) c.number.0 t l s usable (kept_of_call k.calls c.number.0 c live ∙ before)
       (put_keeps k c s live msg c.label c.reply (Some l) (Dispatched t) ∙ after)
       (put_others k c s live msg c.label c.reply (Some l) (Dispatched t))
-      (put_sound k c s live msg c.label c.reply (Some l) (Dispatched t) alive phone)
+      (put_sound k c s live msg c.label c.reply (Some l) (Dispatched t) alive phone carries)
 
 received_owner : (kind : MethodKind) (from : TaskNo) (place : Place) (t : TaskNo) (l : Label) → (kind ≡ ConnectToMe → ⊥) → IsReservedAt kind from place l → IsReservedAt kind from (Dispatched t) l
 received_owner PhoneHungUp from place t l not h = h
 received_owner ConnectToMe from place t l not h = absurd (not refl)
 received_owner ConnectMeTo from place t l not h = h
+received_owner DataWrite from place t l not h = h
+received_owner DataRead from place t l not h = h
 received_owner NotBuilt from place t l not h = h
 received_owner User from place t l not h = h
 
@@ -377,6 +399,8 @@ received_keeps : (kind : MethodKind) (from : TaskNo) (place : Place) (code : Cod
 received_keeps PhoneHungUp from place code reserved t not pending = refl
 received_keeps ConnectToMe from place code reserved t not pending = absurd (not refl)
 received_keeps ConnectMeTo from place code reserved t not pending = rw (pending_unaccepted place code pending) refl
+received_keeps DataWrite from place code reserved t not pending = refl
+received_keeps DataRead from place code reserved t not pending = refl
 received_keeps NotBuilt from place code reserved t not pending = refl
 received_keeps User from place code reserved t not pending = refl
 
@@ -389,7 +413,7 @@ sound_received k c t s live not pending alive =
       owner = λ l is. received_owner (kind_of c.request.method) c.from.task c.place t l not (was.owner l is);
       needed = λ needs. was.needed (pending_needs (kind_of c.request.method) c.place (Dispatched t) c.reply.code c.reply.code pending needs);
     } in
-    sound_moved k c c (Dispatched t) s live refl refl refl refl refl alive phone (received_keeps (kind_of c.request.method) c.from.task c.place c.reply.code c.reserved t not pending)
+    sound_moved k c c (Dispatched t) s live refl refl refl refl refl alive phone (carried (kind_of c.request.method) c.place (Dispatched t) c.buffer (slice_index c.request.args 1) pending (s.calls.each c.number.0 c live).carries) (received_keeps (kind_of c.request.method) c.from.task c.place c.reply.code c.reserved t not pending)
 
 -- a new CONNECT_ME_TO is sent, for which its caller keeps this phone
 pub sound_sent : (k : KernelState) (c : Call) (l : Label) → IsSound k → IsUsable k c.from.task l → c.number.0 ≡ k.calls.next_number → IsPlaced k.tasks c.caller c.place → IsCaller k.tasks c.from c.caller → IsSome (state_at k.tasks.phones c.from.task.0 c.from.phone.0) → c.discard ≡ (c.request.method == 0) → kind_of c.request.method ≡ ConnectMeTo → IsPendingAt c.place → c.reserved ≡ Some l
@@ -402,4 +426,4 @@ sound_sent k c l s takes number placed caller phone discard kind pending is =
     let keeps : kept_phone c ≡ Some l = rw (kind, pending_unaccepted c.place c.reply.code pending, is) (own_phone c.from.task l takes.own) in
     let after : kept_by (enqueue k.calls c) c.number.0 ≡ Some l = kept_here k.calls (enqueue k.calls c) c.number.0 (Some d) at ∙ keeps in
     taken k (enqueue k.calls c) c.number.0 c.from.task l s takes before after (kept_other k.calls (enqueue k.calls c) c.number.0 (Some d) at)
-    (sound_enqueue k.tasks k.calls c s.calls number placed caller phone discard (with_phone_sound k c.from.task l c takes is (rw kind takes.own)))
+    (sound_enqueue k.tasks k.calls c s.calls number placed caller phone discard (with_phone_sound k c.from.task l c takes is (rw kind takes.own)) (carries_none (kind_of c.request.method) c.place c.buffer (slice_index c.request.args 1) (λ e. let g : ConnectMeTo ≡ DataWrite = sym kind ∙ e in cc g)))

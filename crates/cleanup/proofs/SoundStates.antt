@@ -1,6 +1,6 @@
 -- A sound state stays sound with a new task, a wire or a call, and where a phone changes that no call keeps.
 use Rattle.std.proofs.Common.{◌≡◌, ℕ, Bool, true, false, inl, inr, Option, None, Some, List, [], ◌∷◌, ◌++◌, replicate, refl, ap, sym, ◌∙◌}
-use Rattle.std.specs.Prelude.{◌==◌, IsSome, slice_get, if◌then◌else◌}
+use Rattle.std.specs.Prelude.{◌==◌, IsSome, slice_get, slice_index, if◌then◌else◌}
 use Rattle.std.proofs.lemmas.Bool.{cases_eq, eq-eqb, ne_eqb}
 use Rattle.std.specs.Ordering.{nat_cmp}
 use Rattle.std.specs.FinMap.{get-empty}
@@ -9,7 +9,7 @@ use Rattle.ipc_ids.specs.declared.numbers.Label.{Label}
 use Rattle.ipc_ids.specs.declared.message.PhoneState.{PhoneState}
 use Rattle.ipc_ids.specs.declared.message.PhoneState.TheVariants.{Free, Connecting, Connected, HungUp}
 use Rattle.ipc_ids.specs.declared.methods.MethodKind.{MethodKind}
-use Rattle.ipc_ids.specs.declared.methods.MethodKind.TheVariants.{PhoneHungUp, ConnectToMe, ConnectMeTo, NotBuilt, User}
+use Rattle.ipc_ids.specs.declared.methods.MethodKind.TheVariants.{PhoneHungUp, ConnectToMe, ConnectMeTo, DataWrite, DataRead, NotBuilt, User}
 use Rattle.ipc_ids.specs.Methods.{kind_of}
 use Rattle.call_slab.specs.declared.call.Call.{Call}
 use Rattle.call_slab.specs.declared.call.Place.{Place}
@@ -18,17 +18,18 @@ use Rattle.answerbox.specs.Calls.{CallTable, call_at, enqueue, put_at}
 use Rattle.phone_table.specs.Phones.{row_at, state_at}
 use Rattle.cleanup.specs.State.{KernelState, alive_in, phone_at, with_calls, with_phone, with_task, start}
 use Rattle.cleanup.specs.Kept.{AreKept, phone_of, is_accepted, held_phone, kept_of, kept_phone, kept_by}
-use Rattle.cleanup.specs.Sound.{IsPlaced, IsCaller, NeedsPhone, HasSoundPhone, AreSoundCalls, AreSoundTasks, IsSound}
+use Rattle.cleanup.specs.Sound.{IsPlaced, IsCaller, NeedsPhone, HasSoundPhone, Carries, AreSoundCalls, AreSoundTasks, IsSound}
 use Rattle.cleanup.proofs.Lookups.{at_insert}
 use Rattle.cleanup.proofs.Rows.{some_of}
 use Rattle.cleanup.proofs.Soundness.{next_free, sound_enqueue, sound_put, sound_under, phone_kept, sound_quieted, sound_wired, sound_task, row_append, row_before, alive_before, phone_before, all_same}
+use Rattle.cleanup.proofs.SoundMemory.{memory_start, memory_task}
 use Rattle.cleanup.proofs.Keepers.{kept_here, kept_other, kept_of_call, kept_same, keepers_same, all_same as same_of_all, not_waiting, kept_phone_changed, keepers_phone_changed}
 
 -- calls
 
 -- the calls change, and each keeps what it kept
 pub kept_calls : (k : KernelState) (calls : CallTable) → IsSound k → AreSoundCalls k.tasks calls → ((n : ℕ) → kept_by calls n ≡ kept_by k.calls n) → IsSound (with_calls k calls)
-kept_calls k calls s sound same = record { calls = sound; tasks = s.tasks; kept = kept_same calls same s.kept; keepers = keepers_same calls same s.keepers }
+kept_calls k calls s sound same = record { calls = sound; tasks = s.tasks; kept = kept_same calls same s.kept; keepers = keepers_same calls same s.keepers; memory = s.memory }
 
 -- a call that has no phone reserved keeps none
 pub keeps_none : (c : Call) → c.reserved ≡ None → kept_phone c ≡ None
@@ -46,6 +47,8 @@ keeps_none c none = by_kind (kind_of c.request.method) where
   by_kind PhoneHungUp = refl
   by_kind ConnectToMe = rw none (held c.place)
   by_kind ConnectMeTo = asked (is_accepted c.place c.reply.code) (phone_of c.from.task c.reserved) (rw none refl)
+  by_kind DataWrite = refl
+  by_kind DataRead = refl
   by_kind NotBuilt = refl
   by_kind User = refl
 
@@ -60,19 +63,19 @@ no_phone phones c none needless = record {
   not_both o l a b = cc
 
 -- a new call, which keeps no phone
-pub sound_enqueued : (k : KernelState) (c : Call) → IsSound k → c.number.0 ≡ k.calls.next_number → IsPlaced k.tasks c.caller c.place → IsCaller k.tasks c.from c.caller → IsSome (state_at k.tasks.phones c.from.task.0 c.from.phone.0) → c.discard ≡ (c.request.method == 0) → HasSoundPhone k.tasks.phones c → kept_phone c ≡ None → IsSound (with_calls k (enqueue k.calls c))
-sound_enqueued k c s number place caller phone discard reserved none =
+pub sound_enqueued : (k : KernelState) (c : Call) → IsSound k → c.number.0 ≡ k.calls.next_number → IsPlaced k.tasks c.caller c.place → IsCaller k.tasks c.from c.caller → IsSome (state_at k.tasks.phones c.from.task.0 c.from.phone.0) → c.discard ≡ (c.request.method == 0) → HasSoundPhone k.tasks.phones c → Carries (kind_of c.request.method) c.place c.buffer (slice_index c.request.args 1) → kept_phone c ≡ None → IsSound (with_calls k (enqueue k.calls c))
+sound_enqueued k c s number place caller phone discard reserved carries none =
     let d : Call = record c { stamp = k.calls.next_stamp } in
     let at : (m : ℕ) → call_at (enqueue k.calls c) m ≡ (if c.number.0 == m then Some d else call_at k.calls m) = λ m. at_insert k.calls.records c.number.0 m d in
     let free : call_at k.calls c.number.0 ≡ None = ap (call_at k.calls) number ∙ next_free k.tasks k.calls s.calls in
     let before : kept_by k.calls c.number.0 ≡ None = rw free refl in
     let after : kept_by (enqueue k.calls c) c.number.0 ≡ None = kept_here k.calls (enqueue k.calls c) c.number.0 (Some d) at ∙ none in
-    kept_calls k (enqueue k.calls c) s (sound_enqueue k.tasks k.calls c s.calls number place caller phone discard reserved)
+    kept_calls k (enqueue k.calls c) s (sound_enqueue k.tasks k.calls c s.calls number place caller phone discard reserved carries)
     (same_of_all k.calls (enqueue k.calls c) c.number.0 (after ∙ sym before) (kept_other k.calls (enqueue k.calls c) c.number.0 (Some d) at))
 
 -- a live call goes to a place, and keeps what it kept
-pub sound_moved : (k : KernelState) (c d : Call) (place : Place) → IsSound k → call_at k.calls c.number.0 ≡ Some c → d.number ≡ c.number → d.caller ≡ c.caller → d.from ≡ c.from → d.request ≡ c.request → d.discard ≡ c.discard → IsPlaced k.tasks d.caller place → HasSoundPhone k.tasks.phones (record d { place = place }) → kept_phone (record d { place = place }) ≡ kept_phone c → IsSound (with_calls k (put_at k.calls d place))
-sound_moved k c d place s live number caller from request discard placed reserved same = by_number number where
+pub sound_moved : (k : KernelState) (c d : Call) (place : Place) → IsSound k → call_at k.calls c.number.0 ≡ Some c → d.number ≡ c.number → d.caller ≡ c.caller → d.from ≡ c.from → d.request ≡ c.request → d.discard ≡ c.discard → IsPlaced k.tasks d.caller place → HasSoundPhone k.tasks.phones (record d { place = place }) → Carries (kind_of d.request.method) place d.buffer (slice_index d.request.args 1) → kept_phone (record d { place = place }) ≡ kept_phone c → IsSound (with_calls k (put_at k.calls d place))
+sound_moved k c d place s live number caller from request discard placed reserved carries same = by_number number where
   after : Call
   after = record d { place = place; stamp = k.calls.next_stamp }
 
@@ -82,7 +85,7 @@ sound_moved k c d place s live number caller from request discard placed reserve
       let was : call_at k.calls d.number.0 ≡ Some c = ap (λ (n : Rattle.ipc_ids.specs.declared.numbers.CallNo.CallNo). call_at k.calls n.0) e ∙ live in
       let here : kept_by (put_at k.calls d place) d.number.0 ≡ kept_by k.calls d.number.0 =
       kept_here k.calls (put_at k.calls d place) d.number.0 (Some after) at ∙ same ∙ sym (kept_of_call k.calls d.number.0 c was) in
-      kept_calls k (put_at k.calls d place) s (sound_put k.tasks k.calls c.number.0 c d place s.calls live number caller from request discard placed reserved)
+      kept_calls k (put_at k.calls d place) s (sound_put k.tasks k.calls c.number.0 c d place s.calls live number caller from request discard placed reserved carries)
       (same_of_all k.calls (put_at k.calls d place) d.number.0 here (kept_other k.calls (put_at k.calls d place) d.number.0 (Some after) at))
 
 -- phones
@@ -94,6 +97,7 @@ kept_state k t p x s before after tasks = record {
   tasks = tasks;
   kept = kept_phone_changed t.0 p x s.kept (not_waiting t.0 p s.kept before);
   keepers = keepers_phone_changed t.0 p x s.keepers after;
+  memory = s.memory;
 }
 
 pub kept_hung_up : (k : KernelState) (t : TaskNo) (p : ℕ) → IsSound k → (phone_at k t p ≡ Some Connecting → ⊥) → IsSound (with_phone k t p HungUp)
@@ -125,6 +129,7 @@ kept_task k limit s = record {
   tasks = sound_task k.tasks limit s.tasks;
   kept = kept_added limit s.kept;
   keepers = record { each = λ t p is. s.keepers.each t p (state_of_old k.tasks.phones limit t p Connecting (λ e. cc e) is) };
+  memory = memory_task s.memory;
 }
 
 none_at : (t p : ℕ) (x : PhoneState) → state_at [] t p ≡ Some x → ⊥
@@ -146,4 +151,5 @@ sound_start = record {
     alone = λ m n l is has. absurd (let g = rw (get-empty nat_cmp m) at is in cc);
   };
   keepers = record { each = λ t p is. absurd (none_at t p Connecting is) };
+  memory = memory_start;
 }

@@ -1,7 +1,7 @@
 -- Each change of calls or of phones keeps them sound.
 use Rattle.std.proofs.Common.{◌≡◌, ℕ, zero, suc, ◌+◌, ◌-◌, ◌≤◌, Bool, true, false, ◌⊎◌, inl, inr, Option, None, Some, List, [], ◌∷◌, ◌++◌, length, replicate, refl, ap, sym, subst, ◌∙◌, arith, set, length-append}
 use Rattle.std.proofs.Math.ListN.{length-set}
-use Rattle.std.specs.Prelude.{◌==◌, if◌then◌else◌, IsSome, slice_get, unwrap_or}
+use Rattle.std.specs.Prelude.{◌==◌, if◌then◌else◌, IsSome, slice_get, slice_index, unwrap_or}
 use Rattle.std.specs.Option.{option_map_or}
 use Rattle.std.proofs.lemmas.Bool.{cases_eq, eq-eqb, ne_eqb}
 use Rattle.ipc_ids.specs.declared.numbers.TaskNo.{TaskNo}
@@ -14,7 +14,11 @@ use Rattle.call_slab.specs.declared.call.Place.TheVariants.{Incoming, Dispatched
 use Rattle.answerbox.specs.Calls.{CallTable, call_at, enqueue, put_at, without_call}
 use Rattle.phone_table.specs.Phones.{row_at, state_at}
 use Rattle.cleanup.specs.State.{Tasks, alive_in, with_state_at}
-use Rattle.cleanup.specs.Sound.{IsPlaced, IsCaller, IsSoundCall, AreSoundCalls, IsQuiet, AreSoundTasks, HasSoundPhone}
+use Rattle.ipc_ids.specs.declared.methods.MethodKind.{MethodKind}
+use Rattle.ipc_ids.specs.declared.methods.MethodKind.TheVariants.{PhoneHungUp, ConnectToMe, ConnectMeTo, DataWrite, DataRead, NotBuilt, User}
+use Rattle.ipc_ids.specs.Methods.{kind_of}
+use Rattle.cleanup.specs.Sound.{IsPlaced, IsCaller, IsSoundCall, AreSoundCalls, IsQuiet, AreSoundTasks, HasSoundPhone, HasBytesAt, Carries}
+use Rattle.cleanup.specs.Board.{IsPendingAt}
 use Rattle.cleanup.proofs.Lookups.{at_insert, at_remove, chosen, same_call}
 use Rattle.cleanup.proofs.Rows.{some_of, state_changed_at}
 
@@ -29,7 +33,49 @@ later tasks a b a' b' n c s h g = record {
   phone = s.phone;
   discard = s.discard;
   reserved = s.reserved;
+  carries = s.carries;
 }
+
+-- a call that was not answered carries at another place what it carried
+
+bytes_of : (place : Place) (bytes : List ℕ) (n : ℕ) → IsPendingAt place → HasBytesAt place bytes n → length bytes ≡ n
+bytes_of (Incoming t) bytes n pending h = h
+bytes_of (Dispatched t) bytes n pending h = h
+bytes_of (Answers t) bytes n pending h = absurd pending
+
+bytes_at : (place : Place) (bytes : List ℕ) (n : ℕ) → length bytes ≡ n → HasBytesAt place bytes n
+bytes_at (Incoming t) bytes n h = h
+bytes_at (Dispatched t) bytes n h = h
+bytes_at (Answers t) bytes n h = tt
+
+pub carried : (kind : MethodKind) (old new : Place) (bytes : List ℕ) (n : ℕ) → IsPendingAt old → Carries kind old bytes n → Carries kind new bytes n
+carried PhoneHungUp old new bytes n pending h = tt
+carried ConnectToMe old new bytes n pending h = tt
+carried ConnectMeTo old new bytes n pending h = tt
+carried DataWrite old new bytes n pending h = bytes_at new bytes n (bytes_of old bytes n pending h)
+carried DataRead old new bytes n pending h = tt
+carried NotBuilt old new bytes n pending h = tt
+carried User old new bytes n pending h = tt
+
+-- a call of another kind carries nothing
+pub carries_none : (kind : MethodKind) (place : Place) (bytes : List ℕ) (n : ℕ) → (kind ≡ DataWrite → ⊥) → Carries kind place bytes n
+carries_none PhoneHungUp place bytes n not = tt
+carries_none ConnectToMe place bytes n not = tt
+carries_none ConnectMeTo place bytes n not = tt
+carries_none DataWrite place bytes n not = absurd (not refl)
+carries_none DataRead place bytes n not = tt
+carries_none NotBuilt place bytes n not = tt
+carries_none User place bytes n not = tt
+
+-- nor does an answer
+pub answer_carries : (kind : MethodKind) (t : TaskNo) (bytes : List ℕ) (n : ℕ) → Carries kind (Answers t) bytes n
+answer_carries PhoneHungUp t bytes n = tt
+answer_carries ConnectToMe t bytes n = tt
+answer_carries ConnectMeTo t bytes n = tt
+answer_carries DataWrite t bytes n = tt
+answer_carries DataRead t bytes n = tt
+answer_carries NotBuilt t bytes n = tt
+answer_carries User t bytes n = tt
 
 -- one call came, or changed, and went behind all others
 pub sound_with : (tasks : Tasks) (q r : CallTable) (n : ℕ) (d : Call) → AreSoundCalls tasks q → ((m : ℕ) → call_at r m ≡ (if n == m then Some d else call_at q m)) → q.next_number ≤ r.next_number → r.next_stamp ≡ q.next_stamp + 1 → d.stamp ≡ q.next_stamp → IsSoundCall tasks r.next_number r.next_stamp n d → AreSoundCalls tasks r
@@ -77,8 +123,8 @@ next_free tasks q s = by_call (call_at q q.next_number) refl where
   by_call None is = refl
   by_call (Some c) is = absurd (let l = (s.each q.next_number c is).below in omega arith)
 
-pub sound_enqueue : (tasks : Tasks) (q : CallTable) (c : Call) → AreSoundCalls tasks q → c.number.0 ≡ q.next_number → IsPlaced tasks c.caller c.place → IsCaller tasks c.from c.caller → IsSome (state_at tasks.phones c.from.task.0 c.from.phone.0) → c.discard ≡ (c.request.method == 0) → HasSoundPhone tasks.phones c → AreSoundCalls tasks (enqueue q c)
-sound_enqueue tasks q c s number place caller phone discard reserved =
+pub sound_enqueue : (tasks : Tasks) (q : CallTable) (c : Call) → AreSoundCalls tasks q → c.number.0 ≡ q.next_number → IsPlaced tasks c.caller c.place → IsCaller tasks c.from c.caller → IsSome (state_at tasks.phones c.from.task.0 c.from.phone.0) → c.discard ≡ (c.request.method == 0) → HasSoundPhone tasks.phones c → Carries (kind_of c.request.method) c.place c.buffer (slice_index c.request.args 1) → AreSoundCalls tasks (enqueue q c)
+sound_enqueue tasks q c s number place caller phone discard reserved carries =
     sound_with tasks q (enqueue q c) c.number.0 (record c { stamp = q.next_stamp }) s (λ m. at_insert q.records c.number.0 m (record c { stamp = q.next_stamp })) (omega arith) refl refl
     (record {
       number = refl;
@@ -89,11 +135,12 @@ sound_enqueue tasks q c s number place caller phone discard reserved =
       phone = phone;
       discard = discard;
       reserved = record { there = reserved.there; owner = reserved.owner; needed = reserved.needed };
+      carries = carries;
     })
 
 -- a live call goes to a place, changed in its message, its label, its reply or the phone that is reserved for it
-pub sound_put : (tasks : Tasks) (q : CallTable) (n : ℕ) (c d : Call) (place : Place) → AreSoundCalls tasks q → call_at q n ≡ Some c → d.number ≡ c.number → d.caller ≡ c.caller → d.from ≡ c.from → d.request ≡ c.request → d.discard ≡ c.discard → IsPlaced tasks d.caller place → HasSoundPhone tasks.phones (record d { place = place }) → AreSoundCalls tasks (put_at q d place)
-sound_put tasks q n c d place s is number caller from request discard placed reserved =
+pub sound_put : (tasks : Tasks) (q : CallTable) (n : ℕ) (c d : Call) (place : Place) → AreSoundCalls tasks q → call_at q n ≡ Some c → d.number ≡ c.number → d.caller ≡ c.caller → d.from ≡ c.from → d.request ≡ c.request → d.discard ≡ c.discard → IsPlaced tasks d.caller place → HasSoundPhone tasks.phones (record d { place = place }) → Carries (kind_of d.request.method) place d.buffer (slice_index d.request.args 1) → AreSoundCalls tasks (put_at q d place)
+sound_put tasks q n c d place s is number caller from request discard placed reserved carries =
     let was = s.each n c is in
     let number_is : d.number.0 ≡ n = ap (λ (x : Rattle.ipc_ids.specs.declared.numbers.CallNo.CallNo). x.0) number ∙ was.number in
     sound_with tasks q (put_at q d place) d.number.0 (record d { place = place; stamp = q.next_stamp }) s (λ m. at_insert q.records d.number.0 m (record d { place = place; stamp = q.next_stamp })) (omega arith) refl refl
@@ -106,6 +153,7 @@ sound_put tasks q n c d place s is number caller from request discard placed res
       phone = rw from was.phone;
       discard = discard ∙ was.discard ∙ ap (λ (x : Rattle.ipc_ids.specs.declared.message.Msg.Msg). x.method == 0) (sym request);
       reserved = record { there = reserved.there; owner = reserved.owner; needed = reserved.needed };
+      carries = carries;
     })
 
 -- the calls stay sound where tasks and phones that were there are still there
@@ -120,6 +168,7 @@ sound_under old new q s alive phones = record {
     phone = phones c.from.task.0 c.from.phone.0 was.phone;
     discard = was.discard;
     reserved = record { there = λ l e. phones l.task.0 l.phone.0 (was.reserved.there l e); owner = was.reserved.owner; needed = was.reserved.needed };
+    carries = was.carries;
   };
   stamps_differ = s.stamps_differ;
 } where
@@ -275,7 +324,7 @@ phone_before rows row t p h =
     rw (row_before rows row t was.0 was.1, was.2) refl
 
 -- the mark of a task before another was added
-ended_before : (alive : List Bool) (t : ℕ) → alive_in (alive ++ true ∷ []) t ≡ false → alive_in alive t ≡ false
+pub ended_before : (alive : List Bool) (t : ℕ) → alive_in (alive ++ true ∷ []) t ≡ false → alive_in alive t ≡ false
 ended_before alive t h = by_mark (alive_in alive t) refl where
   by_mark : (b : Bool) → alive_in alive t ≡ b → alive_in alive t ≡ false
   by_mark false e = e

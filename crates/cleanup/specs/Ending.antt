@@ -1,9 +1,10 @@
--- What the end of a task asks of the phones and calls that it is given, and what it leaves of them.
+-- What the end of a task asks of the phones, calls and areas that it is given, and what it leaves of them.
 use Rattle.std.specs.Prelude.{◌≡◌, ℕ, ◌+◌, ◌*◌, ◌^◌, ◌<◌, ◌≤◌, Bool, true, false, List, Some, length, replicate}
 use Rattle.std.specs.FinMap.{len}
 use Rattle.ipc_ids.specs.declared.numbers.TaskNo.{TaskNo}
 use Rattle.answerbox.specs.Calls.{CallTable, BoxesState}
 use Rattle.phone_table.specs.Phones.{Rows, count_at}
+use Rattle.address_space.specs.Memory.{Memory}
 use Rattle.cleanup.specs.State.{KernelState, alive_in, state_from}
 use Rattle.cleanup.specs.Counts.{IsCounted}
 
@@ -13,9 +14,9 @@ pub record IsJustEnded (alive : List Bool) (who : TaskNo) : Type 0 where
   pub from_one : 1 ≤ who.0
   pub task : who.0 ≤ length alive
 
--- the state that marks, phones and calls stand for
-abbrev pub state_of : List Bool → Rows → BoxesState → KernelState
-state_of alive phones boxes = state_from alive phones.states boxes.calls 0
+-- the state that marks, phones, calls and areas stand for
+abbrev pub state_of : List Bool → Rows → BoxesState → Memory → KernelState
+state_of alive phones boxes memory = state_from alive phones.states boxes.calls memory 0
 
 -- the counts are those of the active calls, and none is near its limit
 pub record HasFewActive (counts : List (List ℕ)) (calls : CallTable) : Type 0 where

@@ -11,8 +11,10 @@ use Rattle.call_slab.specs.declared.call.Place.{Place}
 use Rattle.call_slab.specs.declared.call.Place.TheVariants.{Incoming, Dispatched, Answers}
 use Rattle.answerbox.specs.Calls.{front, calls_of, calls_at, calls_by}
 use Rattle.phone_table.specs.Phones.{row_at}
+use Rattle.address_space.specs.Memory.{first_area, count_areas}
 use Rattle.cleanup.specs.State.{KernelState, Transition, nothing, then_do, each, drain, phone_at, with_phone, label_of}
 use Rattle.cleanup.specs.Joins.{bare_reply, settle, drop_answer, forget_call, hang_up}
+use Rattle.cleanup.specs.Areas.{lose_first_area}
 
 abbrev pub task_no : ℕ → TaskNo
 task_no n = record { 0 = n }
@@ -87,10 +89,21 @@ first_call_of t k = calls_of k.calls t
 abbrev pub forget_calls_elsewhere : TaskNo → KernelState → Transition
 forget_calls_elsewhere t k = drain (first_call_of t) forget_call (calls_by k.calls t) k
 
--- the parts in their order
-abbrev pub end_parts : TaskNo → KernelState → Transition
-end_parts t k =
+-- these parts in their order
+abbrev pub end_phones_and_calls : TaskNo → KernelState → Transition
+end_phones_and_calls t k =
     then_do (then_do (then_do (then_do (then_do (hang_up_own_phones t k) (slam_phones_to t)) (settle_incoming t)) (settle_dispatched t)) (drop_answers t)) (forget_calls_elsewhere t)
+
+-- then the areas of t are dropped, by their bases
+abbrev pub drop_first_area : TaskNo → KernelState → ℕ → Transition
+drop_first_area t k i = lose_first_area t k (first_area k.memory t)
+
+abbrev pub drop_areas : TaskNo → KernelState → Transition
+drop_areas t k = each (drop_first_area t) (count_areas k.memory t) 0 k
+
+-- all parts in their order
+abbrev pub end_parts : TaskNo → KernelState → Transition
+end_parts t k = then_do (end_phones_and_calls t k) (drop_areas t)
 
 -- the end of task t, which is alive
 abbrev pub kill : KernelState → TaskNo → Transition

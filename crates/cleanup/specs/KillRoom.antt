@@ -1,4 +1,4 @@
--- The room that the end of task t takes at most, counted from the phones and the calls that it can touch.
+-- The room that the end of task t takes at most, counted from the phones, the calls and the areas that it can touch.
 use Rattle.std.specs.Prelude.{ℕ, zero, suc, ◌+◌, ◌*◌, ◌==◌, if◌then◌else◌, Option, None, Some, List, length}
 use Rattle.ipc_ids.specs.declared.numbers.TaskNo.{TaskNo}
 use Rattle.ipc_ids.specs.declared.message.PhoneState.{PhoneState}
@@ -6,6 +6,7 @@ use Rattle.ipc_ids.specs.declared.message.PhoneState.TheVariants.{Free, Connecti
 use Rattle.call_slab.specs.declared.call.Place.TheVariants.{Incoming, Dispatched, Answers}
 use Rattle.answerbox.specs.Calls.{calls_at, calls_by}
 use Rattle.phone_table.specs.Phones.{state_at}
+use Rattle.address_space.specs.Memory.{count_areas}
 use Rattle.cleanup.specs.State.{KernelState}
 use Rattle.cleanup.specs.Kill.{width}
 use Rattle.cleanup.specs.Rooms.{calls_of_hangup, entries_of_hangup}
@@ -52,7 +53,11 @@ kill_calls k t = own_calls k.tasks.phones t
 abbrev pub kill_moves : KernelState → TaskNo → ℕ
 kill_moves k t = 2 * own_calls k.tasks.phones t + calls_at k.calls (Incoming t) + calls_at k.calls (Dispatched t)
 
--- how many entries it makes: those of its hangups, one for each phone that is slammed, two for each call at t, one for
--- each call of t, and for each call of a hangup three more, which may come to t itself and is one of t
+-- how many entries its phones and calls make: those of its hangups, one for each phone that is slammed, two for each call
+-- at t, one for each call of t, and for each call of a hangup three more, which may come to t itself and is one of t
+abbrev pub phone_and_call_entries : KernelState → TaskNo → ℕ
+phone_and_call_entries k t = own_entries k.tasks.phones t + leading t k.tasks.phones + 2 * (calls_at k.calls (Incoming t) + calls_at k.calls (Dispatched t) + calls_at k.calls (Answers t)) + calls_by k.calls t + 3 * own_calls k.tasks.phones t
+
+-- how many entries it makes: those, and one for each area of t
 abbrev pub kill_entries : KernelState → TaskNo → ℕ
-kill_entries k t = own_entries k.tasks.phones t + leading t k.tasks.phones + 2 * (calls_at k.calls (Incoming t) + calls_at k.calls (Dispatched t) + calls_at k.calls (Answers t)) + calls_by k.calls t + 3 * own_calls k.tasks.phones t
+kill_entries k t = phone_and_call_entries k t + count_areas k.memory t

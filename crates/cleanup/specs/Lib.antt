@@ -4,6 +4,7 @@ pub mod Counts
 pub mod Serving
 pub mod Kept
 pub mod Joins
+pub mod Areas
 pub mod Kill
 pub mod Limits
 pub mod Board

@@ -1,18 +1,20 @@
 -- What every state of the kernel keeps between two events.
-use Rattle.std.specs.Prelude.{◌≡◌, ℕ, ◌<◌, ◌==◌, ⊤, true, false, List, Option, None, Some, IsSome, length}
+use Rattle.std.specs.Prelude.{◌≡◌, ℕ, ◌<◌, ◌≤◌, ◌==◌, ⊤, Bool, true, false, List, [], Option, None, Some, IsSome, length, slice_index}
 use Rattle.ipc_ids.specs.declared.numbers.TaskNo.{TaskNo}
 use Rattle.ipc_ids.specs.declared.numbers.Label.{Label}
 use Rattle.ipc_ids.specs.declared.numbers.Code.{Code}
 use Rattle.ipc_ids.specs.declared.message.PhoneState.{PhoneState}
 use Rattle.ipc_ids.specs.declared.message.PhoneState.TheVariants.{Free, Connecting, Connected, HungUp, Slammed}
 use Rattle.ipc_ids.specs.declared.methods.MethodKind.{MethodKind}
-use Rattle.ipc_ids.specs.declared.methods.MethodKind.TheVariants.{PhoneHungUp, ConnectToMe, ConnectMeTo, NotBuilt, User}
+use Rattle.ipc_ids.specs.declared.methods.MethodKind.TheVariants.{PhoneHungUp, ConnectToMe, ConnectMeTo, DataWrite, DataRead, NotBuilt, User}
 use Rattle.ipc_ids.specs.Methods.{phone_hungup, kind_of}
 use Rattle.call_slab.specs.declared.call.Call.{Call}
 use Rattle.call_slab.specs.declared.call.Place.{Place}
 use Rattle.call_slab.specs.declared.call.Place.TheVariants.{Incoming, Dispatched, Answers}
 use Rattle.answerbox.specs.Calls.{CallTable, call_at}
 use Rattle.phone_table.specs.Phones.{state_at}
+use Rattle.address_space.specs.Memory.{Memory, areas_of}
+use Rattle.address_space.specs.Sound as spaces
 use Rattle.cleanup.specs.State.{Tasks, KernelState, alive_in}
 use Rattle.cleanup.specs.Counts.{label_at}
 use Rattle.cleanup.specs.Kept.{AreKept, accepts, kept_by}
@@ -38,6 +40,8 @@ abbrev pub IsReservedAt : MethodKind → TaskNo → Place → Label → Type 0
 IsReservedAt PhoneHungUp from place l = ⊥
 IsReservedAt ConnectToMe from place l = IsLentAt place l
 IsReservedAt ConnectMeTo from place l = l.task ≡ from
+IsReservedAt DataWrite from place l = ⊥
+IsReservedAt DataRead from place l = ⊥
 IsReservedAt NotBuilt from place l = ⊥
 IsReservedAt User from place l = ⊥
 
@@ -51,6 +55,8 @@ abbrev pub NeedsPhone : MethodKind → Place → Code → Type 0
 NeedsPhone PhoneHungUp place code = ⊥
 NeedsPhone ConnectToMe place code = ⊥
 NeedsPhone ConnectMeTo place code = IsOpenAt place code
+NeedsPhone DataWrite place code = ⊥
+NeedsPhone DataRead place code = ⊥
 NeedsPhone NotBuilt place code = ⊥
 NeedsPhone User place code = ⊥
 
@@ -59,6 +65,22 @@ pub record HasSoundPhone (phones : List (List PhoneState)) (c : Call) : Type 0 w
   pub there : (l : Label) → c.reserved ≡ Some l → IsSome (state_at phones l.task.0 l.phone.0)
   pub owner : (l : Label) → c.reserved ≡ Some l → IsReservedAt (kind_of c.request.method) c.from.task c.place l
   pub needed : NeedsPhone (kind_of c.request.method) c.place c.reply.code → IsSome c.reserved
+
+-- a call that was not answered yet has so many bytes with it
+abbrev pub HasBytesAt : Place → List ℕ → ℕ → Type 0
+HasBytesAt (Incoming t) bytes n = length bytes ≡ n
+HasBytesAt (Dispatched t) bytes n = length bytes ≡ n
+HasBytesAt (Answers t) bytes n = ⊤
+
+-- a DATA_WRITE has as many as its argument 2 says
+abbrev pub Carries : MethodKind → Place → List ℕ → ℕ → Type 0
+Carries PhoneHungUp place bytes n = ⊤
+Carries ConnectToMe place bytes n = ⊤
+Carries ConnectMeTo place bytes n = ⊤
+Carries DataWrite place bytes n = HasBytesAt place bytes n
+Carries DataRead place bytes n = ⊤
+Carries NotBuilt place bytes n = ⊤
+Carries User place bytes n = ⊤
 
 -- the record of the live call with number n
 pub record IsSoundCall (tasks : Tasks) (next_number next_stamp n : ℕ) (c : Call) : Type 0 where
@@ -71,6 +93,7 @@ pub record IsSoundCall (tasks : Tasks) (next_number next_stamp n : ℕ) (c : Cal
   -- nobody waits for the answer of a hangup, and of nothing else
   pub discard : c.discard ≡ (c.request.method == phone_hungup)
   pub reserved : HasSoundPhone tasks.phones c
+  pub carries : Carries (kind_of c.request.method) c.place c.buffer (slice_index c.request.args 1)
 
 pub record AreSoundCalls (tasks : Tasks) (calls : CallTable) : Type 0 where
   pub each : (n : ℕ) (c : Call) → call_at calls n ≡ Some c → IsSoundCall tasks calls.next_number calls.next_stamp n c
@@ -95,8 +118,15 @@ pub record AreSoundTasks (tasks : Tasks) : Type 0 where
 pub record HaveKeepers (phones : List (List PhoneState)) (calls : CallTable) : Type 0 where
   pub each : (t p : ℕ) → state_at phones t p ≡ Some Connecting → (n : ℕ) × (kept_by calls n ≡ Some (label_at t p))
 
+-- each task has a list of areas, which are sound, and one that has ended has none
+pub record HasSoundMemory (alive : List Bool) (m : Memory) : Type 0 where
+  pub spaces : spaces.IsSound m
+  pub paired : length m.areas ≡ length alive
+  pub owned : (t : TaskNo) → 1 ≤ t.0 → alive_in alive t.0 ≡ false → areas_of m t ≡ []
+
 pub record IsSound (k : KernelState) : Type 0 where
   pub calls : AreSoundCalls k.tasks k.calls
   pub tasks : AreSoundTasks k.tasks
   pub kept : AreKept k.tasks.phones k.calls
   pub keepers : HaveKeepers k.tasks.phones k.calls
+  pub memory : HasSoundMemory k.tasks.alive k.memory

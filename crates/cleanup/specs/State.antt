@@ -2,9 +2,7 @@
 use Rattle.std.specs.Prelude.{ℕ, zero, suc, ◌+◌, ◌-◌, ◌==◌, Bool, true, false, if◌then◌else◌, List, [], ◌∷◌, ◌++◌, Option, refl, slice_get, slice_set, replicate, unwrap_or}
 use Rattle.std.specs.Option.{option_map_or}
 use Rattle.std.specs.Coded.{Coded, code_by, coded×, coded_ℕ, coded_list, coded_bool}
-use Rattle.std.specs.Ordering.{nat_cmp}
-use Rattle.std.specs.FinMap.{FinMap, empty, len}
-use Rattle.std.specs.FinMap as map
+use Rattle.std.specs.FinMap.{len}
 use Rattle.ipc_ids.specs.declared.numbers.TaskNo.{TaskNo}
 use Rattle.ipc_ids.specs.declared.numbers.Label.{Label}
 use Rattle.ipc_ids.specs.declared.message.PhoneState.{PhoneState}
@@ -13,25 +11,13 @@ use Rattle.ipc_ids.specs.declared.entry.Entry.{Entry}
 use Rattle.call_slab.specs.declared.call.Call.{Call}
 use Rattle.answerbox.specs.Calls.{CallTable, table_code, no_calls}
 use Rattle.phone_table.specs.Phones.{row_at, state_at}
+use Rattle.address_space.specs.Memory.{Memory, memory_code, no_memory}
+use Rattle.address_space.specs.Memory as spaces
 
 -- for each task, from 1 on, whether it is alive, and the states of its phones
 pub record Tasks : Type 0 where
   pub alive : List Bool
   pub phones : List (List PhoneState)
-
--- a range of a task's addresses over a store of bytes; rights are 1 to read, 2 to write, 3 for both
-pub record Area : Type 0 where
-  pub task : ℕ
-  pub base : ℕ
-  pub pages : ℕ
-  pub rights : ℕ
-  pub store : ℕ
-
--- the areas of all tasks, the bytes of the stores, and the next store number
-pub record Memory : Type 0 where
-  pub areas : List Area
-  pub stores : FinMap nat_cmp (List ℕ)
-  pub next_store : ℕ
 
 -- The state of the kernel. An event is one system call of one task.
 pub record KernelState : Type 0 where
@@ -52,16 +38,13 @@ pub record Transition : Type 0 where
   pub state : KernelState
   pub entries : List Entry
 
-abbrev pub no_memory : Memory
-no_memory = record { areas = []; stores = empty; next_store = 1 }
-
--- no task, no call and no event
+-- no task, no call, no area and no event
 abbrev pub start : KernelState
 start = record { tasks = record { alive = []; phones = [] }; calls = no_calls; memory = no_memory; events = 0 }
 
--- the parts of a state, where no memory is built
-abbrev pub state_from : List Bool → List (List PhoneState) → CallTable → ℕ → KernelState
-state_from alive phones calls events = record { tasks = record { alive = alive; phones = phones }; calls = calls; memory = no_memory; events = events }
+-- the state of these parts
+abbrev pub state_from : List Bool → List (List PhoneState) → CallTable → Memory → ℕ → KernelState
+state_from alive phones calls memory events = record { tasks = record { alive = alive; phones = phones }; calls = calls; memory = memory; events = events }
 
 -- whether this is the number of a task that has not ended; tasks are numbered from 1
 abbrev pub alive_in : List Bool → ℕ → Bool
@@ -77,13 +60,13 @@ phone_at k t p = state_at k.tasks.phones t.0 p
 abbrev pub label_of : TaskNo → ℕ → Label
 label_of t p = record { task = t; phone = record { 0 = p } }
 
--- one task more, with so many free phones
+-- one task more, with so many free phones and no areas
 abbrev pub with_task : KernelState → ℕ → KernelState
 with_task k limit =
     record {
       tasks = record { alive = k.tasks.alive ++ true ∷ []; phones = k.tasks.phones ++ replicate limit Free ∷ [] };
       calls = k.calls;
-      memory = k.memory;
+      memory = spaces.with_task k.memory;
       events = k.events;
     }
 
@@ -102,6 +85,9 @@ with_phone k t p state =
 
 abbrev pub with_calls : KernelState → CallTable → KernelState
 with_calls k calls = record { tasks = k.tasks; calls = calls; memory = k.memory; events = k.events }
+
+abbrev pub with_memory : KernelState → Memory → KernelState
+with_memory k memory = record { tasks = k.tasks; calls = k.calls; memory = memory; events = k.events }
 
 -- one event more
 abbrev pub with_event : KernelState → KernelState
@@ -133,14 +119,6 @@ each step (suc most) i k = then_do (step k i) (each step most (i + 1))
 abbrev pub tasks_code : Coded PhoneState → Coded Tasks
 tasks_code phone =
     code_by (List Bool × List (List PhoneState)) (coded× (coded_list coded_bool) (coded_list (coded_list phone))) (λ t. (t.alive, t.phones)) (λ p. record { alive = p.0; phones = p.1 }) (λ _. refl)
-
-abbrev pub area_code : Coded Area
-area_code =
-    code_by (ℕ × (ℕ × (ℕ × (ℕ × ℕ)))) (coded× coded_ℕ (coded× coded_ℕ (coded× coded_ℕ (coded× coded_ℕ coded_ℕ)))) (λ a. (a.task, (a.base, (a.pages, (a.rights, a.store))))) (λ p. record { task = p.0; base = p.1.0; pages = p.1.1.0; rights = p.1.1.1.0; store = p.1.1.1.1 }) (λ _. refl)
-
-abbrev pub memory_code : Coded Memory
-memory_code =
-    code_by (List Area × (FinMap nat_cmp (List ℕ) × ℕ)) (coded× (coded_list area_code) (coded× (map.code coded_ℕ (coded_list coded_ℕ)) coded_ℕ)) (λ m. (m.areas, (m.stores, m.next_store))) (λ p. record { areas = p.0; stores = p.1.0; next_store = p.1.1 }) (λ _. refl)
 
 abbrev pub state_code : Coded PhoneState → Coded Call → Coded KernelState
 state_code phone call =

@@ -1,6 +1,7 @@
-//! The tasks, their phones and their calls, with room for more calls.
-ghost use Rattle.std.specs.Prelude.{◌≡◌, ℕ, ◌+◌, ◌-◌, ◌^◌, ◌<◌, ◌≤◌, true, Some, None, IsSome, IfSome, IfNone, IfOk, OnOk, OnErr, length};
+//! The tasks, their phones, their calls and their areas, with room for more calls.
+ghost use Rattle.std.specs.Prelude.{◌≡◌, ℕ, ◌+◌, ◌-◌, ◌^◌, ◌<◌, ◌≤◌, ◌++◌, ◌∷◌, [], replicate, true, Some, None, IsSome, IfSome, IfNone, IfOk, OnOk, OnErr, length};
 ghost use Rattle.std.specs.Option.{option_copied};
+ghost use Rattle.address_space.specs.Memory.{with_task as with_areas};
 ghost use Rattle.answerbox.specs.Places.{IsAt};
 ghost use Rattle.answerbox.specs.Calls.{call_at, task_of, enqueue, without_call, received, without_caller, active_calls, front, calls_of, calls_at, calls_by};
 ghost use Rattle.phone_table.specs.Phones.{hangup_answer};
@@ -22,6 +23,7 @@ use crate::phones::{
     connect_to_answerer, connect_to_caller, hang_phone, keep_to_receive, keep_to_send,
     release_kept, slam_phone, width,
 };
+use address_space::Spaces;
 use answerbox::Boxes;
 use call_slab::{Call, Place};
 use ipc_ids::{
@@ -31,12 +33,13 @@ use phone_table::{Hung, PhoneRows, Phones};
 use std::alloc::Global;
 use std::marker::Model;
 
-/// The phones and the calls of all tasks, with room for `spare` more calls.
+/// The phones, the calls and the areas of all tasks, with room for `spare` more calls.
 #[derive(Drop)]
 pub struct Switchboard {
     alive: Vec<bool>,
     phones: PhoneRows,
     boxes: Boxes,
+    pub(crate) spaces: Spaces,
     // How many tasks have places in the boxes: one more than there are where an addition wanted
     // memory half way.
     places: u64,
@@ -48,21 +51,22 @@ impl Model for Switchboard {
     ghost use Rattle.ipc_ids.specs.contracts.message.PhoneState as phone;
     ghost use Rattle.cleanup.specs.State.{BoardState, board_code, state_from};
     ghost use Rattle.std.specs.Prelude.{length};
-    ghost use Rattle.cleanup.specs.Board.{IsSwitched, HasPlaces};
+    ghost use Rattle.cleanup.specs.Board.{IsSwitched, IsHoused};
 
     ghost Value = { BoardState };
 
     ghost coded = { board_code phone.the_row.coded call.the_row.coded };
 
     ghost view = { λ a. record {
-      state = state_from a.alive.items a.phones.states a.boxes.calls
+      state = state_from a.alive.items a.phones.states a.boxes.calls a.spaces
           a.events;
       spare = a.boxes.spare;
       places = a.boxes.tasks;
     } };
 
     ghost invariant = { λ a. IsSwitched a.alive.items a.phones.states a.phones.counts a.boxes.calls
-        a.boxes.tasks × HasPlaces (length a.alive.items) a.places a.boxes.tasks };
+        a.boxes.tasks × IsHoused (length a.alive.items) a.places a.boxes.tasks
+        (length a.spaces.areas) };
 }
 
 impl Switchboard {
@@ -74,16 +78,24 @@ impl Switchboard {
             alive: Vec::new(alloc),
             phones: PhoneRows::new(alloc),
             boxes: Boxes::new(alloc),
+            spaces: Spaces::new(alloc),
             places: 0,
             events: 0,
         }
     }
 
-    /// These tasks, with these phones and calls.
-    pub(crate) fn of(alive: Vec<bool>, phones: PhoneRows, boxes: Boxes) -> Switchboard
+    /// These tasks, with these phones, calls and areas.
+    pub(crate) fn of(
+        alive: Vec<bool>,
+        phones: PhoneRows,
+        boxes: Boxes,
+        spaces: Spaces,
+    ) -> Switchboard
         requires switched { IsSwitched alive.items phones.states phones.counts boxes.calls
             boxes.tasks }
-        ensures state { result.state ≡ state_from alive.items phones.states boxes.calls 0 }
+        requires areas { length spaces.areas ≡ length alive.items }
+        ensures state { result.state
+            ≡ state_from alive.items phones.states boxes.calls spaces 0 }
         ensures spare { result.spare ≡ boxes.spare }
         ensures places { result.places ≡ boxes.tasks }
     {
@@ -92,20 +104,27 @@ impl Switchboard {
             alive,
             phones,
             boxes,
+            spaces,
             places,
             events: 0,
         }
     }
 
-    /// The phones and the calls.
-    pub(crate) fn into_parts(self) -> (PhoneRows, Boxes)
+    /// The phones, the calls and the areas.
+    pub(crate) fn into_parts(self) -> (PhoneRows, Boxes, Spaces)
         ensures phones { result.0.states ≡ self.state.tasks.phones }
         ensures calls { result.1.calls ≡ self.state.calls }
         ensures counts { HasCounts result.0.states result.0.counts result.1.calls }
+        ensures areas { result.2 ≡ self.state.memory }
         ensures places { result.1.tasks ≡ self.places }
     {
-        let Switchboard { phones, boxes, .. } = self;
-        (phones, boxes)
+        let Switchboard {
+            phones,
+            boxes,
+            spaces,
+            ..
+        } = self;
+        (phones, boxes, spaces)
     }
 
     /// Adds a task with so many free phones.
@@ -123,13 +142,9 @@ impl Switchboard {
         }
         let number = TaskNo(self.phones.tasks() + 1);
         add_place(&mut self.boxes, &mut self.places, self.alive.len() as u64)?;
-        match self.phones.add(Phones::new(limit)) {
-            Ok(()) => {
-                self.alive.push_reserved(true);
-                Ok(number)
-            }
-            Err(NoMemory) => Err(NoMemory),
-        }
+        add_row(&mut self.phones, &mut self.spaces, limit)?;
+        self.alive.push_reserved(true);
+        Ok(number)
     }
 
     /// A free phone leads to that task from now on.
@@ -245,7 +260,7 @@ impl Switchboard {
         requires few_calls { live_calls self.now.state < 2 ^ 61 }
         ensures { IfOk result (λ n. n ≡ kill_entries_of self.now.state who) }
     {
-        kill_entries(who, &self.phones, &self.boxes)
+        kill_entries(who, &self.phones, &self.boxes, &self.spaces)
     }
 
     /// The least number of a live call of that caller.
@@ -561,6 +576,29 @@ impl Switchboard {
         ensures room { KeepsRoom self.old self.new 0 }
     {
         release_kept(kept, &mut self.phones);
+    }
+}
+
+/// One task more has free phones and no areas.
+fn add_row(phones: &mut PhoneRows, spaces: &mut Spaces, limit: u32) -> Result<(), NoMemory>
+    requires limit { IsLimit limit }
+    ensures phones { OnOk result (phones.new.states
+        ≡ phones.old.states ++ replicate limit PhoneState.Free ∷ []) }
+    ensures counts { OnOk result (phones.new.counts ≡ phones.old.counts ++ replicate limit 0 ∷ []) }
+    ensures areas { OnOk result (spaces.new ≡ with_areas spaces.old) }
+    ensures err { OnErr result (phones.new ≡ phones.old) }
+    ensures areas_err { OnErr result (spaces.new ≡ spaces.old) }
+{
+    match spaces.add_task() {
+        Ok(()) => {}
+        Err(NoMemory) => return Err(NoMemory),
+    }
+    match phones.add(Phones::new(limit)) {
+        Ok(()) => Ok(()),
+        Err(NoMemory) => {
+            spaces.take_back();
+            Err(NoMemory)
+        }
     }
 }
 

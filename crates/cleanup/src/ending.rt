@@ -1,4 +1,4 @@
-//! The end of a task, for who has its phones and calls alone.
+//! The end of a task, for who has its phones, calls and areas alone.
 ghost use Rattle.std.specs.Prelude.{◌≡◌, ◌-◌, ◌≤◌, ◌++◌, Bool, true, List, IfOk, OnOk, OnErr, length, slice_set};
 ghost use Rattle.cleanup.specs.Sound.{IsSound};
 ghost use Rattle.cleanup.specs.Counts.{HasCounts};
@@ -7,6 +7,7 @@ ghost use Rattle.cleanup.specs.Ending.{IsJustEnded, HasFewActive, HasNumbers, Us
 
 use crate::board::Switchboard;
 use crate::kill_room::{kill_calls, kill_entries};
+use address_space::Spaces;
 use answerbox::Boxes;
 use ipc_ids::{NoMemory, TaskNo, Trace};
 use phone_table::PhoneRows;
@@ -14,10 +15,10 @@ use std::alloc::Global;
 use std::mem;
 
 /// Brings the task, which was just marked as ended, to its end: its phones, those of others that
-/// lead to it, and its calls.
+/// lead to it, its calls and its areas.
 ///
 /// The marks of who is alive are the caller's, `alive`, and are not read: before the mark they
-/// made a sound state with the phones and the calls, so that the kernel answers each call whose
+/// made a sound state with the phones, the calls and the areas, so that the kernel answers each call whose
 /// caller is not the task itself.
 ///
 /// # Errors
@@ -27,24 +28,29 @@ pub fn end_task(
     who: TaskNo,
     boxes: &mut Boxes,
     phones: &mut PhoneRows,
+    spaces: &mut Spaces,
     out: &mut Trace,
 ) -> Result<(), NoMemory>
     ghost alive: { List Bool }
     requires ended { IsJustEnded alive who }
-    requires sound { IsSound (state_of (slice_set alive (who.0 - 1) true) phones.old boxes.old) }
+    requires sound { IsSound (state_of (slice_set alive (who.0 - 1) true) phones.old boxes.old
+        spaces.old) }
     requires active { HasFewActive phones.old.counts boxes.old.calls }
     requires numbers { HasNumbers boxes.old.calls }
     requires places { length alive ≤ boxes.old.tasks }
     ensures calls { OnOk result (boxes.new.calls
-        ≡ (end_parts who (state_of alive phones.old boxes.old)).state.calls) }
+        ≡ (end_parts who (state_of alive phones.old boxes.old spaces.old)).state.calls) }
     ensures phones { OnOk result (phones.new.states
-        ≡ (end_parts who (state_of alive phones.old boxes.old)).state.tasks.phones) }
+        ≡ (end_parts who (state_of alive phones.old boxes.old spaces.old)).state.tasks.phones) }
+    ensures areas { OnOk result (spaces.new
+        ≡ (end_parts who (state_of alive phones.old boxes.old spaces.old)).state.memory) }
     ensures entries { OnOk result (out.new.entries
-        ≡ out.old.entries ++ (end_parts who (state_of alive phones.old boxes.old)).entries) }
+        ≡ out.old.entries ++ (end_parts who (state_of alive phones.old boxes.old spaces.old)).entries) }
     ensures counts { OnOk result (HasCounts phones.new.states phones.new.counts boxes.new.calls) }
     ensures used { UsesNumbers boxes.old boxes.new }
     ensures calls_unchanged { OnErr result (boxes.new.calls ≡ boxes.old.calls) }
     ensures phones_unchanged { OnErr result (phones.new ≡ phones.old) }
+    ensures areas_unchanged { OnErr result (spaces.new ≡ spaces.old) }
     ensures trace_unchanged { OnErr result (out.new.entries ≡ out.old.entries) }
 {
     phones.check_counts();
@@ -52,18 +58,20 @@ pub fn end_task(
     let tasks = phones.tasks() as usize;
     let alloc = boxes.alloc();
     let marks = all_alive(alloc, tasks)?;
-    let entries = kill_entries(who, phones, boxes)?;
+    let entries = kill_entries(who, phones, boxes, spaces)?;
     boxes.reserve(kill_calls(who, phones))?;
     out.reserve(entries)?;
     let mut board = Switchboard::of(
         marks,
         mem::replace(phones, PhoneRows::new(alloc)),
         mem::replace(boxes, Boxes::new(alloc)),
+        mem::replace(spaces, Spaces::new(alloc)),
     );
     board.end_reserved(who, out);
-    let (rows, calls) = board.into_parts();
+    let (rows, calls, areas) = board.into_parts();
     *phones = rows;
     *boxes = calls;
+    *spaces = areas;
     Ok(())
 }
 

@@ -22,7 +22,7 @@ use ipc_ids::{
 use phone_table::Hung;
 
 /// What a call takes with it as a task receives it.
-#[derive(Clone, Copy)]
+#[derive(Drop)]
 pub struct Arrival {
     /// The message that the task sees.
     pub msg: Msg,

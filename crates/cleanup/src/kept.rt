@@ -13,7 +13,11 @@ pub(crate) fn kept_phone(call: &Call) -> Option<Label>
     match MethodKind::of(call.request.method) {
         MethodKind::ConnectToMe => held_phone(call),
         MethodKind::ConnectMeTo => asked_phone(call),
-        MethodKind::PhoneHungUp | MethodKind::NotBuilt | MethodKind::User => None,
+        MethodKind::PhoneHungUp
+        | MethodKind::DataWrite
+        | MethodKind::DataRead
+        | MethodKind::NotBuilt
+        | MethodKind::User => None,
     }
 }
 
@@ -25,6 +29,8 @@ pub(crate) fn lent_phone(call: &Call) -> Option<Label>
         MethodKind::ConnectToMe => held_phone(call),
         MethodKind::PhoneHungUp
         | MethodKind::ConnectMeTo
+        | MethodKind::DataWrite
+        | MethodKind::DataRead
         | MethodKind::NotBuilt
         | MethodKind::User => None,
     }

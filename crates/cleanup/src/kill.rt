@@ -3,9 +3,10 @@ ghost use Rattle.std.specs.Prelude.{◌≡◌, ◌+◌, ◌*◌, ◌^◌, ◌<�
 ghost use Rattle.answerbox.specs.Calls.{task_of, calls_at, calls_by};
 ghost use Rattle.call_slab.specs.declared.call.Place.TheVariants.{Answers};
 ghost use Rattle.cleanup.specs.State.{live_calls, is_alive};
-ghost use Rattle.cleanup.specs.Kill.{kill, end_parts, hang_up_own_phones, slam_phones_to, slam_other, slam_phones_of, settle_calls_at, drop_answers, forget_calls_elsewhere};
+ghost use Rattle.address_space.specs.Memory.{count_areas};
+ghost use Rattle.cleanup.specs.Kill.{kill, end_parts, end_phones_and_calls, drop_areas, hang_up_own_phones, slam_phones_to, slam_other, slam_phones_of, settle_calls_at, drop_answers, forget_calls_elsewhere};
 ghost use Rattle.cleanup.specs.Board.{IsAdded, IsPendingAt, FewFrom};
-ghost use Rattle.cleanup.specs.KillRoom.{kill_calls, kill_moves, kill_entries, own_entries, leading, leading_at, leading_of};
+ghost use Rattle.cleanup.specs.KillRoom.{kill_calls, kill_moves, kill_entries, phone_and_call_entries, own_entries, leading, leading_at, leading_of};
 ghost use Rattle.cleanup.specs.Rooms.{HasRoom, UsesRoom};
 ghost use Rattle.cleanup.specs.Serving.{Does, Leaves};
 
@@ -68,6 +69,21 @@ impl Switchboard {
         ensures step { Does self.new out.old out.new (end_parts who self.old.state) }
         ensures room { UsesRoom self.old self.new out.old out.new (kill_calls self.old.state who)
             (kill_moves self.old.state who) (kill_entries self.old.state who) }
+    {
+        self.end_phones_and_calls(who, out);
+        self.drop_areas(who, out);
+    }
+
+    /// All parts but the last.
+    fn end_phones_and_calls(&mut self, who: TaskNo, out: &mut Trace)
+        requires added { IsAdded self.old.state who }
+        requires ended { is_alive self.old.state who ≡ false }
+        requires few_active { FewFrom self.old.state who 0 }
+        requires room { HasRoom self.old out.old (kill_calls self.old.state who)
+            (kill_moves self.old.state who) (phone_and_call_entries self.old.state who) }
+        ensures step { Does self.new out.old out.new (end_phones_and_calls who self.old.state) }
+        ensures room { UsesRoom self.old self.new out.old out.new (kill_calls self.old.state who)
+            (kill_moves self.old.state who) (phone_and_call_entries self.old.state who) }
     {
         let _next = self.next_number();
         self.hang_up_own_phones(who, out);
@@ -184,6 +200,19 @@ impl Switchboard {
                 Some(number) => self.forget(number, out),
                 None => return,
             }
+        }
+    }
+
+    /// Drops each area of the task.
+    fn drop_areas(&mut self, who: TaskNo, out: &mut Trace)
+        requires added { IsAdded self.old.state who }
+        requires room { HasRoom self.old out.old 0 0 (count_areas self.old.state.memory who) }
+        ensures step { Does self.new out.old out.new (drop_areas who self.old.state) }
+        ensures room { UsesRoom self.old self.new out.old out.new 0 0
+            (count_areas self.old.state.memory who) }
+    {
+        for _ in 0..self.count_areas(who) {
+            self.lose_first_area(who, out);
         }
     }
 }

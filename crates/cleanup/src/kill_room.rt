@@ -1,4 +1,4 @@
-//! The room that the end of a task takes at most, counted from its phones and calls.
+//! The room that the end of a task takes at most, counted from its phones, calls and areas.
 ghost use Rattle.std.specs.Prelude.{◌≡◌, ◌+◌, ◌^◌, ◌<◌, ◌≤◌, [], IfOk, length};
 ghost use Rattle.std.specs.FinMap.{len};
 ghost use Rattle.phone_table.specs.Phones.{state_at};
@@ -7,6 +7,7 @@ ghost use Rattle.cleanup.specs.Rooms.{calls_of_hangup as calls_of, entries_of_ha
 ghost use Rattle.cleanup.specs.KillRoom.{kill_entries as kill_entries_of, own_calls, own_entries as own_entries_of, leads_to as leads, leading as leading_to, leading_at as leading_from, leading_of as leading_in};
 
 use crate::phones::width;
+use address_space::Spaces;
 use answerbox::Boxes;
 use call_slab::Place;
 use ipc_ids::{NoMemory, PhoneState, TaskNo};
@@ -33,12 +34,14 @@ pub(crate) fn kill_entries(
     who: TaskNo,
     phones: &PhoneRows,
     boxes: &Boxes,
+    spaces: &Spaces,
 ) -> Result<usize, NoMemory>
     requires from_one { 1 ≤ who.0 }
     requires task { who.0 ≤ length phones.now.states }
+    requires areas { who.0 ≤ length spaces.now.areas }
     requires few_calls { len boxes.now.calls.records < 2 ^ 61 }
     ensures { IfOk result (λ n. n
-        ≡ kill_entries_of (state_from [] phones.now.states boxes.now.calls 0) who) }
+        ≡ kill_entries_of (state_from [] phones.now.states boxes.now.calls spaces.now 0) who) }
 {
     let own = own_entries(who, phones) + 3 * kill_calls(who, phones);
     let waiting = boxes.calls_at(Place::Incoming(who));
@@ -46,7 +49,7 @@ pub(crate) fn kill_entries(
     let told = boxes.calls_at(Place::Answers(who));
     let calls = 2 * (waiting + held + told) + boxes.calls_by(who);
     match leading(who, phones) {
-        Ok(slams) => match slams.checked_add(own + calls) {
+        Ok(slams) => match slams.checked_add(own + calls + spaces.count_areas(who)) {
             Some(entries) => Ok(entries),
             None => Err(NoMemory),
         },

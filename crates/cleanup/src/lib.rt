@@ -1,11 +1,12 @@
-//! The phones and the calls of all tasks in step, and the end of a task.
+//! The phones, the calls and the areas of all tasks in step, and the end of a task.
 //!
 //! A `Switchboard` is seen as `BoardState`: the kernel's state, and for how many more calls there
 //! is room. Its private changes keep the counts of active calls right; its joins are one change
 //! each, with the entries that tell of it. The kernel's requests and the parts of a kill are made
-//! of joins. `end_task` makes of calls and phones what the definition `end_parts` says.
+//! of joins. `end_task` makes of calls, phones and areas what the definition `end_parts` says.
 #![tactic(auto)]
 
+mod areas;
 mod board;
 mod counts;
 mod ending;

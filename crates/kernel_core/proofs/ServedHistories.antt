@@ -7,7 +7,7 @@ use Rattle.ipc_ids.specs.declared.numbers.TaskNo.{TaskNo}
 use Rattle.ipc_ids.specs.declared.numbers.Code.{Code}
 use Rattle.ipc_ids.specs.declared.numbers.Label.{Label}
 use Rattle.ipc_ids.specs.declared.methods.MethodKind.{MethodKind}
-use Rattle.ipc_ids.specs.declared.methods.MethodKind.TheVariants.{PhoneHungUp, ConnectToMe, ConnectMeTo, NotBuilt, User}
+use Rattle.ipc_ids.specs.declared.methods.MethodKind.TheVariants.{PhoneHungUp, ConnectToMe, ConnectMeTo, DataWrite, DataRead, NotBuilt, User}
 use Rattle.ipc_ids.specs.declared.message.Msg.{Msg}
 use Rattle.ipc_ids.specs.declared.message.Mode.{Mode}
 use Rattle.ipc_ids.specs.declared.message.Reply.{Reply}
@@ -126,6 +126,8 @@ module _ (t : TaskNo) (r : Ask) (p : List Tale) (k : KernelState) (inside : InEv
     by_kind PhoneHungUp = accepted msg None
     by_kind ConnectToMe = accepted msg None
     by_kind ConnectMeTo = keeping (first_usable_of k t)
+    by_kind DataWrite = accepted msg None
+    by_kind DataRead = accepted msg None
     by_kind NotBuilt = accepted msg None
     by_kind User = accepted msg None
 
@@ -185,6 +187,8 @@ module _ (t : TaskNo) (r : Ask) (p : List Tale) (k : KernelState) (inside : InEv
         (λ v x d. let same : v ≡ u = cc in absurd (false≢true (sym caller.1 ∙ ap (is_ended k.tasks.alive) (sym caller.0) ∙ rw same at d)))
     by_kind u made lives' ConnectMeTo =
         answered u made lives' reply (kept_phone c) (phone.Connected t) (λ v x d. let same : t ≡ v = cc in absurd (step_kill t.0 t.0 r (inside.acts (rw (← same) at d))))
+    by_kind u made lives' DataWrite = answered u made lives' reply None phone.Free (free_leads (Step t.0 r) k.tasks.alive)
+    by_kind u made lives' DataRead = answered u made lives' reply None phone.Free (free_leads (Step t.0 r) k.tasks.alive)
     by_kind u made lives' NotBuilt = answered u made lives' reply None phone.Free (free_leads (Step t.0 r) k.tasks.alive)
     by_kind u made lives' User = answered u made lives' reply None phone.Free (free_leads (Step t.0 r) k.tasks.alive)
 
@@ -269,6 +273,8 @@ module _ (t : TaskNo) (p : List Tale) (k : KernelState) (inside : InEvent (Step 
     by_kind PhoneHungUp = taken c.msg c.reserved None
     by_kind ConnectToMe = taken _ (first_usable_of k t) (first_usable_of k t)
     by_kind ConnectMeTo = taken c.msg c.reserved None
+    by_kind DataWrite = taken c.msg c.reserved None
+    by_kind DataRead = taken c.msg c.reserved None
     by_kind NotBuilt = taken c.msg c.reserved None
     by_kind User = taken c.msg c.reserved None
 

@@ -17,7 +17,7 @@ use Rattle.ipc_ids.specs.declared.message.PhoneState.TheVariants.{Free, Connecti
 use Rattle.ipc_ids.specs.declared.message.Request.{Request}
 use Rattle.ipc_ids.specs.declared.message.Request.TheVariants as request
 use Rattle.ipc_ids.specs.declared.methods.MethodKind.{MethodKind}
-use Rattle.ipc_ids.specs.declared.methods.MethodKind.TheVariants.{PhoneHungUp, ConnectToMe, ConnectMeTo, NotBuilt, User}
+use Rattle.ipc_ids.specs.declared.methods.MethodKind.TheVariants.{PhoneHungUp, ConnectToMe, ConnectMeTo, DataWrite, DataRead, NotBuilt, User}
 use Rattle.ipc_ids.specs.Codes.{eok, ehangup, enoent, eperm, elimit, eforward}
 use Rattle.ipc_ids.specs.Methods.{kind_of}
 use Rattle.ipc_ids.specs.Tables.{most_active}
@@ -114,6 +114,8 @@ module _ (t : TaskNo) (k : KernelState) (h : IsSound k) (w : IsWithinLimits k) w
     sent u is PhoneHungUp = made (Connected u) (Incoming u) (bare_reply eok) is (λ x. x)
     sent u is ConnectToMe = made (Connected u) (Incoming u) (bare_reply eok) is (λ x. x)
     sent u is ConnectMeTo = keeping u is (first_usable_of k t) refl
+    sent u is DataWrite = made (Connected u) (Incoming u) (bare_reply eok) is (λ x. x)
+    sent u is DataRead = made (Connected u) (Incoming u) (bare_reply eok) is (λ x. x)
     sent u is NotBuilt = made (Connected u) (Incoming u) (bare_reply eok) is (λ x. x)
     sent u is User = made (Connected u) (Incoming u) (bare_reply eok) is (λ x. x)
 
@@ -149,6 +151,8 @@ module _ (t : TaskNo) (k : KernelState) (h : IsSound k) (w : IsWithinLimits k) w
         let kept : Option Label = first_usable_of k t in
         within_put (with_kept k kept Connecting) c (record c { msg = with_fifth c.msg (number_of kept); reserved = kept }) (Dispatched t) (within_taken k t kept w refl) live refl refl refl
     taken_on ConnectMeTo = within_put k c c (Dispatched t) w live refl refl refl
+    taken_on DataWrite = within_put k c c (Dispatched t) w live refl refl refl
+    taken_on DataRead = within_put k c c (Dispatched t) w live refl refl refl
     taken_on NotBuilt = within_put k c c (Dispatched t) w live refl refl refl
     taken_on User = within_put k c c (Dispatched t) w live refl refl refl
 
@@ -159,6 +163,8 @@ module _ (t : TaskNo) (k : KernelState) (h : IsSound k) (w : IsWithinLimits k) w
     accepted reply u PhoneHungUp = put_answered k reply u w live
     accepted reply u ConnectToMe = put_answered (with_kept k (kept_phone c) (Connected u)) (record { code = code_of (kept_phone c); args = reply.args }) u (kept_on (Connected u)) live
     accepted reply u ConnectMeTo = put_answered (with_kept k (kept_phone c) (Connected t)) reply u (kept_on (Connected t)) live
+    accepted reply u DataWrite = put_answered k reply u w live
+    accepted reply u DataRead = put_answered k reply u w live
     accepted reply u NotBuilt = put_answered k reply u w live
     accepted reply u User = put_answered k reply u w live
 

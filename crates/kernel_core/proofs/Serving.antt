@@ -13,7 +13,7 @@ use Rattle.ipc_ids.specs.declared.message.PhoneState.TheVariants.{Free, Connecti
 use Rattle.ipc_ids.specs.declared.message.Request.{Request}
 use Rattle.ipc_ids.specs.declared.message.Request.TheVariants as R
 use Rattle.ipc_ids.specs.declared.methods.MethodKind.{MethodKind}
-use Rattle.ipc_ids.specs.declared.methods.MethodKind.TheVariants.{PhoneHungUp, ConnectToMe, ConnectMeTo, NotBuilt, User}
+use Rattle.ipc_ids.specs.declared.methods.MethodKind.TheVariants.{PhoneHungUp, ConnectToMe, ConnectMeTo, DataWrite, DataRead, NotBuilt, User}
 use Rattle.ipc_ids.specs.Codes.{ehangup, enoent, eperm, elimit, eforward}
 use Rattle.ipc_ids.specs.Methods.{kind_of}
 use Rattle.ipc_ids.specs.Tables.{most_active}
@@ -75,6 +75,8 @@ declined_needless : (kind : MethodKind) (t : TaskNo) (code : Code) → accepts c
 declined_needless PhoneHungUp t code declines needs = needs
 declined_needless ConnectToMe t code declines needs = needs
 declined_needless ConnectMeTo t code declines needs = false≢true (sym declines ∙ needs)
+declined_needless DataWrite t code declines needs = needs
+declined_needless DataRead t code declines needs = needs
 declined_needless NotBuilt t code declines needs = needs
 declined_needless User t code declines needs = needs
 
@@ -111,6 +113,8 @@ module _ (t : TaskNo) (k : KernelState) (alive : is_alive k t ≡ true) (h : IsS
     sent PhoneHungUp kind = plain PhoneHungUp kind (λ needs. needs)
     sent ConnectToMe kind = plain ConnectToMe kind (λ needs. needs)
     sent ConnectMeTo kind = keeping (first_usable_of k t) refl kind
+    sent DataWrite kind = plain DataWrite kind (λ needs. needs)
+    sent DataRead kind = plain DataRead kind (λ needs. needs)
     sent NotBuilt kind = plain NotBuilt kind (λ needs. needs)
     sent User kind = plain User kind (λ needs. needs)
 
@@ -141,6 +145,8 @@ module _ (t : TaskNo) (k : KernelState) (alive : is_alive k t ≡ true) (h : IsS
   taken_on c live here PhoneHungUp kind = taken_plain c live here (λ e. cc)
   taken_on c live here ConnectToMe kind = sound_received_to_me k c (with_fifth c.msg (number_of (first_usable_of k t))) t (first_usable_of k t) h live kind here alive (λ l first. usable_is k t l first)
   taken_on c live here ConnectMeTo kind = taken_plain c live here (λ e. cc)
+  taken_on c live here DataWrite kind = taken_plain c live here (λ e. cc)
+  taken_on c live here DataRead kind = taken_plain c live here (λ e. cc)
   taken_on c live here NotBuilt kind = taken_plain c live here (λ e. cc)
   taken_on c live here User kind = taken_plain c live here (λ e. cc)
 
@@ -161,6 +167,8 @@ module _ (t : TaskNo) (k : KernelState) (alive : is_alive k t ≡ true) (h : IsS
     accepted reply u accepting from PhoneHungUp kind = sound_finished k c reply (Some t) u h live (rw kind tt) pending from
     accepted reply u accepting from ConnectToMe kind = sound_accepted_to_me k c reply (Some t) u h live kind pending from
     accepted reply u accepting from ConnectMeTo kind = sound_accepted_me_to k c reply t (Some t) u h live kind pending accepting alive from
+    accepted reply u accepting from DataWrite kind = sound_finished k c reply (Some t) u h live (rw kind tt) pending from
+    accepted reply u accepting from DataRead kind = sound_finished k c reply (Some t) u h live (rw kind tt) pending from
     accepted reply u accepting from NotBuilt kind = sound_finished k c reply (Some t) u h live (rw kind tt) pending from
     accepted reply u accepting from User kind = sound_finished k c reply (Some t) u h live (rw kind tt) pending from
 

@@ -9,7 +9,7 @@ use Rattle.ipc_ids.specs.declared.message.Msg.{Msg}
 use Rattle.ipc_ids.specs.declared.message.Reply.{Reply}
 use Rattle.ipc_ids.specs.declared.message.PhoneState.TheVariants.{Connecting}
 use Rattle.ipc_ids.specs.declared.methods.MethodKind.{MethodKind}
-use Rattle.ipc_ids.specs.declared.methods.MethodKind.TheVariants.{PhoneHungUp, ConnectToMe, ConnectMeTo, NotBuilt, User}
+use Rattle.ipc_ids.specs.declared.methods.MethodKind.TheVariants.{PhoneHungUp, ConnectToMe, ConnectMeTo, DataWrite, DataRead, NotBuilt, User}
 use Rattle.ipc_ids.specs.Codes.{elimit}
 use Rattle.ipc_ids.specs.Methods.{kind_of}
 use Rattle.call_slab.specs.declared.call.Call.{Call}
@@ -39,6 +39,8 @@ abbrev pub before_send_of : MethodKind → KernelState → Call → Result Hande
 before_send_of PhoneHungUp k c = Ok (as_it_is k c)
 before_send_of ConnectToMe k c = Ok (as_it_is k c)
 before_send_of ConnectMeTo k c = keeping_to_send k c (first_usable_of k c.from.task)
+before_send_of DataWrite k c = Ok (as_it_is k c)
+before_send_of DataRead k c = Ok (as_it_is k c)
 before_send_of NotBuilt k c = Ok (as_it_is k c)
 before_send_of User k c = Ok (as_it_is k c)
 
@@ -62,6 +64,8 @@ abbrev pub on_receive_of : MethodKind → KernelState → Call → TaskNo → Ha
 on_receive_of PhoneHungUp k c t = as_it_is k c
 on_receive_of ConnectToMe k c t = keeping_to_receive k c (first_usable_of k t)
 on_receive_of ConnectMeTo k c t = as_it_is k c
+on_receive_of DataWrite k c t = as_it_is k c
+on_receive_of DataRead k c t = as_it_is k c
 on_receive_of NotBuilt k c t = as_it_is k c
 on_receive_of User k c t = as_it_is k c
 
@@ -73,6 +77,8 @@ abbrev pub on_accept_of : MethodKind → KernelState → Call → Reply → Task
 on_accept_of PhoneHungUp k c reply t caller = as_it_is k (record c { reply = reply })
 on_accept_of ConnectToMe k c reply t caller = accepted_to_me k c reply caller
 on_accept_of ConnectMeTo k c reply t caller = accepted_me_to k c reply t
+on_accept_of DataWrite k c reply t caller = as_it_is k (record c { reply = reply })
+on_accept_of DataRead k c reply t caller = as_it_is k (record c { reply = reply })
 on_accept_of NotBuilt k c reply t caller = as_it_is k (record c { reply = reply })
 on_accept_of User k c reply t caller = as_it_is k (record c { reply = reply })
 
@@ -88,6 +94,8 @@ abbrev pub reply_of : MethodKind → Call → Reply
 reply_of PhoneHungUp c = c.reply
 reply_of ConnectToMe c = c.reply
 reply_of ConnectMeTo c = if accepts c.reply.code then with_phone_named c.reserved c.reply else c.reply
+reply_of DataWrite c = c.reply
+reply_of DataRead c = c.reply
 reply_of NotBuilt c = c.reply
 reply_of User c = c.reply
 

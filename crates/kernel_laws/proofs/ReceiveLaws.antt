@@ -9,7 +9,7 @@ use Rattle.ipc_ids.specs.declared.numbers.TaskNo.{TaskNo}
 use Rattle.ipc_ids.specs.declared.numbers.CallNo.{CallNo}
 use Rattle.ipc_ids.specs.declared.numbers.Label.{Label}
 use Rattle.ipc_ids.specs.declared.methods.MethodKind.{MethodKind}
-use Rattle.ipc_ids.specs.declared.methods.MethodKind.TheVariants.{PhoneHungUp, ConnectToMe, ConnectMeTo, NotBuilt, User}
+use Rattle.ipc_ids.specs.declared.methods.MethodKind.TheVariants.{PhoneHungUp, ConnectToMe, ConnectMeTo, DataWrite, DataRead, NotBuilt, User}
 use Rattle.ipc_ids.specs.declared.message.PhoneState.{PhoneState}
 use Rattle.ipc_ids.specs.declared.message.PhoneState.TheVariants.{Free, Connecting}
 use Rattle.ipc_ids.specs.declared.message.Outcome.TheVariants as outcome
@@ -81,6 +81,8 @@ received_call k c t = by_kind (kind_of c.request.method) where
   by_kind PhoneHungUp = as_it_was k c
   by_kind ConnectToMe = record { calls = refl; number = refl; label = refl; note = λ u j. note_drops_none u j (first_usable_of k t) Connecting }
   by_kind ConnectMeTo = as_it_was k c
+  by_kind DataWrite = as_it_was k c
+  by_kind DataRead = as_it_was k c
   by_kind NotBuilt = as_it_was k c
   by_kind User = as_it_was k c
 

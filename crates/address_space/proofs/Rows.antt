@@ -1,0 +1,80 @@
+-- The areas of all tasks after a request: there are as many tasks, and another task's areas stay.
+use Rattle.std.proofs.Common.{◌≡◌, ℕ, zero, suc, ◌-◌, ◌≤◌, ◌==◌, Bool, true, false, List, [], ◌∷◌, ◌++◌, length, Option, Some, None, refl, ap, arith}
+use Rattle.std.specs.Prelude.{slice_get, slice_set, remove}
+use Rattle.std.specs.Option.{unwrap_or}
+use Rattle.std.proofs.Math.Seq.{take-append_seam}
+use Rattle.std.proofs.lemmas.List.{length-append, length-set}
+use Rattle.ipc_ids.specs.declared.numbers.Code.{Code}
+use Rattle.ipc_ids.specs.declared.numbers.TaskNo.{TaskNo}
+use Rattle.address_space.specs.declared.area.Right.TheVariants.{Write}
+use Rattle.address_space.specs.declared.spaces.Spot.{Spot}
+use Rattle.address_space.specs.Areas.{Area, refusal, place_of}
+use Rattle.address_space.specs.Memory.{Memory, areas_of, with_areas, with_task, without_last, make, make_unless, drop_place, drop_at, drop_area, spot_of, write_spot, write}
+
+-- a task that was added is taken back
+pub taken_back : (m : Memory) → without_last (with_task m) ≡ m
+taken_back m =
+    let n : length (m.areas ++ [] ∷ []) - 1 ≡ length m.areas = omega (arith, length-append m.areas ([] ∷ [])) in
+    rw (n, take-append_seam m.areas ([] ∷ [])) refl
+
+length_unless : (m : Memory) (t : TaskNo) (a : Area) (cause : Option Code) → length (make_unless m t a cause).memory.areas ≡ length m.areas
+length_unless m t a (Some code) = refl
+length_unless m t a None = length-set m.areas (t.0 - 1) (areas_of m t ++ a ∷ [])
+
+pub length_make : (m : Memory) (t : TaskNo) (base pages rights : ℕ) → length (make m t base pages rights).memory.areas ≡ length m.areas
+length_make m t base pages rights = length_unless m t (record { base = base; pages = pages; rights = rights; store = m.next_store }) (refusal base pages rights (areas_of m t))
+
+length_place : (m : Memory) (t : TaskNo) (i : ℕ) (found : Option Area) → length (drop_place m t i found).areas ≡ length m.areas
+length_place m t i None = refl
+length_place m t i (Some a) = length-set m.areas (t.0 - 1) (remove (areas_of m t) i)
+
+length_at : (m : Memory) (t : TaskNo) (place : Option ℕ) → length (drop_at m t place).memory.areas ≡ length m.areas
+length_at m t None = refl
+length_at m t (Some i) = length_place m t i (slice_get (areas_of m t) i)
+
+pub length_drop : (m : Memory) (t : TaskNo) (base : ℕ) → length (drop_area m t base).memory.areas ≡ length m.areas
+length_drop m t base = length_at m t (place_of base (areas_of m t))
+
+-- the row of another task
+other_row : (rows : List (List Area)) (i j : ℕ) (row : List Area) → (j ≡ i → ⊥) → slice_get (slice_set rows i row) j ≡ slice_get rows j
+other_row [] i j row apart = refl
+other_row (r ∷ rows) zero zero row apart = absurd (apart refl)
+other_row (r ∷ rows) zero (suc j) row apart = refl
+other_row (r ∷ rows) (suc i) zero row apart = refl
+other_row (r ∷ rows) (suc i) (suc j) row apart = other_row rows i j row (λ e. apart (ap suc e))
+
+apart_by_one : (t u : ℕ) → 1 ≤ t → 1 ≤ u → (u ≡ t → ⊥) → u - 1 ≡ t - 1 → ⊥
+apart_by_one t u some more apart e = apart (omega arith)
+
+pub others_keep : (m : Memory) (t u : TaskNo) (row : List Area) → 1 ≤ t.0 → 1 ≤ u.0 → (u.0 ≡ t.0 → ⊥) → areas_of (with_areas m t row) u ≡ areas_of m u
+others_keep m t u row some more apart = ap (λ (o : Option (List Area)). unwrap_or o []) (other_row m.areas (t.0 - 1) (u.0 - 1) row (apart_by_one t.0 u.0 some more apart))
+
+others_unless : (m : Memory) (t u : TaskNo) (a : Area) (cause : Option Code) → 1 ≤ t.0 → 1 ≤ u.0 → (u.0 ≡ t.0 → ⊥) → areas_of (make_unless m t a cause).memory u ≡ areas_of m u
+others_unless m t u a (Some code) some more apart = refl
+others_unless m t u a None some more apart = others_keep m t u (areas_of m t ++ a ∷ []) some more apart
+
+pub others_at_make : (m : Memory) (t u : TaskNo) (base pages rights : ℕ) → 1 ≤ t.0 → 1 ≤ u.0 → (u.0 ≡ t.0 → ⊥) → areas_of (make m t base pages rights).memory u ≡ areas_of m u
+others_at_make m t u base pages rights some more apart = others_unless m t u (record { base = base; pages = pages; rights = rights; store = m.next_store }) (refusal base pages rights (areas_of m t)) some more apart
+
+others_at_place : (m : Memory) (t u : TaskNo) (i : ℕ) (found : Option Area) → 1 ≤ t.0 → 1 ≤ u.0 → (u.0 ≡ t.0 → ⊥) → areas_of (drop_place m t i found) u ≡ areas_of m u
+others_at_place m t u i None some more apart = refl
+others_at_place m t u i (Some a) some more apart = others_keep m t u (remove (areas_of m t) i) some more apart
+
+others_at : (m : Memory) (t u : TaskNo) (place : Option ℕ) → 1 ≤ t.0 → 1 ≤ u.0 → (u.0 ≡ t.0 → ⊥) → areas_of (drop_at m t place).memory u ≡ areas_of m u
+others_at m t u None some more apart = refl
+others_at m t u (Some i) some more apart = others_at_place m t u i (slice_get (areas_of m t) i) some more apart
+
+pub others_at_drop : (m : Memory) (t u : TaskNo) (base : ℕ) → 1 ≤ t.0 → 1 ≤ u.0 → (u.0 ≡ t.0 → ⊥) → areas_of (drop_area m t base).memory u ≡ areas_of m u
+others_at_drop m t u base some more apart = others_at m t u (place_of base (areas_of m t)) some more apart
+
+areas_spot : (m : Memory) (new : List ℕ) (spot : Option Spot) → (write_spot m new spot).memory.areas ≡ m.areas
+areas_spot m new None = refl
+areas_spot m new (Some s) = refl
+
+areas_some : (m : Memory) (t : TaskNo) (at : ℕ) (new : List ℕ) (none : Bool) → (length new == 0) ≡ none → (write m t at new).memory.areas ≡ m.areas
+areas_some m t at new true is = rw is refl
+areas_some m t at new false is = rw is (areas_spot m new (spot_of m t at (length new) Write))
+
+-- a write leaves all areas
+pub areas_at_write : (m : Memory) (t : TaskNo) (at : ℕ) (new : List ℕ) → (write m t at new).memory.areas ≡ m.areas
+areas_at_write m t at new = areas_some m t at new (length new == 0) refl

@@ -1,0 +1,50 @@
+use Rattle.std.proofs.Common.{arith}
+use Rattle.cleanup.proofs.KillRoom.{finds_second, finds_third, finds_fourth, finds_fifth, same_slams}
+use Rattle.cleanup.proofs.Turns.{uses_both, uses_less, room_left}
+use Rattle.cleanup.proofs.board.Switchboard.end_phones_and_calls.Goals as goal
+
+pub slam_phones_to-requires : goal.slam_phones_to-requires
+slam_phones_to-requires c = record {
+  room =
+      let slams = same_slams c.args.who c.args.self.now.state c.hang_up_own_phones.new.self.state c.hang_up_own_phones.ensures.step.state in
+      room_left c.requires.room c.hang_up_own_phones.ensures.room (omega arith) (omega arith) (omega (arith, slams));
+}
+
+pub settle_calls_at-requires-clause-room : goal.settle_calls_at-requires-clause-room
+settle_calls_at-requires-clause-room c =
+    let slams = same_slams c.args.who c.args.self.now.state c.hang_up_own_phones.new.self.state c.hang_up_own_phones.ensures.step.state in
+    let second = finds_second c.args.who c.args.self.now.state c.hang_up_own_phones.new.self.state c.slam_phones_to.new.self.state c.hang_up_own_phones.ensures.step.state c.slam_phones_to.ensures.step.state c.next_number-next.ensures.numbered c.requires.ended in
+    room_left c.requires.room (uses_both c.hang_up_own_phones.ensures.room c.slam_phones_to.ensures.room) (omega (arith)) (omega (arith, second.waits)) (omega (arith, slams, second.waits))
+
+pub settle_calls_at-requires-2-clause-room : goal.settle_calls_at-requires-2-clause-room
+settle_calls_at-requires-2-clause-room c =
+    let slams = same_slams c.args.who c.args.self.now.state c.hang_up_own_phones.new.self.state c.hang_up_own_phones.ensures.step.state in
+    let second = finds_second c.args.who c.args.self.now.state c.hang_up_own_phones.new.self.state c.slam_phones_to.new.self.state c.hang_up_own_phones.ensures.step.state c.slam_phones_to.ensures.step.state c.next_number-next.ensures.numbered c.requires.ended in
+    let third = finds_third c.args.who c.args.self.now.state c.hang_up_own_phones.new.self.state c.slam_phones_to.new.self.state c.hang_up_own_phones.ensures.step.state c.slam_phones_to.ensures.step.state c.next_number-next.ensures.numbered c.requires.ended c.settle_calls_at.new.self.state c.settle_calls_at.ensures.step.state in
+    room_left c.requires.room (uses_both (uses_both c.hang_up_own_phones.ensures.room c.slam_phones_to.ensures.room) c.settle_calls_at.ensures.room) (omega (arith)) (omega (arith, second.waits, third.holds)) (omega (arith, slams, second.waits, third.holds))
+
+pub drop_answers-requires-clause-room : goal.drop_answers-requires-clause-room
+drop_answers-requires-clause-room c =
+    let slams = same_slams c.args.who c.args.self.now.state c.hang_up_own_phones.new.self.state c.hang_up_own_phones.ensures.step.state in
+    let second = finds_second c.args.who c.args.self.now.state c.hang_up_own_phones.new.self.state c.slam_phones_to.new.self.state c.hang_up_own_phones.ensures.step.state c.slam_phones_to.ensures.step.state c.next_number-next.ensures.numbered c.requires.ended in
+    let third = finds_third c.args.who c.args.self.now.state c.hang_up_own_phones.new.self.state c.slam_phones_to.new.self.state c.hang_up_own_phones.ensures.step.state c.slam_phones_to.ensures.step.state c.next_number-next.ensures.numbered c.requires.ended c.settle_calls_at.new.self.state c.settle_calls_at.ensures.step.state in
+    let fourth = finds_fourth c.args.who c.args.self.now.state c.hang_up_own_phones.new.self.state c.slam_phones_to.new.self.state c.hang_up_own_phones.ensures.step.state c.slam_phones_to.ensures.step.state c.next_number-next.ensures.numbered c.requires.ended c.settle_calls_at.new.self.state c.settle_calls_at.ensures.step.state c.settle_calls_at-2.new.self.state c.settle_calls_at-2.ensures.step.state in
+    room_left c.requires.room (uses_both (uses_both (uses_both c.hang_up_own_phones.ensures.room c.slam_phones_to.ensures.room) c.settle_calls_at.ensures.room) c.settle_calls_at-2.ensures.room) (omega (arith)) (omega (arith, second.waits, third.holds)) (omega (arith, slams, second.waits, third.holds, fourth.answers))
+
+pub forget_calls_elsewhere-requires-clause-room : goal.forget_calls_elsewhere-requires-clause-room
+forget_calls_elsewhere-requires-clause-room c =
+    let slams = same_slams c.args.who c.args.self.now.state c.hang_up_own_phones.new.self.state c.hang_up_own_phones.ensures.step.state in
+    let second = finds_second c.args.who c.args.self.now.state c.hang_up_own_phones.new.self.state c.slam_phones_to.new.self.state c.hang_up_own_phones.ensures.step.state c.slam_phones_to.ensures.step.state c.next_number-next.ensures.numbered c.requires.ended in
+    let third = finds_third c.args.who c.args.self.now.state c.hang_up_own_phones.new.self.state c.slam_phones_to.new.self.state c.hang_up_own_phones.ensures.step.state c.slam_phones_to.ensures.step.state c.next_number-next.ensures.numbered c.requires.ended c.settle_calls_at.new.self.state c.settle_calls_at.ensures.step.state in
+    let fourth = finds_fourth c.args.who c.args.self.now.state c.hang_up_own_phones.new.self.state c.slam_phones_to.new.self.state c.hang_up_own_phones.ensures.step.state c.slam_phones_to.ensures.step.state c.next_number-next.ensures.numbered c.requires.ended c.settle_calls_at.new.self.state c.settle_calls_at.ensures.step.state c.settle_calls_at-2.new.self.state c.settle_calls_at-2.ensures.step.state in
+    let fifth = finds_fifth c.args.who c.args.self.now.state c.hang_up_own_phones.new.self.state c.slam_phones_to.new.self.state c.hang_up_own_phones.ensures.step.state c.slam_phones_to.ensures.step.state c.next_number-next.ensures.numbered c.requires.ended c.settle_calls_at.new.self.state c.settle_calls_at.ensures.step.state c.settle_calls_at-2.new.self.state c.settle_calls_at-2.ensures.step.state c.drop_answers.new.self.state c.drop_answers.ensures.step.state in
+    room_left c.requires.room (uses_both (uses_both (uses_both (uses_both c.hang_up_own_phones.ensures.room c.slam_phones_to.ensures.room) c.settle_calls_at.ensures.room) c.settle_calls_at-2.ensures.room) c.drop_answers.ensures.room) (omega (arith)) (omega (arith, second.waits, third.holds)) (omega (arith, slams, second.waits, third.holds, fourth.answers, fifth.made))
+
+pub returns-clause-room : goal.returns-clause-room
+returns-clause-room c =
+    let slams = same_slams c.args.who c.args.self.now.state c.hang_up_own_phones.new.self.state c.hang_up_own_phones.ensures.step.state in
+    let second = finds_second c.args.who c.args.self.now.state c.hang_up_own_phones.new.self.state c.slam_phones_to.new.self.state c.hang_up_own_phones.ensures.step.state c.slam_phones_to.ensures.step.state c.next_number-next.ensures.numbered c.requires.ended in
+    let third = finds_third c.args.who c.args.self.now.state c.hang_up_own_phones.new.self.state c.slam_phones_to.new.self.state c.hang_up_own_phones.ensures.step.state c.slam_phones_to.ensures.step.state c.next_number-next.ensures.numbered c.requires.ended c.settle_calls_at.new.self.state c.settle_calls_at.ensures.step.state in
+    let fourth = finds_fourth c.args.who c.args.self.now.state c.hang_up_own_phones.new.self.state c.slam_phones_to.new.self.state c.hang_up_own_phones.ensures.step.state c.slam_phones_to.ensures.step.state c.next_number-next.ensures.numbered c.requires.ended c.settle_calls_at.new.self.state c.settle_calls_at.ensures.step.state c.settle_calls_at-2.new.self.state c.settle_calls_at-2.ensures.step.state in
+    let fifth = finds_fifth c.args.who c.args.self.now.state c.hang_up_own_phones.new.self.state c.slam_phones_to.new.self.state c.hang_up_own_phones.ensures.step.state c.slam_phones_to.ensures.step.state c.next_number-next.ensures.numbered c.requires.ended c.settle_calls_at.new.self.state c.settle_calls_at.ensures.step.state c.settle_calls_at-2.new.self.state c.settle_calls_at-2.ensures.step.state c.drop_answers.new.self.state c.drop_answers.ensures.step.state in
+    uses_less (uses_both (uses_both (uses_both (uses_both (uses_both c.hang_up_own_phones.ensures.room c.slam_phones_to.ensures.room) c.settle_calls_at.ensures.room) c.settle_calls_at-2.ensures.room) c.drop_answers.ensures.room) c.forget_calls_elsewhere.ensures.room) (omega (arith)) (omega (arith, second.waits, third.holds)) (omega (arith, slams, second.waits, third.holds, fourth.answers, fifth.made))

@@ -1,0 +1,1 @@
+//! Each moment of the data methods, and what it refuses.
