@@ -72,6 +72,15 @@ fn calls_go_from_place_to_place(rt: HostRuntime) -> Result<(), Fail> {
     assert!(rt; boxes.get(one).is_none());
     assert!(rt; boxes.get(two).is_some());
     assert_eq!(rt; boxes.calls_of(caller), Some(two));
+    let bytes = Buffer::from_slice(rt.alloc(), b"ab")?;
+    if let Some(second) = boxes.front(incoming) {
+        boxes.answer_with(second, Reply::bare(Code::EOK), bytes, answers);
+    }
+    if let Some(second) = boxes.front(answers) {
+        let gone = boxes.leave(second);
+        assert_eq!(rt; gone.number, two);
+        assert_eq!(rt; gone.buffer.as_slice(), b"ab".as_slice());
+    }
     Ok(())
 }
 

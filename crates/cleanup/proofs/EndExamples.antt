@@ -11,12 +11,13 @@ use Rattle.call_slab.specs.declared.call.Call.{Call}
 use Rattle.call_slab.specs.declared.call.Place.TheVariants.{Dispatched}
 use Rattle.answerbox.specs.Calls.{CallTable, enqueue, no_calls}
 use Rattle.answerbox.proofs.Steps.{call_at-no_calls}
-use Rattle.address_space.specs.Memory.{no_memory}
+use Rattle.address_space.specs.Memory.{Memory, no_memory}
 use Rattle.address_space.specs.Memory as spaces
 use Rattle.cleanup.specs.State.{KernelState, start, state_from, with_task}
 use Rattle.cleanup.specs.Sound.{IsSound}
 use Rattle.cleanup.specs.Counts.{IsCounted, label_at}
 use Rattle.cleanup.specs.Ending.{IsJustEnded, HasFewActive}
+use Rattle.cleanup.proofs.SoundMemory.{memory_make}
 use Rattle.cleanup.proofs.SoundStates.{no_phone, sound_enqueued, kept_wired, kept_task, sound_start}
 use Rattle.cleanup.proofs.Counting.{counted_none, counted_task, counted_enqueue}
 use Rattle.answerbox.proofs.Counts.{active-len}
@@ -39,8 +40,14 @@ no_counts = (0 ∷ 0 ∷ []) ∷ []
 pub alone_ended : IsJustEnded (false ∷ []) one
 alone_ended = record { marked = refl; from_one = omega arith; task = omega arith }
 
-pub alone_sound : IsSound (state_from (true ∷ []) own_phones no_calls (spaces.with_task no_memory) 0)
-alone_sound = kept_wired (with_task start 2) one 0 one (kept_task start 2 sound_start) refl refl refl
+-- its area of a page
+abbrev pub own_area : Memory
+own_area = (spaces.make (spaces.with_task no_memory) one 4096 1 3).memory
+
+pub alone_sound : IsSound (state_from (true ∷ []) own_phones no_calls own_area 0)
+alone_sound =
+    let s = kept_wired (with_task start 2) one 0 one (kept_task start 2 sound_start) refl refl refl in
+    record { calls = s.calls; tasks = s.tasks; kept = s.kept; keepers = s.keepers; memory = memory_make one 4096 1 3 refl s.memory }
 
 pub alone_few : HasFewActive no_counts no_calls
 alone_few = few_active no_counts no_calls (counted_task [] no_calls 2 counted_none (rw (len-empty nat_cmp) refl)) (rw (len-empty nat_cmp) (omega arith))

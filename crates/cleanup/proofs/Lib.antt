@@ -7,6 +7,7 @@ pub mod MarkChanges
 pub mod SoundMemory
 pub mod SoundStates
 pub mod SoundJoins
+pub mod SoundData
 pub mod Counting
 pub mod Recounting
 pub mod Repeats

@@ -1,5 +1,5 @@
 -- How many calls are live after each change.
-use Rattle.std.proofs.Common.{◌≡◌, ℕ, ◌+◌, ◌≤◌, List, Option, None, Some, ap, ◌∙◌, arith}
+use Rattle.std.proofs.Common.{◌≡◌, ℕ, ◌+◌, ◌≤◌, List, Option, None, Some, refl, ap, ◌∙◌, arith}
 use Rattle.std.specs.Prelude.{IsSome}
 use Rattle.std.specs.Cmp.{nat_cmp_total}
 use Rattle.std.specs.FinMap.{len, len-insert, insert}
@@ -14,9 +14,14 @@ use Rattle.call_slab.specs.declared.call.Place.TheVariants.{Incoming, Answers}
 use Rattle.answerbox.specs.Calls.{CallTable, call_at, enqueue, received, without_call, without_caller}
 use Rattle.cleanup.specs.Counts.{HasCounts}
 use Rattle.cleanup.specs.Joins.{declined_call, passed_call}
-use Rattle.cleanup.specs.Board.{with_reply, with_declined, with_passed}
+use Rattle.cleanup.specs.Board.{IsCallOf, with_reply, with_bytes, with_declined, with_passed}
 use Rattle.cleanup.proofs.Lookups.{record_of}
 use Rattle.cleanup.proofs.Queues.{fewer_calls, as_many_calls}
+
+-- a live call of a caller is there
+pub called : (o : Option Call) (u : TaskNo) → IsCallOf o u → (c : Call) × (o ≡ Some c)
+called None u h = absurd h
+called (Some c) u h = (c, refl)
 
 -- a new call is one more
 pub live_enqueue : (q : CallTable) (c : Call) → call_at q c.number.0 ≡ None → len (enqueue q c).records ≤ len q.records + 1
@@ -36,6 +41,9 @@ module _ (phones : List (List PhoneState)) (counts : List (List ℕ)) (q : CallT
 
   pub live_reply : (reply : Reply) (caller : TaskNo) → len (with_reply q n reply caller).records ≤ len q.records
   live_reply reply caller = let f = record_of (call_at q n) live in let l = same f.0 (record f.0 { reply = reply; place = Answers caller; stamp = q.next_stamp }) f.1 in rw f.1 (omega arith)
+
+  pub live_bytes : (reply : Reply) (bytes : List ℕ) (caller : TaskNo) → len (with_bytes q n reply bytes caller).records ≤ len q.records
+  live_bytes reply bytes caller = let f = record_of (call_at q n) live in let l = same f.0 (record f.0 { reply = reply; buffer = bytes; place = Answers caller; stamp = q.next_stamp }) f.1 in rw f.1 (omega arith)
 
   pub live_declined : (reply : Reply) (caller : TaskNo) → len (with_declined q n reply caller).records ≤ len q.records
   live_declined reply caller = let f = record_of (call_at q n) live in let l = same f.0 (record (declined_call f.0 reply) { place = Answers caller; stamp = q.next_stamp }) f.1 in rw f.1 (omega arith)

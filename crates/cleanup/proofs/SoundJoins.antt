@@ -306,7 +306,7 @@ IsPlain DataRead = ⊤
 IsPlain NotBuilt = ⊤
 IsPlain User = ⊤
 
-plain_keeps : (kind : MethodKind) (from : TaskNo) (place : Place) (code : Code) (reserved : Option Label) → IsPlain kind → kept_of kind from place code reserved ≡ None
+pub plain_keeps : (kind : MethodKind) (from : TaskNo) (place : Place) (code : Code) (reserved : Option Label) → IsPlain kind → kept_of kind from place code reserved ≡ None
 plain_keeps PhoneHungUp from place code reserved plain = refl
 plain_keeps ConnectToMe from place code reserved plain = absurd plain
 plain_keeps ConnectMeTo from place code reserved plain = absurd plain
@@ -315,11 +315,16 @@ plain_keeps DataRead from place code reserved plain = refl
 plain_keeps NotBuilt from place code reserved plain = refl
 plain_keeps User from place code reserved plain = refl
 
--- another call is answered
-pub sound_finished : (k : KernelState) (c : Call) (reply : Reply) (by : Option TaskNo) (u : TaskNo) → IsSound k → call_at k.calls c.number.0 ≡ Some c → IsPlain (kind_of c.request.method) → IsPendingAt c.place → c.caller ≡ Some u → IsSound (answer_to (as_it_is k (record c { reply = reply })) by u).state
-sound_finished k c reply by u s live plain pending from =
-    sound_moved k c (record c { reply = reply }) (Answers u) s live refl refl refl refl refl from (answered_sound k.tasks.phones c reply u pending (s.calls.each c.number.0 c live).reserved) (answer_carries (kind_of c.request.method) u c.buffer (slice_index c.request.args 1))
+-- another call is answered, with these bytes
+pub sound_finished_with : (k : KernelState) (c : Call) (reply : Reply) (bytes : List ℕ) (by : Option TaskNo) (u : TaskNo) → IsSound k → call_at k.calls c.number.0 ≡ Some c → IsPlain (kind_of c.request.method) → IsPendingAt c.place → c.caller ≡ Some u → IsSound (answer_to (as_it_is k (record c { reply = reply; buffer = bytes })) by u).state
+sound_finished_with k c reply bytes by u s live plain pending from =
+    let phone = answered_sound k.tasks.phones c reply u pending (s.calls.each c.number.0 c live).reserved in
+    sound_moved k c (record c { reply = reply; buffer = bytes }) (Answers u) s live refl refl refl refl refl from (record { there = phone.there; owner = phone.owner; needed = phone.needed }) (answer_carries (kind_of c.request.method) u bytes (slice_index c.request.args 1))
     (plain_keeps (kind_of c.request.method) c.from.task (Answers u) reply.code c.reserved plain ∙ sym (plain_keeps (kind_of c.request.method) c.from.task c.place c.reply.code c.reserved plain))
+
+-- or with those that it had
+pub sound_finished : (k : KernelState) (c : Call) (reply : Reply) (by : Option TaskNo) (u : TaskNo) → IsSound k → call_at k.calls c.number.0 ≡ Some c → IsPlain (kind_of c.request.method) → IsPendingAt c.place → c.caller ≡ Some u → IsSound (answer_to (as_it_is k (record c { reply = reply })) by u).state
+sound_finished k c reply by u s live plain pending from = sound_finished_with k c reply c.buffer by u s live plain pending from
 
 -- a call that takes a phone
 

@@ -7,8 +7,9 @@ use Rattle.std.proofs.lemmas.Bool.{cases_eq, false≢true}
 use Rattle.address_space.specs.Areas.{Area}
 use Rattle.address_space.specs.Memory.{Memory, no_memory, areas_of}
 use Rattle.address_space.specs.Memory as spaces
-use Rattle.address_space.proofs.Soundness.{sound_task as spaces_task, sound_make as spaces_make, sound_drop as spaces_drop, sound_write as spaces_write}
-use Rattle.address_space.proofs.Rows.{length_make, length_drop, others_at_make, others_at_drop, areas_at_write}
+use Rattle.address_space.proofs.Soundness.{sound_task as spaces_task, sound_make as spaces_make, sound_drop as spaces_drop}
+use Rattle.address_space.proofs.Rows.{length_make, length_drop, others_at_make, others_at_drop}
+use Rattle.data_hooks.proofs.Keeping.{IsOverwritten, written}
 use Rattle.cleanup.specs.State.{alive_in}
 use Rattle.cleanup.specs.Sound.{HasSoundMemory}
 use Rattle.cleanup.proofs.Soundness.{ended_before}
@@ -61,12 +62,16 @@ memory_drop {alive} {m} t base lives s = record {
   owned = λ u some ended. others_at_drop m t u base (from_one alive t lives) some (apart alive t u lives ended) ∙ s.owned u some ended;
 }
 
-pub memory_write : {alive : List Bool} {m : Memory} (t : TaskNo) (at : ℕ) (bytes : List ℕ) → HasSoundMemory alive m → HasSoundMemory alive (spaces.write m t at bytes).memory
-memory_write {alive} {m} t at bytes s = record {
-  spaces = spaces_write m t at bytes s.spaces;
-  paired = ap length (areas_at_write m t at bytes) ∙ s.paired;
-  owned = λ u some ended. ap (λ (rows : List (List Area)). unwrap_or (slice_get rows (u.0 - 1)) []) (areas_at_write m t at bytes) ∙ s.owned u some ended;
+-- bytes are written over
+pub memory_overwritten : {alive : List Bool} {m after : Memory} → IsOverwritten m after → HasSoundMemory alive m → HasSoundMemory alive after
+memory_overwritten {alive} {m} {after} over s = record {
+  spaces = over.sound s.spaces;
+  paired = ap length over.areas ∙ s.paired;
+  owned = λ u some ended. ap (λ (rows : List (List Area)). unwrap_or (slice_get rows (u.0 - 1)) []) over.areas ∙ s.owned u some ended;
 }
+
+pub memory_write : {alive : List Bool} {m : Memory} (t : TaskNo) (at : ℕ) (bytes : List ℕ) → HasSoundMemory alive m → HasSoundMemory alive (spaces.write m t at bytes).memory
+memory_write {alive} {m} t at bytes s = memory_overwritten (written m t at bytes) s
 
 -- a task that has no areas ends
 pub memory_ended : {alive : List Bool} {m : Memory} (t : TaskNo) → alive_in alive t.0 ≡ true → areas_of m t ≡ [] → HasSoundMemory alive m → HasSoundMemory (set alive (t.0 - 1) false) m

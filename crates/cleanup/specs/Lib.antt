@@ -5,6 +5,7 @@ pub mod Serving
 pub mod Kept
 pub mod Joins
 pub mod Areas
+pub mod Data
 pub mod Kill
 pub mod Limits
 pub mod Board

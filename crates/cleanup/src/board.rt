@@ -1,16 +1,17 @@
 //! The tasks, their phones, their calls and their areas, with room for more calls.
 ghost use Rattle.std.specs.Prelude.{◌≡◌, ℕ, ◌+◌, ◌-◌, ◌^◌, ◌<◌, ◌≤◌, ◌++◌, ◌∷◌, [], replicate, true, Some, None, IsSome, IfSome, IfNone, IfOk, OnOk, OnErr, length};
 ghost use Rattle.std.specs.Option.{option_copied};
-ghost use Rattle.address_space.specs.Memory.{with_task as with_areas};
+ghost use Rattle.address_space.specs.Memory.{with_task as with_areas, Tells};
+ghost use Rattle.data_hooks.specs.DataMoments.{write_before_send, write_accept, read_accept, read_deliver};
 ghost use Rattle.answerbox.specs.Places.{IsAt};
 ghost use Rattle.answerbox.specs.Calls.{call_at, task_of, enqueue, without_call, received, without_caller, active_calls, front, calls_of, calls_at, calls_by};
 ghost use Rattle.phone_table.specs.Phones.{hangup_answer};
-ghost use Rattle.cleanup.specs.State.{state_from, start, is_alive, phone_at, live_calls, with_calls, with_phone, with_task, with_event};
+ghost use Rattle.cleanup.specs.State.{state_from, start, is_alive, phone_at, live_calls, with_calls, with_memory, with_phone, with_task, with_event};
 ghost use Rattle.call_slab.specs.declared.call.Place.TheVariants.{Dispatched, Answers};
 ghost use Rattle.cleanup.specs.Joins.{new_call, code_of};
 ghost use Rattle.cleanup.specs.Kept.{IsLoose, MayReserve, accepts, kept_phone, lent_phone, with_kept, first_usable_of, or_refused};
 ghost use Rattle.cleanup.specs.Counts.{HasCounts, AreNumbered};
-ghost use Rattle.cleanup.specs.Board.{IsPending, IsCallOf, IsLimit, IsSwitched, IsAdded, IsHeldBy, IsNewCall, HasPlaces, LeadsToAdded, TellsAdded, with_hung, with_declined, with_passed, with_reply};
+ghost use Rattle.cleanup.specs.Board.{IsPending, IsCallOf, IsLimit, IsSwitched, IsAdded, IsHeldBy, IsNewCall, HasPlaces, LeadsToAdded, TellsAdded, with_hung, with_bytes, with_declined, with_passed, with_reply};
 ghost use Rattle.phone_table.specs.Usable.{IsConnected};
 ghost use Rattle.cleanup.specs.Kill.{width, mark_ended};
 ghost use Rattle.cleanup.specs.KillRoom.{kill_calls as kill_calls_of, kill_entries as kill_entries_of};
@@ -23,11 +24,13 @@ use crate::phones::{
     connect_to_answerer, connect_to_caller, hang_phone, keep_to_receive, keep_to_send,
     release_kept, slam_phone, width,
 };
-use address_space::Spaces;
+use address_space::{SpaceFault, Spaces};
 use answerbox::Boxes;
 use call_slab::{Call, Place};
+use data_hooks::{read_accept, read_deliver, write_accept, write_before_send};
 use ipc_ids::{
-    Buffer, CallNo, Code, Label, MethodKind, Msg, NoMemory, PhoneNo, PhoneState, Reply, TaskNo,
+    Buffer, CallNo, Code, Label, MethodKind, Msg, NoMemory, PhoneNo, PhoneState, Reply, StoreNo,
+    TaskNo,
 };
 use phone_table::{Hung, PhoneRows, Phones};
 use std::alloc::Global;
@@ -567,6 +570,100 @@ impl Switchboard {
         let reserved = self.boxes.get(call).unwrap().reserved;
         self.boxes
             .answer(call, *reply, reserved, Place::Answers(caller));
+    }
+
+    /// The bytes of the caller that a DATA_WRITE with these arguments carries.
+    ///
+    /// # Errors
+    ///
+    /// `Refused` with the code with which the call is answered at once; `NoMemory`.
+    pub fn bytes_to_send(&self, caller: TaskNo, args: &[u64; 5]) -> Result<Buffer, SpaceFault>
+        requires added { IsAdded self.now.state caller }
+        ensures { Tells result (write_before_send self.now.state.memory caller args.now) }
+    {
+        write_before_send(self.boxes.alloc(), &self.spaces, caller, args)
+    }
+
+    /// Writes the bytes that the call carries to the task, where the reply says.
+    ///
+    /// # Errors
+    ///
+    /// The code of the refusal; then nothing has changed.
+    pub(crate) fn write_held(
+        &mut self,
+        call: CallNo,
+        reply: &Reply,
+        t: TaskNo,
+    ) -> Result<Option<StoreNo>, Code>
+        requires live { IsSome (call_at self.old.state.calls call.0) }
+        requires added { IsAdded self.old.state t }
+        ensures told { IfSome (call_at self.old.state.calls call.0) (λ c. result
+            ≡ (write_accept self.old.state.memory t c.buffer reply.now).told) }
+        ensures state { IfSome (call_at self.old.state.calls call.0) (λ c. self.new.state
+            ≡ with_memory self.old.state
+            (write_accept self.old.state.memory t c.buffer reply.now).memory) }
+        ensures keeps { KeepsCalls self.old self.new }
+    {
+        let record = self.boxes.get(call).unwrap();
+        write_accept(&mut self.spaces, t, &record.buffer, reply)
+    }
+
+    /// The bytes of the task that the call takes with it, where the reply says.
+    ///
+    /// # Errors
+    ///
+    /// `Refused` with the code of the answer; `NoMemory`.
+    pub(crate) fn read_held(
+        &self,
+        call: CallNo,
+        reply: &Reply,
+        t: TaskNo,
+    ) -> Result<Buffer, SpaceFault>
+        requires live { IsSome (call_at self.now.state.calls call.0) }
+        requires added { IsAdded self.now.state t }
+        ensures { IfSome (call_at self.now.state.calls call.0) (λ c. Tells result
+            (read_accept self.now.state.memory t c.request.args reply.now)) }
+    {
+        let record = self.boxes.get(call).unwrap();
+        read_accept(
+            self.boxes.alloc(),
+            &self.spaces,
+            t,
+            &record.request.args,
+            reply,
+        )
+    }
+
+    /// Writes the bytes that a call brought back to the task, where it asked.
+    ///
+    /// # Errors
+    ///
+    /// The code of the refusal; then nothing has changed.
+    pub(crate) fn write_back(&mut self, call: &Call, t: TaskNo) -> Result<Option<StoreNo>, Code>
+        requires added { IsAdded self.old.state t }
+        ensures told { result ≡ (read_deliver self.old.state.memory t call.now.request.args
+            call.now.buffer).told }
+        ensures state { self.new.state ≡ with_memory self.old.state (read_deliver
+            self.old.state.memory t call.now.request.args call.now.buffer).memory }
+        ensures keeps { KeepsCalls self.old self.new }
+    {
+        read_deliver(&mut self.spaces, t, &call.request.args, &call.buffer)
+    }
+
+    /// The call takes the reply and these bytes to the answers of its caller, and what it reserves
+    /// stays.
+    pub(crate) fn answer_with(&mut self, call: CallNo, reply: Reply, bytes: Buffer, caller: TaskNo)
+        requires called { IsCallOf (call_at self.old.state.calls call.0) caller }
+        requires unkept { IfSome (call_at self.old.state.calls call.0)
+            (λ c. kept_phone (record c { reply = reply; place = Answers caller }) ≡ None) }
+        requires alive { is_alive self.old.state caller ≡ true }
+        requires few_stamps { self.old.state.calls.next_stamp < 2 ^ 63 }
+        ensures state { self.new.state ≡ with_calls self.old.state
+            (with_bytes self.old.state.calls call.0 reply bytes caller) }
+        ensures room { KeepsRoom self.old self.new 0 }
+    {
+        self.boxes
+            .answer_with(call, reply, bytes, Place::Answers(caller));
     }
 
     /// The phone, where there is one, is free. No call keeps it.

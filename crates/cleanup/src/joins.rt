@@ -443,7 +443,7 @@ impl Switchboard {
 }
 
 /// Tells the entry, where there is one.
-fn tell(note: Option<Entry>, out: &mut Trace)
+pub(crate) fn tell(note: Option<Entry>, out: &mut Trace)
     requires { 1 ≤ out.old.spare }
     ensures entries { out.new.entries ≡ out.old.entries ++ option_to_list note }
     ensures spare { out.old.spare ≤ out.new.spare + 1 }

@@ -9,6 +9,7 @@
 mod areas;
 mod board;
 mod counts;
+mod data;
 mod ending;
 mod joins;
 mod kept;

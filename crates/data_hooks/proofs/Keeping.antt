@@ -16,7 +16,7 @@ pub record IsOverwritten (m after : Memory) : Type 0 where
   pub next : after.next_store ≡ m.next_store
   pub sound : IsSound m → IsSound after
 
-written : (m : Memory) (t : TaskNo) (at : ℕ) (bytes : List ℕ) → IsOverwritten m (write m t at bytes).memory
+pub written : (m : Memory) (t : TaskNo) (at : ℕ) (bytes : List ℕ) → IsOverwritten m (write m t at bytes).memory
 written m t at bytes = record { areas = areas_at_write m t at bytes; next = next_at_write m t at bytes; sound = λ s. sound_write m t at bytes s }
 
 accept_if : (m : Memory) (answerer : TaskNo) (buffer : List ℕ) (reply : Reply) (above : Bool) → nat_lt (length buffer) (count_of reply.args) ≡ above → IsOverwritten m (write_accept m answerer buffer reply).memory

@@ -20,7 +20,8 @@ use Rattle.call_slab.specs.declared.call.Place.TheVariants as place
 use Rattle.answerbox.specs.Calls.{CallTable, call_at, same_place, enqueue, put_at, without_call, front}
 use Rattle.answerbox.proofs.Fronts.{front_live}
 use Rattle.phone_table.specs.Phones.{state_at}
-use Rattle.cleanup.specs.State.{KernelState, Transition, with_calls, with_phone, alive_in, is_alive}
+use Rattle.address_space.specs.Memory.{Memory}
+use Rattle.cleanup.specs.State.{KernelState, Transition, with_calls, with_memory, with_phone, alive_in, is_alive}
 use Rattle.cleanup.specs.Kept.{kept_phone, lent_phone, unless_freed, with_kept, kept_note}
 use Rattle.cleanup.specs.Joins.{vanishing, answer_to, settle, settle_for, lives, drop_answer}
 use Rattle.cleanup.specs.Serving.{Handed, Served}
@@ -164,6 +165,27 @@ module _ (e : Event) (p : List Tale) (k : KernelState) (inside : InEvent e p k) 
     acts = inside.acts;
     stands = inside.stands;
     leads = λ x y v h d. elim (state_changed_at k.tasks.phones t.0 q x y s (phone.Connected v) h) [ inl i ↦ leads v i.2 d | inr old ↦ inside.leads x y v old.1 d ];
+  }
+
+  -- memory changes, and no entry tells of it
+  pub silent_told : (m : Memory) → InEvent e p (with_memory k m)
+  silent_told m = record { core = inside.core; now = inside.now; task = inside.task; acts = inside.acts; stands = inside.stands; leads = inside.leads }
+
+  -- memory changes, with an entry that tells of it
+  pub memory_told : (m : Memory) → InEvent e (Other ∷ p) (with_memory k m)
+  memory_told m = record {
+    core = record {
+      lawful = (inside.core.lawful, follows p e Other inside.core.round inside.now, tt);
+      round = tt;
+      number = inside.core.number;
+      ended = inside.core.ended;
+      calls = inside.core.calls;
+    };
+    now = inside.now;
+    task = inside.task;
+    acts = inside.acts;
+    stands = inside.stands;
+    leads = inside.leads;
   }
 
   -- a phone that a call keeps changes, where it keeps one

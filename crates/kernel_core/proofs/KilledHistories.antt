@@ -18,18 +18,21 @@ use Rattle.call_slab.specs.declared.call.Place.TheVariants as place
 use Rattle.answerbox.specs.Calls.{call_at, calls_at, calls_by, same_place, is_caller, with_record}
 use Rattle.cleanup.specs.State.{KernelState, Transition, then_do, phone_at, alive_in, is_alive}
 use Rattle.cleanup.specs.Joins.{bare_reply, drop_answer, forget_call}
-use Rattle.cleanup.specs.Kill.{width, task_no, mark_ended, hang_up_at, hang_up_own_phones, slam, slam_at, slam_phones_of, slam_other, slam_phones_to, first_at, settle_call, settle_incoming, settle_dispatched, drop_answers, first_call_of, forget_calls_elsewhere, kill}
+use Rattle.cleanup.specs.Kill.{width, task_no, mark_ended, hang_up_at, hang_up_own_phones, slam, slam_at, slam_phones_of, slam_other, slam_phones_to, first_at, settle_call, settle_incoming, settle_dispatched, drop_answers, first_call_of, forget_calls_elsewhere, drop_first_area, drop_areas, kill}
+use Rattle.address_space.specs.Memory.{first_area, count_areas}
+use Rattle.cleanup.specs.Areas.{lose_first_area}
 use Rattle.cleanup.specs.Sound.{IsSound}
 use Rattle.cleanup.proofs.Lookups.{at_insert}
 use Rattle.cleanup.proofs.Histories.{then_tells, each_tells, drain_tells}
 use Rattle.cleanup.proofs.Silence.{IsEnding, own_phones_hung_up, phones_slammed}
 use Rattle.cleanup.proofs.Queues.{IsUnanswered, incoming_settled, dispatched_settled, answers_dropped, forget_unanswered, call_from, forget_step}
-use Rattle.cleanup.proofs.Killing.{sound_kill, after_hangups, after_slams, after_incoming, after_dispatched, ended_here, alive_elsewhere, kill_leaves_nothing, HasNothingOf}
+use Rattle.cleanup.proofs.Killing.{sound_kill, after_hangups, after_slams, after_incoming, after_dispatched, kill_leaves_nothing, HasNothingOf}
+use Rattle.cleanup.proofs.MarkChanges.{ended_here, alive_elsewhere}
 use Rattle.cleanup.proofs.Limits.{within_kill}
 use Rattle.kernel_core.proofs.ServedLimits.{within_event}
 use Rattle.kernel_core.specs.Kernel.{kill_event}
 use Rattle.kernel_core.specs.History.{is_ended, life_at, IsGone, PastFits, HistoryFits, killed_entries}
-use Rattle.kernel_core.proofs.InEvent.{and_then, and_then-append, IsTask, CallerFits, IsHome, Agrees, InEvent, by_test, noted, is_told, front_at, phone_told, settled, dropped}
+use Rattle.kernel_core.proofs.InEvent.{and_then, and_then-append, IsTask, CallerFits, IsHome, Agrees, InEvent, by_test, noted, memory_told, is_told, front_at, phone_told, settled, dropped}
 use Rattle.kernel_core.proofs.ServedHistories.{hang_up_told, alive_is, core_of, leads_to_alive, fits_of, fits_later}
 
 -- who has ended, where the mark of task t is taken away
@@ -208,6 +211,16 @@ module _ (marks : List Bool) (t : TaskNo) where
       (λ q j c i is. (forget_told q j c i is, forget_unanswered marks t j c i.1 is))
       (calls_by k.calls t) p k late
 
+-- the areas of t are dropped
+
+lose_told : (t : TaskNo) (o : Option ℕ) (p : List Tale) (k : KernelState) → InKill t p k → InKill t (and_then (lose_first_area t k o).entries p) (lose_first_area t k o).state
+lose_told t None p k i = i
+lose_told t (Some base) p k i = memory_told (Kill t.0) p k i _
+
+areas_told : (t : TaskNo) (p : List Tale) (k : KernelState) → InKill t p k → InKill t (and_then (drop_areas t k).entries p) (drop_areas t k).state
+areas_told t p k inside =
+    each_tells (List Tale) and_then (λ _. refl) and_then-append (drop_first_area t) (InKill t) (λ q j i h. lose_told t (first_area j.memory t) q j h) (count_areas k.memory t) 0 p k inside
+
 -- the kill is over
 
 gone_stands : (l : Life) (v : ℕ) → IsGone l → StandsAt v l → ⊥
@@ -249,8 +262,10 @@ past_kills p k fits sound t alive =
     let s1 = phones_slammed marks t (after_hangups t k) (own_phones_hung_up marks t (mark_ended k t) alive s0) in
     let s2 = dispatched_settled marks t (after_incoming t k) (incoming_settled marks t (after_slams t k) s1) in
     let s3 : IsUnanswered marks t m4.state = answers_dropped marks t (after_dispatched t k) s2 in
-    let i5 : IsLate marks t (and_then (kill k t).entries h) (kill k t).state = tells (IsLate marks t) m4 (forget_calls_elsewhere t) h (forgotten_told marks t (and_then m4.entries h) m4.state (i4, s3)) in
-    kill_finished t _ _ i5.0 (kill_leaves_nothing k t sound alive)
+    let m5 : Transition = then_do m4 (forget_calls_elsewhere t) in
+    let i5 : IsLate marks t (and_then m5.entries h) m5.state = tells (IsLate marks t) m4 (forget_calls_elsewhere t) h (forgotten_told marks t (and_then m4.entries h) m4.state (i4, s3)) in
+    let i6 : InKill t (and_then (kill k t).entries h) (kill k t).state = tells (InKill t) m5 (drop_areas t) h (areas_told t (and_then m5.entries h) m5.state i5.0) in
+    kill_finished t _ _ i6 (kill_leaves_nothing k t sound alive)
   where
     tells : (J : List Tale → KernelState → Type 0) (s : Transition) (f : KernelState → Transition) (q : List Tale) → J (and_then (f s.state).entries (and_then s.entries q)) (f s.state).state → J (and_then (then_do s f).entries q) (then_do s f).state
     tells J s f q i = then_tells (List Tale) and_then (λ _. refl) and_then-append J s f q i
@@ -260,7 +275,7 @@ pub kill_fits : (h : List Entry) (k : KernelState) (t : TaskNo) → HistoryFits 
 kill_fits h k t fits alive =
     let after = sound_kill k t fits.sound alive in
     record {
-      sound = record { calls = after.calls; tasks = after.tasks; kept = after.kept; keepers = after.keepers };
+      sound = record { calls = after.calls; tasks = after.tasks; kept = after.kept; keepers = after.keepers; memory = after.memory };
       limits = within_event (kill k t).state (within_kill k t fits.sound alive fits.limits);
       told = rw (past-append h (killed_entries t (kill_event k t))) (fits_later _ (kill k t).state (past_kills (past h) k fits.told fits.sound t alive));
     }

@@ -12,12 +12,14 @@ use Rattle.ipc_ids.specs.declared.methods.MethodKind.TheVariants.{ConnectMeTo}
 use Rattle.ipc_ids.specs.Methods.{kind_of}
 use Rattle.call_slab.specs.declared.call.Call.{Call}
 use Rattle.cleanup.specs.State.{KernelState, BoardState, phone_at}
-use Rattle.cleanup.specs.Board.{IsNewCall}
+use Rattle.call_slab.specs.declared.call.Place.TheVariants.{Answers}
+use Rattle.cleanup.specs.Board.{IsAdded, IsNewCall}
 use Rattle.cleanup.specs.Kept.{IsLoose, first_usable_of, is_accepted, kept_note, or_refused, phone_of, with_kept}
 use Rattle.cleanup.specs.Joins.{acceptance}
 use Rattle.cleanup.specs.Rooms.{HasRoom, KeepsCalls, UsesRoom}
 use Rattle.cleanup.specs.Serving.{Handed, Serves}
 use Rattle.cleanup.proofs.Soundness.{phone_kept}
+use Rattle.cleanup.proofs.SoundStates.{keeps_none}
 use Rattle.kernel_core.specs.Calling.{sent_to}
 use Rattle.kernel_core.specs.Handing.{IsSent}
 use Rattle.kernel_core.specs.Moments.{before_send, with_fifth}
@@ -76,6 +78,21 @@ sent_keeping old new c noted l s first kind state loose told = rw (kind, first) 
     kept = rw kind (kept_loose new.state l c.from.task (is_accepted c.place c.reply.code) loose);
   };
 })
+
+-- a call that is not sent is a new one, which is to be answered at once
+pub unsent_new : (old new : BoardState) (c d : Call) (code : Code) (r : Result Handed Code) → IsNewCall old.state c → c.reserved ≡ None → IsAdded old.state c.from.task → IsSent old new c d (Err code) r → IsNewCall new.state (record d { place = Answers d.from.task })
+unsent_new old new c d code (Ok h) made none added s = absurd s
+unsent_new old new c d code (Err wanted) made none added s =
+    let e : Call = record c { place = Answers c.from.task } in
+    let same : record d { place = Answers d.from.task } ≡ e = rw s.call refl in
+    rw (s.state, same) (record {
+      number = made.number;
+      caller = made.caller;
+      phone = made.phone;
+      place = added.task;
+      few = made.few;
+      kept = rw (keeps_none e none) tt;
+    })
 
 -- the call that is sent is a new one, and the join gets what was handed to it
 pub sent_new : (old new : BoardState) (c d : Call) (noted : Option Entry) (r : Result Handed Code) → IsSent old new c d (Ok noted) r → IsNewCall new.state d

@@ -1,11 +1,12 @@
 -- Each request keeps what the history tells of the state.
-use Rattle.std.proofs.Common.{ℕ, ◌≡◌, Bool, true, false, not, Option, Some, None, List, [], ◌∷◌, ◌++◌, Result, Err, refl, sym, ◌∙◌, ap, subst, inl, inr, arith, nat_le}
-use Rattle.std.specs.Prelude.{◌==◌, ◌-◌, if◌then◌else◌, slice_get, unwrap_or}
-use Rattle.std.specs.Option.{option_map_or}
+use Rattle.std.proofs.Common.{ℕ, ◌≡◌, Bool, true, false, not, Option, Some, None, List, [], ◌∷◌, ◌++◌, length, Result, Err, refl, sym, ◌∙◌, ap, subst, inl, inr, arith, nat_le}
+use Rattle.std.specs.Prelude.{◌==◌, ◌-◌, if◌then◌else◌, slice_get, unwrap_or, Ok}
+use Rattle.std.specs.Option.{option_map_or, option_to_list}
 use Rattle.std.proofs.lemmas.Bool.{cases_eq, eq-eqb, ne_eqb, false≢true}
 use Rattle.ipc_ids.specs.declared.numbers.TaskNo.{TaskNo}
 use Rattle.ipc_ids.specs.declared.numbers.Code.{Code}
 use Rattle.ipc_ids.specs.declared.numbers.Label.{Label}
+use Rattle.ipc_ids.specs.declared.numbers.StoreNo.{StoreNo}
 use Rattle.ipc_ids.specs.declared.methods.MethodKind.{MethodKind}
 use Rattle.ipc_ids.specs.declared.methods.MethodKind.TheVariants.{PhoneHungUp, ConnectToMe, ConnectMeTo, DataWrite, DataRead, NotBuilt, User}
 use Rattle.ipc_ids.specs.declared.message.Msg.{Msg}
@@ -33,7 +34,10 @@ use Rattle.forwarding.specs.declared.passing.ForwardFault.{ForwardFault}
 use Rattle.forwarding.specs.declared.passing.ForwardFault.TheVariants.{NotHeld}
 use Rattle.forwarding.specs.Forwarding.{is_held, is_forwardable, msg_after, label_after}
 use Rattle.forwarding.specs.Routes.{callee_of, receiver_of, as_forwarded}
-use Rattle.cleanup.specs.State.{KernelState, Transition, with_calls, with_event, phone_at, label_of, alive_in, is_alive}
+use Rattle.address_space.specs.Memory.{Memory}
+use Rattle.address_space.specs.Memory as spaces
+use Rattle.cleanup.specs.Areas.{made_note, gone_note, wrote_note}
+use Rattle.cleanup.specs.State.{KernelState, Transition, with_calls, with_memory, with_event, phone_at, label_of, alive_in, is_alive}
 use Rattle.cleanup.specs.Kept.{accepts, first_usable_of, kept_phone, lent_phone, with_kept, kept_note}
 use Rattle.cleanup.specs.Joins.{bare_reply, drop_answer, new_call, hangup_call, hang_up, answer_at_once, passed_call, vanishing, answer_to, code_of, lives, reception, delivery, with_delivery}
 use Rattle.cleanup.specs.Sound.{IsSound, IsPlaced, IsCaller}
@@ -51,7 +55,7 @@ use Rattle.kernel_core.specs.Request.{serve_request}
 use Rattle.kernel_core.specs.Kernel.{serve}
 use Rattle.kernel_core.proofs.Serving.{sound_serve}
 use Rattle.kernel_core.specs.History.{is_ended, life_at, IsTold, TellsOf, PastFits, HistoryFits, served_entries}
-use Rattle.kernel_core.proofs.InEvent.{and_then, and_then-append, IsTask, CallerFits, IsHome, Agrees, Core, InEvent, AfterStep, AfterServed, MayLead, handed, by_test, same_place-true, noted, is_told, own, front_at, phone_told, joined, free_leads, caller_told}
+use Rattle.kernel_core.proofs.InEvent.{and_then, and_then-append, IsTask, CallerFits, IsHome, Agrees, Core, InEvent, AfterStep, AfterServed, MayLead, handed, by_test, same_place-true, noted, silent_told, memory_told, is_told, own, front_at, phone_told, joined, free_leads, caller_told}
 use Rattle.kernel_core.proofs.InEvent as one
 
 pub step_kill : (t u : ℕ) (r : Ask) → Step t r ≡ Kill u → ⊥
@@ -103,6 +107,21 @@ module _ (e : Event) (p : List Tale) (k : KernelState) (inside : InEvent e p k) 
         ];
         leads = inside.leads;
       }
+
+-- what a task does with its areas
+module _ (e : Event) (p : List Tale) (k : KernelState) (inside : InEvent e p k) (t : TaskNo) (m : Memory) where
+  area_made_told : (base pages rights : ℕ) (r : Result StoreNo Code) → InEvent e (and_then (made_note t base pages rights r) p) (with_memory k m)
+  area_made_told base pages rights (Ok store) = memory_told e p k inside m
+  area_made_told base pages rights (Err code) = silent_told e p k inside m
+
+  area_gone_told : (base : ℕ) (r : Result Unit Code) → InEvent e (and_then (gone_note t base r) p) (with_memory k m)
+  area_gone_told base (Ok done) = memory_told e p k inside m
+  area_gone_told base (Err code) = silent_told e p k inside m
+
+  wrote_told : (at count : ℕ) (r : Result (Option StoreNo) Code) → InEvent e (and_then (option_to_list (wrote_note t at count r)) p) (with_memory k m)
+  wrote_told at count (Ok (Some store)) = memory_told e p k inside m
+  wrote_told at count (Ok None) = silent_told e p k inside m
+  wrote_told at count (Err code) = silent_told e p k inside m
 
 -- the requests
 module _ (t : TaskNo) (r : Ask) (p : List Tale) (k : KernelState) (inside : InEvent (Step t.0 r) p k) where
@@ -308,6 +327,13 @@ served_inside t request.Receive p k inside =
 served_inside t (request.Answer n reply) p k inside = answer_told t (Answer n) p k inside n reply (held_call t (call_at k.calls n)) refl refl
 served_inside t (request.Forward n q mode change) p k inside = forwarded_told t (Forward n) p k inside n q mode change (call_at k.calls n) refl refl
 served_inside t (request.Hangup q) p k inside = hangup_told t Other_request p k inside q (phone_at k t q) refl
+served_inside t (request.AreaMake base pages rights) p k inside =
+    let made = spaces.make k.memory t base pages rights in area_made_told (Step t.0 Other_request) p k inside t made.memory base pages rights made.told
+served_inside t (request.AreaDrop base) p k inside =
+    let gone = spaces.drop_area k.memory t base in area_gone_told (Step t.0 Other_request) p k inside t gone.memory base gone.told
+served_inside t (request.Poke at bytes) p k inside =
+    let wrote = spaces.write k.memory t at bytes in wrote_told (Step t.0 Other_request) p k inside t wrote.memory at (length bytes) wrote.told
+served_inside t (request.Peek at count) p k inside = inside
 served_inside t request.Nothing p k inside = inside
 
 -- who is alive has not ended, and there is such a task

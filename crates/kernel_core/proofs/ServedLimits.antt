@@ -31,7 +31,8 @@ use Rattle.forwarding.specs.declared.passing.ForwardFault.{ForwardFault}
 use Rattle.forwarding.specs.declared.passing.ForwardFault.TheVariants.{NotHeld, NotForwardable, NotConnected}
 use Rattle.forwarding.specs.Forwarding.{msg_after, label_after}
 use Rattle.forwarding.specs.Routes.{forward_answer}
-use Rattle.cleanup.specs.State.{KernelState, Transition, phone_at, with_calls, with_event, label_of}
+use Rattle.address_space.specs.Memory.{Memory}
+use Rattle.cleanup.specs.State.{KernelState, Transition, phone_at, with_calls, with_memory, with_event, label_of}
 use Rattle.cleanup.specs.Kept.{accepts, kept_phone, lent_phone, with_kept, first_usable_of}
 use Rattle.cleanup.specs.Sound.{IsSound}
 use Rattle.cleanup.specs.Joins.{bare_reply, new_call, answer_at_once, reception, answer_to, code_of, lives, passed_call, passage, drop_answer}
@@ -219,6 +220,10 @@ drops_fine t k h = drain_keeps (next_unawaited t) (drop_answer t) IsFine
     (λ j c s is. record { sound = sound_drop j t c s.sound (front_at j (Answers t) c s.sound (unawaited_front (front j.calls (Answers t)) c is)); within = within_drop t j c s.within s.sound.kept (front_at j (Answers t) c s.sound (unawaited_front (front j.calls (Answers t)) c is)) })
     (calls_at k.calls (Answers t)) k h
 
+-- nor is memory
+within_memory : (k : KernelState) (m : Memory) → IsWithinLimits k → IsWithinLimits (with_memory k m)
+within_memory k m w = record { awaited = w.awaited; hangups = w.hangups; hung_up = w.hung_up; idle = w.idle }
+
 serves_within : (k : KernelState) (t : TaskNo) (asked : Request) → IsSound k → IsWithinLimits k → IsWithinLimits (serve_request k t asked).state
 serves_within k t (request.Call p msg) h w = called t k h w p msg (phone_at k t p) refl
 serves_within k t request.Receive h w =
@@ -228,6 +233,10 @@ serves_within k t request.Receive h w =
 serves_within k t (request.Answer n reply) h w = answered t k h w n reply (call_at k.calls n) refl
 serves_within k t (request.Forward n p mode change) h w = forwarded t k h w n p mode change (forward_answer k.calls t (phone_at k t p) n change) (call_at k.calls n) refl
 serves_within k t (request.Hangup p) h w = hanging t k h w p (phone_at k t p) refl
+serves_within k t (request.AreaMake base pages rights) h w = within_memory k _ w
+serves_within k t (request.AreaDrop base) h w = within_memory k _ w
+serves_within k t (request.Poke at bytes) h w = within_memory k _ w
+serves_within k t (request.Peek at count) h w = w
 serves_within k t request.Nothing h w = w
 
 -- one event more is no matter of the limits

@@ -1,6 +1,6 @@
 -- Each request keeps a sound state sound, by the definitions alone.
 use Rattle.std.proofs.Common.{◌≡◌, ℕ, ◌+◌, ◌*◌, Bool, true, false, not, Option, None, Some, Result, Ok, Err, List, refl, ap, sym, ◌∙◌, nat_le}
-use Rattle.std.specs.Prelude.{◌==◌, if◌then◌else◌, IsSome}
+use Rattle.std.specs.Prelude.{◌==◌, if◌then◌else◌, IsSome, [], slice_index}
 use Rattle.std.proofs.lemmas.Bool.{false≢true}
 use Rattle.ipc_ids.specs.declared.numbers.TaskNo.{TaskNo}
 use Rattle.ipc_ids.specs.declared.numbers.Label.{Label}
@@ -27,13 +27,16 @@ use Rattle.forwarding.specs.declared.passing.ForwardFault.{ForwardFault}
 use Rattle.forwarding.specs.declared.passing.ForwardFault.TheVariants.{NotHeld, NotForwardable, NotConnected}
 use Rattle.forwarding.specs.Forwarding.{msg_after, label_after}
 use Rattle.forwarding.specs.Routes.{forward_answer}
-use Rattle.cleanup.specs.State.{KernelState, Transition, is_alive, phone_at, with_calls, label_of}
+use Rattle.address_space.specs.Memory.{Memory}
+use Rattle.cleanup.specs.State.{KernelState, Transition, is_alive, phone_at, with_calls, with_memory, label_of}
 use Rattle.cleanup.specs.Kept.{accepts, first_usable_of}
-use Rattle.cleanup.specs.Sound.{IsPlaced, NeedsPhone, IsSound}
+use Rattle.cleanup.specs.Sound.{IsPlaced, NeedsPhone, Carries, HasSoundMemory, IsSound}
 use Rattle.cleanup.specs.Joins.{bare_reply, new_call, acceptance, answer_at_once, reception, answer_to, settle, lives, drop_answer, hang_up}
 use Rattle.cleanup.specs.Serving.{Served, as_it_is}
 use Rattle.cleanup.specs.Board.{IsPendingAt}
 use Rattle.cleanup.proofs.Usable.{usable_is}
+use Rattle.cleanup.proofs.Soundness.{carries_none, answer_carries}
+use Rattle.cleanup.proofs.SoundMemory.{memory_make, memory_drop, memory_write}
 use Rattle.cleanup.proofs.SoundStates.{sound_enqueued, keeps_none, no_phone}
 use Rattle.cleanup.proofs.SoundJoins.{incoming_pending, held_pending, sound_gone, sound_passage, sound_accepted_to_me, sound_accepted_me_to, sound_finished, sound_received_to_me, sound_received, sound_sent}
 use Rattle.cleanup.proofs.Repeats.{by_test, drain_keeps}
@@ -87,21 +90,24 @@ module _ (t : TaskNo) (k : KernelState) (alive : is_alive k t ≡ true) (h : IsS
   Follows s = IsSound s.state
 
   -- a new call, which keeps no phone
-  made : (p : ℕ) (msg : Msg) (s : PhoneState) (place : Place) (reply : Reply) → phone_at k t p ≡ Some s → not (is_callable (kind_of msg.method)) ≡ false → IsPlaced k.tasks (Some t) place → (NeedsPhone (kind_of msg.method) place reply.code → ⊥) → IsSound (with_calls k (enqueue k.calls (record (new_call k t p msg place) { reply = reply })))
-  made p msg s place reply is callable placed needless =
-      let c : Call = record (new_call k t p msg place) { reply = reply } in
-      sound_enqueued k c h refl placed (refl, alive) (is_some (phone_at k t p) s is) (callable_method msg.method callable) (no_phone k.tasks.phones c refl needless) (keeps_none c refl)
+  made : (p : ℕ) (msg : Msg) (s : PhoneState) (place : Place) (reply : Reply) (bytes : List ℕ) → phone_at k t p ≡ Some s → not (is_callable (kind_of msg.method)) ≡ false → IsPlaced k.tasks (Some t) place → (NeedsPhone (kind_of msg.method) place reply.code → ⊥) → Carries (kind_of msg.method) place bytes (slice_index msg.args 1)
+      → IsSound (with_calls k (enqueue k.calls (record (new_call k t p msg place) { reply = reply; buffer = bytes })))
+  made p msg s place reply bytes is callable placed needless carries =
+      let c : Call = record (new_call k t p msg place) { reply = reply; buffer = bytes } in
+      sound_enqueued k c h refl placed (refl, alive) (is_some (phone_at k t p) s is) (callable_method msg.method callable) (no_phone k.tasks.phones c refl needless) carries (keeps_none c refl)
 
   at_once : (p : ℕ) (msg : Msg) (s : PhoneState) (code : Code) → phone_at k t p ≡ Some s → not (is_callable (kind_of msg.method)) ≡ false → accepts code ≡ false → Follows (answer_at_once k (new_call k t p msg (Answers t)) code)
-  at_once p msg s code is callable declines = made p msg s (Answers t) (bare_reply code) is callable refl (declined_needless (kind_of msg.method) t code declines)
+  at_once p msg s code is callable declines =
+      made p msg s (Answers t) (bare_reply code) [] is callable refl (declined_needless (kind_of msg.method) t code declines) (answer_carries (kind_of msg.method) t [] (slice_index msg.args 1))
 
   -- what the moment before it is sent makes of a new call over a phone that leads to task u
   module _ (p : ℕ) (msg : Msg) (u : TaskNo) (is : phone_at k t p ≡ Some (Connected u)) (callable : not (is_callable (kind_of msg.method)) ≡ false) where
     abbrev c : Call
     c = new_call k t p msg (Incoming u)
 
-    plain : (kind : MethodKind) → kind_of msg.method ≡ kind → (NeedsPhone kind (Incoming u) c.reply.code → ⊥) → Follows (acceptance (as_it_is k c) (Some u))
-    plain kind same needless = made p msg (Connected u) (Incoming u) c.reply is callable (h.tasks.leads t.0 p u is) (λ needs. needless (rw same at needs))
+    plain : (kind : MethodKind) → kind_of msg.method ≡ kind → (NeedsPhone kind (Incoming u) c.reply.code → ⊥) → (kind ≡ DataWrite → ⊥) → Follows (acceptance (as_it_is k c) (Some u))
+    plain kind same needless other =
+        made p msg (Connected u) (Incoming u) c.reply [] is callable (h.tasks.leads t.0 p u is) (λ needs. needless (rw same at needs)) (carries_none (kind_of msg.method) (Incoming u) [] (slice_index msg.args 1) (λ e. other (sym same ∙ e)))
 
     keeping : (o : Option Label) → first_usable_of k t ≡ o → kind_of msg.method ≡ ConnectMeTo → Follows (sent_to u k c (keeping_to_send k c o))
     keeping None first kind = at_once p msg (Connected u) elimit is callable refl
@@ -110,13 +116,13 @@ module _ (t : TaskNo) (k : KernelState) (alive : is_alive k t ≡ true) (h : IsS
         sound_sent k d l h (usable_is k t l first) refl (h.tasks.leads t.0 p u is) (refl, alive) (is_some (phone_at k t p) (Connected u) is) (callable_method msg.method callable) kind tt refl
 
     sent : (kind : MethodKind) → kind_of msg.method ≡ kind → Follows (sent_to u k c (before_send_of kind k c))
-    sent PhoneHungUp kind = plain PhoneHungUp kind (λ needs. needs)
-    sent ConnectToMe kind = plain ConnectToMe kind (λ needs. needs)
+    sent PhoneHungUp kind = plain PhoneHungUp kind (λ needs. needs) (λ e. cc)
+    sent ConnectToMe kind = plain ConnectToMe kind (λ needs. needs) (λ e. cc)
     sent ConnectMeTo kind = keeping (first_usable_of k t) refl kind
-    sent DataWrite kind = plain DataWrite kind (λ needs. needs)
-    sent DataRead kind = plain DataRead kind (λ needs. needs)
-    sent NotBuilt kind = plain NotBuilt kind (λ needs. needs)
-    sent User kind = plain User kind (λ needs. needs)
+    sent DataWrite kind = absurd (let never = rw kind at callable in cc)
+    sent DataRead kind = plain DataRead kind (λ needs. needs) (λ e. cc)
+    sent NotBuilt kind = plain NotBuilt kind (λ needs. needs) (λ e. cc)
+    sent User kind = plain User kind (λ needs. needs) (λ e. cc)
 
   through : (p : ℕ) (msg : Msg) (s : PhoneState) → phone_at k t p ≡ Some s → not (is_callable (kind_of msg.method)) ≡ false → Follows (call_through k t p msg s)
   through p msg Free is callable = h
@@ -236,6 +242,10 @@ drop_less t k j c s is = record { sound = sound_drop j t c s.sound (front_at j (
 drops_less : (t : TaskNo) (k : KernelState) → IsSound k → IsLess k (drop_unawaited t k).state
 drops_less t k h = drain_keeps (next_unawaited t) (drop_answer t) (IsLess k) (λ j c s is. drop_less t k j c s is) (calls_at k.calls (Answers t)) k (record { sound = h; alive = refl })
 
+-- memory alone changes
+sound_memory : (k : KernelState) (m : Memory) → IsSound k → HasSoundMemory k.tasks.alive m → IsSound (with_memory k m)
+sound_memory k m h memory = record { calls = h.calls; tasks = h.tasks; kept = h.kept; keepers = h.keepers; memory = memory }
+
 serves : (k : KernelState) (t : TaskNo) (request : Request) → IsSound k → is_alive k t ≡ true → IsSound (serve_request k t request).state
 serves k t (R.Call p msg) h alive = called t k alive h p msg (phone_at k t p) refl
 serves k t R.Receive h alive =
@@ -246,8 +256,12 @@ serves k t R.Receive h alive =
 serves k t (R.Answer n reply) h alive = answered t k alive h n reply (call_at k.calls n) refl
 serves k t (R.Forward n p mode change) h alive = forwarded t k alive h n p mode change (forward_answer k.calls t (phone_at k t p) n change) refl
 serves k t (R.Hangup p) h alive = hanging t k alive h p (phone_at k t p) refl
+serves k t (R.AreaMake base pages rights) h alive = sound_memory k _ h (memory_make t base pages rights alive h.memory)
+serves k t (R.AreaDrop base) h alive = sound_memory k _ h (memory_drop t base alive h.memory)
+serves k t (R.Poke at bytes) h alive = sound_memory k _ h (memory_write t at bytes h.memory)
+serves k t (R.Peek at count) h alive = h
 serves k t R.Nothing h alive = h
 
 -- a request keeps soundness
 pub sound_serve : (k : KernelState) (t : TaskNo) (request : Request) → IsSound k → is_alive k t ≡ true → IsSound (serve k t request).state
-sound_serve k t request s alive = let m = serves k t request s alive in record { calls = m.calls; tasks = m.tasks; kept = m.kept; keepers = m.keepers }
+sound_serve k t request s alive = let m = serves k t request s alive in record { calls = m.calls; tasks = m.tasks; kept = m.kept; keepers = m.keepers; memory = m.memory }

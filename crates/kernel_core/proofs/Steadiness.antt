@@ -15,43 +15,46 @@ use Rattle.kernel_core.specs.Kernel.{IsSteady, serve, kill_event}
 use Rattle.cleanup.specs.Kill.{kill}
 use Rattle.kernel_core.specs.Request.{serve_request}
 use Rattle.kernel_core.proofs.Serving.{sound_serve}
+use Rattle.kernel_core.proofs.Stores.{serve_stores, kill_stores}
 
 pub steady_start : IsSteady start
-steady_start = record { sound = sound_start; tasks = omega arith; numbers = omega arith; stamps = omega arith }
+steady_start = record { sound = sound_start; tasks = omega arith; numbers = omega arith; stamps = omega arith; stores = omega arith }
 
 pub steady_task : (k : KernelState) (limit : ℕ) → length k.tasks.alive < 64 → IsSteady k → IsSteady (with_task k limit)
-steady_task k limit few s = record { sound = kept_task k limit s.sound; tasks = one_more k.tasks.alive few; numbers = s.numbers; stamps = s.stamps } where
+steady_task k limit few s = record { sound = kept_task k limit s.sound; tasks = one_more k.tasks.alive few; numbers = s.numbers; stamps = s.stamps; stores = s.stores } where
   one_more : (alive : List Bool) → length alive < 64 → length (alive ++ true ∷ []) ≤ 64
   one_more alive less = rw (length-append alive (true ∷ [])) (omega arith)
 
 pub steady_wire : (k : KernelState) (t : TaskNo) (p : ℕ) (u : TaskNo) → IsSteady k → is_alive k t ≡ true → is_alive k u ≡ true → phone_at k t p ≡ Some Free → IsSteady (with_phone k t p (Connected u))
-steady_wire k t p u s alive target free = record { sound = kept_wired k t p u s.sound alive target free; tasks = s.tasks; numbers = s.numbers; stamps = s.stamps }
+steady_wire k t p u s alive target free = record { sound = kept_wired k t p u s.sound alive target free; tasks = s.tasks; numbers = s.numbers; stamps = s.stamps; stores = s.stores }
 
 pub sound_kill_event : (k : KernelState) (t : TaskNo) → IsSteady k → is_alive k t ≡ true → IsSound (kill_event k t).state
-sound_kill_event k t s alive = let after = sound_kill k t s.sound alive in record { calls = after.calls; tasks = after.tasks; kept = after.kept; keepers = after.keepers }
+sound_kill_event k t s alive = let after = sound_kill k t s.sound alive in record { calls = after.calls; tasks = after.tasks; kept = after.kept; keepers = after.keepers; memory = after.memory }
 
 -- the state after a system call, from what it gives at most
 pub steady_serve : (k j : KernelState) (t : TaskNo) (request : Request) → IsSteady k → is_alive k t ≡ true
     → j ≡ (serve k t request).state → j.tasks.alive ≡ k.tasks.alive
-    → j.calls.next_number ≤ 64 * j.events + 1 → j.calls.next_stamp ≤ 2 ^ 32 * j.events + 1 → IsSteady j
-steady_serve k j t request s alive is same numbers stamps =
+    → j.events ≡ k.events + 1 → j.calls.next_number ≤ 64 * j.events + 1 → j.calls.next_stamp ≤ 2 ^ 32 * j.events + 1 → IsSteady j
+steady_serve k j t request s alive is same events numbers stamps =
     record {
       sound = subst IsSound (sym is) (sound_serve k t request s.sound alive);
       tasks = rw same s.tasks;
       numbers = numbers;
       stamps = stamps;
+      stores = let more : j.memory.next_store ≤ k.memory.next_store + 1 = rw is (serve_stores k t request) in omega (arith, more, events, s.stores);
     }
 
 -- the state after a kill
 pub steady_kill : (k j : KernelState) (t : TaskNo) → IsSteady k → is_alive k t ≡ true
     → j ≡ (kill_event k t).state
-    → j.calls.next_number ≤ 64 * j.events + 1 → j.calls.next_stamp ≤ 2 ^ 32 * j.events + 1 → IsSteady j
-steady_kill k j t s alive is numbers stamps =
+    → j.events ≡ k.events + 1 → j.calls.next_number ≤ 64 * j.events + 1 → j.calls.next_stamp ≤ 2 ^ 32 * j.events + 1 → IsSteady j
+steady_kill k j t s alive is events numbers stamps =
     record {
       sound = subst IsSound (sym is) (sound_kill_event k t s alive);
       tasks = rw (is, kill_marks k t, length-set k.tasks.alive (t.0 - 1) false) s.tasks;
       numbers = numbers;
       stamps = stamps;
+      stores = let same : j.memory.next_store ≡ k.memory.next_store = rw is (kill_stores k t) in omega (arith, same, events, s.stores);
     }
 
 -- what holds of the old state, and of the state that is done, holds of the new one
@@ -79,6 +82,7 @@ steady_served k ready served j t request s alive room does counts numbers stamps
     let same = rw room at events in
     steady_serve k j t request s alive (served_after k ready served j t request room does counts)
     (rw counts kept)
+    (rw counts (omega (arith, same)))
     (rw counts (omega (arith, few, same, s.numbers)))
     (rw counts (omega (arith, later, same, s.stamps)))
 
@@ -95,9 +99,14 @@ pub steady_killed : (k killed j : KernelState) (t : TaskNo) → IsSteady k → i
     → IsSteady j
 steady_killed k killed j t s alive few_events live does counts numbers stamps events =
     steady_kill k j t s alive (killed_after k killed j t does counts)
+    (rw counts (omega (arith, events)))
     (rw counts (omega (arith, numbers, events, s.numbers)))
     (rw counts (omega (arith, stamps, numbers, events, s.numbers, s.stamps, few_events, live)))
 
 -- no phone has more active calls than there are calls
 pub few_active : (k : KernelState) → IsSteady k → k.events < 2 ^ 24 → live_calls k < k.calls.next_number → FewActive k
 few_active k s few live l = let most = active-len k.calls l in omega (arith, most, live, s.numbers, few)
+
+-- so few stores were made that one more has a number
+pub few_stores : (k : KernelState) → IsSteady k → k.events < 2 ^ 24 → k.memory.next_store ≤ 2 ^ 32
+few_stores k s few = omega (arith, few, s.stores)

@@ -20,9 +20,10 @@ abbrev pub kill_event : KernelState → TaskNo → Transition
 kill_event k t = record { state = with_event (kill k t).state; entries = (kill k t).entries }
 
 -- What a kernel keeps: a sound state, with 64 tasks at most. Each event gives few numbers and stamps: a kill a number for each phone of the
--- task, and two stamps at most for each live call.
+-- task, and two stamps at most for each live call. It makes one store at most.
 pub record IsSteady (k : KernelState) : Type 0 where
   pub sound : IsSound k
   pub tasks : length k.tasks.alive ≤ 64
   pub numbers : k.calls.next_number ≤ 64 * k.events + 1
   pub stamps : k.calls.next_stamp ≤ 2 ^ 32 * k.events + 1
+  pub stores : k.memory.next_store ≤ k.events + 1

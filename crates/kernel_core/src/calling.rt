@@ -73,7 +73,10 @@ fn is_callable(kind: MethodKind) -> bool
 {
     match kind {
         MethodKind::ConnectToMe | MethodKind::ConnectMeTo | MethodKind::User => true,
-        MethodKind::PhoneHungUp | MethodKind::DataWrite | MethodKind::DataRead | MethodKind::NotBuilt => false,
+        MethodKind::PhoneHungUp
+        | MethodKind::DataWrite
+        | MethodKind::DataRead
+        | MethodKind::NotBuilt => false,
     }
 }
 

@@ -46,7 +46,9 @@ pub(crate) fn before_send(board: &mut Switchboard, call: &mut Call) -> Result<Op
         },
         MethodKind::PhoneHungUp
         | MethodKind::ConnectToMe
-        | MethodKind::DataWrite | MethodKind::DataRead | MethodKind::NotBuilt
+        | MethodKind::DataWrite
+        | MethodKind::DataRead
+        | MethodKind::NotBuilt
         | MethodKind::User => Ok(None),
     }
 }
@@ -74,7 +76,9 @@ pub(crate) fn on_receive(board: &mut Switchboard, number: CallNo, who: TaskNo) -
         }
         MethodKind::PhoneHungUp
         | MethodKind::ConnectMeTo
-        | MethodKind::DataWrite | MethodKind::DataRead | MethodKind::NotBuilt
+        | MethodKind::DataWrite
+        | MethodKind::DataRead
+        | MethodKind::NotBuilt
         | MethodKind::User => Arrival {
             msg,
             reserved,
@@ -108,7 +112,11 @@ pub(crate) fn on_accept(
     match kind {
         MethodKind::ConnectToMe => board.accept_to_me(number, reply, who, caller, out),
         MethodKind::ConnectMeTo => board.accept_me_to(number, reply, who, caller, out),
-        MethodKind::PhoneHungUp | MethodKind::DataWrite | MethodKind::DataRead | MethodKind::NotBuilt | MethodKind::User => {
+        MethodKind::PhoneHungUp
+        | MethodKind::DataWrite
+        | MethodKind::DataRead
+        | MethodKind::NotBuilt
+        | MethodKind::User => {
             board.finish(number, reply, who, caller, out);
         }
     }

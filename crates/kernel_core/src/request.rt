@@ -27,6 +27,8 @@ pub(crate) fn room_of(board: &Switchboard, who: TaskNo, request: &Request) -> (u
         Request::Answer { .. } => (0, 2),
         Request::Forward { .. } => (0, 2),
         Request::Hangup { .. } => (1, 2),
+        Request::AreaMake { .. } | Request::AreaDrop { .. } | Request::Poke { .. } => (0, 1),
+        Request::Peek { .. } => (0, 0),
         Request::Nothing => (0, 0),
     }
 }
@@ -41,6 +43,7 @@ pub(crate) fn serve_request(
     requires added { IsAdded board.old.state who }
     requires few { FewActive board.old.state }
     requires few_tasks { length board.old.state.tasks.alive ≤ 64 }
+    requires few_stores { board.old.state.memory.next_store ≤ 2 ^ 32 }
     requires room { HasRoom board.old out.old (most_calls request.now) 1
         (most_entries board.old.state who request.now) }
     ensures served { ServesOrLeaves result board.old board.new out.old out.new
@@ -53,6 +56,14 @@ pub(crate) fn serve_request(
         Request::Receive => Ok(receive(board, who, out)),
         Request::Answer { call, reply } => answer(board, who, CallNo(*call), reply, out),
         Request::Hangup { phone } => Ok(hangup(board, who, *phone, out)),
+        Request::AreaMake {
+            base,
+            pages,
+            rights,
+        } => board.make_area(who, *base, *pages, *rights, out),
+        Request::AreaDrop { base } => Ok(board.drop_area(who, *base, out)),
+        Request::Poke { at, bytes } => Ok(board.poke(who, *at, bytes, out)),
+        Request::Peek { at, count } => Ok(board.peek(who, *at, *count)),
         Request::Nothing => Ok(Outcome::Done),
         Request::Forward {
             call,

@@ -11,4 +11,4 @@ end_task-requires g c =
     let before : c.reserve.new.self.calls ≡ no_calls = c.reserve.ensures.calls ∙ c.add_task-2.ensures.calls ∙ c.add_task.ensures.calls ∙ c.new-boxes.ensures.calls in
     let calls : c.enqueue.new.self.calls ≡ enqueue no_calls (held reply buffer) = c.enqueue.ensures.calls ∙ ap (λ (q : CallTable). enqueue q (held reply buffer)) before in
     let tasks : c.enqueue.new.self.tasks ≡ 2 = rw (c.enqueue.ensures.tasks, c.reserve.ensures.tasks, c.in_ok-add_task-2.ensures.ok, c.in_ok-add_task.ensures.ok, c.new-boxes.ensures.tasks) refl in
-    rw (rows, calls, tasks) (held_ended, (held_sound reply buffer, (held_few reply buffer, (record { numbers = omega arith; stamps = omega arith }, omega arith))))
+    rw (rows, calls, tasks, c.in_ok-spaces.ensures) (held_ended, (held_sound reply buffer, (held_few reply buffer, (record { numbers = omega arith; stamps = omega arith }, omega arith))))

@@ -1,9 +1,12 @@
 use Rattle.kernel_core.specs.Moments.{before_send}
-use Rattle.kernel_core.proofs.Sending.{room_kept, sent_new, sent_served, uses_after}
+use Rattle.kernel_core.proofs.Sending.{room_kept, sent_new, sent_served, unsent_new, uses_after}
 use Rattle.kernel_core.proofs.calling.send.Goals as goal
 
 pub accept-requires-clause-new_call : goal.accept-requires-clause-new_call
 accept-requires-clause-new_call c = sent_new c.args.board.now c.before_send.new.board c.args.call c.before_send.new.call c.in-Ok.note (before_send c.args.board.now.state c.args.call) c.in-Ok.ensures.sent
+
+pub answer_at_once-requires-clause-new_call : goal.answer_at_once-requires-clause-new_call
+answer_at_once-requires-clause-new_call c = unsent_new c.args.board.now c.before_send.new.board c.args.call c.before_send.new.call c.in-Err.code (before_send c.args.board.now.state c.args.call) c.requires.new_call c.requires.unreserved c.requires.added c.in-Err.ensures.sent
 
 pub accept-requires-clause-room : goal.accept-requires-clause-room
 accept-requires-clause-room c = room_kept c.before_send.ensures.keeps c.requires.room

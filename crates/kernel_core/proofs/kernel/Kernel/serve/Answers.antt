@@ -2,7 +2,7 @@ use Rattle.std.proofs.Common.{sym, subst, ◌++◌}
 use Rattle.cleanup.specs.State.{KernelState}
 use Rattle.kernel_core.specs.Kernel.{serve}
 use Rattle.kernel_core.specs.History.{HistoryFits, served_entries}
-use Rattle.kernel_core.proofs.Steadiness.{few_active, steady_served, served_after}
+use Rattle.kernel_core.proofs.Steadiness.{few_active, few_stores, steady_served, served_after}
 use Rattle.kernel_core.proofs.ServedHistories.{serve_fits}
 use Rattle.kernel_core.proofs.kernel.Kernel.serve.Goals as goal
 
@@ -11,6 +11,9 @@ serve_request-requires-clause-few c = rw c.reserve.ensures.state (few_active c.s
 
 pub serve_request-requires-clause-few_tasks : goal.serve_request-requires-clause-few_tasks
 serve_request-requires-clause-few_tasks c = rw c.reserve.ensures.state c.self.invariant.tasks
+
+pub serve_request-requires-clause-few_stores : goal.serve_request-requires-clause-few_stores
+serve_request-requires-clause-few_stores c = rw c.reserve.ensures.state (few_stores c.self.inside.board.state c.self.invariant (rw (← c.self.view_is) at c.requires.few_events))
 
 pub invariant_of-self-in-Ok : goal.invariant_of-self-in-Ok
 invariant_of-self-in-Ok c =

@@ -1,0 +1,160 @@
+//! The data methods: the joins of their answers and deliveries.
+ghost use Rattle.std.specs.Prelude.{◌≡◌, true, IsSome, IfSome};
+ghost use Rattle.answerbox.specs.Calls.{call_at};
+ghost use Rattle.cleanup.specs.State.{is_alive};
+ghost use Rattle.cleanup.specs.Areas.{wrote_note};
+ghost use Rattle.cleanup.specs.Data.{accepted_write, accepted_read, code_told, read_delivery_live};
+ghost use Rattle.cleanup.specs.Board.{IsAdded, IsHeldBy};
+ghost use Rattle.cleanup.specs.Joins.{answer_to, on_call};
+ghost use Rattle.cleanup.specs.Rooms.{HasRoom, UsesRoom};
+ghost use Rattle.cleanup.specs.Serving.{Does, DoesOrLeaves, Serves};
+
+use crate::board::Switchboard;
+use crate::joins::tell;
+use address_space::SpaceFault;
+use ipc_ids::{CallNo, Code, Entry, MethodKind, NoMemory, Outcome, Reply, StoreNo, TaskNo, Trace};
+
+impl Switchboard {
+    /// Accepts the DATA_WRITE that the task holds: the first bytes that it carries are written
+    /// where the reply says. Where they are not, the code of the answer says why.
+    pub fn accept_write(
+        &mut self,
+        number: CallNo,
+        reply: &Reply,
+        who: TaskNo,
+        caller: TaskNo,
+        out: &mut Trace,
+    )
+        requires number { IfSome (call_at self.old.state.calls number.0) (λ c. c.number ≡ number) }
+        requires held { IsHeldBy (call_at self.old.state.calls number.0)
+            MethodKind.DataWrite who caller }
+        requires added { IsAdded self.old.state who }
+        requires alive { is_alive self.old.state caller ≡ true }
+        requires room { HasRoom self.old out.old 0 1 2 }
+        ensures step { Does self.new out.old out.new
+            (on_call (λ k c. answer_to (accepted_write k c reply.now who) (Some who) caller)
+            self.old.state number.0) }
+        ensures room { UsesRoom self.old self.new out.old out.new 0 1 2 }
+    {
+        let told = self.write_held(number, reply, who);
+        let (code, args) = (code_told(&told), reply.args);
+        let answer = Reply { code, args };
+        self.answer(number, &answer, caller);
+        out.push(Entry::Answered {
+            call: number,
+            reply: answer,
+            by: Some(who),
+        });
+        tell(wrote_note(who, args[0], args[1], &told), out);
+    }
+
+    /// Accepts the DATA_READ that the task holds: the call takes the bytes with it that the reply
+    /// names. Where it does not, the code of the answer says why.
+    ///
+    /// # Errors
+    ///
+    /// `NoMemory` where no memory was found for the bytes; then nothing has changed.
+    pub fn accept_read(
+        &mut self,
+        number: CallNo,
+        reply: &Reply,
+        who: TaskNo,
+        caller: TaskNo,
+        out: &mut Trace,
+    ) -> Result<(), NoMemory>
+        requires number { IfSome (call_at self.old.state.calls number.0) (λ c. c.number ≡ number) }
+        requires held { IsHeldBy (call_at self.old.state.calls number.0)
+            MethodKind.DataRead who caller }
+        requires added { IsAdded self.old.state who }
+        requires alive { is_alive self.old.state caller ≡ true }
+        requires room { HasRoom self.old out.old 0 1 2 }
+        ensures step { DoesOrLeaves result self.old self.new out.old out.new
+            (on_call (λ k c. answer_to (accepted_read k c reply.now who) (Some who) caller)
+            self.old.state number.0) }
+        ensures room { UsesRoom self.old self.new out.old out.new 0 1 2 }
+    {
+        let args = reply.args;
+        match self.read_held(number, reply, who) {
+            Ok(bytes) => {
+                let answer = Reply {
+                    code: Code::EOK,
+                    args,
+                };
+                self.answer_with(number, answer, bytes, caller);
+                out.push(Entry::Answered {
+                    call: number,
+                    reply: answer,
+                    by: Some(who),
+                });
+                Ok(())
+            }
+            Err(SpaceFault::Refused(code)) => {
+                let answer = Reply { code, args };
+                self.answer(number, &answer, caller);
+                out.push(Entry::Answered {
+                    call: number,
+                    reply: answer,
+                    by: Some(who),
+                });
+                Ok(())
+            }
+            Err(SpaceFault::NoMemory) => Err(NoMemory),
+        }
+    }
+
+    /// Delivers to the task the answer of its DATA_READ that was accepted, and ends the call: the
+    /// bytes that the call brings are written where the task asked. Where they are not, the code
+    /// of the reply says why.
+    pub fn deliver_read(&mut self, number: CallNo, who: TaskNo, out: &mut Trace) -> Outcome
+        requires live { IsSome (call_at self.old.state.calls number.0) }
+        requires added { IsAdded self.old.state who }
+        requires room { HasRoom self.old out.old 0 0 2 }
+        ensures served { Serves self.new result out.old out.new
+            (read_delivery_live who self.old.state (call_at self.old.state.calls number.0)) }
+        ensures room { UsesRoom self.old self.new out.old out.new 0 0 2 }
+    {
+        let call = self.leave(number);
+        let told = self.write_back(&call, who);
+        out.push(Entry::Delivered {
+            call: call.number,
+            to: who,
+        });
+        let count = call.buffer.as_slice().len() as u64;
+        tell(wrote_note(who, call.request.args[0], count, &told), out);
+        let (code, args) = (code_told(&told), call.reply.args);
+        Outcome::Answered {
+            call: call.number,
+            reply: Reply { code, args },
+        }
+    }
+}
+
+/// The code of a write.
+fn code_told(told: &Result<Option<StoreNo>, Code>) -> Code
+    ensures { result ≡ code_told told.now }
+{
+    match told {
+        Ok(_) => Code::EOK,
+        Err(code) => *code,
+    }
+}
+
+/// The entry of so many bytes that were written from an address on, where some were.
+fn wrote_note(
+    task: TaskNo,
+    at: u64,
+    count: u64,
+    told: &Result<Option<StoreNo>, Code>,
+) -> Option<Entry>
+    ensures { result ≡ wrote_note task at count told.now }
+{
+    match told {
+        Ok(Some(store)) => Some(Entry::Wrote {
+            task,
+            at,
+            count,
+            store: *store,
+        }),
+        _ => None,
+    }
+}
