@@ -12,6 +12,10 @@ PHONE = TASK + r"\.\d+"
 CODE = r"(?:EOK|ENOENT|EPERM|EEXIST|EINVAL|ELIMIT|EHANGUP|EFORWARD|EBUSY|ENOMEM|[1-9]\d+)"
 NAME = re.compile(r"[a-z][a-z0-9_]{0,14}\Z")
 FIVE = NUMBER + f"(?: {NUMBER})" + "{4}"
+BYTES = r"(?:(?:[0-9a-f]{2})+|-)"
+AREA = f"(?P<base>{NUMBER}) (?P<pages>{NUMBER}) (?P<rights>{NUMBER})"
+RANGE = f"(?P<at>{NUMBER}) (?P<count>{NUMBER})"
+STORE = f"store (?P<store>{NUMBER})"
 
 # Each form of a line, by the name of its kind, with the parts that the tools use.
 HEADS = {
@@ -21,6 +25,10 @@ HEADS = {
     "forward": f"(?P<task>{TASK}) forward (?P<call>{NUMBER}) (?P<phone>{NUMBER}) (?P<mode>plain|route)"
                f"(?: (?P<method>{NUMBER}) (?P<args>{FIVE}))?",
     "hangup": f"(?P<task>{TASK}) hangup (?P<phone>{NUMBER})",
+    "area": f"(?P<task>{TASK}) area {AREA}",
+    "unarea": f"(?P<task>{TASK}) unarea (?P<base>{NUMBER})",
+    "poke": f"(?P<task>{TASK}) poke (?P<at>{NUMBER}) (?P<bytes>{BYTES})",
+    "peek": f"(?P<task>{TASK}) peek {RANGE}",
     "nothing": f"(?P<task>{TASK}) nothing",
     "kill": f"kill (?P<task>{TASK})",
     "ended": f"(?P<task>{TASK}) ended",
@@ -37,6 +45,9 @@ EFFECTS = {
     "vanished": f"call (?P<call>{NUMBER}) vanished",
     "forgotten": f"call (?P<call>{NUMBER}) forgotten",
     "phone": f"phone (?P<over>{PHONE}) (?P<state>free|connecting|connected (?P<to>{TASK})|hungup|slammed)",
+    "area": f"area (?P<task>{TASK}) {AREA} {STORE}",
+    "unarea": f"unarea (?P<task>{TASK}) (?P<base>{NUMBER})",
+    "write": f"write (?P<task>{TASK}) {RANGE} {STORE}",
 }
 OUTCOMES = {
     "refused or done": f"= (?P<code>{CODE})",
@@ -44,6 +55,7 @@ OUTCOMES = {
     "is received": f"= received (?P<call>{NUMBER}) (?P<method>{NUMBER}) (?P<args>{FIVE}) from (?P<label>{PHONE})",
     "is answered": f"= answer (?P<call>{NUMBER}) (?P<code>{CODE}) (?P<args>{FIVE})",
     "empty": "= EMPTY",
+    "is read": f"= bytes (?P<bytes>{BYTES})",
 }
 
 

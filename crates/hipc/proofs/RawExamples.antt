@@ -63,3 +63,28 @@ answering_registers = refl
 
 server_jumps_back : wanted (after (after answering got.Done) got.Done) ≡ ask.Receive
 server_jumps_back = refl
+
+-- area 4096 1 RW, poke 4096 0aff, peek 4096 2
+abbrev keeper : RawState
+keeper =
+    started
+    (op.Area (Number 4096) (Number 1) (Number 3)
+    ∷ op.Poke (Number 4096) (10 ∷ 255 ∷ [])
+    ∷ op.Peek (Number 4096) (Number 2)
+    ∷ [])
+
+keeper_makes_an_area : wanted keeper ≡ ask.AreaMake 4096 1 3
+keeper_makes_an_area = refl
+
+keeper_writes : wanted (after keeper got.Done) ≡ ask.Poke 4096 (10 ∷ 255 ∷ [])
+keeper_writes = refl
+
+abbrev looking : RawState
+looking = after (after keeper got.Done) got.Done
+
+keeper_reads : wanted looking ≡ ask.Peek 4096 2
+keeper_reads = refl
+
+-- bytes that are read go into no register
+read_bytes_are_told : after looking (got.Bytes (10 ∷ 255 ∷ [])) ≡ after looking got.Done
+read_bytes_are_told = refl

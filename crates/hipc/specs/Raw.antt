@@ -41,6 +41,15 @@ msg_of raw method args = record { method = value_of raw method; args = values_of
 abbrev pub reply_of : RawState → Value → List Value → Reply
 reply_of raw code args = record { code = record { 0 = value_of raw code }; args = values_of raw args }
 
+-- what an operation on memory asks; the others ask nothing of it
+abbrev pub memory_request_of : RawState → Op → Request
+memory_request_of raw (op.Area base pages rights) =
+    ask.AreaMake (value_of raw base) (value_of raw pages) (value_of raw rights)
+memory_request_of raw (op.Unarea base) = ask.AreaDrop (value_of raw base)
+memory_request_of raw (op.Poke at bytes) = ask.Poke (value_of raw at) bytes
+memory_request_of raw (op.Peek at count) = ask.Peek (value_of raw at) (value_of raw count)
+memory_request_of raw _ = ask.Nothing
+
 -- what an operation asks; setting a register and jumping ask nothing
 abbrev pub request_of : RawState → Op → Request
 request_of raw (op.Call phone method args) = ask.Call (value_of raw phone) (msg_of raw method args)
@@ -50,10 +59,7 @@ request_of raw (op.Forward call phone mode) = ask.Forward (value_of raw call) (v
 request_of raw (op.ForwardWith call phone mode method args) =
     ask.Forward (value_of raw call) (value_of raw phone) mode (Some (msg_of raw method args))
 request_of raw (op.Hangup phone) = ask.Hangup (value_of raw phone)
-request_of raw (op.Set register value) = ask.Nothing
-request_of raw (op.Jump to) = ask.Nothing
-request_of raw (op.JumpEqual left right to) = ask.Nothing
-request_of raw (op.JumpDiffer left right to) = ask.Nothing
+request_of raw other = memory_request_of raw other
 
 abbrev pub wanted_at : RawState → Option Op → Request
 wanted_at raw None = ask.Nothing
@@ -93,6 +99,7 @@ after_outcome raw (got.Received call msg label) =
 after_outcome raw (got.Answered call reply) =
     let answered = with_register (with_register (with_register raw 0 0) 9 call.0) 10 reply.code.0 in
     at_next (with_five answered 11 reply.args)
+after_outcome raw (got.Bytes bytes) = at_next (with_register raw 0 0)
 after_outcome raw got.Empty = raw
 
 -- setting a register and jumping do as they say, whatever the outcome is

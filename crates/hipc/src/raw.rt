@@ -2,7 +2,7 @@
 ghost use Rattle.std.specs.Prelude.{◌≡◌, ◌+◌, ◌^◌, ◌<◌, length, IfOk, IfSome};
 ghost use Rattle.std.specs.Option.{option_copied};
 ghost use Rattle.hipc.specs.Raw.{started, operation, value_in, value_of, values_of};
-ghost use Rattle.hipc.specs.Raw.{msg_of, reply_of, request_of};
+ghost use Rattle.hipc.specs.Raw.{msg_of, reply_of, memory_request_of, request_of};
 ghost use Rattle.hipc.specs.Raw.{with_register, with_five, at_next, at_place};
 ghost use Rattle.hipc.specs.Raw.{after_outcome, after_operation, wanted, after};
 
@@ -35,14 +35,11 @@ impl RawProgram {
     pub fn new(alloc: Global, ops: &[Op]) -> Result<RawProgram, NoMemory>
         ensures { IfOk result (λ raw. raw ≡ started ops.now) }
     {
-        match Vec::from_slice(alloc, ops) {
-            Ok(ops) => Ok(RawProgram {
-                ops,
-                place: 0,
-                registers: [0; 32],
-            }),
-            Err(_) => Err(NoMemory),
-        }
+        Ok(RawProgram {
+            ops: copies_of(alloc, ops)?,
+            place: 0,
+            registers: [0; 32],
+        })
     }
 
     /// What the next operation asks of the kernel.
@@ -61,7 +58,7 @@ impl RawProgram {
     {
         match self.operation() {
             Some(op) => {
-                let op = *op;
+                let op = op.copy();
                 self.do_operation(&op, got);
             }
             None => {}
@@ -150,9 +147,35 @@ impl RawProgram {
             Op::Hangup(phone) => Request::Hangup {
                 phone: self.value(*phone),
             },
-            Op::Set { .. } | Op::Jump(_) | Op::JumpEqual { .. } | Op::JumpDiffer { .. } => {
-                Request::Nothing
-            }
+            _ => self.memory_request(op),
+        }
+    }
+
+    fn memory_request(&self, op: &Op) -> Request
+        ensures { result ≡ memory_request_of self.now op.now }
+    {
+        match op {
+            Op::Area {
+                base,
+                pages,
+                rights,
+            } => Request::AreaMake {
+                base: self.value(*base),
+                pages: self.value(*pages),
+                rights: self.value(*rights),
+            },
+            Op::Unarea(base) => Request::AreaDrop {
+                base: self.value(*base),
+            },
+            Op::Poke { at, bytes } => Request::Poke {
+                at: self.value(*at),
+                bytes: bytes.copy(),
+            },
+            Op::Peek { at, count } => Request::Peek {
+                at: self.value(*at),
+                count: self.value(*count),
+            },
+            _ => Request::Nothing,
         }
     }
 
@@ -190,7 +213,7 @@ impl RawProgram {
         ensures { self.new ≡ after_outcome self.old got.now }
     {
         match got {
-            Outcome::Done => {
+            Outcome::Done | Outcome::Bytes(_) => {
                 self.set(0, 0);
                 self.move_on();
             }
@@ -255,6 +278,17 @@ impl RawProgram {
     {
         self.place = to as usize;
     }
+}
+
+/// Each operation once more.
+fn copies_of(alloc: Global, ops: &[Op]) -> Result<Vec<Op>, NoMemory>
+    ensures { IfOk result (λ copies. copies.items ≡ ops.now) }
+{
+    let mut copies = Vec::new(alloc);
+    for op in ops {
+        copies.push(op.copy())?;
+    }
+    Ok(copies)
 }
 
 fn value_in(registers: &[u64], value: Value) -> u64

@@ -1,6 +1,7 @@
 //! Replays the events of a schedule on the tasks of a script.
 ghost use Rattle.std.specs.Prelude.{◌≡◌, ◌+◌, ◌^◌, ◌<◌, ◌≤◌, ◌++◌, ◌∷◌, [], true, Some, map, length};
 ghost use Rattle.std.specs.Prelude.{All, IfOk, OnOk, OnErr, IfSome, option_map};
+ghost use Rattle.std.specs.Option.{option_copied};
 ghost use Rattle.cleanup.specs.State.{is_alive};
 ghost use Rattle.kernel_core.specs.History.{served_entries};
 ghost use Rattle.kernel_core.specs.Kernel.{serve};
@@ -82,38 +83,40 @@ impl Replay {
         ensures entries { OnOk result (Tells out.old out.new (step self.old task).entries) }
         ensures events { OnOk result (self.new.kernel.events ≤ self.old.kernel.events + 1) }
     {
-        match self.request(task) {
-            Some(request) => self.step_alive(task, &request, out),
+        match self.program(task) {
+            Some(program) => {
+                let (told, request) = (program.next(), program.next());
+                self.step_alive(task, told, &request, out)
+            }
             None => tell_gone(task, out),
         }
     }
 
-    /// What the program of a task that has not ended asks.
-    fn request(&self, task: TaskNo) -> Option<Request>
-        ensures { result ≡ option_map wanted (program_at self.now task) }
+    /// The program of a task that has not ended.
+    fn program(&self, task: TaskNo) -> Option<&RawProgram>
+        ensures { option_copied result ≡ program_at self.now task }
     {
         if !self.kernel.alive(task) {
             return None;
         }
-        match self.programs.get((task.0 as usize).saturating_sub(1)) {
-            Some(program) => Some(program.next()),
-            None => None,
-        }
+        self.programs.get((task.0 as usize).saturating_sub(1))
     }
 
     fn step_alive(
         &mut self,
         task: TaskNo,
+        told: Request,
         request: &Request,
         out: &mut Trace,
     ) -> Result<(), NoMemory>
         requires few_events { self.old.kernel.events < 2 ^ 24 }
         requires request { option_map wanted (program_at self.old task) ≡ Some request.now }
+        requires told { told ≡ request.now }
         ensures state { OnOk result (self.new ≡ (step self.old task).state) }
         ensures entries { OnOk result (Tells out.old out.new (step self.old task).entries) }
         ensures events { OnOk result (self.new.kernel.events ≤ self.old.kernel.events + 1) }
     {
-        match serve_request(&mut self.kernel, task, request, out) {
+        match serve_request(&mut self.kernel, task, told, request, out) {
             Ok(outcome) => {
                 let program = &mut self.programs[(task.0 as usize).saturating_sub(1)];
                 program.take(&outcome);
@@ -146,20 +149,29 @@ impl Replay {
         if !self.kernel.alive(task) {
             return tell_gone(task, out);
         }
-        match serve_request(&mut self.kernel, task, &Request::Hangup { phone }, out) {
+        let told = Request::Hangup { phone };
+        match serve_request(
+            &mut self.kernel,
+            task,
+            told,
+            &Request::Hangup { phone },
+            out,
+        ) {
             Ok(_) => Ok(()),
             Err(NoMemory) => Err(NoMemory),
         }
     }
 }
 
-/// The kernel serves a request, between its head and its outcome.
+/// The kernel serves a request, between its head, which tells the request, and its outcome.
 fn serve_request(
     kernel: &mut Kernel,
     task: TaskNo,
+    told: Request,
     request: &Request,
     out: &mut Trace,
 ) -> Result<Outcome, NoMemory>
+    requires told { told ≡ request.now }
     requires alive { is_alive kernel.old task ≡ true }
     requires few_events { kernel.old.events < 2 ^ 24 }
     ensures state { OnOk result (kernel.new ≡ (serve kernel.old task request.now).state) }
@@ -170,10 +182,10 @@ fn serve_request(
     ensures events { OnOk result (kernel.new.events ≡ kernel.old.events + 1) }
 {
     out.reserve(1)?;
-    out.push(Entry::Head(task, *request));
+    out.push(Entry::Head(task, told));
     let outcome = kernel.serve(task, request, out)?;
     out.reserve(1)?;
-    out.push(Entry::Outcome(outcome));
+    out.push(Entry::Outcome(outcome.copy()));
     Ok(outcome)
 }
 

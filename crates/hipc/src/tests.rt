@@ -67,6 +67,68 @@ t2 hangup 0\n\
 t3 nothing\n\
 \x20 = EOK\n";
 
+// Task a writes two bytes into the memory of b, and reads three from there.
+const DATA_SCRIPT: &[u8] = b"task a raw\n\
+area 4096 1 RW\n\
+poke 4096 0aff\n\
+call 0 DATA_WRITE 4096 2\n\
+call 0 DATA_READ 4096 3\n\
+receive\n\
+receive\n\
+peek 4096 3\n\
+task b raw\n\
+area 8192 1 RW\n\
+receive\n\
+answer r2 EOK 8193 2\n\
+receive\n\
+answer r2 EOK 8192 3\n\
+wire a 0 b\n";
+
+const DATA_SCHEDULE: &[u8] = b"step a x 4\nstep b x 5\nstep a x 3\nkill a\n";
+
+const DATA_TEXT: &[u8] = b"t1 area 4096 1 3\n\
+\x20 area t1 4096 1 3 store 1\n\
+\x20 = EOK\n\
+t1 poke 4096 0aff\n\
+\x20 write t1 4096 2 store 1\n\
+\x20 = EOK\n\
+t1 call 0 3 4096 2 0 0 0\n\
+\x20 call 1 accepted t1.0 method 3 to t2\n\
+\x20 = call 1\n\
+t1 call 0 4 4096 3 0 0 0\n\
+\x20 call 2 accepted t1.0 method 4 to t2\n\
+\x20 = call 2\n\
+t2 area 8192 1 3\n\
+\x20 area t2 8192 1 3 store 2\n\
+\x20 = EOK\n\
+t2 receive\n\
+\x20 call 1 received t2\n\
+\x20 = received 1 3 4096 2 0 0 0 from t1.0\n\
+t2 answer 1 EOK 8193 2 0 0 0\n\
+\x20 call 1 answered EOK 8193 2 0 0 0 by t2\n\
+\x20 write t2 8193 2 store 2\n\
+\x20 = EOK\n\
+t2 receive\n\
+\x20 call 2 received t2\n\
+\x20 = received 2 4 4096 3 0 0 0 from t1.0\n\
+t2 answer 2 EOK 8192 3 0 0 0\n\
+\x20 call 2 answered EOK 8192 3 0 0 0 by t2\n\
+\x20 = EOK\n\
+t1 receive\n\
+\x20 call 1 delivered t1\n\
+\x20 = answer 1 EOK 8193 2 0 0 0\n\
+t1 receive\n\
+\x20 call 2 delivered t1\n\
+\x20 write t1 4096 3 store 1\n\
+\x20 = answer 2 EOK 8192 3 0 0 0\n\
+t1 peek 4096 3\n\
+\x20 = bytes 000aff\n\
+kill t1\n\
+\x20 call 3 accepted t1.0 method 0 to t2\n\
+\x20 phone t1.0 hungup\n\
+\x20 call 3 forgotten\n\
+\x20 unarea t1 4096\n";
+
 const USAGE: &[u8] = b"usage: hipc replay SCRIPT SCHEDULE\n";
 
 fn words(alloc: Global, line: &[&str]) -> Result<Vec<String>, AllocError> {
@@ -106,6 +168,17 @@ fn a_call_is_passed_on(rt: HostRuntime) -> Result<(), Fail> {
         Status::Done
     );
     assert_eq!(rt; sink.written(), PASSING_TEXT);
+    Ok(())
+}
+
+#[test]
+fn bytes_go_from_task_to_task(rt: HostRuntime) -> Result<(), Fail> {
+    let mut sink = MemSink::new(rt.alloc(), 2000)?;
+    assert_eq!(rt;
+        replay_bytes(rt.alloc(), DATA_SCRIPT, DATA_SCHEDULE, &mut sink),
+        Status::Done
+    );
+    assert_eq!(rt; sink.written(), DATA_TEXT);
     Ok(())
 }
 

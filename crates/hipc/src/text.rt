@@ -2,9 +2,64 @@
 ghost use Rattle.std.specs.Prelude.{◌≡◌, ◌++◌, IfOk, OnOk, OnErr};
 ghost use Rattle.hipc.specs.Text.{text_of_entry, text_of};
 
-use ipc_ids::{CallNo, Entry, Msg, NoMemory, Outcome, PhoneState, Request, TaskNo};
+use ipc_ids::{CallNo, Entry, Msg, NoMemory, Outcome, PhoneState, Request, StoreNo, TaskNo};
 use std::alloc::Global;
 use std::fmt;
+
+/// The two hexadecimal digits of a byte.
+#[derive(Clone, Copy)]
+struct Byte(u8);
+
+#[tactic(auto, unfolding(crate::specs::Text::byte_text))]
+impl fmt::Display for Byte {
+    ghost use Rattle.std.specs.Prelude.{Some};
+    ghost use Rattle.hipc.specs.Text.{byte_text};
+
+    ghost output = { λ byte. Some (byte_text byte.0) };
+
+    fn fmt<W: fmt::Write>(&self, f: &mut fmt::Formatter<W>) -> fmt::Result {
+        let (high, low) = (self.0 / 16, self.0 % 16);
+        write!(f, "{high:x}{low:x}")
+    }
+}
+
+/// The digits of bytes, one after the other.
+#[derive(Clone, Copy)]
+struct Digits<'a>(&'a [u8]);
+
+impl<'a> fmt::Display for Digits<'a> {
+    ghost use Rattle.std.specs.Prelude.{Some, flat_map};
+    ghost use Rattle.hipc.specs.Text.{byte_text};
+
+    ghost output = { λ digits. Some (flat_map byte_text digits.0.now) };
+
+    fn fmt<W: fmt::Write>(&self, f: &mut fmt::Formatter<W>) -> fmt::Result {
+        for byte in self.0 {
+            let byte = Byte(*byte);
+            write!(f, "{byte}")?;
+        }
+        Ok(())
+    }
+}
+
+/// The digits of bytes; a dash for none.
+#[derive(Clone, Copy)]
+struct Bytes<'a>(&'a [u8]);
+
+impl<'a> fmt::Display for Bytes<'a> {
+    ghost use Rattle.std.specs.Prelude.{Some};
+    ghost use Rattle.hipc.specs.Text.{bytes_text};
+
+    ghost output = { λ bytes. Some (bytes_text bytes.0.now) };
+
+    fn fmt<W: fmt::Write>(&self, f: &mut fmt::Formatter<W>) -> fmt::Result {
+        if self.0.is_empty() {
+            f.write_str("-")
+        } else {
+            write!(f, "{}", Digits(self.0))
+        }
+    }
+}
 
 /// A change of a message, after a space; nothing where there is none.
 #[derive(Clone, Copy)]
@@ -26,13 +81,13 @@ impl fmt::Display for Change {
 
 /// A request without its task.
 #[derive(Clone, Copy)]
-struct Asked(Request);
+struct Asked<'a>(&'a Request);
 
-impl fmt::Display for Asked {
+impl<'a> fmt::Display for Asked<'a> {
     ghost use Rattle.std.specs.Prelude.{Some};
     ghost use Rattle.hipc.specs.Text.{request_text};
 
-    ghost output = { λ asked. Some (request_text asked.0) };
+    ghost output = { λ asked. Some (request_text asked.0.now) };
 
     fn fmt<W: fmt::Write>(&self, f: &mut fmt::Formatter<W>) -> fmt::Result {
         match self.0 {
@@ -45,10 +100,21 @@ impl fmt::Display for Asked {
                 mode,
                 change,
             } => {
-                let change = Change(change);
+                let change = Change(*change);
                 write!(f, "forward {call} {phone} {mode}{change}")
             }
             Request::Hangup { phone } => write!(f, "hangup {phone}"),
+            Request::AreaMake {
+                base,
+                pages,
+                rights,
+            } => write!(f, "area {base} {pages} {rights}"),
+            Request::AreaDrop { base } => write!(f, "unarea {base}"),
+            Request::Poke { at, bytes } => {
+                let bytes = Bytes(bytes.as_slice());
+                write!(f, "poke {at} {bytes}")
+            }
+            Request::Peek { at, count } => write!(f, "peek {at} {count}"),
             Request::Nothing => f.write_str("nothing"),
         }
     }
@@ -56,13 +122,13 @@ impl fmt::Display for Asked {
 
 /// An outcome without its sign.
 #[derive(Clone, Copy)]
-struct Told(Outcome);
+struct Told<'a>(&'a Outcome);
 
-impl fmt::Display for Told {
+impl<'a> fmt::Display for Told<'a> {
     ghost use Rattle.std.specs.Prelude.{Some};
     ghost use Rattle.hipc.specs.Text.{outcome_text};
 
-    ghost output = { λ told. Some (outcome_text told.0) };
+    ghost output = { λ told. Some (outcome_text told.0.now) };
 
     fn fmt<W: fmt::Write>(&self, f: &mut fmt::Formatter<W>) -> fmt::Result {
         match self.0 {
@@ -79,6 +145,10 @@ impl fmt::Display for Told {
                 reply,
             } => write!(f, "answer {call} {reply}"),
             Outcome::Empty => f.write_str("EMPTY"),
+            Outcome::Bytes(bytes) => {
+                let bytes = Bytes(bytes.as_slice());
+                write!(f, "bytes {bytes}")
+            }
         }
     }
 }
@@ -117,7 +187,7 @@ impl fmt::Display for OnCall {
 
     fn fmt<W: fmt::Write>(&self, f: &mut fmt::Formatter<W>) -> fmt::Result {
         let number = self.0.0;
-        write!(f, "  call {number}")
+        write!(f, "call {number}")
     }
 }
 
@@ -159,74 +229,134 @@ impl fmt::Display for Answerer {
     }
 }
 
-/// The line of an entry.
+/// A number after a space.
 #[derive(Clone, Copy)]
-struct Line(Entry);
+struct Spaced(u64);
 
-impl fmt::Display for Line {
+impl fmt::Display for Spaced {
     ghost use Rattle.std.specs.Prelude.{Some};
-    ghost use Rattle.hipc.specs.Text.{text_of_entry};
+    ghost use Rattle.ipc_ids.specs.Text.{spaced_text};
 
-    ghost output = { λ line. Some (text_of_entry line.0) };
+    ghost output = { λ number. Some (spaced_text number.0) };
+
+    fn fmt<W: fmt::Write>(&self, f: &mut fmt::Formatter<W>) -> fmt::Result {
+        let number = self.0;
+        write!(f, " {number}")
+    }
+}
+
+/// The store of bytes that an area stands over.
+#[derive(Clone, Copy)]
+struct Over(StoreNo);
+
+#[tactic(auto, unfolding(crate::specs::Text::store_text))]
+impl fmt::Display for Over {
+    ghost use Rattle.std.specs.Prelude.{Some};
+    ghost use Rattle.hipc.specs.Text.{store_text};
+
+    ghost output = { λ over. Some (store_text over.0) };
+
+    fn fmt<W: fmt::Write>(&self, f: &mut fmt::Formatter<W>) -> fmt::Result {
+        let number = self.0.0;
+        write!(f, " store {number}")
+    }
+}
+
+/// What happened to a call; nothing for another entry.
+#[derive(Clone, Copy)]
+struct CallEffect<'a>(&'a Entry);
+
+impl<'a> fmt::Display for CallEffect<'a> {
+    ghost use Rattle.std.specs.Prelude.{Some};
+    ghost use Rattle.hipc.specs.Text.{call_effect_text};
+
+    ghost output = { λ effect. Some (call_effect_text effect.0.now) };
 
     fn fmt<W: fmt::Write>(&self, f: &mut fmt::Formatter<W>) -> fmt::Result {
         match self.0 {
-            Entry::Head(task, request) => {
-                let asked = Asked(request);
-                write!(f, "{task} {asked}\n")
-            }
-            Entry::Kill(task) => write!(f, "kill {task}\n"),
-            Entry::Gone(task) => write!(f, "{task} ended\n"),
             Entry::Accepted {
                 call,
                 from,
                 method,
                 to,
             } => {
-                let (on, way) = (OnCall(call), Way(to));
-                write!(f, "{on} accepted {from} method {method}{way}\n")
+                let (on, way) = (OnCall(*call), Way(*to));
+                write!(f, "{on} accepted {from} method {method}{way}")
             }
-            Entry::Received { call, by } => {
-                let on = OnCall(call);
-                write!(f, "{on} received {by}\n")
-            }
+            Entry::Received { call, by } => write!(f, "{} received {by}", OnCall(*call)),
             Entry::Forwarded {
                 call,
                 by,
                 to,
                 label,
             } => {
-                let (on, way) = (OnCall(call), Way(Some(to)));
-                write!(f, "{on} forwarded {by}{way} label {label}\n")
+                let (on, way) = (OnCall(*call), Way(Some(*to)));
+                write!(f, "{on} forwarded {by}{way} label {label}")
             }
             Entry::Answered { call, reply, by } => {
-                let (on, answerer) = (OnCall(call), Answerer(by));
-                write!(f, "{on} answered {reply}{answerer}\n")
+                write!(f, "{} answered {reply}{}", OnCall(*call), Answerer(*by))
             }
-            Entry::Vanished(call) => {
-                let on = OnCall(call);
-                write!(f, "{on} vanished\n")
+            Entry::Vanished(call) => write!(f, "{} vanished", OnCall(*call)),
+            Entry::Delivered { call, to } => write!(f, "{} delivered {to}", OnCall(*call)),
+            Entry::Dropped { call, at } => write!(f, "{} dropped {at}", OnCall(*call)),
+            Entry::Forgotten(call) => write!(f, "{} forgotten", OnCall(*call)),
+            _ => Ok(()),
+        }
+    }
+}
+
+/// What happened; nothing for a head or an outcome.
+#[derive(Clone, Copy)]
+struct Effect<'a>(&'a Entry);
+
+impl<'a> fmt::Display for Effect<'a> {
+    ghost use Rattle.std.specs.Prelude.{Some};
+    ghost use Rattle.hipc.specs.Text.{effect_text};
+
+    ghost output = { λ effect. Some (effect_text effect.0.now) };
+
+    fn fmt<W: fmt::Write>(&self, f: &mut fmt::Formatter<W>) -> fmt::Result {
+        match self.0 {
+            Entry::PhoneIs { phone, state } => write!(f, "phone {phone} {}", Lead(*state)),
+            Entry::AreaMade {
+                task,
+                base,
+                pages,
+                rights,
+                store,
+            } => {
+                let (base, pages, rights) = (Spaced(*base), Spaced(*pages), Spaced(*rights));
+                write!(f, "area {task}{base}{pages}{rights}{}", Over(*store))
             }
-            Entry::Delivered { call, to } => {
-                let on = OnCall(call);
-                write!(f, "{on} delivered {to}\n")
-            }
-            Entry::Dropped { call, at } => {
-                let on = OnCall(call);
-                write!(f, "{on} dropped {at}\n")
-            }
-            Entry::Forgotten(call) => {
-                let on = OnCall(call);
-                write!(f, "{on} forgotten\n")
-            }
-            Entry::PhoneIs { phone, state } => {
-                let lead = Lead(state);
-                write!(f, "  phone {phone} {lead}\n")
-            }
-            Entry::Outcome(outcome) => {
-                let told = Told(outcome);
-                write!(f, "  = {told}\n")
-            }
+            Entry::AreaGone { task, base } => write!(f, "unarea {task} {base}"),
+            Entry::Wrote {
+                task,
+                at,
+                count,
+                store,
+            } => write!(f, "write {task} {at} {count}{}", Over(*store)),
+            on_call => write!(f, "{}", CallEffect(on_call)),
+        }
+    }
+}
+
+/// The line of an entry.
+#[derive(Clone, Copy)]
+struct Line<'a>(&'a Entry);
+
+impl<'a> fmt::Display for Line<'a> {
+    ghost use Rattle.std.specs.Prelude.{Some};
+    ghost use Rattle.hipc.specs.Text.{text_of_entry};
+
+    ghost output = { λ line. Some (text_of_entry line.0.now) };
+
+    fn fmt<W: fmt::Write>(&self, f: &mut fmt::Formatter<W>) -> fmt::Result {
+        match self.0 {
+            Entry::Head(task, request) => write!(f, "{task} {}\n", Asked(request)),
+            Entry::Kill(task) => write!(f, "kill {task}\n"),
+            Entry::Gone(task) => write!(f, "{task} ended\n"),
+            Entry::Outcome(outcome) => write!(f, "  = {}\n", Told(outcome)),
+            effect => write!(f, "  {}\n", Effect(effect)),
         }
     }
 }
@@ -240,7 +370,7 @@ pub fn entry_text(alloc: Global, entry: &Entry, into: &mut Vec<u8>) -> Result<()
     ensures ok { OnOk result (into.new.items ≡ into.old.items ++ text_of_entry entry.now) }
     ensures err { OnErr result (into.new.items ≡ into.old.items) }
 {
-    let line = Line(*entry);
+    let line = Line(entry);
     let text = format!(in alloc; "{line}")?;
     into.extend_from_slice(text.as_bytes())?;
     Ok(())
@@ -264,7 +394,7 @@ pub fn entries_text(alloc: Global, entries: &[Entry]) -> Result<Vec<u8>, NoMemor
 #[cfg(test)]
 mod tests {
     use super::*;
-    use ipc_ids::{Code, Label, Mode, PhoneNo, Reply};
+    use ipc_ids::{Code, Label, Mode, PhoneNo, Reply, Short};
     use std::test::Fail;
 
     const MSG: Msg = Msg {
@@ -314,6 +444,7 @@ mod tests {
             ),
             Entry::Head(TaskNo(64), Request::Hangup { phone: 9 }),
             Entry::Head(TaskNo(1), Request::Nothing),
+            Entry::Kill(TaskNo(2)),
             Entry::Gone(TaskNo(3)),
         ];
         let text = entries_text(rt.alloc(), &entries)?;
@@ -324,7 +455,62 @@ mod tests {
             t2 forward 1 0 route 512 7 0 0 0 18446744073709551615\n\
             t64 hangup 9\n\
             t1 nothing\n\
+            kill t2\n\
             t3 ended\n";
+        assert!(rt; text.as_slice() == expected.as_bytes());
+        Ok(())
+    }
+
+    #[test]
+    fn heads_of_memory_have_addresses_and_bytes(rt: HostRuntime) -> Result<(), Fail> {
+        let task = TaskNo(1);
+        let (at, four) = (4096, Short::from_slice(&[0, 10, 171, 255]));
+        let bytes = four.expect(&rt, "four bytes");
+        let entries = [
+            Entry::Head(
+                task,
+                Request::AreaMake {
+                    base: 4096,
+                    pages: 16,
+                    rights: 3,
+                },
+            ),
+            Entry::Head(task, Request::AreaDrop { base: 4096 }),
+            Entry::Head(task, Request::Poke { at, bytes }),
+            Entry::Head(task, Request::Peek { at, count: 64 }),
+        ];
+        let text = entries_text(rt.alloc(), &entries)?;
+        let expected = "t1 area 4096 16 3\n\
+            t1 unarea 4096\n\
+            t1 poke 4096 000aabff\n\
+            t1 peek 4096 64\n";
+        assert!(rt; text.as_slice() == expected.as_bytes());
+        Ok(())
+    }
+
+    #[test]
+    fn effects_on_memory_name_the_store(rt: HostRuntime) -> Result<(), Fail> {
+        let task = TaskNo(2);
+        let entries = [
+            Entry::AreaMade {
+                task,
+                base: 8192,
+                pages: 1,
+                rights: 2,
+                store: StoreNo(7),
+            },
+            Entry::AreaGone { task, base: 8192 },
+            Entry::Wrote {
+                task,
+                at: 8200,
+                count: 4088,
+                store: StoreNo(7),
+            },
+        ];
+        let text = entries_text(rt.alloc(), &entries)?;
+        let expected = "  area t2 8192 1 2 store 7\n  \
+            unarea t2 8192\n  \
+            write t2 8200 4088 store 7\n";
         assert!(rt; text.as_slice() == expected.as_bytes());
         Ok(())
     }
@@ -373,6 +559,8 @@ mod tests {
                 call,
                 at: TaskNo(1),
             },
+            Entry::Vanished(call),
+            Entry::Forgotten(call),
         ];
         let text = entries_text(rt.alloc(), &entries)?;
         let expected = "  call 1 accepted t1.63 method 512 to t2\n  \
@@ -382,7 +570,9 @@ mod tests {
             call 1 answered EOK 8 0 0 0 0 by t2\n  \
             call 1 answered ELIMIT 0 0 0 0 0 by kernel\n  \
             call 1 delivered t1\n  \
-            call 1 dropped t1\n";
+            call 1 dropped t1\n  \
+            call 1 vanished\n  \
+            call 1 forgotten\n";
         assert!(rt; text.as_slice() == expected.as_bytes());
         Ok(())
     }
@@ -416,6 +606,7 @@ mod tests {
     #[test]
     fn outcomes_stand_after_a_sign(rt: HostRuntime) -> Result<(), Fail> {
         let call = CallNo(1);
+        let (none, two) = (Short::from_slice(&[]), Short::from_slice(&[0, 160]));
         let outcomes = [
             Outcome::Done,
             Outcome::Refused(Code::ENOENT),
@@ -428,6 +619,8 @@ mod tests {
             },
             Outcome::Answered { call, reply: REPLY },
             Outcome::Empty,
+            Outcome::Bytes(none.expect(&rt, "no bytes")),
+            Outcome::Bytes(two.expect(&rt, "two bytes")),
         ];
         let mut text = Vec::new(rt.alloc());
         for outcome in outcomes {
@@ -439,7 +632,9 @@ mod tests {
             = call 1\n  \
             = received 1 512 7 0 0 0 18446744073709551615 from t1.63\n  \
             = answer 1 EOK 8 0 0 0 0\n  \
-            = EMPTY\n";
+            = EMPTY\n  \
+            = bytes -\n  \
+            = bytes 00a0\n";
         assert!(rt; text.as_slice() == expected.as_bytes());
         Ok(())
     }

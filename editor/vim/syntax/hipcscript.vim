@@ -7,10 +7,11 @@ syntax iskeyword @,48-57,_
 syntax match hipcComment /#.*$/
 syntax match hipcBadByte /[^\x20-\x7e\t]/
 syntax match hipcStructure /^\s*\zs\(task\|wire\)\>/
-syntax match hipcOperation /^\s*\zs\(call\|receive\|answer\|forward\|hangup\|set\|jump\|jumpeq\|jumpne\)\>/
+syntax match hipcOperation /^\s*\zs\(call\|receive\|answer\|forward\|hangup\|area\|unarea\|poke\|peek\|set\|jump\|jumpeq\|jumpne\)\>/
 syntax keyword hipcKind raw plain route
 syntax match hipcRegister /\<r\([12]\?[0-9]\|3[01]\)\>/
 syntax match hipcNumber /\<\([0-9]\{1,20\}\|0x[0-9A-Fa-f]\{1,16\}\)\>/
+syntax match hipcBytes /\(^\s*poke\s\+\S\+\s\+\)\@<=\(\x\x\)\{1,64\}\ze\(\s\|#\|$\)/
 syntax keyword hipcMethod PHONE_HUNGUP CONNECT_TO_ME CONNECT_ME_TO DATA_WRITE DATA_READ SHARE_OUT SHARE_IN
 syntax keyword hipcCode EOK ENOENT EPERM EEXIST EINVAL ELIMIT EHANGUP EFORWARD EBUSY ENOMEM
 syntax keyword hipcRights R W RW
@@ -22,6 +23,7 @@ highlight default link hipcOperation Statement
 highlight default link hipcKind Type
 highlight default link hipcRegister Identifier
 highlight default link hipcNumber Number
+highlight default link hipcBytes String
 highlight default link hipcMethod Constant
 highlight default link hipcCode Constant
 highlight default link hipcRights Constant
