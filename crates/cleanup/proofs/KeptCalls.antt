@@ -9,7 +9,7 @@ use Rattle.ipc_ids.specs.declared.message.Msg.{Msg}
 use Rattle.ipc_ids.specs.declared.message.Reply.{Reply}
 use Rattle.ipc_ids.specs.declared.message.PhoneState.{PhoneState}
 use Rattle.ipc_ids.specs.declared.methods.MethodKind.{MethodKind}
-use Rattle.ipc_ids.specs.declared.methods.MethodKind.TheVariants.{PhoneHungUp, ConnectToMe, ConnectMeTo, DataWrite, DataRead, NotBuilt, User}
+use Rattle.ipc_ids.specs.declared.methods.MethodKind.TheVariants.{PhoneHungUp, ConnectToMe, ConnectMeTo, DataWrite, DataRead, ShareOut, ShareIn, NotBuilt, User}
 use Rattle.ipc_ids.specs.Methods.{kind_of}
 use Rattle.call_slab.specs.declared.call.Call.{Call}
 use Rattle.call_slab.specs.declared.call.Place.{Place}
@@ -81,6 +81,8 @@ declined_keeps k c reply caller pending = by_kind (kind_of c.request.method) whe
   by_kind ConnectMeTo = asked c.place pending (accepts reply.code)
   by_kind DataWrite = inr tt
   by_kind DataRead = inr tt
+  by_kind ShareOut = inr tt
+  by_kind ShareIn = inr tt
   by_kind NotBuilt = inr tt
   by_kind User = inr tt
 
@@ -98,6 +100,8 @@ passed_keeps k c msg label to pending = by_kind (kind_of c.request.method) where
   by_kind ConnectMeTo = inl (asked c.place pending)
   by_kind DataWrite = inr tt
   by_kind DataRead = inr tt
+  by_kind ShareOut = inr tt
+  by_kind ShareIn = inr tt
   by_kind NotBuilt = inr tt
   by_kind User = inr tt
 
@@ -113,6 +117,8 @@ unreserved_of ConnectMeTo from place code = by_test (is_accepted place code) whe
   by_test false = refl
 unreserved_of DataWrite from place code = refl
 unreserved_of DataRead from place code = refl
+unreserved_of ShareOut from place code = refl
+unreserved_of ShareIn from place code = refl
 unreserved_of NotBuilt from place code = refl
 unreserved_of User from place code = refl
 
@@ -149,6 +155,8 @@ lets_go ConnectToMe from before after code reserved not = inr (refl, λ from' co
 lets_go ConnectMeTo from before after code reserved not = inl refl
 lets_go DataWrite from before after code reserved not = inl refl
 lets_go DataRead from before after code reserved not = inl refl
+lets_go ShareOut from before after code reserved not = inl refl
+lets_go ShareIn from before after code reserved not = inl refl
 lets_go NotBuilt from before after code reserved not = inl refl
 lets_go User from before after code reserved not = inl refl
 

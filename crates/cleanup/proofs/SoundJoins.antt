@@ -10,7 +10,7 @@ use Rattle.ipc_ids.specs.declared.message.Reply.{Reply}
 use Rattle.ipc_ids.specs.declared.message.PhoneState.{PhoneState}
 use Rattle.ipc_ids.specs.declared.message.PhoneState.TheVariants.{Free, Connecting, Connected}
 use Rattle.ipc_ids.specs.declared.methods.MethodKind.{MethodKind}
-use Rattle.ipc_ids.specs.declared.methods.MethodKind.TheVariants.{PhoneHungUp, ConnectToMe, ConnectMeTo, DataWrite, DataRead, NotBuilt, User}
+use Rattle.ipc_ids.specs.declared.methods.MethodKind.TheVariants.{PhoneHungUp, ConnectToMe, ConnectMeTo, DataWrite, DataRead, ShareOut, ShareIn, NotBuilt, User}
 use Rattle.ipc_ids.specs.Methods.{kind_of}
 use Rattle.call_slab.specs.declared.call.Call.{Call}
 use Rattle.call_slab.specs.declared.call.Place.{Place}
@@ -167,6 +167,8 @@ module _ (from : TaskNo) (old new : Place) (was code : Code) (reserved : Option 
   left_keeps ConnectMeTo = inr (refl, rw (left_unaccepted new code left, pending_unaccepted old was pending) refl)
   left_keeps DataWrite = inl (refl, refl)
   left_keeps DataRead = inl (refl, refl)
+  left_keeps ShareOut = inl (refl, refl)
+  left_keeps ShareIn = inl (refl, refl)
   left_keeps NotBuilt = inl (refl, refl)
   left_keeps User = inl (refl, refl)
 
@@ -176,6 +178,8 @@ module _ (from : TaskNo) (old new : Place) (was code : Code) (reserved : Option 
   left_owner ConnectMeTo owner l is = owner l is
   left_owner DataWrite owner l is = owner l is
   left_owner DataRead owner l is = owner l is
+  left_owner ShareOut owner l is = owner l is
+  left_owner ShareIn owner l is = owner l is
   left_owner NotBuilt owner l is = owner l is
   left_owner User owner l is = owner l is
 
@@ -185,6 +189,8 @@ module _ (from : TaskNo) (old new : Place) (was code : Code) (reserved : Option 
   left_needed ConnectMeTo needed needs = needed (pending_open old was pending)
   left_needed DataWrite needed needs = absurd needs
   left_needed DataRead needed needs = absurd needs
+  left_needed ShareOut needed needs = absurd needs
+  left_needed ShareIn needed needs = absurd needs
   left_needed NotBuilt needed needs = absurd needs
   left_needed User needed needs = absurd needs
 
@@ -237,6 +243,8 @@ answered_owner ConnectToMe from place u l h = tt
 answered_owner ConnectMeTo from place u l h = h
 answered_owner DataWrite from place u l h = h
 answered_owner DataRead from place u l h = h
+answered_owner ShareOut from place u l h = h
+answered_owner ShareIn from place u l h = h
 answered_owner NotBuilt from place u l h = h
 answered_owner User from place u l h = h
 
@@ -246,6 +254,8 @@ pending_needs ConnectToMe old new was code pending needs = needs
 pending_needs ConnectMeTo old new was code pending needs = pending_open old was pending
 pending_needs DataWrite old new was code pending needs = needs
 pending_needs DataRead old new was code pending needs = needs
+pending_needs ShareOut old new was code pending needs = needs
+pending_needs ShareIn old new was code pending needs = needs
 pending_needs NotBuilt old new was code pending needs = needs
 pending_needs User old new was code pending needs = needs
 
@@ -303,6 +313,8 @@ IsPlain ConnectToMe = ⊥
 IsPlain ConnectMeTo = ⊥
 IsPlain DataWrite = ⊤
 IsPlain DataRead = ⊤
+IsPlain ShareOut = ⊤
+IsPlain ShareIn = ⊤
 IsPlain NotBuilt = ⊤
 IsPlain User = ⊤
 
@@ -312,6 +324,8 @@ plain_keeps ConnectToMe from place code reserved plain = absurd plain
 plain_keeps ConnectMeTo from place code reserved plain = absurd plain
 plain_keeps DataWrite from place code reserved plain = refl
 plain_keeps DataRead from place code reserved plain = refl
+plain_keeps ShareOut from place code reserved plain = refl
+plain_keeps ShareIn from place code reserved plain = refl
 plain_keeps NotBuilt from place code reserved plain = refl
 plain_keeps User from place code reserved plain = refl
 
@@ -397,6 +411,8 @@ received_owner ConnectToMe from place t l not h = absurd (not refl)
 received_owner ConnectMeTo from place t l not h = h
 received_owner DataWrite from place t l not h = h
 received_owner DataRead from place t l not h = h
+received_owner ShareOut from place t l not h = h
+received_owner ShareIn from place t l not h = h
 received_owner NotBuilt from place t l not h = h
 received_owner User from place t l not h = h
 
@@ -406,6 +422,8 @@ received_keeps ConnectToMe from place code reserved t not pending = absurd (not 
 received_keeps ConnectMeTo from place code reserved t not pending = rw (pending_unaccepted place code pending) refl
 received_keeps DataWrite from place code reserved t not pending = refl
 received_keeps DataRead from place code reserved t not pending = refl
+received_keeps ShareOut from place code reserved t not pending = refl
+received_keeps ShareIn from place code reserved t not pending = refl
 received_keeps NotBuilt from place code reserved t not pending = refl
 received_keeps User from place code reserved t not pending = refl
 

@@ -9,7 +9,7 @@ use Rattle.ipc_ids.specs.declared.numbers.Label.{Label}
 use Rattle.ipc_ids.specs.declared.message.PhoneState.{PhoneState}
 use Rattle.ipc_ids.specs.declared.message.PhoneState.TheVariants.{Free, Connecting, Connected, HungUp}
 use Rattle.ipc_ids.specs.declared.methods.MethodKind.{MethodKind}
-use Rattle.ipc_ids.specs.declared.methods.MethodKind.TheVariants.{PhoneHungUp, ConnectToMe, ConnectMeTo, DataWrite, DataRead, NotBuilt, User}
+use Rattle.ipc_ids.specs.declared.methods.MethodKind.TheVariants.{PhoneHungUp, ConnectToMe, ConnectMeTo, DataWrite, DataRead, ShareOut, ShareIn, NotBuilt, User}
 use Rattle.ipc_ids.specs.Methods.{kind_of}
 use Rattle.call_slab.specs.declared.call.Call.{Call}
 use Rattle.call_slab.specs.declared.call.Place.{Place}
@@ -49,6 +49,8 @@ keeps_none c none = by_kind (kind_of c.request.method) where
   by_kind ConnectMeTo = asked (is_accepted c.place c.reply.code) (phone_of c.from.task c.reserved) (rw none refl)
   by_kind DataWrite = refl
   by_kind DataRead = refl
+  by_kind ShareOut = refl
+  by_kind ShareIn = refl
   by_kind NotBuilt = refl
   by_kind User = refl
 

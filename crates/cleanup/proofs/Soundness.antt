@@ -15,7 +15,7 @@ use Rattle.answerbox.specs.Calls.{CallTable, call_at, enqueue, put_at, without_c
 use Rattle.phone_table.specs.Phones.{row_at, state_at}
 use Rattle.cleanup.specs.State.{Tasks, alive_in, with_state_at}
 use Rattle.ipc_ids.specs.declared.methods.MethodKind.{MethodKind}
-use Rattle.ipc_ids.specs.declared.methods.MethodKind.TheVariants.{PhoneHungUp, ConnectToMe, ConnectMeTo, DataWrite, DataRead, NotBuilt, User}
+use Rattle.ipc_ids.specs.declared.methods.MethodKind.TheVariants.{PhoneHungUp, ConnectToMe, ConnectMeTo, DataWrite, DataRead, ShareOut, ShareIn, NotBuilt, User}
 use Rattle.ipc_ids.specs.Methods.{kind_of}
 use Rattle.cleanup.specs.Sound.{IsPlaced, IsCaller, IsSoundCall, AreSoundCalls, IsQuiet, AreSoundTasks, HasSoundPhone, HasBytesAt, Carries}
 use Rattle.cleanup.specs.Board.{IsPendingAt}
@@ -54,6 +54,8 @@ carried ConnectToMe old new bytes n pending h = tt
 carried ConnectMeTo old new bytes n pending h = tt
 carried DataWrite old new bytes n pending h = bytes_at new bytes n (bytes_of old bytes n pending h)
 carried DataRead old new bytes n pending h = tt
+carried ShareOut old new bytes n pending h = tt
+carried ShareIn old new bytes n pending h = tt
 carried NotBuilt old new bytes n pending h = tt
 carried User old new bytes n pending h = tt
 
@@ -64,6 +66,8 @@ carries_none ConnectToMe place bytes n not = tt
 carries_none ConnectMeTo place bytes n not = tt
 carries_none DataWrite place bytes n not = absurd (not refl)
 carries_none DataRead place bytes n not = tt
+carries_none ShareOut place bytes n not = tt
+carries_none ShareIn place bytes n not = tt
 carries_none NotBuilt place bytes n not = tt
 carries_none User place bytes n not = tt
 
@@ -74,6 +78,8 @@ answer_carries ConnectToMe t bytes n = tt
 answer_carries ConnectMeTo t bytes n = tt
 answer_carries DataWrite t bytes n = tt
 answer_carries DataRead t bytes n = tt
+answer_carries ShareOut t bytes n = tt
+answer_carries ShareIn t bytes n = tt
 answer_carries NotBuilt t bytes n = tt
 answer_carries User t bytes n = tt
 

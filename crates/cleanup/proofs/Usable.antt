@@ -5,7 +5,7 @@ use Rattle.ipc_ids.specs.declared.numbers.TaskNo.{TaskNo}
 use Rattle.ipc_ids.specs.declared.numbers.Label.{Label}
 use Rattle.ipc_ids.specs.declared.numbers.Code.{Code}
 use Rattle.ipc_ids.specs.declared.methods.MethodKind.{MethodKind}
-use Rattle.ipc_ids.specs.declared.methods.MethodKind.TheVariants.{PhoneHungUp, ConnectToMe, ConnectMeTo, DataWrite, DataRead, NotBuilt, User}
+use Rattle.ipc_ids.specs.declared.methods.MethodKind.TheVariants.{PhoneHungUp, ConnectToMe, ConnectMeTo, DataWrite, DataRead, ShareOut, ShareIn, NotBuilt, User}
 use Rattle.ipc_ids.specs.declared.message.PhoneState.{PhoneState}
 use Rattle.ipc_ids.specs.Methods.{kind_of}
 use Rattle.call_slab.specs.declared.call.Call.{Call}
@@ -61,6 +61,8 @@ lent_kept ConnectToMe from place code reserved l h = h
 lent_kept ConnectMeTo from place code reserved l h = absurd (cc h)
 lent_kept DataWrite from place code reserved l h = h
 lent_kept DataRead from place code reserved l h = h
+lent_kept ShareOut from place code reserved l h = h
+lent_kept ShareIn from place code reserved l h = h
 lent_kept NotBuilt from place code reserved l h = h
 lent_kept User from place code reserved l h = h
 

@@ -5,7 +5,7 @@ use Rattle.ipc_ids.specs.declared.numbers.Label.{Label}
 use Rattle.ipc_ids.specs.declared.numbers.PhoneNo.{PhoneNo}
 use Rattle.ipc_ids.specs.declared.numbers.Code.{Code}
 use Rattle.ipc_ids.specs.declared.methods.MethodKind.{MethodKind}
-use Rattle.ipc_ids.specs.declared.methods.MethodKind.TheVariants.{PhoneHungUp, ConnectToMe, ConnectMeTo, DataWrite, DataRead, NotBuilt, User}
+use Rattle.ipc_ids.specs.declared.methods.MethodKind.TheVariants.{PhoneHungUp, ConnectToMe, ConnectMeTo, DataWrite, DataRead, ShareOut, ShareIn, NotBuilt, User}
 use Rattle.ipc_ids.specs.declared.message.PhoneState.{PhoneState}
 use Rattle.ipc_ids.specs.declared.message.PhoneState.TheVariants.{Connecting}
 use Rattle.ipc_ids.specs.declared.entry.Entry.{Entry}
@@ -49,6 +49,8 @@ kept_of ConnectToMe from place code reserved = held_phone place reserved
 kept_of ConnectMeTo from place code reserved = asked_phone from place code reserved
 kept_of DataWrite from place code reserved = None
 kept_of DataRead from place code reserved = None
+kept_of ShareOut from place code reserved = None
+kept_of ShareIn from place code reserved = None
 kept_of NotBuilt from place code reserved = None
 kept_of User from place code reserved = None
 
@@ -63,6 +65,8 @@ lent_of ConnectToMe place reserved = held_phone place reserved
 lent_of ConnectMeTo place reserved = None
 lent_of DataWrite place reserved = None
 lent_of DataRead place reserved = None
+lent_of ShareOut place reserved = None
+lent_of ShareIn place reserved = None
 lent_of NotBuilt place reserved = None
 lent_of User place reserved = None
 

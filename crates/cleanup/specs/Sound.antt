@@ -6,7 +6,7 @@ use Rattle.ipc_ids.specs.declared.numbers.Code.{Code}
 use Rattle.ipc_ids.specs.declared.message.PhoneState.{PhoneState}
 use Rattle.ipc_ids.specs.declared.message.PhoneState.TheVariants.{Free, Connecting, Connected, HungUp, Slammed}
 use Rattle.ipc_ids.specs.declared.methods.MethodKind.{MethodKind}
-use Rattle.ipc_ids.specs.declared.methods.MethodKind.TheVariants.{PhoneHungUp, ConnectToMe, ConnectMeTo, DataWrite, DataRead, NotBuilt, User}
+use Rattle.ipc_ids.specs.declared.methods.MethodKind.TheVariants.{PhoneHungUp, ConnectToMe, ConnectMeTo, DataWrite, DataRead, ShareOut, ShareIn, NotBuilt, User}
 use Rattle.ipc_ids.specs.Methods.{phone_hungup, kind_of}
 use Rattle.call_slab.specs.declared.call.Call.{Call}
 use Rattle.call_slab.specs.declared.call.Place.{Place}
@@ -42,6 +42,8 @@ IsReservedAt ConnectToMe from place l = IsLentAt place l
 IsReservedAt ConnectMeTo from place l = l.task ≡ from
 IsReservedAt DataWrite from place l = ⊥
 IsReservedAt DataRead from place l = ⊥
+IsReservedAt ShareOut from place l = ⊥
+IsReservedAt ShareIn from place l = ⊥
 IsReservedAt NotBuilt from place l = ⊥
 IsReservedAt User from place l = ⊥
 
@@ -57,6 +59,8 @@ NeedsPhone ConnectToMe place code = ⊥
 NeedsPhone ConnectMeTo place code = IsOpenAt place code
 NeedsPhone DataWrite place code = ⊥
 NeedsPhone DataRead place code = ⊥
+NeedsPhone ShareOut place code = ⊥
+NeedsPhone ShareIn place code = ⊥
 NeedsPhone NotBuilt place code = ⊥
 NeedsPhone User place code = ⊥
 
@@ -79,6 +83,8 @@ Carries ConnectToMe place bytes n = ⊤
 Carries ConnectMeTo place bytes n = ⊤
 Carries DataWrite place bytes n = HasBytesAt place bytes n
 Carries DataRead place bytes n = ⊤
+Carries ShareOut place bytes n = ⊤
+Carries ShareIn place bytes n = ⊤
 Carries NotBuilt place bytes n = ⊤
 Carries User place bytes n = ⊤
 

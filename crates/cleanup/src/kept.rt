@@ -16,6 +16,8 @@ pub(crate) fn kept_phone(call: &Call) -> Option<Label>
         MethodKind::PhoneHungUp
         | MethodKind::DataWrite
         | MethodKind::DataRead
+        | MethodKind::ShareOut
+        | MethodKind::ShareIn
         | MethodKind::NotBuilt
         | MethodKind::User => None,
     }
@@ -31,6 +33,8 @@ pub(crate) fn lent_phone(call: &Call) -> Option<Label>
         | MethodKind::ConnectMeTo
         | MethodKind::DataWrite
         | MethodKind::DataRead
+        | MethodKind::ShareOut
+        | MethodKind::ShareIn
         | MethodKind::NotBuilt
         | MethodKind::User => None,
     }

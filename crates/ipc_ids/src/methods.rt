@@ -40,6 +40,10 @@ pub enum MethodKind {
     DataWrite,
     /// Asks for bytes of the receiver's memory.
     DataRead,
+    /// Offers an area of the caller's memory to the receiver.
+    ShareOut,
+    /// Asks for an area of the receiver's memory.
+    ShareIn,
     /// A method of the system that no call is accepted with.
     NotBuilt,
     /// Means what the two tasks make of it.
@@ -57,6 +61,8 @@ impl MethodKind {
             CONNECT_ME_TO => MethodKind::ConnectMeTo,
             DATA_WRITE => MethodKind::DataWrite,
             DATA_READ => MethodKind::DataRead,
+            SHARE_OUT => MethodKind::ShareOut,
+            SHARE_IN => MethodKind::ShareIn,
             0..FIRST_USER_METHOD => MethodKind::NotBuilt,
             FIRST_USER_METHOD.. => MethodKind::User,
         }

@@ -8,7 +8,7 @@ use Rattle.ipc_ids.specs.declared.numbers.Code.{Code}
 use Rattle.ipc_ids.specs.declared.numbers.Label.{Label}
 use Rattle.ipc_ids.specs.declared.numbers.StoreNo.{StoreNo}
 use Rattle.ipc_ids.specs.declared.methods.MethodKind.{MethodKind}
-use Rattle.ipc_ids.specs.declared.methods.MethodKind.TheVariants.{PhoneHungUp, ConnectToMe, ConnectMeTo, DataWrite, DataRead, NotBuilt, User}
+use Rattle.ipc_ids.specs.declared.methods.MethodKind.TheVariants.{PhoneHungUp, ConnectToMe, ConnectMeTo, DataWrite, DataRead, ShareOut, ShareIn, NotBuilt, User}
 use Rattle.ipc_ids.specs.declared.message.Msg.{Msg}
 use Rattle.ipc_ids.specs.declared.message.Mode.{Mode}
 use Rattle.ipc_ids.specs.declared.message.Reply.{Reply}
@@ -157,6 +157,8 @@ module _ (t : TaskNo) (r : Ask) (p : List Tale) (k : KernelState) (inside : InEv
     by_kind ConnectMeTo = keeping (first_usable_of k t)
     by_kind DataWrite = with_bytes (write_before_send k.memory t msg.args)
     by_kind DataRead = wanting (read_before_send msg.args)
+    by_kind ShareOut = accepted msg None []
+    by_kind ShareIn = accepted msg None []
     by_kind NotBuilt = accepted msg None []
     by_kind User = accepted msg None []
 
@@ -226,6 +228,8 @@ module _ (t : TaskNo) (r : Ask) (p : List Tale) (k : KernelState) (inside : InEv
     by_kind u made lives' DataWrite = written u made lives' (write_accept k.memory t c.buffer reply)
     by_kind u made lives' DataRead =
         let told = read_accept k.memory t c.request.args reply in with_bytes u made lives' (reply_told reply told) (bytes_told told c.buffer) None phone.Free (free_leads (Step t.0 r) k.tasks.alive)
+    by_kind u made lives' ShareOut = answered u made lives' reply None phone.Free (free_leads (Step t.0 r) k.tasks.alive)
+    by_kind u made lives' ShareIn = answered u made lives' reply None phone.Free (free_leads (Step t.0 r) k.tasks.alive)
     by_kind u made lives' NotBuilt = answered u made lives' reply None phone.Free (free_leads (Step t.0 r) k.tasks.alive)
     by_kind u made lives' User = answered u made lives' reply None phone.Free (free_leads (Step t.0 r) k.tasks.alive)
 
@@ -316,6 +320,8 @@ module _ (t : TaskNo) (p : List Tale) (k : KernelState) (inside : InEvent (Step 
     by_kind ConnectMeTo = taken c.msg c.reserved None
     by_kind DataWrite = taken c.msg c.reserved None
     by_kind DataRead = taken c.msg c.reserved None
+    by_kind ShareOut = taken c.msg c.reserved None
+    by_kind ShareIn = taken c.msg c.reserved None
     by_kind NotBuilt = taken c.msg c.reserved None
     by_kind User = taken c.msg c.reserved None
 

@@ -17,7 +17,7 @@ use Rattle.ipc_ids.specs.declared.message.PhoneState.TheVariants.{Free, Connecti
 use Rattle.ipc_ids.specs.declared.message.Request.{Request}
 use Rattle.ipc_ids.specs.declared.message.Request.TheVariants as request
 use Rattle.ipc_ids.specs.declared.methods.MethodKind.{MethodKind}
-use Rattle.ipc_ids.specs.declared.methods.MethodKind.TheVariants.{PhoneHungUp, ConnectToMe, ConnectMeTo, DataWrite, DataRead, NotBuilt, User}
+use Rattle.ipc_ids.specs.declared.methods.MethodKind.TheVariants.{PhoneHungUp, ConnectToMe, ConnectMeTo, DataWrite, DataRead, ShareOut, ShareIn, NotBuilt, User}
 use Rattle.ipc_ids.specs.Codes.{eok, ehangup, enoent, eperm, elimit, eforward}
 use Rattle.ipc_ids.specs.Methods.{kind_of}
 use Rattle.ipc_ids.specs.Tables.{most_active}
@@ -134,6 +134,8 @@ module _ (t : TaskNo) (k : KernelState) (h : IsSound k) (w : IsWithinLimits k) w
     sent u is ConnectMeTo = keeping u is (first_usable_of k t) refl
     sent u is DataWrite = with_bytes u is (write_before_send k.memory t msg.args)
     sent u is DataRead = wanting u is (read_before_send msg.args)
+    sent u is ShareOut = plain u is
+    sent u is ShareIn = plain u is
     sent u is NotBuilt = plain u is
     sent u is User = plain u is
 
@@ -171,6 +173,8 @@ module _ (t : TaskNo) (k : KernelState) (h : IsSound k) (w : IsWithinLimits k) w
     taken_on ConnectMeTo = within_put k c c (Dispatched t) w live refl refl refl
     taken_on DataWrite = within_put k c c (Dispatched t) w live refl refl refl
     taken_on DataRead = within_put k c c (Dispatched t) w live refl refl refl
+    taken_on ShareOut = within_put k c c (Dispatched t) w live refl refl refl
+    taken_on ShareIn = within_put k c c (Dispatched t) w live refl refl refl
     taken_on NotBuilt = within_put k c c (Dispatched t) w live refl refl refl
     taken_on User = within_put k c c (Dispatched t) w live refl refl refl
 
@@ -185,6 +189,8 @@ module _ (t : TaskNo) (k : KernelState) (h : IsSound k) (w : IsWithinLimits k) w
         let step = write_accept k.memory t c.buffer reply in put_answered (with_memory k step.memory) (reply_told reply step.told) u (within_memory k step.memory w) live
     accepted reply u DataRead =
         let told = read_accept k.memory t c.request.args reply in within_put k c (record c { reply = reply_told reply told; buffer = bytes_told told c.buffer }) (Answers u) w live refl refl refl
+    accepted reply u ShareOut = put_answered k reply u w live
+    accepted reply u ShareIn = put_answered k reply u w live
     accepted reply u NotBuilt = put_answered k reply u w live
     accepted reply u User = put_answered k reply u w live
 

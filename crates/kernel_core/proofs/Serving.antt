@@ -13,7 +13,7 @@ use Rattle.ipc_ids.specs.declared.message.PhoneState.TheVariants.{Free, Connecti
 use Rattle.ipc_ids.specs.declared.message.Request.{Request}
 use Rattle.ipc_ids.specs.declared.message.Request.TheVariants as R
 use Rattle.ipc_ids.specs.declared.methods.MethodKind.{MethodKind}
-use Rattle.ipc_ids.specs.declared.methods.MethodKind.TheVariants.{PhoneHungUp, ConnectToMe, ConnectMeTo, DataWrite, DataRead, NotBuilt, User}
+use Rattle.ipc_ids.specs.declared.methods.MethodKind.TheVariants.{PhoneHungUp, ConnectToMe, ConnectMeTo, DataWrite, DataRead, ShareOut, ShareIn, NotBuilt, User}
 use Rattle.ipc_ids.specs.Codes.{ehangup, enoent, eperm, elimit, eforward}
 use Rattle.ipc_ids.specs.Methods.{kind_of}
 use Rattle.ipc_ids.specs.Tables.{most_active}
@@ -84,6 +84,8 @@ declined_needless ConnectToMe t code declines needs = needs
 declined_needless ConnectMeTo t code declines needs = false≢true (sym declines ∙ needs)
 declined_needless DataWrite t code declines needs = needs
 declined_needless DataRead t code declines needs = needs
+declined_needless ShareOut t code declines needs = needs
+declined_needless ShareIn t code declines needs = needs
 declined_needless NotBuilt t code declines needs = needs
 declined_needless User t code declines needs = needs
 
@@ -94,6 +96,8 @@ brings_read ConnectToMe code h = absurd (false≢true h)
 brings_read ConnectMeTo code h = absurd (false≢true h)
 brings_read DataWrite code h = absurd (false≢true h)
 brings_read DataRead code h = refl
+brings_read ShareOut code h = absurd (false≢true h)
+brings_read ShareIn code h = absurd (false≢true h)
 brings_read NotBuilt code h = absurd (false≢true h)
 brings_read User code h = absurd (false≢true h)
 
@@ -146,6 +150,8 @@ module _ (t : TaskNo) (k : KernelState) (alive : is_alive k t ≡ true) (h : IsS
     sent ConnectMeTo kind = keeping (first_usable_of k t) refl kind
     sent DataWrite kind = with_bytes (write_before_send k.memory t msg.args) refl kind
     sent DataRead kind = wanting (read_before_send msg.args) kind
+    sent ShareOut kind = plain ShareOut kind (λ needs. needs) (λ e. cc)
+    sent ShareIn kind = plain ShareIn kind (λ needs. needs) (λ e. cc)
     sent NotBuilt kind = plain NotBuilt kind (λ needs. needs) (λ e. cc)
     sent User kind = plain User kind (λ needs. needs) (λ e. cc)
 
@@ -178,6 +184,8 @@ module _ (t : TaskNo) (k : KernelState) (alive : is_alive k t ≡ true) (h : IsS
   taken_on c live here ConnectMeTo kind = taken_plain c live here (λ e. cc)
   taken_on c live here DataWrite kind = taken_plain c live here (λ e. cc)
   taken_on c live here DataRead kind = taken_plain c live here (λ e. cc)
+  taken_on c live here ShareOut kind = taken_plain c live here (λ e. cc)
+  taken_on c live here ShareIn kind = taken_plain c live here (λ e. cc)
   taken_on c live here NotBuilt kind = taken_plain c live here (λ e. cc)
   taken_on c live here User kind = taken_plain c live here (λ e. cc)
 
@@ -202,6 +210,8 @@ module _ (t : TaskNo) (k : KernelState) (alive : is_alive k t ≡ true) (h : IsS
     accepted reply u accepting from ConnectMeTo kind = sound_accepted_me_to k c reply t (Some t) u h live kind pending accepting alive from
     accepted reply u accepting from DataWrite kind = sound_accepted_write k c reply t (Some t) u h live kind pending from
     accepted reply u accepting from DataRead kind = sound_accepted_read k c reply t (Some t) u h live kind pending from
+    accepted reply u accepting from ShareOut kind = sound_finished k c reply (Some t) u h live (rw kind tt) pending from
+    accepted reply u accepting from ShareIn kind = sound_finished k c reply (Some t) u h live (rw kind tt) pending from
     accepted reply u accepting from NotBuilt kind = sound_finished k c reply (Some t) u h live (rw kind tt) pending from
     accepted reply u accepting from User kind = sound_finished k c reply (Some t) u h live (rw kind tt) pending from
 

@@ -11,7 +11,7 @@ use Rattle.ipc_ids.specs.declared.message.PhoneState.TheVariants.{Free, Connecti
 use Rattle.ipc_ids.specs.declared.message.Request.{Request}
 use Rattle.ipc_ids.specs.declared.message.Request.TheVariants as R
 use Rattle.ipc_ids.specs.declared.methods.MethodKind.{MethodKind}
-use Rattle.ipc_ids.specs.declared.methods.MethodKind.TheVariants.{PhoneHungUp, ConnectToMe, ConnectMeTo, DataWrite, DataRead, NotBuilt, User}
+use Rattle.ipc_ids.specs.declared.methods.MethodKind.TheVariants.{PhoneHungUp, ConnectToMe, ConnectMeTo, DataWrite, DataRead, ShareOut, ShareIn, NotBuilt, User}
 use Rattle.ipc_ids.specs.Codes.{enoent, eperm, eforward}
 use Rattle.ipc_ids.specs.Methods.{kind_of}
 use Rattle.ipc_ids.specs.Tables.{most_active}
@@ -68,6 +68,8 @@ module _ (k : KernelState) (t : TaskNo) (p : ℕ) (msg : Msg) where
   sent u ConnectMeTo = keeping u (first_usable_of k t)
   sent u DataWrite = with_bytes u (write_before_send k.memory t msg.args)
   sent u DataRead = wanting u (read_before_send msg.args)
+  sent u ShareOut = refl
+  sent u ShareIn = refl
   sent u NotBuilt = refl
   sent u User = refl
 
@@ -114,6 +116,8 @@ module _ (k : KernelState) (t : TaskNo) (c : Call) (reply : Reply) where
   accepted u ConnectMeTo = refl
   accepted u DataWrite = (write_accept_keeps k.memory t c.buffer reply).next
   accepted u DataRead = refl
+  accepted u ShareOut = refl
+  accepted u ShareIn = refl
   accepted u NotBuilt = refl
   accepted u User = refl
 
@@ -136,6 +140,8 @@ taken_on k t c ConnectToMe = refl
 taken_on k t c ConnectMeTo = refl
 taken_on k t c DataWrite = refl
 taken_on k t c DataRead = refl
+taken_on k t c ShareOut = refl
+taken_on k t c ShareIn = refl
 taken_on k t c NotBuilt = refl
 taken_on k t c User = refl
 

@@ -9,7 +9,7 @@ use Rattle.ipc_ids.specs.declared.message.Msg.{Msg}
 use Rattle.ipc_ids.specs.declared.message.Reply.{Reply}
 use Rattle.ipc_ids.specs.declared.message.PhoneState.TheVariants.{Connecting}
 use Rattle.ipc_ids.specs.declared.methods.MethodKind.{MethodKind}
-use Rattle.ipc_ids.specs.declared.methods.MethodKind.TheVariants.{PhoneHungUp, ConnectToMe, ConnectMeTo, DataWrite, DataRead, NotBuilt, User}
+use Rattle.ipc_ids.specs.declared.methods.MethodKind.TheVariants.{PhoneHungUp, ConnectToMe, ConnectMeTo, DataWrite, DataRead, ShareOut, ShareIn, NotBuilt, User}
 use Rattle.ipc_ids.specs.Codes.{elimit}
 use Rattle.ipc_ids.specs.Methods.{kind_of}
 use Rattle.call_slab.specs.declared.call.Call.{Call}
@@ -53,6 +53,8 @@ before_send_of ConnectToMe k c = Ok (as_it_is k c)
 before_send_of ConnectMeTo k c = keeping_to_send k c (first_usable_of k c.from.task)
 before_send_of DataWrite k c = carrying k c (write_before_send k.memory c.from.task c.request.args)
 before_send_of DataRead k c = asking k c (read_before_send c.request.args)
+before_send_of ShareOut k c = Ok (as_it_is k c)
+before_send_of ShareIn k c = Ok (as_it_is k c)
 before_send_of NotBuilt k c = Ok (as_it_is k c)
 before_send_of User k c = Ok (as_it_is k c)
 
@@ -78,6 +80,8 @@ on_receive_of ConnectToMe k c t = keeping_to_receive k c (first_usable_of k t)
 on_receive_of ConnectMeTo k c t = as_it_is k c
 on_receive_of DataWrite k c t = as_it_is k c
 on_receive_of DataRead k c t = as_it_is k c
+on_receive_of ShareOut k c t = as_it_is k c
+on_receive_of ShareIn k c t = as_it_is k c
 on_receive_of NotBuilt k c t = as_it_is k c
 on_receive_of User k c t = as_it_is k c
 
@@ -92,6 +96,8 @@ on_accept_of ConnectToMe k c reply t caller = accepted_to_me k c reply caller
 on_accept_of ConnectMeTo k c reply t caller = accepted_me_to k c reply t
 on_accept_of DataWrite k c reply t caller = accepted_write k c reply t
 on_accept_of DataRead k c reply t caller = accepted_read k c reply t
+on_accept_of ShareOut k c reply t caller = as_it_is k (record c { reply = reply })
+on_accept_of ShareIn k c reply t caller = as_it_is k (record c { reply = reply })
 on_accept_of NotBuilt k c reply t caller = as_it_is k (record c { reply = reply })
 on_accept_of User k c reply t caller = as_it_is k (record c { reply = reply })
 
@@ -109,6 +115,8 @@ reply_of ConnectToMe c = c.reply
 reply_of ConnectMeTo c = if accepts c.reply.code then with_phone_named c.reserved c.reply else c.reply
 reply_of DataWrite c = c.reply
 reply_of DataRead c = c.reply
+reply_of ShareOut c = c.reply
+reply_of ShareIn c = c.reply
 reply_of NotBuilt c = c.reply
 reply_of User c = c.reply
 
@@ -119,6 +127,8 @@ brings_bytes_of ConnectToMe code = false
 brings_bytes_of ConnectMeTo code = false
 brings_bytes_of DataWrite code = false
 brings_bytes_of DataRead code = accepts code
+brings_bytes_of ShareOut code = false
+brings_bytes_of ShareIn code = false
 brings_bytes_of NotBuilt code = false
 brings_bytes_of User code = false
 

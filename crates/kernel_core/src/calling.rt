@@ -78,7 +78,10 @@ fn is_callable(kind: MethodKind) -> bool
         | MethodKind::DataWrite
         | MethodKind::DataRead
         | MethodKind::User => true,
-        MethodKind::PhoneHungUp | MethodKind::NotBuilt => false,
+        MethodKind::PhoneHungUp
+        | MethodKind::ShareOut
+        | MethodKind::ShareIn
+        | MethodKind::NotBuilt => false,
     }
 }
 

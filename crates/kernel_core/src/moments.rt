@@ -66,6 +66,8 @@ pub(crate) fn before_send(
         },
         MethodKind::PhoneHungUp
         | MethodKind::ConnectToMe
+        | MethodKind::ShareOut
+        | MethodKind::ShareIn
         | MethodKind::NotBuilt
         | MethodKind::User => Ok(None),
     }
@@ -96,6 +98,8 @@ pub(crate) fn on_receive(board: &mut Switchboard, number: CallNo, who: TaskNo) -
         | MethodKind::ConnectMeTo
         | MethodKind::DataWrite
         | MethodKind::DataRead
+        | MethodKind::ShareOut
+        | MethodKind::ShareIn
         | MethodKind::NotBuilt
         | MethodKind::User => Arrival {
             msg,
@@ -145,7 +149,11 @@ pub(crate) fn on_accept(
             Ok(())
         }
         MethodKind::DataRead => board.accept_read(number, reply, who, caller, out),
-        MethodKind::PhoneHungUp | MethodKind::NotBuilt | MethodKind::User => {
+        MethodKind::PhoneHungUp
+        | MethodKind::ShareOut
+        | MethodKind::ShareIn
+        | MethodKind::NotBuilt
+        | MethodKind::User => {
             board.finish(number, reply, who, caller, out);
             Ok(())
         }
@@ -162,6 +170,8 @@ pub(crate) fn brings_bytes(call: &Call) -> bool
         | MethodKind::ConnectToMe
         | MethodKind::ConnectMeTo
         | MethodKind::DataWrite
+        | MethodKind::ShareOut
+        | MethodKind::ShareIn
         | MethodKind::NotBuilt
         | MethodKind::User => false,
     }

@@ -11,7 +11,7 @@ use Rattle.ipc_ids.specs.declared.numbers.Label.{Label}
 use Rattle.ipc_ids.specs.declared.numbers.Code.{Code}
 use Rattle.ipc_ids.specs.declared.numbers.StoreNo.{StoreNo}
 use Rattle.ipc_ids.specs.declared.methods.MethodKind.{MethodKind}
-use Rattle.ipc_ids.specs.declared.methods.MethodKind.TheVariants.{PhoneHungUp, ConnectToMe, ConnectMeTo, DataWrite, DataRead, NotBuilt, User}
+use Rattle.ipc_ids.specs.declared.methods.MethodKind.TheVariants.{PhoneHungUp, ConnectToMe, ConnectMeTo, DataWrite, DataRead, ShareOut, ShareIn, NotBuilt, User}
 use Rattle.ipc_ids.specs.declared.message.PhoneState.{PhoneState}
 use Rattle.ipc_ids.specs.declared.message.PhoneState.TheVariants.{Free, Connecting}
 use Rattle.ipc_ids.specs.declared.message.Outcome.TheVariants as outcome
@@ -88,6 +88,8 @@ received_call k c t = by_kind (kind_of c.request.method) where
   by_kind ConnectMeTo = as_it_was k c
   by_kind DataWrite = as_it_was k c
   by_kind DataRead = as_it_was k c
+  by_kind ShareOut = as_it_was k c
+  by_kind ShareIn = as_it_was k c
   by_kind NotBuilt = as_it_was k c
   by_kind User = as_it_was k c
 
