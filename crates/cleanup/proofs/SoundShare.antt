@@ -1,7 +1,6 @@
 -- A sound state stays sound as a share method is accepted.
-use Rattle.std.proofs.Common.{◌≡◌, true, Option, Some, subst, sym}
+use Rattle.std.proofs.Common.{◌≡◌, true, Option, Some}
 use Rattle.ipc_ids.specs.declared.numbers.TaskNo.{TaskNo}
-use Rattle.ipc_ids.specs.declared.numbers.Label.{Label}
 use Rattle.ipc_ids.specs.declared.message.Reply.{Reply}
 use Rattle.ipc_ids.specs.declared.methods.MethodKind.TheVariants.{ShareOut, ShareIn}
 use Rattle.ipc_ids.specs.Methods.{kind_of}
@@ -9,18 +8,18 @@ use Rattle.call_slab.specs.declared.call.Call.{Call}
 use Rattle.answerbox.specs.Calls.{call_at}
 use Rattle.address_space.specs.Memory.{Memory}
 use Rattle.share_hooks.specs.ShareMoments.{out_accept, in_accept}
-use Rattle.share_hooks.proofs.Keeping.{IsShared, out_accept_keeps, in_accept_keeps}
-use Rattle.cleanup.specs.State.{Tasks, KernelState, alive_in, is_alive, with_memory}
+use Rattle.share_hooks.proofs.Keeping.{KeepsOthers, out_accept_keeps, in_accept_keeps}
+use Rattle.cleanup.specs.State.{KernelState, is_alive, with_memory}
 use Rattle.cleanup.specs.Joins.{answer_to}
 use Rattle.cleanup.specs.Data.{reply_told}
 use Rattle.cleanup.specs.Sharing.{accepted_share_out, accepted_share_in}
 use Rattle.cleanup.specs.Board.{IsPendingAt}
-use Rattle.cleanup.specs.Sound.{IsCaller, IsSound}
+use Rattle.cleanup.specs.Sound.{IsSound}
 use Rattle.cleanup.proofs.SoundMemory.{memory_shared}
 use Rattle.cleanup.proofs.SoundJoins.{caller_alive, sound_finished}
 
 -- a task that is alive gets an area
-with_shared_memory : (k : KernelState) (m : Memory) (t : TaskNo) → is_alive k t ≡ true → IsShared t k.memory m → IsSound k → IsSound (with_memory k m)
+with_shared_memory : (k : KernelState) (m : Memory) (t : TaskNo) → is_alive k t ≡ true → KeepsOthers t k.memory m → IsSound k → IsSound (with_memory k m)
 with_shared_memory k m t alive shared s = record { calls = s.calls; tasks = s.tasks; kept = s.kept; keepers = s.keepers; memory = memory_shared t alive shared s.memory }
 
 -- a SHARE_OUT is accepted by task t

@@ -687,13 +687,7 @@ impl Switchboard {
         ensures keeps { KeepsCalls self.old self.new }
     {
         let record = self.boxes.get(call).unwrap();
-        out_accept(
-            &mut self.spaces,
-            caller,
-            t,
-            &record.request.args,
-            reply,
-        )
+        out_accept(&mut self.spaces, caller, t, &record.request.args, reply)
     }
 
     /// Gives the caller an area over the store of one of the task's, where the call asked.
@@ -719,13 +713,7 @@ impl Switchboard {
         ensures keeps { KeepsCalls self.old self.new }
     {
         let record = self.boxes.get(call).unwrap();
-        in_accept(
-            &mut self.spaces,
-            caller,
-            t,
-            &record.request.args,
-            reply,
-        )
+        in_accept(&mut self.spaces, caller, t, &record.request.args, reply)
     }
 
     /// The call takes the reply and these bytes to the answers of its caller, and what it reserves

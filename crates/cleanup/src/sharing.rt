@@ -79,7 +79,10 @@ impl Switchboard {
             reply: answer,
             by: Some(who),
         });
-        tell(shared_note(caller, asked[0], asked[1], asked[2], &told), out);
+        tell(
+            shared_note(caller, asked[0], asked[1], asked[2], &told),
+            out,
+        );
     }
 }
 
