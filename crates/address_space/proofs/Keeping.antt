@@ -32,7 +32,7 @@ in_holder P at count right [] h all e = absurd (cc e)
 in_holder P at count right (a ∷ areas) h all e =
     tested P at count right (holds at count right a) a h areas refl (All-head P a areas all) e (λ r. in_holder P at count right areas h (All-tail P a areas all) r)
 
-both_true : (a b : Bool) → a && b ≡ true → (a ≡ true) × (b ≡ true)
+pub both_true : (a b : Bool) → a && b ≡ true → (a ≡ true) × (b ≡ true)
 both_true true b h = (refl, h)
 both_true false b h = absurd (cc h)
 
@@ -69,7 +69,7 @@ eq_keys q n h = grind (arith, nat_tests)
 ne_keys : (q n : ℕ) → q < n → eq_by_cmp nat_cmp q n ≡ false
 ne_keys q n h = grind (arith, nat_tests)
 
-ne_tests : (q n : ℕ) → (q == n) ≡ false → eq_by_cmp nat_cmp q n ≡ false
+pub ne_tests : (q n : ℕ) → (q == n) ≡ false → eq_by_cmp nat_cmp q n ≡ false
 ne_tests q n h = grind (arith, nat_tests)
 
 over_put : (stores : FinMap nat_cmp (List ℕ)) (next n : ℕ) (xs ys : List ℕ) (a : Area) → get stores n ≡ Some xs → length ys ≡ length xs → IsOver stores next a → IsOver (insert stores n ys) next a

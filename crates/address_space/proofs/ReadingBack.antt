@@ -21,7 +21,7 @@ use Rattle.address_space.proofs.Keeping.{tested, in_holder, within, room}
 use Rattle.address_space.proofs.Soundness.{lawful_of, over_of}
 
 -- an area that holds a range is one of the areas
-found_in : (R : Area → Type 0) (at count : ℕ) (right : Right) (areas : List Area) (h : Area) → ((j : ℕ) (d : Area) → j < length areas → R (slice_index_or areas j d)) → holder at count right areas ≡ Some h → R h × (holds at count right h ≡ true)
+pub found_in : (R : Area → Type 0) (at count : ℕ) (right : Right) (areas : List Area) (h : Area) → ((j : ℕ) (d : Area) → j < length areas → R (slice_index_or areas j d)) → holder at count right areas ≡ Some h → R h × (holds at count right h ≡ true)
 found_in R at count right [] h each e = absurd (cc e)
 found_in R at count right (a ∷ areas) h each e =
     tested R at count right (holds at count right a) a h areas refl (each zero a (omega arith)) e (λ r. found_in R at count right areas h (λ j d lt. each (suc j) d (omega arith)) r)
@@ -59,7 +59,7 @@ part_written bytes at new h = grind (arith, common_steps)
 same_key : (n : ℕ) → eq_by_cmp nat_cmp n n ≡ true
 same_key n = grind (arith, nat_tests)
 
-back_if : (stores : FinMap nat_cmp (List ℕ)) (n at : ℕ) (new : List ℕ) (found : Option (List ℕ)) → get stores n ≡ found → HasBytes found (at + length new) → bytes_from (unwrap_or (get (write_at stores n at new) n) []) at (length new) ≡ new
+pub back_if : (stores : FinMap nat_cmp (List ℕ)) (n at : ℕ) (new : List ℕ) (found : Option (List ℕ)) → get stores n ≡ found → HasBytes found (at + length new) → bytes_from (unwrap_or (get (write_at stores n at new) n) []) at (length new) ≡ new
 back_if stores n at new None is room = absurd room
 back_if stores n at new (Some bytes) is room = rw (is, get-insert nat_cmp_total stores n (written_over bytes at new) n, same_key n) (part_written bytes at new room)
 

@@ -1,5 +1,5 @@
 -- What a task asks of the memory keeps it sound.
-use Rattle.std.proofs.Common.{◌≡◌, ℕ, zero, suc, ◌+◌, ◌-◌, ◌*◌, ◌<◌, ◌==◌, Bool, true, false, List, [], ◌∷◌, ◌++◌, length, Option, Some, None, refl, arith, All}
+use Rattle.std.proofs.Common.{◌≡◌, ℕ, zero, suc, ◌+◌, ◌-◌, ◌*◌, ◌<◌, ◌==◌, Bool, true, false, ◌&&◌, List, [], ◌∷◌, ◌++◌, length, Option, Some, None, refl, arith, All}
 use Rattle.std.specs.Prelude.{if◌then◌else◌, remove, slice_get, replicate}
 use Rattle.std.specs.Option.{unwrap_or}
 use Rattle.std.specs.FinMap.{insert}
@@ -8,13 +8,13 @@ use Rattle.std.proofs.lemmas.List.Elements.{All-push, All-nil, All-head, All-tai
 use Rattle.std.proofs.lemmas.Bool.Decides.{nat_tests}
 use Rattle.ipc_ids.specs.declared.numbers.Code.{Code}
 use Rattle.ipc_ids.specs.declared.numbers.TaskNo.{TaskNo}
-use Rattle.ipc_ids.specs.Codes.{eexist, einval, elimit}
+use Rattle.ipc_ids.specs.Codes.{eexist, einval, elimit, eperm}
 use Rattle.address_space.specs.declared.area.Right.TheVariants.{Write}
-use Rattle.address_space.specs.Areas.{Area, IsInRange, is_malformed, is_taken, is_full, refusal, holder, place_of}
+use Rattle.address_space.specs.Areas.{Area, IsInRange, is_malformed, is_subset, is_taken, is_full, refusal, holder, place_of, area_in}
 use Rattle.address_space.specs.Stores.{write_at}
-use Rattle.address_space.specs.Memory.{Memory, areas_of, with_areas, with_task, with_store, make, make_unless, is_used, drop_place, drop_at, drop_area, spot_in, write_spot, write}
+use Rattle.address_space.specs.Memory.{Memory, areas_of, with_areas, with_task, with_store, make, make_unless, is_used, drop_place, drop_at, drop_area, spot_in, write_spot, write, refused, area_at, share_unless, share_area, share}
 use Rattle.address_space.specs.Sound.{IsSound, AreLawful, IsOver}
-use Rattle.address_space.proofs.Keeping.{all_at, lawful_at, lawful_pushed, lawful_removed, all_removed, all_weaker, all_taken, over_added, over_new, over_written, in_holder, within, room, length-replicate}
+use Rattle.address_space.proofs.Keeping.{both_true, all_got, all_at, lawful_at, lawful_pushed, lawful_removed, all_removed, all_weaker, all_taken, over_added, over_new, over_written, in_holder, within, room, length-replicate}
 
 -- a task that was not added has no areas
 each_has : (P : List Area → Type 0) (xs : List (List Area)) (i : ℕ) → P [] → All P xs → P (unwrap_or (slice_get xs i) [])
@@ -83,6 +83,39 @@ sound_unless m t base pages rights None is s =
 pub sound_make : (m : Memory) (t : TaskNo) (base pages rights : ℕ) → IsSound m → IsSound (make m t base pages rights).memory
 sound_make m t base pages rights s = sound_unless m t base pages rights (refusal base pages rights (areas_of m t)) refl s
 
+-- an area that is shared stands over its store
+over_in : (P : Area → Type 0) (areas : List Area) (place : Option ℕ) (a : Area) → All P areas → area_in areas place ≡ Some a → P a
+over_in P areas None a all e = absurd (cc e)
+over_in P areas (Some i) a all e = all_got P areas i a e all
+
+over_again : (m : Memory) (a : Area) (target pages rights : ℕ) → a.pages ≡ pages → IsOver m.stores m.next_store a → IsOver m.stores m.next_store (record { base = target; pages = pages; rights = rights; store = a.store })
+over_again m a target pages rights same o = record { bytes = rw (← same) o.bytes; old = o.old }
+
+sound_again : (m : Memory) (to : TaskNo) (target pages rights : ℕ) (a : Area) (cause : Option Code) → refusal target pages rights (areas_of m to) ≡ cause → a.pages ≡ pages → IsOver m.stores m.next_store a → IsSound m → IsSound (share_unless m to (record { base = target; pages = pages; rights = rights; store = a.store }) cause).memory
+sound_again m to target pages rights a (Some code) is same o s = s
+sound_again m to target pages rights a None is same o s =
+    let areas : List Area = areas_of m to in
+    let formed = not_refused (is_malformed target pages rights) einval (if is_taken target pages areas then Some eexist else (if is_full areas then Some elimit else None)) is in
+    let free = not_refused (is_taken target pages areas) eexist (if is_full areas then Some elimit else None) formed.1 in
+    let room = not_refused (is_full areas) elimit None free.1 in
+    sound_area m to (record { base = target; pages = pages; rights = rights; store = a.store }) (has_room areas room.0) (in_range_of target pages rights formed.0) free.0 (over_again m a target pages rights same o) s
+
+same_pages : (p q : ℕ) (few : Bool) → (p == q) && few ≡ true → p ≡ q
+same_pages p q few h = let e = (both_true (p == q) few h).0 in grind (arith, nat_tests, e)
+
+sound_allowed : (m : Memory) (to : TaskNo) (target pages rights : ℕ) (a : Area) (may : Bool) → (a.pages == pages) && is_subset rights a.rights ≡ may → IsOver m.stores m.next_store a → IsSound m → IsSound (if may then share_unless m to (record { base = target; pages = pages; rights = rights; store = a.store }) (refusal target pages rights (areas_of m to)) else refused m eperm).memory
+sound_allowed m to target pages rights a true is o s =
+    sound_again m to target pages rights a (refusal target pages rights (areas_of m to)) refl (same_pages a.pages pages (is_subset rights a.rights) is) o s
+sound_allowed m to target pages rights a false is o s = s
+
+sound_source : (m : Memory) (from : TaskNo) (base : ℕ) (to : TaskNo) (target pages rights : ℕ) (found : Option Area) → area_at m from base ≡ found → IsSound m → IsSound (share_area m to target pages rights found).memory
+sound_source m from base to target pages rights None is s = s
+sound_source m from base to target pages rights (Some a) is s =
+    sound_allowed m to target pages rights a ((a.pages == pages) && is_subset rights a.rights) refl (over_in (IsOver m.stores m.next_store) (areas_of m from) (place_of base (areas_of m from)) a (over_of m from s) is) s
+
+pub sound_share : (m : Memory) (from : TaskNo) (base : ℕ) (to : TaskNo) (target pages rights : ℕ) → IsSound m → IsSound (share m from base to target pages rights).memory
+sound_share m from base to target pages rights s = sound_source m from base to target pages rights (area_at m from base) refl s
+
 sound_removed : (m : Memory) (t : TaskNo) (i : ℕ) → i < length (areas_of m t) → IsSound m → IsSound (with_areas m t (remove (areas_of m t) i))
 sound_removed m t i h s =
     record {
@@ -94,7 +127,7 @@ sound_if : (m : Memory) (store : ℕ) (used : Bool) → is_used store m.areas �
 sound_if m store true is s = s
 sound_if m store false is s = record { lawful = s.lawful; over = all_taken m.stores m.next_store store m.areas is s.over }
 
-in_place : (areas : List Area) (i : ℕ) (a : Area) → slice_get areas i ≡ Some a → i < length areas
+pub in_place : (areas : List Area) (i : ℕ) (a : Area) → slice_get areas i ≡ Some a → i < length areas
 in_place [] i a e = absurd (cc e)
 in_place (b ∷ areas) zero a e = omega arith
 in_place (b ∷ areas) (suc i) a e = let h = in_place areas i a e in omega arith

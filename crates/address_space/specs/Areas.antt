@@ -1,5 +1,5 @@
 -- The areas of one task: which bytes an area holds, and which areas a task may have.
-use Rattle.std.specs.Prelude.{◌≡◌, ℕ, ◌+◌, ◌*◌, ◌^◌, ◌%◌, ◌≤◌, ◌==◌, Bool, true, ◌&&◌, ◌||◌, if◌then◌else◌, List, [], ◌∷◌, length, fold, Option, None, Some, nat_lt, nat_le, refl, position}
+use Rattle.std.specs.Prelude.{◌≡◌, ℕ, ◌+◌, ◌*◌, ◌^◌, ◌%◌, ◌≤◌, ◌==◌, Bool, true, ◌&&◌, ◌||◌, if◌then◌else◌, List, [], ◌∷◌, length, fold, slice_get, bit_and, Option, None, Some, nat_lt, nat_le, refl, position}
 use Rattle.std.specs.List.{list_any}
 use Rattle.std.specs.Coded.{Coded, code_by, coded×, coded_ℕ}
 use Rattle.ipc_ids.specs.declared.numbers.Code.{Code}
@@ -35,6 +35,10 @@ abbrev pub allows : ℕ → Right → Bool
 allows rights Read = (rights == 1) || (rights == 3)
 allows rights Write = (rights == 2) || (rights == 3)
 
+-- whether these rights, as bits, are all among those
+abbrev pub is_subset : ℕ → ℕ → Bool
+is_subset rights all = bit_and rights all == rights
+
 -- whether so many bytes from an address on lie in the area, and it has that right
 abbrev pub holds : ℕ → ℕ → Right → Area → Bool
 holds at count right a = allows a.rights right && (nat_le a.base at && nat_le (at + count) (end_of a))
@@ -55,6 +59,11 @@ stands_over store a = a.store == store
 -- at which place in the list the area with this base stands
 abbrev pub place_of : ℕ → List Area → Option ℕ
 place_of base areas = position (λ a. a.base == base) areas
+
+-- the area at a place, where there is one
+abbrev pub area_in : List Area → Option ℕ → Option Area
+area_in areas None = None
+area_in areas (Some i) = slice_get areas i
 
 -- the lower of two bases
 abbrev pub lower : Option ℕ → ℕ → Option ℕ

@@ -1,5 +1,5 @@
 -- The areas of all tasks over the stores, and what a task may do with them.
-use Rattle.std.specs.Prelude.{◌≡◌, ℕ, ◌+◌, ◌-◌, ◌*◌, ◌≤◌, ◌==◌, Bool, if◌then◌else◌, List, [], ◌∷◌, ◌++◌, length, Option, None, Some, Result, Ok, Err, OnErr, nat_lt, refl, slice_get, slice_set, take, replicate, remove, unwrap_or}
+use Rattle.std.specs.Prelude.{◌≡◌, ℕ, ◌+◌, ◌-◌, ◌*◌, ◌≤◌, ◌==◌, Bool, ◌&&◌, if◌then◌else◌, List, [], ◌∷◌, ◌++◌, length, Option, None, Some, Result, Ok, Err, OnErr, nat_lt, refl, slice_get, slice_set, take, replicate, remove, unwrap_or}
 use Rattle.std.specs.List.{list_any}
 use Rattle.std.specs.Coded.{Coded, code_by, coded×, coded_ℕ, coded_list}
 use Rattle.std.specs.Ordering.{nat_cmp}
@@ -14,7 +14,8 @@ use Rattle.ipc_ids.specs.declared.numbers.StoreNo.{StoreNo}
 use Rattle.address_space.specs.declared.spaces.Spot.{Spot}
 use Rattle.address_space.specs.declared.spaces.SpaceFault.{SpaceFault}
 use Rattle.address_space.specs.declared.spaces.SpaceFault.TheVariants.{Refused, NoMemory}
-use Rattle.address_space.specs.Areas.{Area, area_code, holder, place_of, stands_over, least_base, refusal}
+use Rattle.address_space.specs.declared.facts.Area as facts
+use Rattle.address_space.specs.Areas.{Area, area_code, holder, place_of, area_in, stands_over, least_base, is_subset, refusal}
 use Rattle.address_space.specs.Stores.{bytes_from, write_at}
 
 -- the areas of each task, from 1 on, the bytes of the stores, and the next store number
@@ -158,3 +159,31 @@ write m t at new = if length new == 0 then record { memory = m; told = Ok None }
 -- the least base of a task's areas
 abbrev pub first_area : Memory → TaskNo → Option ℕ
 first_area m t = least_base (areas_of m t)
+
+-- the area of a task with this base
+abbrev pub area_at : Memory → TaskNo → ℕ → Option Area
+area_at m t base = area_in (areas_of m t) (place_of base (areas_of m t))
+
+-- what is told of an area
+abbrev pub facts_of : Option Area → Option facts.Area
+facts_of None = None
+facts_of (Some a) = Some (record { pages = a.pages; rights = a.rights; store = record { 0 = a.store } })
+
+-- what is told of the area of a task with this base
+abbrev pub area : Memory → TaskNo → ℕ → Option facts.Area
+area m t base = facts_of (area_at m t base)
+
+-- a task's new area over a store that is there, where there is no cause against it
+abbrev pub share_unless : Memory → TaskNo → Area → Option Code → Step StoreNo
+share_unless m to a (Some code) = refused m code
+share_unless m to a None = record { memory = with_areas m to (areas_of m to ++ a ∷ []); told = Ok (record { 0 = a.store }) }
+
+-- it has as many pages as the area that is shared, and no right that this has not
+abbrev pub share_area : Memory → TaskNo → ℕ → ℕ → ℕ → Option Area → Step StoreNo
+share_area m to target pages rights None = refused m enoent
+share_area m to target pages rights (Some a) =
+    if (a.pages == pages) && is_subset rights a.rights then share_unless m to (record { base = target; pages = pages; rights = rights; store = a.store }) (refusal target pages rights (areas_of m to)) else refused m eperm
+
+-- a task gets an area over the store of an area of a task
+abbrev pub share : Memory → TaskNo → ℕ → TaskNo → ℕ → ℕ → ℕ → Step StoreNo
+share m from base to target pages rights = share_area m to target pages rights (area_at m from base)

@@ -1,6 +1,6 @@
 //! An area of a task.
 ghost use Rattle.std.specs.Prelude.{◌≡◌, ◌+◌, ◌*◌, ◌^◌, ◌≤◌, false};
-ghost use Rattle.address_space.specs.Areas.{IsInRange, end_of, allows, holds, overlaps, is_malformed};
+ghost use Rattle.address_space.specs.Areas.{IsInRange, end_of, allows, holds, overlaps, is_malformed, is_subset};
 
 use std::marker::Model;
 
@@ -69,6 +69,18 @@ impl HeldArea {
         self.base
     }
 
+    pub fn pages(&self) -> u64
+        ensures { result ≡ self.now.pages }
+    {
+        self.pages
+    }
+
+    pub fn rights(&self) -> u64
+        ensures { result ≡ self.now.rights }
+    {
+        self.rights
+    }
+
     /// The number of its store.
     pub fn store(&self) -> u64
         ensures { result ≡ self.now.store }
@@ -107,6 +119,13 @@ fn allows(rights: u64, right: Right) -> bool
         Right::Read => rights == 1 || rights == 3,
         Right::Write => rights == 2 || rights == 3,
     }
+}
+
+/// Whether these rights, as bits, are all among those.
+pub fn is_subset(rights: u64, all: u64) -> bool
+    ensures { result ≡ is_subset rights all }
+{
+    rights & all == rights
 }
 
 /// Whether there can be no such area, in any task.

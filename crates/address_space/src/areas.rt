@@ -55,6 +55,14 @@ impl TaskAreas {
         self.areas.iter().position(|a| a.base() == base)
     }
 
+    /// The area at a place.
+    pub fn at(&self, place: usize) -> &HeldArea
+        requires { place < length self.now }
+        ensures { slice_get self.now place ≡ Some result.now }
+    {
+        &self.areas[place]
+    }
+
     /// The least base of an area; `None` where there is no area.
     pub fn least_base(&self) -> Option<u64>
         ensures { result ≡ least_base self.now }

@@ -1,7 +1,9 @@
 //! What holds of every sound memory.
-ghost use Rattle.std.specs.Prelude.{◌≡◌, List, Option, Ok, ℕ, length};
+ghost use Rattle.std.specs.Prelude.{◌≡◌, ◌+◌, ◌*◌, ◌≤◌, List, Option, Ok, Some, ℕ, length, true};
+ghost use Rattle.std.specs.FinMap.{get};
 ghost use Rattle.ipc_ids.specs.declared.numbers.TaskNo.{TaskNo};
-ghost use Rattle.address_space.specs.Memory.{Memory, with_task, make, drop_area, read, write};
+ghost use Rattle.address_space.specs.declared.facts.Area.{Area};
+ghost use Rattle.address_space.specs.Memory.{Memory, with_task, make, drop_area, share, area, is_used, read, write};
 ghost use Rattle.ipc_ids.specs.declared.numbers.StoreNo.{StoreNo};
 ghost use Rattle.address_space.specs.Sound.{IsSound};
 
@@ -14,6 +16,9 @@ pub fn requests_keep_memory_sound()
         → IsSound (drop_area m t base).memory }
     ensures write { (m : Memory) (t : TaskNo) (at : ℕ) (bytes : List ℕ) → IsSound m
         → IsSound (write m t at bytes).memory }
+    ensures share { (m : Memory) (from : TaskNo) (base : ℕ) (to : TaskNo)
+        (target pages rights : ℕ) → IsSound m
+        → IsSound (share m from base to target pages rights).memory }
 {}
 
 /// What a task writes into bytes that it may read, it reads there.
@@ -21,4 +26,22 @@ pub fn writes_are_read_back()
     ensures { (m : Memory) (t : TaskNo) (at : ℕ) (new old : List ℕ) (store : Option StoreNo)
         → IsSound m → read m t at (length new) ≡ Ok old → (write m t at new).told ≡ Ok store
         → read (write m t at new).memory t at (length new) ≡ Ok new }
+{}
+
+/// What one task writes into an area, the same or another task reads at the same place of any
+/// area over the same store.
+pub fn shared_bytes_are_seen()
+    ensures { (m : Memory) (t u : TaskNo) (from to offset : ℕ) (a b : Area) (new old : List ℕ)
+        (store : Option StoreNo) → IsSound m → area m t from ≡ Some a → area m u to ≡ Some b
+        → a.store ≡ b.store → offset + length new ≤ a.pages * 4096
+        → (write m t (from + offset) new).told ≡ Ok store
+        → read m u (to + offset) (length new) ≡ Ok old
+        → read (write m t (from + offset) new).memory u (to + offset) (length new) ≡ Ok new }
+{}
+
+/// Where a task drops an area, a store that another area stands over keeps its bytes.
+pub fn stores_stay_while_used()
+    ensures { (m : Memory) (t : TaskNo) (base store : ℕ)
+        → is_used store (drop_area m t base).memory.areas ≡ true
+        → get (drop_area m t base).memory.stores store ≡ get m.stores store }
 {}

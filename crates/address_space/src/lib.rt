@@ -8,11 +8,16 @@
 mod area;
 mod areas;
 mod bytes;
+mod facts;
 mod laws;
 mod spaces;
 mod stores;
 #[cfg(test)]
 mod tests;
 
-pub use laws::{requests_keep_memory_sound, writes_are_read_back};
+pub use area::is_subset;
+pub use facts::Area;
+pub use laws::{
+    requests_keep_memory_sound, shared_bytes_are_seen, stores_stay_while_used, writes_are_read_back,
+};
 pub use spaces::{SpaceFault, Spaces};

@@ -1,13 +1,15 @@
 //! The areas of all tasks.
 ghost use Rattle.std.specs.Prelude.{◌≡◌, ◌+◌, ◌^◌, ◌<◌, ◌≤◌, length, IfSome, IfOk, IsOk, OnOk, OnErr, slice_get, All, remove, IsSome, Some, false, ◌++◌, ◌∷◌, []};
 ghost use Rattle.std.specs.FinMap.{get};
+ghost use Rattle.std.specs.Option.{option_copied};
 ghost use Rattle.address_space.specs.Areas.{IsInRange, is_taken};
 ghost use Rattle.address_space.specs.Stores.{HasBytes};
 ghost use Rattle.address_space.specs.Sound.{IsOver};
-ghost use Rattle.address_space.specs.Memory.{Did, Tells, IsAdded, no_memory, with_task, without_last, areas_of, count_areas, spot_of, bytes_at, with_areas, with_store, is_used, release, make, drop_area, read, peek, write, first_area};
+ghost use Rattle.address_space.specs.Memory.{Did, Tells, IsAdded, no_memory, with_task, without_last, areas_of, count_areas, spot_of, bytes_at, with_areas, with_store, is_used, release, make, drop_area, read, peek, write, first_area, area_at, area, share};
 
-use crate::area::{HeldArea, PAGE, Right};
+use crate::area::{HeldArea, PAGE, Right, is_subset};
 use crate::areas::TaskAreas;
+use crate::facts::Area;
 use crate::stores::Stores;
 use ipc_ids::{Buffer, Code, NoMemory, Short, StoreNo, TaskNo};
 use std::alloc::Global;
@@ -201,6 +203,56 @@ impl Spaces {
         }
     }
 
+    /// Gives a task an area over the store of another area, which may be of another task, and
+    /// tells the store. It takes no memory.
+    ///
+    /// # Errors
+    ///
+    /// `ENOENT` where `from` has no area with this base; `EPERM` where that area has other pages,
+    /// or fewer rights; then what `make` refuses. Then nothing has changed.
+    pub fn share(
+        &mut self,
+        from: TaskNo,
+        base: u64,
+        to: TaskNo,
+        target: u64,
+        pages: u64,
+        rights: u64,
+    ) -> Result<StoreNo, Code>
+        requires from_added { IsAdded self.old from }
+        requires to_added { IsAdded self.old to }
+        ensures { Did self.new result (share self.old from base to target pages rights) }
+    {
+        let Some(source) = self.area_at(from, base) else {
+            return Err(Code::ENOENT);
+        };
+        if source.pages() != pages || !is_subset(rights, source.rights()) {
+            return Err(Code::EPERM);
+        }
+        let store = source.store();
+        if let Some(code) = self.areas(to).refusal(target, pages, rights) {
+            return Err(code);
+        }
+        self.place_area(to, HeldArea::new(target, pages, rights, store));
+        Ok(StoreNo(store))
+    }
+
+    /// What is told of the area of a task with this base; `None` where it has none. It takes no
+    /// memory.
+    pub fn area(&self, t: TaskNo, base: u64) -> Option<Area>
+        requires added { IsAdded self.now t }
+        ensures { result ≡ area self.now t base }
+    {
+        match self.area_at(t, base) {
+            Some(area) => Some(Area {
+                pages: area.pages(),
+                rights: area.rights(),
+                store: StoreNo(area.store()),
+            }),
+            None => None,
+        }
+    }
+
     /// How many areas a task has.
     pub fn count_areas(&self, t: TaskNo) -> usize
         requires added { IsAdded self.now t }
@@ -224,6 +276,19 @@ impl Spaces {
         ensures over { All (IsOver self.now.stores self.now.next_store) result.now }
     {
         &self.tasks[t.0 as usize - 1]
+    }
+
+    /// The area of a task with this base.
+    fn area_at(&self, t: TaskNo, base: u64) -> Option<&HeldArea>
+        requires added { IsAdded self.now t }
+        ensures area { option_copied result ≡ area_at self.now t base }
+        ensures over { IfSome result (λ a. IsOver self.now.stores self.now.next_store a.now) }
+    {
+        let areas = self.areas(t);
+        match areas.place_of(base) {
+            Some(place) => Some(areas.at(place)),
+            None => None,
+        }
     }
 
     /// Where these bytes of a task lie, if one area with that right holds them all.

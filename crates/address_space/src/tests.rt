@@ -1,14 +1,17 @@
 //! What a task does with its areas, and what is refused.
 ghost use Rattle.address_space.specs.Memory.{IsAdded};
 
-use crate::{SpaceFault, Spaces};
+use crate::{Area, SpaceFault, Spaces};
 use ipc_ids::{Code, StoreNo, TaskNo};
 use std::alloc::Global;
 use std::process::Abort;
 use std::test::Fail;
 
-/// The only task.
+/// The first task.
 const TASK: TaskNo = TaskNo(1);
+
+/// The second, where there is one.
+const OTHER: TaskNo = TaskNo(2);
 
 /// How many bytes a peek tells.
 fn peeked(spaces: &Spaces, at: u64, count: u64) -> Result<usize, Code>
@@ -108,6 +111,48 @@ fn a_task_is_taken_back(rt: HostRuntime) -> Result<(), Fail> {
 }
 
 #[test]
+fn shared_bytes_are_seen_by_both(rt: HostRuntime) -> Result<(), Fail> {
+    let mut spaces = Spaces::new(rt.alloc());
+    spaces.add_task()?;
+    spaces.add_task()?;
+    let store = StoreNo(1);
+    assert_eq!(rt; spaces.make(TASK, 4096, 1, 3), Ok(store));
+    assert_eq!(rt; spaces.share(TASK, 4096, OTHER, 8192, 1, 3), Ok(store));
+    assert_eq!(rt; spaces.write(TASK, 4096, &[10]), Ok(Some(store)));
+    assert_eq!(rt; spaces.write(OTHER, 8193, &[255]), Ok(Some(store)));
+    assert_eq!(rt; spaces.drop_area(TASK, 4096), Ok(()));
+    assert_eq!(rt; spaces.area(TASK, 4096), None);
+    let area = Area {
+        pages: 1,
+        rights: 3,
+        store,
+    };
+    assert_eq!(rt; spaces.area(OTHER, 8192), Some(area));
+    let Ok(bytes) = spaces.peek(OTHER, 8192, 2) else {
+        return Err(Fail::new("the bytes are not told"));
+    };
+    assert_eq!(rt; bytes.as_slice(), [10u8, 255].as_slice());
+    assert_eq!(rt; spaces.drop_area(OTHER, 8192), Ok(()));
+    Ok(())
+}
+
+#[test]
+fn the_first_cause_against_a_share_is_told(rt: HostRuntime) -> Result<(), Fail> {
+    let mut spaces = Spaces::new(rt.alloc());
+    spaces.add_task()?;
+    assert_eq!(rt; spaces.make(TASK, 4096, 2, 1), Ok(StoreNo(1)));
+    assert_eq!(rt; spaces.share(TASK, 8192, TASK, 0, 2, 1), Err(Code::ENOENT));
+    assert_eq!(rt; spaces.share(TASK, 4096, TASK, 1, 1, 1), Err(Code::EPERM));
+    assert_eq!(rt; spaces.share(TASK, 4096, TASK, 1, 2, 3), Err(Code::EPERM));
+    assert_eq!(rt; spaces.share(TASK, 4096, TASK, 1, 2, 1), Err(Code::EINVAL));
+    assert_eq!(rt; spaces.share(TASK, 4096, TASK, 16384, 2, 0), Err(Code::EINVAL));
+    assert_eq!(rt; spaces.share(TASK, 4096, TASK, 8192, 2, 1), Err(Code::EEXIST));
+    assert_eq!(rt; spaces.share(TASK, 4096, TASK, 12288, 2, 1), Ok(StoreNo(1)));
+    assert_eq!(rt; spaces.write(TASK, 12288, &[1]), Err(Code::EPERM));
+    Ok(())
+}
+
+#[test]
 fn a_task_has_16_areas(rt: HostRuntime) -> Result<(), Fail> {
     let mut spaces = Spaces::new(rt.alloc());
     spaces.add_task()?;
@@ -117,5 +162,7 @@ fn a_task_has_16_areas(rt: HostRuntime) -> Result<(), Fail> {
     }
     let full = Err(SpaceFault::Refused(Code::ELIMIT));
     assert_eq!(rt; spaces.make(TASK, 0, 1, 1), full);
+    let base = (1 << 32) - 8192;
+    assert_eq!(rt; spaces.share(TASK, base, TASK, 0, 2, 1), Err(Code::ELIMIT));
     Ok(())
 }

@@ -8,6 +8,7 @@ pub mod SoundMemory
 pub mod SoundStates
 pub mod SoundJoins
 pub mod SoundData
+pub mod SoundShare
 pub mod Counting
 pub mod Recounting
 pub mod Repeats

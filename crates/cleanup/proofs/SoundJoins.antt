@@ -288,7 +288,7 @@ asker_alive tasks from u place code reserved l caller is = by_test (is_accepted 
   by_test true h = absurd (none_some None l refl h)
   by_test false h = ap (alive_in tasks.alive) (task_of_phone from.task reserved l h ∙ ap (λ (t : TaskNo). t.0) (sym caller.0)) ∙ caller.1
 
-caller_alive : (tasks : Tasks) (from : Label) (caller : Option TaskNo) (u : TaskNo) → caller ≡ Some u → IsCaller tasks from caller → IsCaller tasks from (Some u)
+pub caller_alive : (tasks : Tasks) (from : Label) (caller : Option TaskNo) (u : TaskNo) → caller ≡ Some u → IsCaller tasks from caller → IsCaller tasks from (Some u)
 caller_alive tasks from caller u is h = subst (IsCaller tasks from) is h
 
 -- a CONNECT_TO_ME is accepted

@@ -10,6 +10,7 @@ use Rattle.address_space.specs.Memory as spaces
 use Rattle.address_space.proofs.Soundness.{sound_task as spaces_task, sound_make as spaces_make, sound_drop as spaces_drop}
 use Rattle.address_space.proofs.Rows.{length_make, length_drop, others_at_make, others_at_drop}
 use Rattle.data_hooks.proofs.Keeping.{IsOverwritten, written}
+use Rattle.share_hooks.proofs.Keeping.{KeepsOthers}
 use Rattle.cleanup.specs.State.{alive_in}
 use Rattle.cleanup.specs.Sound.{HasSoundMemory}
 use Rattle.cleanup.proofs.Soundness.{ended_before}
@@ -72,6 +73,14 @@ memory_overwritten {alive} {m} {after} over s = record {
 
 pub memory_write : {alive : List Bool} {m : Memory} (t : TaskNo) (at : ℕ) (bytes : List ℕ) → HasSoundMemory alive m → HasSoundMemory alive (spaces.write m t at bytes).memory
 memory_write {alive} {m} t at bytes s = memory_overwritten (written m t at bytes) s
+
+-- a task that is alive gets an area over a store that is there
+pub memory_shared : {alive : List Bool} {m after : Memory} (t : TaskNo) → alive_in alive t.0 ≡ true → KeepsOthers t m after → HasSoundMemory alive m → HasSoundMemory alive after
+memory_shared {alive} {m} {after} t lives shared s = record {
+  spaces = shared.sound s.spaces;
+  paired = shared.tasks ∙ s.paired;
+  owned = λ u some ended. shared.others u (from_one alive t lives) some (apart alive t u lives ended) ∙ s.owned u some ended;
+}
 
 -- a task that has no areas ends
 pub memory_ended : {alive : List Bool} {m : Memory} (t : TaskNo) → alive_in alive t.0 ≡ true → areas_of m t ≡ [] → HasSoundMemory alive m → HasSoundMemory (set alive (t.0 - 1) false) m

@@ -6,6 +6,7 @@ pub mod Kept
 pub mod Joins
 pub mod Areas
 pub mod Data
+pub mod Sharing
 pub mod Kill
 pub mod Limits
 pub mod Board

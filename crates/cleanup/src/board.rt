@@ -2,6 +2,7 @@
 ghost use Rattle.std.specs.Prelude.{◌≡◌, ℕ, ◌+◌, ◌-◌, ◌^◌, ◌<◌, ◌≤◌, ◌++◌, ◌∷◌, [], replicate, true, Some, None, IsSome, IfSome, IfNone, IfOk, OnOk, OnErr, length};
 ghost use Rattle.std.specs.Option.{option_copied};
 ghost use Rattle.address_space.specs.Memory.{with_task as with_areas, Tells};
+ghost use Rattle.share_hooks.specs.ShareMoments.{out_before_send, out_accept, in_accept};
 ghost use Rattle.data_hooks.specs.DataMoments.{write_before_send, write_accept, read_accept, read_deliver};
 ghost use Rattle.answerbox.specs.Places.{IsAt};
 ghost use Rattle.answerbox.specs.Calls.{call_at, task_of, enqueue, without_call, received, without_caller, active_calls, front, calls_of, calls_at, calls_by};
@@ -33,6 +34,7 @@ use ipc_ids::{
     TaskNo,
 };
 use phone_table::{Hung, PhoneRows, Phones};
+use share_hooks::{in_accept, out_accept, out_before_send};
 use std::alloc::Global;
 use std::marker::Model;
 
@@ -648,6 +650,70 @@ impl Switchboard {
         ensures keeps { KeepsCalls self.old self.new }
     {
         read_deliver(&mut self.spaces, t, &call.request.args, &call.buffer)
+    }
+
+    /// Whether the caller may send a SHARE_OUT with these arguments.
+    ///
+    /// # Errors
+    ///
+    /// The code with which the call is answered at once.
+    pub fn may_share_out(&self, caller: TaskNo, args: &[u64; 5]) -> Result<(), Code>
+        requires added { IsAdded self.now.state caller }
+        ensures { result ≡ out_before_send self.now.state.memory caller args.now }
+    {
+        out_before_send(&self.spaces, caller, args)
+    }
+
+    /// Gives the task an area over the store of one of the caller's, where the reply says.
+    ///
+    /// # Errors
+    ///
+    /// The code of the refusal; then nothing has changed.
+    pub(crate) fn share_out(
+        &mut self,
+        call: CallNo,
+        reply: &Reply,
+        t: TaskNo,
+        caller: TaskNo,
+    ) -> Result<StoreNo, Code>
+        requires live { IsSome (call_at self.old.state.calls call.0) }
+        requires added { IsAdded self.old.state t }
+        requires caller { IsAdded self.old.state caller }
+        ensures told { IfSome (call_at self.old.state.calls call.0) (λ c. result
+            ≡ (out_accept self.old.state.memory caller t c.request.args reply.now).told) }
+        ensures state { IfSome (call_at self.old.state.calls call.0) (λ c. self.new.state
+            ≡ with_memory self.old.state
+            (out_accept self.old.state.memory caller t c.request.args reply.now).memory) }
+        ensures keeps { KeepsCalls self.old self.new }
+    {
+        let record = self.boxes.get(call).unwrap();
+        out_accept(&mut self.spaces, caller, t, &record.request.args, reply)
+    }
+
+    /// Gives the caller an area over the store of one of the task's, where the call asked.
+    ///
+    /// # Errors
+    ///
+    /// The code of the refusal; then nothing has changed.
+    pub(crate) fn share_in(
+        &mut self,
+        call: CallNo,
+        reply: &Reply,
+        t: TaskNo,
+        caller: TaskNo,
+    ) -> Result<StoreNo, Code>
+        requires live { IsSome (call_at self.old.state.calls call.0) }
+        requires added { IsAdded self.old.state t }
+        requires caller { IsAdded self.old.state caller }
+        ensures told { IfSome (call_at self.old.state.calls call.0) (λ c. result
+            ≡ (in_accept self.old.state.memory caller t c.request.args reply.now).told) }
+        ensures state { IfSome (call_at self.old.state.calls call.0) (λ c. self.new.state
+            ≡ with_memory self.old.state
+            (in_accept self.old.state.memory caller t c.request.args reply.now).memory) }
+        ensures keeps { KeepsCalls self.old self.new }
+    {
+        let record = self.boxes.get(call).unwrap();
+        in_accept(&mut self.spaces, caller, t, &record.request.args, reply)
     }
 
     /// The call takes the reply and these bytes to the answers of its caller, and what it reserves

@@ -17,6 +17,7 @@ mod kill;
 mod kill_room;
 mod laws;
 mod phones;
+mod sharing;
 #[cfg(test)]
 mod tests;
 

@@ -36,6 +36,8 @@ use Rattle.forwarding.specs.Forwarding.{is_held, is_forwardable, msg_after, labe
 use Rattle.forwarding.specs.Routes.{callee_of, receiver_of, as_forwarded}
 use Rattle.address_space.specs.Memory.{Memory}
 use Rattle.address_space.specs.Memory as spaces
+use Rattle.share_hooks.specs.ShareMoments.{out_before_send, in_before_send, out_accept, in_accept}
+use Rattle.cleanup.specs.Sharing.{shared_note, shared_at_answer}
 use Rattle.data_hooks.specs.DataMoments.{address_of, count_of, write_before_send, read_before_send, write_accept, read_accept, read_deliver}
 use Rattle.cleanup.specs.Areas.{made_note, gone_note, wrote_note}
 use Rattle.cleanup.specs.Data.{reply_told, bytes_told, written_at_answer, written_at_delivery, delivered_read}
@@ -116,6 +118,10 @@ module _ (e : Event) (p : List Tale) (k : KernelState) (inside : InEvent e p k) 
   area_made_told base pages rights (Ok store) = memory_told e p k inside m
   area_made_told base pages rights (Err code) = silent_told e p k inside m
 
+  area_shared_told : (base pages rights : ℕ) (r : Result StoreNo Code) → InEvent e (and_then (option_to_list (shared_note t base pages rights r)) p) (with_memory k m)
+  area_shared_told base pages rights (Ok store) = memory_told e p k inside m
+  area_shared_told base pages rights (Err code) = silent_told e p k inside m
+
   area_gone_told : (base : ℕ) (r : Result Unit Code) → InEvent e (and_then (gone_note t base r) p) (with_memory k m)
   area_gone_told base (Ok done) = memory_told e p k inside m
   area_gone_told base (Err code) = silent_told e p k inside m
@@ -157,8 +163,8 @@ module _ (t : TaskNo) (r : Ask) (p : List Tale) (k : KernelState) (inside : InEv
     by_kind ConnectMeTo = keeping (first_usable_of k t)
     by_kind DataWrite = with_bytes (write_before_send k.memory t msg.args)
     by_kind DataRead = wanting (read_before_send msg.args)
-    by_kind ShareOut = accepted msg None []
-    by_kind ShareIn = accepted msg None []
+    by_kind ShareOut = wanting (out_before_send k.memory t msg.args)
+    by_kind ShareIn = wanting (in_before_send msg.args)
     by_kind NotBuilt = accepted msg None []
     by_kind User = accepted msg None []
 
@@ -217,6 +223,10 @@ module _ (t : TaskNo) (r : Ask) (p : List Tale) (k : KernelState) (inside : InEv
     written u made lives' step =
         wrote_told (Step t.0 r) _ _ (answered u made lives' (reply_told reply step.told) None phone.Free (free_leads (Step t.0 r) k.tasks.alive)) t step.memory (address_of reply.args) (count_of reply.args) step.told
 
+    shared : (u : TaskNo) → c.caller ≡ Some u → is_alive k u ≡ true → (to : TaskNo) (base : ℕ) (step : spaces.Step StoreNo) → AfterStep (Step t.0 r) p (answer_to (shared_at_answer k c reply to base step) (Some t) u)
+    shared u made lives' to base step =
+        area_shared_told (Step t.0 r) _ _ (answered u made lives' (reply_told reply step.told) None phone.Free (free_leads (Step t.0 r) k.tasks.alive)) to step.memory base (slice_index c.request.args 1) (slice_index c.request.args 2) step.told
+
     by_kind : (u : TaskNo) → c.caller ≡ Some u → is_alive k u ≡ true → (kind : MethodKind) → AfterStep (Step t.0 r) p (answer_to (on_accept_of kind k c reply t u) (Some t) u)
     by_kind u made lives' PhoneHungUp = answered u made lives' reply None phone.Free (free_leads (Step t.0 r) k.tasks.alive)
     by_kind u made lives' ConnectToMe =
@@ -228,8 +238,8 @@ module _ (t : TaskNo) (r : Ask) (p : List Tale) (k : KernelState) (inside : InEv
     by_kind u made lives' DataWrite = written u made lives' (write_accept k.memory t c.buffer reply)
     by_kind u made lives' DataRead =
         let told = read_accept k.memory t c.request.args reply in with_bytes u made lives' (reply_told reply told) (bytes_told told c.buffer) None phone.Free (free_leads (Step t.0 r) k.tasks.alive)
-    by_kind u made lives' ShareOut = answered u made lives' reply None phone.Free (free_leads (Step t.0 r) k.tasks.alive)
-    by_kind u made lives' ShareIn = answered u made lives' reply None phone.Free (free_leads (Step t.0 r) k.tasks.alive)
+    by_kind u made lives' ShareOut = shared u made lives' t (slice_index reply.args 0) (out_accept k.memory u t c.request.args reply)
+    by_kind u made lives' ShareIn = shared u made lives' u (slice_index c.request.args 0) (in_accept k.memory u t c.request.args reply)
     by_kind u made lives' NotBuilt = answered u made lives' reply None phone.Free (free_leads (Step t.0 r) k.tasks.alive)
     by_kind u made lives' User = answered u made lives' reply None phone.Free (free_leads (Step t.0 r) k.tasks.alive)
 

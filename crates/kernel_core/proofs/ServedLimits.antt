@@ -36,6 +36,7 @@ use Rattle.cleanup.specs.State.{KernelState, Transition, phone_at, with_calls, w
 use Rattle.cleanup.specs.Kept.{accepts, kept_phone, lent_phone, with_kept, first_usable_of}
 use Rattle.cleanup.specs.Sound.{IsSound}
 use Rattle.cleanup.specs.Joins.{bare_reply, new_call, acceptance, answer_at_once, reception, delivery, answer_to, code_of, lives, passed_call, passage, drop_answer}
+use Rattle.share_hooks.specs.ShareMoments.{out_before_send, in_before_send, out_accept, in_accept}
 use Rattle.data_hooks.specs.DataMoments.{write_before_send, read_before_send, write_accept, read_accept, read_deliver}
 use Rattle.cleanup.specs.Data.{reply_told, bytes_told, delivered_read}
 use Rattle.cleanup.specs.Serving.{Handed, Served, as_it_is}
@@ -134,8 +135,8 @@ module _ (t : TaskNo) (k : KernelState) (h : IsSound k) (w : IsWithinLimits k) w
     sent u is ConnectMeTo = keeping u is (first_usable_of k t) refl
     sent u is DataWrite = with_bytes u is (write_before_send k.memory t msg.args)
     sent u is DataRead = wanting u is (read_before_send msg.args)
-    sent u is ShareOut = plain u is
-    sent u is ShareIn = plain u is
+    sent u is ShareOut = wanting u is (out_before_send k.memory t msg.args)
+    sent u is ShareIn = wanting u is (in_before_send msg.args)
     sent u is NotBuilt = plain u is
     sent u is User = plain u is
 
@@ -189,8 +190,10 @@ module _ (t : TaskNo) (k : KernelState) (h : IsSound k) (w : IsWithinLimits k) w
         let step = write_accept k.memory t c.buffer reply in put_answered (with_memory k step.memory) (reply_told reply step.told) u (within_memory k step.memory w) live
     accepted reply u DataRead =
         let told = read_accept k.memory t c.request.args reply in within_put k c (record c { reply = reply_told reply told; buffer = bytes_told told c.buffer }) (Answers u) w live refl refl refl
-    accepted reply u ShareOut = put_answered k reply u w live
-    accepted reply u ShareIn = put_answered k reply u w live
+    accepted reply u ShareOut =
+        let step = out_accept k.memory u t c.request.args reply in put_answered (with_memory k step.memory) (reply_told reply step.told) u (within_memory k step.memory w) live
+    accepted reply u ShareIn =
+        let step = in_accept k.memory u t c.request.args reply in put_answered (with_memory k step.memory) (reply_told reply step.told) u (within_memory k step.memory w) live
     accepted reply u NotBuilt = put_answered k reply u w live
     accepted reply u User = put_answered k reply u w live
 

@@ -30,6 +30,8 @@ use Rattle.forwarding.specs.Routes.{forward_answer}
 use Rattle.address_space.specs.Memory.{Memory}
 use Rattle.data_hooks.specs.DataMoments.{write_before_send, read_before_send}
 use Rattle.data_hooks.proofs.Lengths.{write_length}
+use Rattle.share_hooks.specs.ShareMoments.{out_before_send, in_before_send}
+use Rattle.cleanup.proofs.SoundShare.{sound_accepted_share_out, sound_accepted_share_in}
 use Rattle.cleanup.specs.State.{KernelState, Transition, is_alive, phone_at, with_calls, with_memory, label_of}
 use Rattle.cleanup.specs.Kept.{accepts, first_usable_of}
 use Rattle.cleanup.specs.Sound.{IsPlaced, NeedsPhone, Carries, HasSoundMemory, IsSound}
@@ -140,18 +142,18 @@ module _ (t : TaskNo) (k : KernelState) (alive : is_alive k t ≡ true) (h : IsS
         made p msg (Connected u) (Incoming u) c.reply bytes is callable (h.tasks.leads t.0 p u is) (λ needs. rw kind at needs) (rw kind (write_length k.memory t msg.args bytes h.memory.spaces copied).all)
     with_bytes (Err code) copied kind = back p msg (Connected u) code is callable (λ needs. rw kind at needs)
 
-    wanting : (told : Result Unit Code) → kind_of msg.method ≡ DataRead → Follows (sent_to u k c (asking k c told))
-    wanting (Ok done) kind = plain DataRead kind (λ needs. needs) (λ e. cc)
-    wanting (Err code) kind = back p msg (Connected u) code is callable (λ needs. rw kind at needs)
+    wanting : (kind : MethodKind) → kind_of msg.method ≡ kind → ((place : Place) (code : Code) → NeedsPhone kind place code → ⊥) → (kind ≡ DataWrite → ⊥) → (told : Result Unit Code) → Follows (sent_to u k c (asking k c told))
+    wanting kind same needless other (Ok done) = plain kind same (needless (Incoming u) c.reply.code) other
+    wanting kind same needless other (Err code) = back p msg (Connected u) code is callable (λ needs. needless (Answers t) code (rw same at needs))
 
     sent : (kind : MethodKind) → kind_of msg.method ≡ kind → Follows (sent_to u k c (before_send_of kind k c))
     sent PhoneHungUp kind = plain PhoneHungUp kind (λ needs. needs) (λ e. cc)
     sent ConnectToMe kind = plain ConnectToMe kind (λ needs. needs) (λ e. cc)
     sent ConnectMeTo kind = keeping (first_usable_of k t) refl kind
     sent DataWrite kind = with_bytes (write_before_send k.memory t msg.args) refl kind
-    sent DataRead kind = wanting (read_before_send msg.args) kind
-    sent ShareOut kind = plain ShareOut kind (λ needs. needs) (λ e. cc)
-    sent ShareIn kind = plain ShareIn kind (λ needs. needs) (λ e. cc)
+    sent DataRead kind = wanting DataRead kind (λ place code needs. needs) (λ e. cc) (read_before_send msg.args)
+    sent ShareOut kind = wanting ShareOut kind (λ place code needs. needs) (λ e. cc) (out_before_send k.memory t msg.args)
+    sent ShareIn kind = wanting ShareIn kind (λ place code needs. needs) (λ e. cc) (in_before_send msg.args)
     sent NotBuilt kind = plain NotBuilt kind (λ needs. needs) (λ e. cc)
     sent User kind = plain User kind (λ needs. needs) (λ e. cc)
 
@@ -210,8 +212,8 @@ module _ (t : TaskNo) (k : KernelState) (alive : is_alive k t ≡ true) (h : IsS
     accepted reply u accepting from ConnectMeTo kind = sound_accepted_me_to k c reply t (Some t) u h live kind pending accepting alive from
     accepted reply u accepting from DataWrite kind = sound_accepted_write k c reply t (Some t) u h live kind pending from
     accepted reply u accepting from DataRead kind = sound_accepted_read k c reply t (Some t) u h live kind pending from
-    accepted reply u accepting from ShareOut kind = sound_finished k c reply (Some t) u h live (rw kind tt) pending from
-    accepted reply u accepting from ShareIn kind = sound_finished k c reply (Some t) u h live (rw kind tt) pending from
+    accepted reply u accepting from ShareOut kind = sound_accepted_share_out k c reply t (Some t) u h live kind pending alive from
+    accepted reply u accepting from ShareIn kind = sound_accepted_share_in k c reply t (Some t) u h live kind pending alive from
     accepted reply u accepting from NotBuilt kind = sound_finished k c reply (Some t) u h live (rw kind tt) pending from
     accepted reply u accepting from User kind = sound_finished k c reply (Some t) u h live (rw kind tt) pending from
 

@@ -19,6 +19,8 @@ use Rattle.call_slab.specs.declared.call.Call.{Call}
 use Rattle.call_slab.specs.declared.call.Place.TheVariants.{Incoming, Dispatched, Answers}
 use Rattle.answerbox.specs.Calls.{call_at, calls_at, front, same_place, active_calls}
 use Rattle.address_space.proofs.Numbers.{next_at_make, next_at_drop, next_at_write}
+use Rattle.share_hooks.specs.ShareMoments.{out_before_send, in_before_send}
+use Rattle.share_hooks.proofs.Keeping.{out_accept_keeps, in_accept_keeps}
 use Rattle.data_hooks.specs.DataMoments.{write_before_send, read_before_send}
 use Rattle.data_hooks.proofs.Keeping.{write_accept_keeps, read_deliver_keeps}
 use Rattle.forwarding.specs.declared.passing.Forwarded.{Forwarded}
@@ -68,8 +70,8 @@ module _ (k : KernelState) (t : TaskNo) (p : ℕ) (msg : Msg) where
   sent u ConnectMeTo = keeping u (first_usable_of k t)
   sent u DataWrite = with_bytes u (write_before_send k.memory t msg.args)
   sent u DataRead = wanting u (read_before_send msg.args)
-  sent u ShareOut = refl
-  sent u ShareIn = refl
+  sent u ShareOut = wanting u (out_before_send k.memory t msg.args)
+  sent u ShareIn = wanting u (in_before_send msg.args)
   sent u NotBuilt = refl
   sent u User = refl
 
@@ -116,8 +118,8 @@ module _ (k : KernelState) (t : TaskNo) (c : Call) (reply : Reply) where
   accepted u ConnectMeTo = refl
   accepted u DataWrite = (write_accept_keeps k.memory t c.buffer reply).next
   accepted u DataRead = refl
-  accepted u ShareOut = refl
-  accepted u ShareIn = refl
+  accepted u ShareOut = (out_accept_keeps k.memory u t c.request.args reply).next
+  accepted u ShareIn = (in_accept_keeps k.memory u t c.request.args reply).next
   accepted u NotBuilt = refl
   accepted u User = refl
 

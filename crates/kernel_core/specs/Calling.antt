@@ -38,8 +38,8 @@ is_callable ConnectToMe = true
 is_callable ConnectMeTo = true
 is_callable DataWrite = true
 is_callable DataRead = true
-is_callable ShareOut = false
-is_callable ShareIn = false
+is_callable ShareOut = true
+is_callable ShareIn = true
 is_callable NotBuilt = false
 is_callable User = true
 

@@ -17,6 +17,8 @@ use Rattle.cleanup.specs.State.{KernelState}
 use Rattle.cleanup.specs.Kept.{accepts, first_usable_of, kept_note, with_kept}
 use Rattle.data_hooks.specs.DataMoments.{write_before_send, read_before_send}
 use Rattle.cleanup.specs.Joins.{accepted_to_me, accepted_me_to, with_delivery}
+use Rattle.share_hooks.specs.ShareMoments.{out_before_send, in_before_send}
+use Rattle.cleanup.specs.Sharing.{accepted_share_out, accepted_share_in}
 use Rattle.cleanup.specs.Data.{accepted_write, accepted_read, delivered_read}
 use Rattle.cleanup.specs.Serving.{Handed, as_it_is}
 
@@ -42,7 +44,7 @@ abbrev pub carrying : KernelState → Call → Result (List ℕ) Code → Result
 carrying k c (Ok bytes) = Ok (as_it_is k (record c { buffer = bytes }))
 carrying k c (Err code) = Err code
 
--- a DATA_READ is sent where it asks for few bytes
+-- a DATA_READ is sent where it asks for few bytes, a share where the area can be shared
 abbrev pub asking : KernelState → Call → Result Unit Code → Result Handed Code
 asking k c (Ok done) = Ok (as_it_is k c)
 asking k c (Err code) = Err code
@@ -53,8 +55,8 @@ before_send_of ConnectToMe k c = Ok (as_it_is k c)
 before_send_of ConnectMeTo k c = keeping_to_send k c (first_usable_of k c.from.task)
 before_send_of DataWrite k c = carrying k c (write_before_send k.memory c.from.task c.request.args)
 before_send_of DataRead k c = asking k c (read_before_send c.request.args)
-before_send_of ShareOut k c = Ok (as_it_is k c)
-before_send_of ShareIn k c = Ok (as_it_is k c)
+before_send_of ShareOut k c = asking k c (out_before_send k.memory c.from.task c.request.args)
+before_send_of ShareIn k c = asking k c (in_before_send c.request.args)
 before_send_of NotBuilt k c = Ok (as_it_is k c)
 before_send_of User k c = Ok (as_it_is k c)
 
@@ -88,16 +90,16 @@ on_receive_of User k c t = as_it_is k c
 abbrev pub on_receive : KernelState → Call → TaskNo → Handed
 on_receive k c t = on_receive_of (kind_of c.request.method) k c t
 
--- as task t accepts a call of this caller, the kept phone leads to the other of the two; a DATA_WRITE writes its bytes, and
--- a DATA_READ reads those that it takes with it
+-- as task t accepts a call of this caller, the kept phone leads to the other of the two; a DATA_WRITE writes its bytes, a
+-- DATA_READ reads those that it takes with it, and a share gives one of the two an area
 abbrev pub on_accept_of : MethodKind → KernelState → Call → Reply → TaskNo → TaskNo → Handed
 on_accept_of PhoneHungUp k c reply t caller = as_it_is k (record c { reply = reply })
 on_accept_of ConnectToMe k c reply t caller = accepted_to_me k c reply caller
 on_accept_of ConnectMeTo k c reply t caller = accepted_me_to k c reply t
 on_accept_of DataWrite k c reply t caller = accepted_write k c reply t
 on_accept_of DataRead k c reply t caller = accepted_read k c reply t
-on_accept_of ShareOut k c reply t caller = as_it_is k (record c { reply = reply })
-on_accept_of ShareIn k c reply t caller = as_it_is k (record c { reply = reply })
+on_accept_of ShareOut k c reply t caller = accepted_share_out k c reply t caller
+on_accept_of ShareIn k c reply t caller = accepted_share_in k c reply t caller
 on_accept_of NotBuilt k c reply t caller = as_it_is k (record c { reply = reply })
 on_accept_of User k c reply t caller = as_it_is k (record c { reply = reply })
 

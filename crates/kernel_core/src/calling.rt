@@ -77,11 +77,10 @@ fn is_callable(kind: MethodKind) -> bool
         | MethodKind::ConnectMeTo
         | MethodKind::DataWrite
         | MethodKind::DataRead
-        | MethodKind::User => true,
-        MethodKind::PhoneHungUp
         | MethodKind::ShareOut
         | MethodKind::ShareIn
-        | MethodKind::NotBuilt => false,
+        | MethodKind::User => true,
+        MethodKind::PhoneHungUp | MethodKind::NotBuilt => false,
     }
 }
 

@@ -20,6 +20,7 @@ use data_hooks::read_before_send;
 use ipc_ids::{
     CallNo, Code, Entry, Label, MethodKind, Msg, NoMemory, PhoneState, Reply, TaskNo, Trace,
 };
+use share_hooks::in_before_send;
 
 /// The phone number that a CONNECT_TO_ME names where its receiver has no usable phone.
 const NO_PHONE: u64 = 64;
@@ -64,10 +65,16 @@ pub(crate) fn before_send(
             Ok(()) => Ok(None),
             Err(code) => Err(SpaceFault::Refused(code)),
         },
+        MethodKind::ShareOut => match board.may_share_out(call.from.task, &call.request.args) {
+            Ok(()) => Ok(None),
+            Err(code) => Err(SpaceFault::Refused(code)),
+        },
+        MethodKind::ShareIn => match in_before_send(&call.request.args) {
+            Ok(()) => Ok(None),
+            Err(code) => Err(SpaceFault::Refused(code)),
+        },
         MethodKind::PhoneHungUp
         | MethodKind::ConnectToMe
-        | MethodKind::ShareOut
-        | MethodKind::ShareIn
         | MethodKind::NotBuilt
         | MethodKind::User => Ok(None),
     }
@@ -110,7 +117,8 @@ pub(crate) fn on_receive(board: &mut Switchboard, number: CallNo, who: TaskNo) -
 }
 
 /// As the task accepts a call of that caller: a phone that was kept for it leads to the other of
-/// the two, the bytes of a DATA_WRITE are written, and those of a DATA_READ are taken along.
+/// the two, the bytes of a DATA_WRITE are written, those of a DATA_READ are taken along, and a share
+/// gives one of the two an area.
 ///
 /// # Errors
 ///
@@ -149,11 +157,15 @@ pub(crate) fn on_accept(
             Ok(())
         }
         MethodKind::DataRead => board.accept_read(number, reply, who, caller, out),
-        MethodKind::PhoneHungUp
-        | MethodKind::ShareOut
-        | MethodKind::ShareIn
-        | MethodKind::NotBuilt
-        | MethodKind::User => {
+        MethodKind::ShareOut => {
+            board.accept_share_out(number, reply, who, caller, out);
+            Ok(())
+        }
+        MethodKind::ShareIn => {
+            board.accept_share_in(number, reply, who, caller, out);
+            Ok(())
+        }
+        MethodKind::PhoneHungUp | MethodKind::NotBuilt | MethodKind::User => {
             board.finish(number, reply, who, caller, out);
             Ok(())
         }
