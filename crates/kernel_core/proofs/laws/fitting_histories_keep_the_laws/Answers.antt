@@ -1,3 +1,4 @@
+use Rattle.kernel_core.proofs.AreaKills.{areas_kill}
 use Rattle.kernel_core.proofs.WholeHistories.{laws_of_history}
 use Rattle.kernel_core.proofs.laws.fitting_histories_keep_the_laws.Goals as goal
 
