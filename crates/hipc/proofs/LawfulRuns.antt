@@ -1,4 +1,4 @@
--- The run of a sound script keeps the laws of calls, under every schedule.
+-- The run of a sound script keeps the laws, under every schedule.
 use Rattle.std.proofs.Common.{◌≡◌, Bool, true, false, List, [], ◌∷◌, ◌++◌, Option, None, Some, refl, subst, append_assoc}
 use Rattle.std.specs.Prelude.{if◌then◌else◌, slice_get, ◌-◌}
 use Rattle.std.proofs.lemmas.List.{append-nil}
@@ -17,7 +17,7 @@ use Rattle.kernel_core.specs.Kernel.{serve, kill_event}
 use Rattle.kernel_core.specs.History.{HistoryFits}
 use Rattle.kernel_core.proofs.ServedHistories.{serve_fits}
 use Rattle.kernel_core.proofs.KilledHistories.{kill_fits}
-use Rattle.kernel_core.proofs.WholeHistories.{start_fits, task_fits, wire_fits, gone_fits, laws_of_history}
+use Rattle.kernel_core.proofs.WholeHistories.{start_fits, task_fits, wire_fits, gone_fits, laws_of_history, area_law_of_history}
 use Rattle.hipc.specs.Raw.{RawState, wanted}
 use Rattle.hipc.specs.Replay.{RunState, RunTransition, with_tasks, with_wires, step_by, request_served, killed, gone, turn, run_from, run}
 use Rattle.hipc.specs.Replay as hipc
@@ -58,7 +58,7 @@ module _ (h : List Entry) (now : RunState) (fits : HistoryFits h now.kernel) whe
   turned (Hangup t phone) = requested t (ask.Hangup phone) (is_alive now.kernel t) refl
 
 laws_kept : (h : List Entry) (k : KernelState) → HistoryFits h k → KeepsLaws h
-laws_kept h k fits = let laws = laws_of_history h k fits in record { lives = laws.0; answers = laws.1; kills = laws.2 }
+laws_kept h k fits = let laws = laws_of_history h k fits in record { lives = laws.0; answers = laws.1; kills = laws.2; areas = area_law_of_history h k fits }
 
 events_keep_laws : (h : List Entry) (now : RunState) → HistoryFits h now.kernel → (events : List Event) → KeepsLaws (h ++ run_from now events)
 events_keep_laws h now fits [] = rw (append-nil h) (laws_kept h now.kernel fits)

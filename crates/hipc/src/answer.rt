@@ -86,7 +86,7 @@ pub fn replay_bytes<K: Sink>(alloc: Global, script: &[u8], schedule: &[u8], sink
     ensures risen { K.faults sink.old < K.faults sink.new →
         (result ≡ WriteFailed) ⊎ (result ≡ Memory) }
     ensures later { K.faults sink.old ≤ K.faults sink.new }
-    // With Done, what was written is the text of a run that keeps the laws of calls.
+    // With Done, what was written is the text of a run that keeps the laws of calls and areas.
     ensures laws { result ≡ Done → WritesLawfulRun script.now schedule.now
         (K.written sink.old) (K.written sink.new) }
 {

@@ -127,7 +127,7 @@ pub fn run<S: Shelf, K: Sink>(
     ensures files { S.files shelf.new ≡ S.files shelf.old }
     ensures failed { LosesOneAtMost (files_of (texts words.now))
         (S.failed shelf.old) (S.failed shelf.new) }
-    // With Done, what was written is the text of a run that keeps the laws of calls.
+    // With Done, what was written is the text of a run that keeps the laws of calls and areas.
     ensures laws { result ≡ Done → WritesLawfulRunOf (texts words.now) (S.files shelf.old)
         (K.written sink.old) (K.written sink.new) }
 {

@@ -248,16 +248,18 @@ wrote q k t at new count fits s some long why = by_told (spaces.write k.memory t
       let w = area_written k.memory t at new store s is in
       let a : Area = w.area in
       let ends : at + length new ≤ a.base + a.pages * 4096 = w.ends in
-      bytes_written q k t at count store (spaces.write k.memory t at new).memory fits (areas_at_write k.memory t at new) (next_at_write k.memory t at new)
-      (why, record {
-        base = a.base;
-        area = record { pages = a.pages; rights = a.rights; store = a.store };
-        held_there = fits.held t a.base some ∙ ap holding w.there;
-        same_store = w.same;
-        writable = w.writable;
-        begins = w.begins;
-        ends = rw long at ends;
-      })
+      bytes_written q k t at count store (spaces.write k.memory t at new).memory fits (areas_at_write k.memory t at new) (next_at_write k.memory t at new) (
+        why,
+        record {
+          base = a.base;
+          area = record { pages = a.pages; rights = a.rights; store = a.store };
+          held_there = fits.held t a.base some ∙ ap holding w.there;
+          same_store = w.same;
+          writable = w.writable;
+          begins = w.begins;
+          ends = rw long at ends;
+        },
+      )
 
 -- an answer
 
@@ -402,10 +404,10 @@ received t q k fits safe some now (Some c) i is at =
     let r : List Entry = entry.Delivered c.number t ∷ q in
     by_test (λ (d : Handed). AfterServed q (delivery t d)) (brings_bytes c) (delivered_read k c t) _
     (λ brings.
-      let read : c.request.method ≡ data_read = brings_read (kind_of c.request.method) c.request.method c.reply.code (kind_says c.request.method) brings in
-      let over : AreasFit r (with_calls k (without_call k.calls c.number.0)) = after_quiet q k _ _ (quiet_delivery k c live c.reply None phone.Free t) fits in
-      let takes : TakesRead t r [] = (now, c.number.0, rw it.made read, inl (inl refl)) in
-      wrote r (with_calls k (without_call k.calls c.number.0)) t (address_of c.request.args) c.buffer (length c.buffer) over safe some refl (inr (inr takes)))
+    let read : c.request.method ≡ data_read = brings_read (kind_of c.request.method) c.request.method c.reply.code (kind_says c.request.method) brings in
+    let over : AreasFit r (with_calls k (without_call k.calls c.number.0)) = after_quiet q k _ _ (quiet_delivery k c live c.reply None phone.Free t) fits in
+    let takes : TakesRead t r [] = (now, c.number.0, rw it.made read, inl (inl refl)) in
+    wrote r (with_calls k (without_call k.calls c.number.0)) t (address_of c.request.args) c.buffer (length c.buffer) over safe some refl (inr (inr takes)))
     (λ _. after_quiet q k _ _ (quiet_delivery k c live (reply_of (kind_of c.request.method) c) (kept_phone c) phone.Free t) fits)
 received t q k fits safe some now None (Some c) is at = taken q k fits t c (own_front q k fits (place.Incoming t) c at) (kind_of c.request.method)
 received t q k fits safe some now None None is at = fits
@@ -427,9 +429,9 @@ dropped : (t : TaskNo) (q : List Entry) (k : KernelState) → AreasFit q k → I
 dropped t q k fits =
     drain_tells (List Entry) on_top (λ _. refl) (λ xs ys p. on_top-append xs ys p) (next_unawaited t) (drop_answer t) (IsDropping q k)
     (λ r j c i is.
-      let live = own_front r j i.fits (place.Answers t) c (unawaited_is (front j.calls (place.Answers t)) c is) in
-      let step = quiet_drop j c live t in
-      record { fits = after_quiet r j _ _ step i.fits; memory = step.memory ∙ i.memory; event = (all_tell (drop_answer t j c).entries r step.quiet).event ∙ i.event })
+    let live = own_front r j i.fits (place.Answers t) c (unawaited_is (front j.calls (place.Answers t)) c is) in
+    let step = quiet_drop j c live t in
+    record { fits = after_quiet r j _ _ step i.fits; memory = step.memory ∙ i.memory; event = (all_tell (drop_answer t j c).entries r step.quiet).event ∙ i.event })
     (calls_at k.calls (place.Answers t)) q k (record { fits = fits; memory = refl; event = refl })
 
 -- what a task does with its areas

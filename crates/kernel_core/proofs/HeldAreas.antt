@@ -68,9 +68,10 @@ AreUnlike (a ∷ areas) = (with_base a.base areas ≡ None) × AreUnlike areas
 
 unlike : (areas : List Area) → All IsWell areas → AllPairs AreApart areas → AreUnlike areas
 unlike [] all apart = tt
-unlike (a ∷ areas) all apart =
-    (none_alike a areas (All-head IsWell a areas all).some (All-tail IsWell a areas all) (λ j d lt. apart zero (suc j) d (omega arith) (omega arith)),
-    unlike areas (All-tail IsWell a areas all) (λ i j d below lt. apart (suc i) (suc j) d (omega arith) (omega arith)))
+unlike (a ∷ areas) all apart = (
+  none_alike a areas (All-head IsWell a areas all).some (All-tail IsWell a areas all) (λ j d lt. apart zero (suc j) d (omega arith) (omega arith)),
+  unlike areas (All-tail IsWell a areas all) (λ i j d below lt. apart (suc i) (suc j) d (omega arith) (omega arith)),
+)
 
 pub unlike_of : (m : Memory) (t : TaskNo) → IsSound m → AreUnlike (areas_of m t)
 unlike_of m t s = let l = lawful_of m t s in unlike (areas_of m t) l.in_range l.apart
@@ -86,10 +87,10 @@ not_taken base pages (b ∷ areas) some all free =
     let f = or_false (overlaps base (base + pages * 4096) b) (list_any (overlaps base (base + pages * 4096)) areas) free in
     elim (cases_eq b.base base) [
       | inl e ↦
-        let more : 1 ≤ b.pages = (All-head IsWell b areas all).some in
-        let x : b.base < base + pages * 4096 = omega arith in
-        let y : base < b.base + b.pages * 4096 = omega arith in
-        absurd (let g : overlaps base (base + pages * 4096) b ≡ false = f.0 in grind (arith, nat_tests, g, x, y))
+          let more : 1 ≤ b.pages = (All-head IsWell b areas all).some in
+          let x : b.base < base + pages * 4096 = omega arith in
+          let y : base < b.base + b.pages * 4096 = omega arith in
+          absurd (let g : overlaps base (base + pages * 4096) b ≡ false = f.0 in grind (arith, nat_tests, g, x, y))
       | inr ne ↦ rw (ne_eqb b.base base ne) (not_taken base pages areas some (All-tail IsWell b areas all) f.1)
     ]
 
@@ -169,11 +170,11 @@ IsAtOnly m t base now after = (u : TaskNo) (b : ℕ) → 1 ≤ u.0 → area_at a
 changed_at : (m : Memory) (t : TaskNo) (row : List Area) (base : ℕ) (now : Option Area) → 1 ≤ t.0 → t.0 - 1 < length m.areas → ((b : ℕ) → with_base b row ≡ (if base == b then now else with_base b (areas_of m t))) → IsAtOnly m t base now (with_areas m t row)
 changed_at m t row base now some added here u b more =
     area_in_is b (areas_of (with_areas m t row) u) ∙ ap (with_base b) (row_of m t u row some added more) ∙ by_task ∙ ap (λ (o : Option Area). if (t.0 == u.0) && (base == b) then now else o) (sym (area_in_is b (areas_of m u))) where
-  by_task : with_base b (if t.0 == u.0 then row else areas_of m u) ≡ (if (t.0 == u.0) && (base == b) then now else with_base b (areas_of m u))
-  by_task = elim (cases_eq t.0 u.0) [
-    | inl e ↦ rw (eq-eqb t.0 u.0 e) (here b ∙ ap (λ n. if base == b then now else with_base b (unwrap_or (slice_get m.areas (n - 1)) [])) e)
-    | inr ne ↦ rw (ne_eqb t.0 u.0 ne) refl
-  ]
+      by_task : with_base b (if t.0 == u.0 then row else areas_of m u) ≡ (if (t.0 == u.0) && (base == b) then now else with_base b (areas_of m u))
+      by_task = elim (cases_eq t.0 u.0) [
+        | inl e ↦ rw (eq-eqb t.0 u.0 e) (here b ∙ ap (λ n. if base == b then now else with_base b (unwrap_or (slice_get m.areas (n - 1)) [])) e)
+        | inr ne ↦ rw (ne_eqb t.0 u.0 ne) refl
+      ]
 
 -- what was allowed
 

@@ -11,6 +11,8 @@ use Rattle.ipc_ids.specs.Tales.{Kill, Forgotten, Tale, Head, On, past}
 use Rattle.ipc_ids.specs.Life.{Life, Incoming, Dispatched, life, is_killed, event, Allowed}
 use Rattle.ipc_ids.specs.Lawful.{StandsAt}
 use Rattle.ipc_ids.specs.Origins.{Origin, origin, is_forgotten}
+use Rattle.ipc_ids.specs.Holdings.{newest_first}
+use Rattle.ipc_ids.proofs.LawfulAreas.{newest_first-append}
 use Rattle.ipc_ids.proofs.Pasts.{head_follows, event_is_killed, past-append}
 use Rattle.call_slab.specs.declared.call.Call.{Call}
 use Rattle.call_slab.specs.declared.call.Place.{Place}
@@ -31,6 +33,7 @@ use Rattle.cleanup.proofs.MarkChanges.{ended_here, alive_elsewhere}
 use Rattle.cleanup.proofs.Limits.{within_kill}
 use Rattle.kernel_core.proofs.ServedLimits.{within_event}
 use Rattle.kernel_core.specs.Kernel.{kill_event}
+use Rattle.kernel_core.proofs.AreaKills.{areas_kill}
 use Rattle.kernel_core.specs.History.{is_ended, life_at, IsGone, PastFits, HistoryFits, killed_entries}
 use Rattle.kernel_core.proofs.InEvent.{and_then, and_then-append, IsTask, CallerFits, IsHome, Agrees, InEvent, by_test, noted, memory_told, is_told, front_at, phone_told, settled, dropped}
 use Rattle.kernel_core.proofs.ServedHistories.{hang_up_told, alive_is, core_of, leads_to_alive, fits_of, fits_later}
@@ -278,4 +281,5 @@ kill_fits h k t fits alive =
       sound = record { calls = after.calls; tasks = after.tasks; kept = after.kept; keepers = after.keepers; memory = after.memory };
       limits = within_event (kill k t).state (within_kill k t fits.sound alive fits.limits);
       told = rw (past-append h (killed_entries t (kill_event k t))) (fits_later _ (kill k t).state (past_kills (past h) k fits.told fits.sound t alive));
+      areas = rw (newest_first-append h (killed_entries t (kill_event k t))) (areas_kill t (newest_first h) k fits.areas fits.sound alive);
     }

@@ -25,6 +25,8 @@ use Rattle.ipc_ids.specs.Tales.{Ask, Receive, Answer, Forward, Other_request, Ev
 use Rattle.ipc_ids.specs.Life.{Nowhere, Back, Incoming, Dispatched, Answers, life, is_killed, event, task_of, IsOf, Allowed}
 use Rattle.ipc_ids.specs.Lawful.{IsCleared}
 use Rattle.ipc_ids.specs.Origins.{origin, is_forgotten}
+use Rattle.ipc_ids.specs.Holdings.{newest_first}
+use Rattle.ipc_ids.proofs.LawfulAreas.{newest_first-append}
 use Rattle.ipc_ids.proofs.Pasts.{above, follows, head_follows, past-append}
 use Rattle.call_slab.specs.declared.call.Call.{Call}
 use Rattle.call_slab.specs.declared.call.Place.{Place}
@@ -58,6 +60,7 @@ use Rattle.kernel_core.specs.Forward.{failed_forward, forward_told}
 use Rattle.kernel_core.specs.Request.{serve_request}
 use Rattle.kernel_core.specs.Kernel.{serve}
 use Rattle.kernel_core.proofs.Serving.{sound_serve}
+use Rattle.kernel_core.proofs.AreaRequests.{areas_serve}
 use Rattle.kernel_core.specs.History.{is_ended, life_at, IsTold, TellsOf, PastFits, HistoryFits, served_entries}
 use Rattle.kernel_core.proofs.InEvent.{and_then, and_then-append, IsTask, CallerFits, IsHome, Agrees, Core, InEvent, AfterStep, AfterServed, MayLead, handed, by_test, same_place-true, noted, silent_told, memory_told, is_told, own, front_at, phone_told, joined, free_leads, caller_told}
 use Rattle.kernel_core.proofs.InEvent as one
@@ -485,4 +488,5 @@ serve_fits h k t asked fits alive = record {
   sound = sound_serve k t asked fits.sound alive;
   limits = serve_within k t asked fits.sound fits.limits;
   told = rw (past-append h (served_entries t asked (serve k t asked))) (past_serves (past h) k fits.told fits.sound t asked alive);
+  areas = rw (newest_first-append h (served_entries t asked (serve k t asked))) (areas_serve t asked (newest_first h) k fits.areas fits.sound alive);
 }

@@ -1,6 +1,6 @@
 -- What is told of the first states, of an event on a task that has ended, and by every history that fits.
 use Rattle.std.proofs.Common.{ℕ, suc, zero, ◌≡◌, ◌-◌, Bool, true, false, not, Option, Some, None, List, [], ◌∷◌, ◌++◌, refl, sym, ◌∙◌, ap, subst}
-use Rattle.std.specs.Prelude.{◌==◌, if◌then◌else◌, slice_get}
+use Rattle.std.specs.Prelude.{◌==◌, if◌then◌else◌, slice_get, unwrap_or}
 use Rattle.std.specs.Option.{option_map_or}
 use Rattle.std.specs.Ordering.{nat_cmp}
 use Rattle.std.specs.FinMap.{get-empty}
@@ -8,7 +8,11 @@ use Rattle.ipc_ids.specs.declared.numbers.TaskNo.{TaskNo}
 use Rattle.ipc_ids.specs.declared.entry.Entry.{Entry}
 use Rattle.ipc_ids.specs.declared.message.PhoneState.TheVariants.{Free, Connected}
 use Rattle.ipc_ids.specs.Tales.{Gone, Tale, Head, past}
+use Rattle.ipc_ids.specs.declared.entry.Entry.TheVariants as entry
 use Rattle.ipc_ids.specs.Laws.{LivesAreLawful, AnsweredAtMostOnce, KillEndsHeldCalls}
+use Rattle.ipc_ids.specs.Holdings.{newest_first}
+use Rattle.ipc_ids.specs.AreaLaw.{AreasAreLawful}
+use Rattle.ipc_ids.proofs.LawfulAreas.{areas_are_lawful, newest_first-append}
 use Rattle.ipc_ids.proofs.Pasts.{head_follows, past-append}
 use Rattle.ipc_ids.proofs.LawfulLists.{lives_are_lawful, answered_at_most_once, kill_ends_held_calls}
 use Rattle.call_slab.specs.declared.call.Call.{Call}
@@ -16,6 +20,10 @@ use Rattle.answerbox.specs.Calls.{call_at}
 use Rattle.cleanup.specs.State.{KernelState, is_alive, start, with_task, with_phone, phone_at}
 use Rattle.cleanup.proofs.SoundStates.{sound_start, kept_task, kept_wired}
 use Rattle.cleanup.proofs.Limits.{within_start, within_task, within_wire}
+use Rattle.address_space.specs.Areas.{Area, place_of, area_in}
+use Rattle.kernel_core.specs.AreaHistory.{holding, AreasFit}
+use Rattle.kernel_core.proofs.HeldAreas.{area_in_is}
+use Rattle.kernel_core.proofs.AreaSteps.{begun}
 use Rattle.kernel_core.specs.History.{is_ended, TellsOf, PastFits, HistoryFits, gone_entries}
 
 none_ended : (t : ℕ) → false ≡ is_ended [] t
@@ -26,7 +34,15 @@ none_ended t = by_number (t == 0) where
 
 -- before the first task
 pub start_fits : HistoryFits [] start
-start_fits = record { sound = sound_start; limits = within_start; told = told } where
+start_fits = record { sound = sound_start; limits = within_start; told = told; areas = areas } where
+  areas : AreasFit [] start
+  areas = record {
+    lawful = tt;
+    held = λ t b some. ap holding (sym (area_in_is b []));
+    stores = refl;
+    calls = λ n c is. absurd (let none : None ≡ Some c = sym (get-empty nat_cmp n) ∙ is in cc);
+  }
+
   told : PastFits [] start
   told = record {
     lawful = tt;
@@ -43,9 +59,23 @@ marks_stay [] (suc i) = refl
 marks_stay (b ∷ alive) zero = refl
 marks_stay (b ∷ alive) (suc i) = marks_stay alive i
 
+rows_stay : (rows : List (List Area)) (i : ℕ) → unwrap_or (slice_get (rows ++ [] ∷ []) i) [] ≡ unwrap_or (slice_get rows i) []
+rows_stay [] zero = refl
+rows_stay [] (suc i) = refl
+rows_stay (row ∷ rows) zero = refl
+rows_stay (row ∷ rows) (suc i) = rows_stay rows i
+
 -- one task more
 pub task_fits : (h : List Entry) (k : KernelState) (limit : ℕ) → HistoryFits h k → HistoryFits h (with_task k limit)
-task_fits h k limit fits = record { sound = kept_task k limit fits.sound; limits = within_task k limit fits.limits; told = told } where
+task_fits h k limit fits = record { sound = kept_task k limit fits.sound; limits = within_task k limit fits.limits; told = told; areas = areas } where
+  areas : AreasFit (newest_first h) (with_task k limit)
+  areas = record {
+    lawful = fits.areas.lawful;
+    held = λ t b some. fits.areas.held t b some ∙ ap (λ (row : List Area). holding (area_in row (place_of b row))) (sym (rows_stay k.memory.areas (t.0 - 1)));
+    stores = fits.areas.stores;
+    calls = fits.areas.calls;
+  }
+
   told : PastFits (past h) (with_task k limit)
   told = record {
     lawful = fits.told.lawful;
@@ -60,7 +90,8 @@ task_fits h k limit fits = record { sound = kept_task k limit fits.sound; limits
 pub wire_fits : (h : List Entry) (k : KernelState) (t : TaskNo) (p : ℕ) (u : TaskNo) → HistoryFits h k → is_alive k t ≡ true → is_alive k u ≡ true → phone_at k t p ≡ Some Free → HistoryFits h (with_phone k t p (Connected u))
 wire_fits h k t p u fits alive target free =
     let f = fits.told in
-    record { sound = kept_wired k t p u fits.sound alive target free; limits = within_wire k t p u fits.limits free; told = record { lawful = f.lawful; round = f.round; cleared = f.cleared; number = f.number; ended = f.ended; calls = f.calls } }
+    let a = fits.areas in
+    record { sound = kept_wired k t p u fits.sound alive target free; limits = within_wire k t p u fits.limits free; told = record { lawful = f.lawful; round = f.round; cleared = f.cleared; number = f.number; ended = f.ended; calls = f.calls }; areas = record { lawful = a.lawful; held = a.held; stores = a.stores; calls = a.calls } }
 
 told_after_gone : (p : List Tale) (t n : ℕ) (o : Option Call) → TellsOf p n o → TellsOf (Head (Gone t) ∷ p) n o
 told_after_gone p t n None told = told
@@ -68,7 +99,7 @@ told_after_gone p t n (Some c) told = record { place = told.place; origin = told
 
 -- an event that names a task that has ended changes nothing
 pub gone_fits : (h : List Entry) (k : KernelState) (t : TaskNo) → HistoryFits h k → HistoryFits (h ++ gone_entries t) k
-gone_fits h k t fits = record { sound = fits.sound; limits = fits.limits; told = rw (past-append h (gone_entries t)) (after (past h) fits.told) } where
+gone_fits h k t fits = record { sound = fits.sound; limits = fits.limits; told = rw (past-append h (gone_entries t)) (after (past h) fits.told); areas = rw (newest_first-append h (gone_entries t)) (begun (newest_first h) k (entry.Gone t) (λ u b. refl) refl (λ m. refl) tt fits.areas) } where
   after : (p : List Tale) → PastFits p k → PastFits (Head (Gone t.0) ∷ p) k
   after p f = record {
     lawful = (f.lawful, head_follows p (Gone t.0) f.round, (f.cleared, tt));
@@ -82,3 +113,7 @@ gone_fits h k t fits = record { sound = fits.sound; limits = fits.limits; told =
 -- the laws of calls hold of every history that fits a state
 pub laws_of_history : (h : List Entry) (k : KernelState) → HistoryFits h k → LivesAreLawful h × AnsweredAtMostOnce h × KillEndsHeldCalls h
 laws_of_history h k fits = let f = fits.told in (lives_are_lawful h f.lawful f.round, answered_at_most_once h f.lawful, kill_ends_held_calls h f.lawful f.cleared)
+
+-- so does that of shared areas
+pub area_law_of_history : (h : List Entry) (k : KernelState) → HistoryFits h k → AreasAreLawful h
+area_law_of_history h k fits = areas_are_lawful h fits.areas.lawful

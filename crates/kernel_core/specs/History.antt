@@ -9,6 +9,7 @@ use Rattle.ipc_ids.specs.Tales.{Tale, past}
 use Rattle.ipc_ids.specs.Life.{Life, Nowhere, Back, Incoming, Dispatched, Answers, Over, life, is_killed, last_number}
 use Rattle.ipc_ids.specs.Lawful.{Lawful, IsRound, IsCleared}
 use Rattle.ipc_ids.specs.Origins.{origin, is_forgotten}
+use Rattle.ipc_ids.specs.Holdings.{newest_first}
 use Rattle.call_slab.specs.declared.call.Call.{Call}
 use Rattle.call_slab.specs.declared.call.Place.{Place}
 use Rattle.call_slab.specs.declared.call.Place.TheVariants as place
@@ -17,6 +18,7 @@ use Rattle.cleanup.specs.State.{KernelState, Transition}
 use Rattle.cleanup.specs.Sound.{IsSound}
 use Rattle.cleanup.specs.Limits.{IsWithinLimits}
 use Rattle.cleanup.specs.Serving.{Served}
+use Rattle.kernel_core.specs.AreaHistory.{AreasFit}
 
 -- whether this is the number of a task that has ended; tasks are numbered from 1
 abbrev pub is_ended : List Bool → ℕ → Bool
@@ -67,6 +69,7 @@ pub record HistoryFits (h : List Entry) (k : KernelState) : Type 0 where
   pub sound : IsSound k
   pub limits : IsWithinLimits k
   pub told : PastFits (past h) k
+  pub areas : AreasFit (newest_first h) k
 
 -- the entries of a request: its head, what it did, and its outcome
 abbrev pub served_entries : TaskNo → Request → Served → List Entry

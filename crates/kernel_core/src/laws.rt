@@ -1,4 +1,4 @@
-//! The laws of calls, for the entries of any events.
+//! The laws of calls and of shared areas, for the entries of any events.
 ghost use Rattle.std.specs.Prelude.{List, ℕ, ◌≡◌, ◌<◌, ◌≤◌};
 ghost use Rattle.ipc_ids.specs.declared.numbers.TaskNo.{TaskNo};
 ghost use Rattle.ipc_ids.specs.declared.numbers.CallNo.{CallNo};
@@ -8,6 +8,7 @@ ghost use Rattle.ipc_ids.specs.declared.message.Outcome.TheVariants.{Accepted};
 ghost use Rattle.answerbox.specs.Calls.{active_calls};
 ghost use Rattle.ipc_ids.specs.declared.entry.Entry.{Entry};
 ghost use Rattle.ipc_ids.specs.Laws.{LivesAreLawful, AnsweredAtMostOnce, KillEndsHeldCalls};
+ghost use Rattle.ipc_ids.specs.AreaLaw.{AreasAreLawful};
 ghost use Rattle.cleanup.specs.State.{KernelState, label_of};
 ghost use Rattle.cleanup.specs.Counts.{label_at};
 ghost use Rattle.cleanup.specs.Limits.{IsWithinLimits};
@@ -16,12 +17,13 @@ ghost use Rattle.kernel_core.specs.History.{HistoryFits};
 ghost use Rattle.kernel_core.specs.Calling.{call};
 ghost use Rattle.kernel_core.specs.Kernel.{serve};
 
-/// A history that fits a state of the kernel keeps the laws of calls: so the entries of any system
-/// calls and kills do, whoever asks for them.
+/// A history that fits a state of the kernel keeps the laws of calls and that of shared areas: so
+/// the entries of any system calls and kills do, whoever asks for them.
 pub fn fitting_histories_keep_the_laws()
     ensures life { (h : List Entry) (k : KernelState) → HistoryFits h k → LivesAreLawful h }
     ensures answers { (h : List Entry) (k : KernelState) → HistoryFits h k → AnsweredAtMostOnce h }
     ensures kills { (h : List Entry) (k : KernelState) → HistoryFits h k → KillEndsHeldCalls h }
+    ensures areas { (h : List Entry) (k : KernelState) → HistoryFits h k → AreasAreLawful h }
 {}
 
 /// A call is accepted only over a phone with fewer than 64 active ones, every request keeps the
