@@ -36,7 +36,7 @@ use Rattle.forwarding.specs.Forwarding.{is_held, is_forwardable, msg_after, labe
 use Rattle.forwarding.specs.Routes.{callee_of, receiver_of, as_forwarded}
 use Rattle.address_space.specs.Memory.{Memory}
 use Rattle.address_space.specs.Memory as spaces
-use Rattle.share_hooks.specs.ShareMoments.{out_before_send, in_before_send, out_accept, in_accept}
+use Rattle.share_hooks.specs.ShareMoments.{base_of, pages_of, rights_of, out_before_send, in_before_send, out_accept, in_accept}
 use Rattle.cleanup.specs.Sharing.{shared_note, shared_at_answer}
 use Rattle.data_hooks.specs.DataMoments.{address_of, count_of, write_before_send, read_before_send, write_accept, read_accept, read_deliver}
 use Rattle.cleanup.specs.Areas.{made_note, gone_note, wrote_note}
@@ -225,7 +225,7 @@ module _ (t : TaskNo) (r : Ask) (p : List Tale) (k : KernelState) (inside : InEv
 
     shared : (u : TaskNo) → c.caller ≡ Some u → is_alive k u ≡ true → (to : TaskNo) (base : ℕ) (step : spaces.Step StoreNo) → AfterStep (Step t.0 r) p (answer_to (shared_at_answer k c reply to base step) (Some t) u)
     shared u made lives' to base step =
-        area_shared_told (Step t.0 r) _ _ (answered u made lives' (reply_told reply step.told) None phone.Free (free_leads (Step t.0 r) k.tasks.alive)) to step.memory base (slice_index c.request.args 1) (slice_index c.request.args 2) step.told
+        area_shared_told (Step t.0 r) _ _ (answered u made lives' (reply_told reply step.told) None phone.Free (free_leads (Step t.0 r) k.tasks.alive)) to step.memory base (pages_of c.request.args) (rights_of c.request.args) step.told
 
     by_kind : (u : TaskNo) → c.caller ≡ Some u → is_alive k u ≡ true → (kind : MethodKind) → AfterStep (Step t.0 r) p (answer_to (on_accept_of kind k c reply t u) (Some t) u)
     by_kind u made lives' PhoneHungUp = answered u made lives' reply None phone.Free (free_leads (Step t.0 r) k.tasks.alive)
@@ -238,8 +238,8 @@ module _ (t : TaskNo) (r : Ask) (p : List Tale) (k : KernelState) (inside : InEv
     by_kind u made lives' DataWrite = written u made lives' (write_accept k.memory t c.buffer reply)
     by_kind u made lives' DataRead =
         let told = read_accept k.memory t c.request.args reply in with_bytes u made lives' (reply_told reply told) (bytes_told told c.buffer) None phone.Free (free_leads (Step t.0 r) k.tasks.alive)
-    by_kind u made lives' ShareOut = shared u made lives' t (slice_index reply.args 0) (out_accept k.memory u t c.request.args reply)
-    by_kind u made lives' ShareIn = shared u made lives' u (slice_index c.request.args 0) (in_accept k.memory u t c.request.args reply)
+    by_kind u made lives' ShareOut = shared u made lives' t (base_of reply.args) (out_accept k.memory u t c.request.args reply)
+    by_kind u made lives' ShareIn = shared u made lives' u (base_of c.request.args) (in_accept k.memory u t c.request.args reply)
     by_kind u made lives' NotBuilt = answered u made lives' reply None phone.Free (free_leads (Step t.0 r) k.tasks.alive)
     by_kind u made lives' User = answered u made lives' reply None phone.Free (free_leads (Step t.0 r) k.tasks.alive)
 
