@@ -152,15 +152,10 @@ module _ (t : TaskNo) (r : Ask) (p : List Tale) (k : KernelState) (inside : InEv
     wanting (Err code) = back_told (Step t.0 r) p k inside t q msg code refl
 
     by_kind : (kind : MethodKind) → Is (sent_to u k c (before_send_of kind k c))
-    by_kind PhoneHungUp = accepted msg None []
-    by_kind ConnectToMe = accepted msg None []
     by_kind ConnectMeTo = keeping (first_usable_of k t)
     by_kind DataWrite = with_bytes (write_before_send k.memory t msg.args)
     by_kind DataRead = wanting (read_before_send msg.args)
-    by_kind ShareOut = accepted msg None []
-    by_kind ShareIn = accepted msg None []
-    by_kind NotBuilt = accepted msg None []
-    by_kind User = accepted msg None []
+    by_kind _ = accepted msg None []
 
   through : (q : ℕ) (msg : Msg) (s : PhoneState) → phone_at k t q ≡ Some s → Is (call_through k t q msg s)
   through q msg phone.Free h = inside
@@ -218,7 +213,6 @@ module _ (t : TaskNo) (r : Ask) (p : List Tale) (k : KernelState) (inside : InEv
         wrote_told (Step t.0 r) _ _ (answered u made lives' (reply_told reply step.told) None phone.Free (free_leads (Step t.0 r) k.tasks.alive)) t step.memory (address_of reply.args) (count_of reply.args) step.told
 
     by_kind : (u : TaskNo) → c.caller ≡ Some u → is_alive k u ≡ true → (kind : MethodKind) → AfterStep (Step t.0 r) p (answer_to (on_accept_of kind k c reply t u) (Some t) u)
-    by_kind u made lives' PhoneHungUp = answered u made lives' reply None phone.Free (free_leads (Step t.0 r) k.tasks.alive)
     by_kind u made lives' ConnectToMe =
         let caller = caller_told (Step t.0 r) p k inside c u true h made lives' in
         answered u made lives' (record { code = code_of (kept_phone c); args = reply.args }) (kept_phone c) (phone.Connected u)
@@ -228,10 +222,7 @@ module _ (t : TaskNo) (r : Ask) (p : List Tale) (k : KernelState) (inside : InEv
     by_kind u made lives' DataWrite = written u made lives' (write_accept k.memory t c.buffer reply)
     by_kind u made lives' DataRead =
         let told = read_accept k.memory t c.request.args reply in with_bytes u made lives' (reply_told reply told) (bytes_told told c.buffer) None phone.Free (free_leads (Step t.0 r) k.tasks.alive)
-    by_kind u made lives' ShareOut = answered u made lives' reply None phone.Free (free_leads (Step t.0 r) k.tasks.alive)
-    by_kind u made lives' ShareIn = answered u made lives' reply None phone.Free (free_leads (Step t.0 r) k.tasks.alive)
-    by_kind u made lives' NotBuilt = answered u made lives' reply None phone.Free (free_leads (Step t.0 r) k.tasks.alive)
-    by_kind u made lives' User = answered u made lives' reply None phone.Free (free_leads (Step t.0 r) k.tasks.alive)
+    by_kind u made lives' _ = answered u made lives' reply None phone.Free (free_leads (Step t.0 r) k.tasks.alive)
 
     by_caller : (o : Option TaskNo) (b : Bool) → c.caller ≡ o → lives k o ≡ b → AfterStep (Step t.0 r) p (accept_for k t reply c o b)
     by_caller None b made lives' = gone (subst (CallerFits k.tasks.alive c.from.task) made (is_told (Step t.0 r) p k inside c.number.0 c h).caller)
@@ -315,15 +306,8 @@ module _ (t : TaskNo) (p : List Tale) (k : KernelState) (inside : InEvent (Step 
         kept phone.Connecting (λ v x. cc)
 
     by_kind : (kind : MethodKind) → AfterServed (Step t.0 Receive) p (reception t (on_receive_of kind k c t))
-    by_kind PhoneHungUp = taken c.msg c.reserved None
     by_kind ConnectToMe = taken _ (first_usable_of k t) (first_usable_of k t)
-    by_kind ConnectMeTo = taken c.msg c.reserved None
-    by_kind DataWrite = taken c.msg c.reserved None
-    by_kind DataRead = taken c.msg c.reserved None
-    by_kind ShareOut = taken c.msg c.reserved None
-    by_kind ShareIn = taken c.msg c.reserved None
-    by_kind NotBuilt = taken c.msg c.reserved None
-    by_kind User = taken c.msg c.reserved None
+    by_kind _ = taken c.msg c.reserved None
 
   receive_told : (a i : Option Call) → front k.calls (place.Answers t) ≡ a → front k.calls (place.Incoming t) ≡ i → AfterServed (Step t.0 Receive) p (receive_first k t a i)
   receive_told (Some c) i h g =
