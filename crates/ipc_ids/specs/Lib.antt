@@ -1,4 +1,6 @@
+pub mod AreaLaw
 pub mod Codes
+pub mod Holdings
 pub mod Lawful
 pub mod Laws
 pub mod Life
