@@ -1,6 +1,6 @@
 //! A call from task to task, a forwarded call, in `connect` calls that connect tasks, in `data`
-//! calls that carry bytes, in `share` calls that share areas, in `areas` the memory of tasks, and in
-//! `kill` the end of tasks, with ample memory.
+//! calls that carry bytes, in `share` calls that share a page, in `areas` the memory of tasks, and
+//! in `kill` the end of tasks, with ample memory.
 
 mod areas;
 mod connect;
