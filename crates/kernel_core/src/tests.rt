@@ -151,6 +151,15 @@ impl Machine {
     }
 }
 
+/// Two tasks, where the first calls the second over its phone 0.
+fn two_tasks(alloc: Global) -> Result<Machine, Fail> {
+    let mut kernel = Kernel::new(alloc);
+    kernel.add_task(1)?;
+    kernel.add_task(1)?;
+    kernel.wire(ONE, PhoneNo(0), TWO);
+    Ok(Machine::new(alloc, kernel))
+}
+
 /// The request to make an area.
 fn make(base: u64, pages: u64, rights: u64) -> Request {
     Request::AreaMake {

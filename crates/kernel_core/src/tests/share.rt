@@ -1,20 +1,9 @@
 //! Calls by which two tasks share a page: what one of them writes the other reads, and still reads
 //! when the maker of the page is killed.
-use super::{Machine, ONE, TWO, make};
-use crate::Kernel;
+use super::{Machine, ONE, TWO, make, two_tasks};
 use ipc_ids::methods::{SHARE_IN, SHARE_OUT};
-use ipc_ids::{CallNo, Code, Entry, Msg, Outcome, PhoneNo, PhoneState, Reply, StoreNo};
-use std::alloc::Global;
+use ipc_ids::{CallNo, Code, Entry, Msg, Outcome, PhoneState, Reply, StoreNo};
 use std::test::Fail;
-
-/// Two tasks, where the first calls the second over its phone 0.
-fn two_tasks(alloc: Global) -> Result<Machine, Fail> {
-    let mut kernel = Kernel::new(alloc);
-    kernel.add_task(1)?;
-    kernel.add_task(1)?;
-    kernel.wire(ONE, PhoneNo(0), TWO);
-    Ok(Machine::new(alloc, kernel))
-}
 
 /// One page at that address, with these rights, by that method.
 fn page_at(method: u64, base: u64, rights: u64) -> Msg {
