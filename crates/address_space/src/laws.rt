@@ -28,7 +28,7 @@ pub fn writes_are_read_back()
         → read (write m t at new).memory t at (length new) ≡ Ok new }
 {}
 
-/// What one task writes into an area, the same or another task reads at the same place of any
+/// What a task writes into an area, each task that may read there reads at the same place of any
 /// area over the same store.
 pub fn shared_bytes_are_seen()
     ensures { (m : Memory) (t u : TaskNo) (from to offset : ℕ) (a b : Area) (new old : List ℕ)

@@ -145,8 +145,14 @@ fn the_first_cause_against_a_share_is_told(rt: HostRuntime) -> Result<(), Fail> 
     assert_eq!(rt; spaces.share(TASK, 4096, TASK, 1, 1, 1), Err(Code::EPERM));
     assert_eq!(rt; spaces.share(TASK, 4096, TASK, 1, 2, 3), Err(Code::EPERM));
     assert_eq!(rt; spaces.share(TASK, 4096, TASK, 1, 2, 1), Err(Code::EINVAL));
-    assert_eq!(rt; spaces.share(TASK, 4096, TASK, 16384, 2, 0), Err(Code::EINVAL));
-    assert_eq!(rt; spaces.share(TASK, 4096, TASK, 8192, 2, 1), Err(Code::EEXIST));
+    assert_eq!(rt;
+        spaces.share(TASK, 4096, TASK, 16384, 2, 0),
+        Err(Code::EINVAL)
+    );
+    assert_eq!(rt;
+        spaces.share(TASK, 4096, TASK, 8192, 2, 1),
+        Err(Code::EEXIST)
+    );
     assert_eq!(rt; spaces.share(TASK, 4096, TASK, 12288, 2, 1), Ok(StoreNo(1)));
     assert_eq!(rt; spaces.write(TASK, 12288, &[1]), Err(Code::EPERM));
     Ok(())

@@ -98,7 +98,7 @@ module _ (reply : Reply) (buffer : List ℕ) where
   its_calls = enqueue no_calls (held reply buffer)
 
   pub held_sound : IsSound (state_from (true ∷ true ∷ []) free_phones its_calls (spaces.with_task (spaces.with_task no_memory)) 0)
-  held_sound = sound_enqueued two (held reply buffer) two_sound refl refl (refl, refl) refl refl (no_phone free_phones (held reply buffer) refl (λ n. n)) tt refl
+  held_sound = sound_enqueued two (held reply buffer) two_sound refl refl (refl, refl) refl refl (no_phone free_phones (held reply buffer) refl (λ n. n)) (λ e. absurd (cc e)) refl
 
   pub held_few : HasFewActive one_count its_calls
   held_few =

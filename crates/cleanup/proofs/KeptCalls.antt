@@ -8,15 +8,16 @@ use Rattle.ipc_ids.specs.declared.numbers.Code.{Code}
 use Rattle.ipc_ids.specs.declared.message.Msg.{Msg}
 use Rattle.ipc_ids.specs.declared.message.Reply.{Reply}
 use Rattle.ipc_ids.specs.declared.message.PhoneState.{PhoneState}
-use Rattle.ipc_ids.specs.declared.methods.MethodKind.{MethodKind}
-use Rattle.ipc_ids.specs.declared.methods.MethodKind.TheVariants.{PhoneHungUp, ConnectToMe, ConnectMeTo, DataWrite, DataRead, ShareOut, ShareIn, NotBuilt, User}
+use Rattle.ipc_ids.specs.declared.methods.MethodKind.TheVariants.{ConnectToMe, ConnectMeTo}
 use Rattle.ipc_ids.specs.Methods.{kind_of}
 use Rattle.call_slab.specs.declared.call.Call.{Call}
 use Rattle.call_slab.specs.declared.call.Place.{Place}
 use Rattle.call_slab.specs.declared.call.Place.TheVariants.{Incoming, Dispatched, Answers}
 use Rattle.answerbox.specs.Calls.{CallTable, call_at, enqueue, put_at, with_record, without_call, without_caller}
+use Rattle.cleanup.specs.declared.kept.Keeper.{Keeper}
+use Rattle.cleanup.specs.declared.kept.Keeper.TheVariants.{Nobody, Receiver, Caller}
 use Rattle.cleanup.specs.State.{KernelState, with_calls}
-use Rattle.cleanup.specs.Kept.{AreKept, IsLoose, IsOf, MayKeep, accepts, phone_of, held_phone, is_accepted, kept_by, kept_of, kept_phone, lent_of, lent_phone, unless_freed}
+use Rattle.cleanup.specs.Kept.{AreKept, IsLoose, IsOf, MayKeep, accepts, phone_of, held_phone, is_accepted, keeper_of, who_keeps, kept_by, kept_of, kept_phone, lent_of, lent_phone, unless_freed}
 use Rattle.cleanup.specs.Joins.{declined_call, passed_call}
 use Rattle.cleanup.specs.Board.{IsPendingAt, IsHeldCall}
 use Rattle.cleanup.proofs.Lookups.{at_insert, at_remove}
@@ -67,63 +68,45 @@ kept_forgotten q n c s is number =
 
 -- an answer that does not accept
 pub declined_keeps : (k : KernelState) (c : Call) (reply : Reply) (caller : TaskNo) → IsPendingAt c.place → MayKeep k c (record (declined_call c reply) { place = Answers caller })
-declined_keeps k c reply caller pending = by_kind (kind_of c.request.method) where
-  asked : (place : Place) → IsPendingAt place → (b : Bool) → ((if b then None else phone_of c.from.task c.reserved) ≡ kept_of ConnectMeTo c.from.task place c.reply.code c.reserved) ⊎ IsLoose k (if b then None else phone_of c.from.task c.reserved)
+declined_keeps k c reply caller pending = by_keeper (who_keeps c) where
+  asked : (place : Place) → IsPendingAt place → (b : Bool) → ((if b then None else phone_of c.from.task c.reserved) ≡ kept_of Caller c.from.task place c.reply.code c.reserved) ⊎ IsLoose k (if b then None else phone_of c.from.task c.reserved)
   asked (Incoming t) h true = inr tt
   asked (Incoming t) h false = inl refl
   asked (Dispatched t) h true = inr tt
   asked (Dispatched t) h false = inl refl
   asked (Answers t) h b = absurd h
 
-  by_kind : (kind : MethodKind) → (kept_of kind c.from.task (Answers caller) reply.code (unless_freed (lent_of kind c.place c.reserved) c.reserved) ≡ kept_of kind c.from.task c.place c.reply.code c.reserved) ⊎ IsLoose k (kept_of kind c.from.task (Answers caller) reply.code (unless_freed (lent_of kind c.place c.reserved) c.reserved))
-  by_kind PhoneHungUp = inr tt
-  by_kind ConnectToMe = inr tt
-  by_kind ConnectMeTo = asked c.place pending (accepts reply.code)
-  by_kind DataWrite = inr tt
-  by_kind DataRead = inr tt
-  by_kind ShareOut = inr tt
-  by_kind ShareIn = inr tt
-  by_kind NotBuilt = inr tt
-  by_kind User = inr tt
+  by_keeper : (keeper : Keeper) → (kept_of keeper c.from.task (Answers caller) reply.code (unless_freed (lent_of keeper c.place c.reserved) c.reserved) ≡ kept_of keeper c.from.task c.place c.reply.code c.reserved) ⊎ IsLoose k (kept_of keeper c.from.task (Answers caller) reply.code (unless_freed (lent_of keeper c.place c.reserved) c.reserved))
+  by_keeper Nobody = inr tt
+  by_keeper Receiver = inr tt
+  by_keeper Caller = asked c.place pending (accepts reply.code)
 
 -- a call that goes on
 pub passed_keeps : (k : KernelState) (c : Call) (msg : Msg) (label : Label) (to : TaskNo) → IsPendingAt c.place → MayKeep k c (record (passed_call msg label c) { place = Incoming to })
-passed_keeps k c msg label to pending = by_kind (kind_of c.request.method) where
-  asked : (place : Place) → IsPendingAt place → phone_of c.from.task c.reserved ≡ kept_of ConnectMeTo c.from.task place c.reply.code c.reserved
+passed_keeps k c msg label to pending = by_keeper (who_keeps c) where
+  asked : (place : Place) → IsPendingAt place → phone_of c.from.task c.reserved ≡ kept_of Caller c.from.task place c.reply.code c.reserved
   asked (Incoming t) h = refl
   asked (Dispatched t) h = refl
   asked (Answers t) h = absurd h
 
-  by_kind : (kind : MethodKind) → (kept_of kind c.from.task (Incoming to) c.reply.code (unless_freed (lent_of kind c.place c.reserved) c.reserved) ≡ kept_of kind c.from.task c.place c.reply.code c.reserved) ⊎ IsLoose k (kept_of kind c.from.task (Incoming to) c.reply.code (unless_freed (lent_of kind c.place c.reserved) c.reserved))
-  by_kind PhoneHungUp = inr tt
-  by_kind ConnectToMe = inr tt
-  by_kind ConnectMeTo = inl (asked c.place pending)
-  by_kind DataWrite = inr tt
-  by_kind DataRead = inr tt
-  by_kind ShareOut = inr tt
-  by_kind ShareIn = inr tt
-  by_kind NotBuilt = inr tt
-  by_kind User = inr tt
+  by_keeper : (keeper : Keeper) → (kept_of keeper c.from.task (Incoming to) c.reply.code (unless_freed (lent_of keeper c.place c.reserved) c.reserved) ≡ kept_of keeper c.from.task c.place c.reply.code c.reserved) ⊎ IsLoose k (kept_of keeper c.from.task (Incoming to) c.reply.code (unless_freed (lent_of keeper c.place c.reserved) c.reserved))
+  by_keeper Nobody = inr tt
+  by_keeper Receiver = inr tt
+  by_keeper Caller = inl (asked c.place pending)
 
 -- a call for which no phone is reserved
-pub unreserved_of : (kind : MethodKind) (from : TaskNo) (place : Place) (code : Code) → kept_of kind from place code None ≡ None
-unreserved_of PhoneHungUp from place code = refl
-unreserved_of ConnectToMe from (Incoming t) code = refl
-unreserved_of ConnectToMe from (Dispatched t) code = refl
-unreserved_of ConnectToMe from (Answers t) code = refl
-unreserved_of ConnectMeTo from place code = by_test (is_accepted place code) where
+pub unreserved_of : (keeper : Keeper) (from : TaskNo) (place : Place) (code : Code) → kept_of keeper from place code None ≡ None
+unreserved_of Nobody from place code = refl
+unreserved_of Receiver from (Incoming t) code = refl
+unreserved_of Receiver from (Dispatched t) code = refl
+unreserved_of Receiver from (Answers t) code = refl
+unreserved_of Caller from place code = by_test (is_accepted place code) where
   by_test : (b : Bool) → (if b then None else phone_of from None) ≡ None
   by_test true = refl
   by_test false = refl
-unreserved_of DataWrite from place code = refl
-unreserved_of DataRead from place code = refl
-unreserved_of ShareOut from place code = refl
-unreserved_of ShareIn from place code = refl
-unreserved_of NotBuilt from place code = refl
-unreserved_of User from place code = refl
 
 pub unreserved_loose : (k : KernelState) (c : Call) → c.reserved ≡ None → IsLoose k (kept_phone c)
-unreserved_loose k c none = rw (none, unreserved_of (kind_of c.request.method) c.from.task c.place c.reply.code) tt
+unreserved_loose k c none = rw (none, unreserved_of (who_keeps c) c.from.task c.place c.reply.code) tt
 
 -- a phone that a call has let go is loose
 
@@ -145,20 +128,14 @@ left_loose k n c s is =
     (kept_other k.calls (without_call k.calls n) n None (at_remove k.calls.records n))
 
 -- what its holder kept is kept no more at another place
-pub lets_go : (kind : MethodKind) (from : TaskNo) (before after : Place) (code : Code) (reserved : Option Label) → ((t : TaskNo) → after ≡ Dispatched t → ⊥) → (lent_of kind before reserved ≡ None) ⊎ ((lent_of kind before reserved ≡ kept_of kind from before code reserved) × ((from' : TaskNo) (code' : Code) (reserved' : Option Label) → kept_of kind from' after code' reserved' ≡ None))
-lets_go PhoneHungUp from before after code reserved not = inl refl
-lets_go ConnectToMe from before after code reserved not = inr (refl, λ from' code' reserved'. gone after not reserved') where
+pub lets_go : (keeper : Keeper) (from : TaskNo) (before after : Place) (code : Code) (reserved : Option Label) → ((t : TaskNo) → after ≡ Dispatched t → ⊥) → (lent_of keeper before reserved ≡ None) ⊎ ((lent_of keeper before reserved ≡ kept_of keeper from before code reserved) × ((from' : TaskNo) (code' : Code) (reserved' : Option Label) → kept_of keeper from' after code' reserved' ≡ None))
+lets_go Nobody from before after code reserved not = inl refl
+lets_go Receiver from before after code reserved not = inr (refl, λ from' code' reserved'. gone after not reserved') where
   gone : (place : Place) → ((t : TaskNo) → place ≡ Dispatched t → ⊥) → (reserved' : Option Label) → held_phone place reserved' ≡ None
   gone (Incoming t) h reserved' = refl
   gone (Dispatched t) h reserved' = absurd (h t refl)
   gone (Answers t) h reserved' = refl
-lets_go ConnectMeTo from before after code reserved not = inl refl
-lets_go DataWrite from before after code reserved not = inl refl
-lets_go DataRead from before after code reserved not = inl refl
-lets_go ShareOut from before after code reserved not = inl refl
-lets_go ShareIn from before after code reserved not = inl refl
-lets_go NotBuilt from before after code reserved not = inl refl
-lets_go User from before after code reserved not = inl refl
+lets_go Caller from before after code reserved not = inl refl
 
 -- a call that was put to a place where its holder keeps nothing for it
 pub put_loose : (k : KernelState) (n : ℕ) (c d : Call) (place : Place) → AreKept k.tasks.phones k.calls → call_at k.calls n ≡ Some c → d.number.0 ≡ n → d.request ≡ c.request → ((t : TaskNo) → place ≡ Dispatched t → ⊥) → IsLoose (with_calls k (put_at k.calls d place)) (lent_phone c)
@@ -167,9 +144,9 @@ put_loose k n c d place s is number request not =
     let r : CallTable = put_at k.calls d place in
     let at : (m : ℕ) → call_at r m ≡ (if d.number.0 == m then Some e else call_at k.calls m) = λ m. at_insert k.calls.records d.number.0 m e in
     let here : kept_by r n ≡ kept_phone e = subst (λ i. kept_by r i ≡ kept_phone e) number (kept_here k.calls r d.number.0 (Some e) at) in
-    let same : kept_phone e ≡ kept_of (kind_of c.request.method) d.from.task place d.reply.code d.reserved = ap (λ (m : Msg). kept_of (kind_of m.method) d.from.task place d.reply.code d.reserved) request in
+    let same : kept_phone e ≡ kept_of (who_keeps c) d.from.task place d.reply.code d.reserved = ap (λ (m : Msg). kept_of (keeper_of (kind_of m.method)) d.from.task place d.reply.code d.reserved) request in
     loose_after k r n c (lent_phone c) s is
-    (elim (lets_go (kind_of c.request.method) c.from.task c.place place c.reply.code c.reserved not) [ inl none ↦ inl none | inr x ↦ inr (x.0, here ∙ same ∙ x.1 d.from.task d.reply.code d.reserved) ])
+    (elim (lets_go (who_keeps c) c.from.task c.place place c.reply.code c.reserved not) [ inl none ↦ inl none | inr x ↦ inr (x.0, here ∙ same ∙ x.1 d.from.task d.reply.code d.reserved) ])
     (λ m ne. kept_other k.calls r d.number.0 (Some e) at m (λ z. ne (sym number ∙ z)))
 
 -- a call that was put to a place where it keeps nothing: nobody keeps what it kept

@@ -10,15 +10,17 @@ use Rattle.ipc_ids.specs.declared.message.Reply.{Reply}
 use Rattle.ipc_ids.specs.declared.message.PhoneState.{PhoneState}
 use Rattle.ipc_ids.specs.declared.message.PhoneState.TheVariants.{Free, Connecting, Connected}
 use Rattle.ipc_ids.specs.declared.methods.MethodKind.{MethodKind}
-use Rattle.ipc_ids.specs.declared.methods.MethodKind.TheVariants.{PhoneHungUp, ConnectToMe, ConnectMeTo, DataWrite, DataRead, ShareOut, ShareIn, NotBuilt, User}
+use Rattle.ipc_ids.specs.declared.methods.MethodKind.TheVariants.{ConnectToMe, ConnectMeTo, DataWrite}
 use Rattle.ipc_ids.specs.Methods.{kind_of}
 use Rattle.call_slab.specs.declared.call.Call.{Call}
 use Rattle.call_slab.specs.declared.call.Place.{Place}
 use Rattle.call_slab.specs.declared.call.Place.TheVariants.{Incoming, Dispatched, Answers}
 use Rattle.answerbox.specs.Calls.{CallTable, call_at, enqueue, put_at, without_call, same_place, active_calls}
 use Rattle.phone_table.specs.Phones.{state_at, is_usable}
+use Rattle.cleanup.specs.declared.kept.Keeper.{Keeper}
+use Rattle.cleanup.specs.declared.kept.Keeper.TheVariants.{Nobody, Receiver, Caller}
 use Rattle.cleanup.specs.State.{Tasks, KernelState, alive_in, is_alive, phone_at, with_calls}
-use Rattle.cleanup.specs.Kept.{accepts, phone_of, held_phone, is_accepted, asked_phone, kept_of, kept_phone, lent_of, lent_phone, unless_freed, kept_rows, with_kept, kept_by}
+use Rattle.cleanup.specs.Kept.{keeper_of, who_keeps, accepts, phone_of, held_phone, is_accepted, asked_phone, kept_of, kept_phone, lent_of, lent_phone, unless_freed, kept_rows, with_kept, kept_by}
 use Rattle.cleanup.specs.Sound.{IsPlaced, IsCaller, IsLentAt, IsReservedAt, IsOpenAt, NeedsPhone, HasSoundPhone, Carries, AreSoundCalls, IsQuiet, AreSoundTasks, IsSound}
 use Rattle.cleanup.specs.Joins.{answer_to, declined, accepted_to_me, accepted_me_to, passage}
 use Rattle.cleanup.specs.Serving.{as_it_is}
@@ -151,48 +153,30 @@ freed_none (Answers t) reserved pending lent = absurd pending
 none_some : (o : Option Label) (l : Label) → o ≡ None → o ≡ Some l → ⊥
 none_some o l a b = cc
 
--- what the call of this kind keeps, and has reserved, before and after
+-- what the call keeps, and has reserved, before and after
 module _ (from : TaskNo) (old new : Place) (was code : Code) (reserved : Option Label) (pending : IsPendingAt old) (left : IsLeft new code) where
-  abbrev freed : MethodKind → Option Label
-  freed kind = unless_freed (lent_of kind old reserved) reserved
+  abbrev freed : Keeper → Option Label
+  freed keeper = unless_freed (lent_of keeper old reserved) reserved
 
   unheld : (place : Place) → IsLeft place code → (o : Option Label) → held_phone place o ≡ None
   unheld (Incoming t) h o = refl
   unheld (Dispatched t) h o = absurd h
   unheld (Answers t) h o = refl
 
-  left_keeps : (kind : MethodKind) → ((lent_of kind old reserved ≡ kept_of kind from old was reserved) × (kept_of kind from new code (freed kind) ≡ None)) ⊎ ((lent_of kind old reserved ≡ None) × (kept_of kind from new code (freed kind) ≡ kept_of kind from old was reserved))
-  left_keeps PhoneHungUp = inl (refl, refl)
-  left_keeps ConnectToMe = inl (refl, unheld new left (freed ConnectToMe))
-  left_keeps ConnectMeTo = inr (refl, rw (left_unaccepted new code left, pending_unaccepted old was pending) refl)
-  left_keeps DataWrite = inl (refl, refl)
-  left_keeps DataRead = inl (refl, refl)
-  left_keeps ShareOut = inl (refl, refl)
-  left_keeps ShareIn = inl (refl, refl)
-  left_keeps NotBuilt = inl (refl, refl)
-  left_keeps User = inl (refl, refl)
+  left_keeps : (keeper : Keeper) → ((lent_of keeper old reserved ≡ kept_of keeper from old was reserved) × (kept_of keeper from new code (freed keeper) ≡ None)) ⊎ ((lent_of keeper old reserved ≡ None) × (kept_of keeper from new code (freed keeper) ≡ kept_of keeper from old was reserved))
+  left_keeps Nobody = inl (refl, refl)
+  left_keeps Receiver = inl (refl, unheld new left (freed Receiver))
+  left_keeps Caller = inr (refl, rw (left_unaccepted new code left, pending_unaccepted old was pending) refl)
 
-  left_owner : (kind : MethodKind) → ((l : Label) → reserved ≡ Some l → IsReservedAt kind from old l) → (l : Label) → freed kind ≡ Some l → IsReservedAt kind from new l
-  left_owner PhoneHungUp owner l is = owner l is
-  left_owner ConnectToMe owner l is = absurd (none_some (freed ConnectToMe) l (freed_none old reserved pending owner) is)
-  left_owner ConnectMeTo owner l is = owner l is
-  left_owner DataWrite owner l is = owner l is
-  left_owner DataRead owner l is = owner l is
-  left_owner ShareOut owner l is = owner l is
-  left_owner ShareIn owner l is = owner l is
-  left_owner NotBuilt owner l is = owner l is
-  left_owner User owner l is = owner l is
+  left_owner : (keeper : Keeper) → ((l : Label) → reserved ≡ Some l → IsReservedAt keeper from old l) → (l : Label) → freed keeper ≡ Some l → IsReservedAt keeper from new l
+  left_owner Nobody owner l is = owner l is
+  left_owner Receiver owner l is = absurd (none_some (freed Receiver) l (freed_none old reserved pending owner) is)
+  left_owner Caller owner l is = owner l is
 
-  left_needed : (kind : MethodKind) → (NeedsPhone kind old was → IsSome reserved) → NeedsPhone kind new code → IsSome (freed kind)
-  left_needed PhoneHungUp needed needs = absurd needs
-  left_needed ConnectToMe needed needs = absurd needs
-  left_needed ConnectMeTo needed needs = needed (pending_open old was pending)
-  left_needed DataWrite needed needs = absurd needs
-  left_needed DataRead needed needs = absurd needs
-  left_needed ShareOut needed needs = absurd needs
-  left_needed ShareIn needed needs = absurd needs
-  left_needed NotBuilt needed needs = absurd needs
-  left_needed User needed needs = absurd needs
+  left_needed : (keeper : Keeper) → (NeedsPhone keeper old was → IsSome reserved) → NeedsPhone keeper new code → IsSome (freed keeper)
+  left_needed Nobody needed needs = absurd needs
+  left_needed Receiver needed needs = absurd needs
+  left_needed Caller needed needs = needed (pending_open old was pending)
 
 unfreed : (freed reserved : Option Label) (l : Label) → unless_freed freed reserved ≡ Some l → reserved ≡ Some l
 unfreed None reserved l is = is
@@ -202,16 +186,16 @@ unfreed (Some x) reserved l is = absurd (none_some None l refl is)
 pub sound_left : (k : KernelState) (c : Call) (msg : Msg) (label : Label) (reply : Reply) (place : Place) → IsSound k → call_at k.calls c.number.0 ≡ Some c → IsPendingAt c.place → IsLeft place reply.code → IsPlaced k.tasks c.caller place
     → IsSound (with_calls (with_kept k (lent_phone c) Free) (put_at k.calls (changed c msg label reply (unless_freed (lent_phone c) c.reserved)) place))
 sound_left k c msg label reply place s live pending left placed =
-    let kind : MethodKind = kind_of c.request.method in
+    let keeper : Keeper = who_keeps c in
     let was = (s.calls.each c.number.0 c live).reserved in
-    let carries = carried kind c.place place c.buffer (slice_index c.request.args 1) pending (s.calls.each c.number.0 c live).carries in
+    let carries = carried (kind_of c.request.method) c.place place c.buffer (slice_index c.request.args 1) pending (s.calls.each c.number.0 c live).carries in
     let freed : Option Label = unless_freed (lent_phone c) c.reserved in
     let phone : HasSoundPhone k.tasks.phones (record c { msg = msg; label = label; reply = reply; reserved = freed; place = place }) = record {
       there = λ l is. was.there l (unfreed (lent_phone c) c.reserved l is);
-      owner = left_owner c.from.task c.place place c.reply.code reply.code c.reserved pending left kind was.owner;
-      needed = left_needed c.from.task c.place place c.reply.code reply.code c.reserved pending left kind was.needed;
+      owner = left_owner c.from.task c.place place c.reply.code reply.code c.reserved pending left keeper was.owner;
+      needed = left_needed c.from.task c.place place c.reply.code reply.code c.reserved pending left keeper was.needed;
     } in
-    elim (left_keeps c.from.task c.place place c.reply.code reply.code c.reserved pending left kind) [
+    elim (left_keeps c.from.task c.place place c.reply.code reply.code c.reserved pending left keeper) [
       | inl e ↦
           subst (λ (o : Option Label). IsSound (with_calls (with_kept k o Free) (put_at k.calls (changed c msg label reply freed) place))) (sym e.0)
           (put_without k c s live msg label reply freed place Free placed phone carries e.1 (quieted k (kept_phone c) Free tt s.tasks) (λ e. cc e))
@@ -237,33 +221,21 @@ sound_connected k c reply u to s live from none phone owner alive =
     put_without k c s live c.msg c.label reply c.reserved (Answers u) (Connected to) from phone (answer_carries (kind_of c.request.method) u c.buffer (slice_index c.request.args 1)) none (connected k (kept_phone c) to owner alive s.tasks) (λ e. cc e)
 
 -- the record of an answer, where the phone stays reserved
-answered_owner : (kind : MethodKind) (from : TaskNo) (place : Place) (u : TaskNo) (l : Label) → IsReservedAt kind from place l → IsReservedAt kind from (Answers u) l
-answered_owner PhoneHungUp from place u l h = h
-answered_owner ConnectToMe from place u l h = tt
-answered_owner ConnectMeTo from place u l h = h
-answered_owner DataWrite from place u l h = h
-answered_owner DataRead from place u l h = h
-answered_owner ShareOut from place u l h = h
-answered_owner ShareIn from place u l h = h
-answered_owner NotBuilt from place u l h = h
-answered_owner User from place u l h = h
+answered_owner : (keeper : Keeper) (from : TaskNo) (place : Place) (u : TaskNo) (l : Label) → IsReservedAt keeper from place l → IsReservedAt keeper from (Answers u) l
+answered_owner Nobody from place u l h = h
+answered_owner Receiver from place u l h = tt
+answered_owner Caller from place u l h = h
 
-pending_needs : (kind : MethodKind) (old new : Place) (was code : Code) → IsPendingAt old → NeedsPhone kind new code → NeedsPhone kind old was
-pending_needs PhoneHungUp old new was code pending needs = needs
-pending_needs ConnectToMe old new was code pending needs = needs
-pending_needs ConnectMeTo old new was code pending needs = pending_open old was pending
-pending_needs DataWrite old new was code pending needs = needs
-pending_needs DataRead old new was code pending needs = needs
-pending_needs ShareOut old new was code pending needs = needs
-pending_needs ShareIn old new was code pending needs = needs
-pending_needs NotBuilt old new was code pending needs = needs
-pending_needs User old new was code pending needs = needs
+pending_needs : (keeper : Keeper) (old new : Place) (was code : Code) → IsPendingAt old → NeedsPhone keeper new code → NeedsPhone keeper old was
+pending_needs Nobody old new was code pending needs = needs
+pending_needs Receiver old new was code pending needs = needs
+pending_needs Caller old new was code pending needs = pending_open old was pending
 
 answered_sound : (phones : List (List PhoneState)) (c : Call) (reply : Reply) (u : TaskNo) → IsPendingAt c.place → HasSoundPhone phones c → HasSoundPhone phones (record c { reply = reply; place = Answers u })
 answered_sound phones c reply u pending was = record {
   there = was.there;
-  owner = λ l is. answered_owner (kind_of c.request.method) c.from.task c.place u l (was.owner l is);
-  needed = λ needs. was.needed (pending_needs (kind_of c.request.method) c.place (Answers u) c.reply.code reply.code pending needs);
+  owner = λ l is. answered_owner (who_keeps c) c.from.task c.place u l (was.owner l is);
+  needed = λ needs. was.needed (pending_needs (who_keeps c) c.place (Answers u) c.reply.code reply.code pending needs);
 }
 
 -- the task of a phone that a call keeps
@@ -308,26 +280,14 @@ sound_accepted_me_to k c reply t by u s live kind pending accepted alive from =
 
 -- a call of this kind keeps no phone
 abbrev pub IsPlain : MethodKind → Type 0
-IsPlain PhoneHungUp = ⊤
 IsPlain ConnectToMe = ⊥
 IsPlain ConnectMeTo = ⊥
-IsPlain DataWrite = ⊤
-IsPlain DataRead = ⊤
-IsPlain ShareOut = ⊤
-IsPlain ShareIn = ⊤
-IsPlain NotBuilt = ⊤
-IsPlain User = ⊤
+IsPlain _ = ⊤
 
-pub plain_keeps : (kind : MethodKind) (from : TaskNo) (place : Place) (code : Code) (reserved : Option Label) → IsPlain kind → kept_of kind from place code reserved ≡ None
-plain_keeps PhoneHungUp from place code reserved plain = refl
+pub plain_keeps : (kind : MethodKind) (from : TaskNo) (place : Place) (code : Code) (reserved : Option Label) → IsPlain kind → kept_of (keeper_of kind) from place code reserved ≡ None
 plain_keeps ConnectToMe from place code reserved plain = absurd plain
 plain_keeps ConnectMeTo from place code reserved plain = absurd plain
-plain_keeps DataWrite from place code reserved plain = refl
-plain_keeps DataRead from place code reserved plain = refl
-plain_keeps ShareOut from place code reserved plain = refl
-plain_keeps ShareIn from place code reserved plain = refl
-plain_keeps NotBuilt from place code reserved plain = refl
-plain_keeps User from place code reserved plain = refl
+plain_keeps _ from place code reserved plain = refl
 
 -- another call is answered, with these bytes
 pub sound_finished_with : (k : KernelState) (c : Call) (reply : Reply) (bytes : List ℕ) (by : Option TaskNo) (u : TaskNo) → IsSound k → call_at k.calls c.number.0 ≡ Some c → IsPlain (kind_of c.request.method) → IsPendingAt c.place → c.caller ≡ Some u → IsSound (answer_to (as_it_is k (record c { reply = reply; buffer = bytes })) by u).state
@@ -369,10 +329,10 @@ own_phone : (t : TaskNo) (l : Label) → l.task ≡ t → phone_of t (Some l) �
 own_phone t l is = rw (eq-eqb l.task.0 t.0 (ap (λ (u : TaskNo). u.0) is)) refl
 
 -- the record of a call for which this phone is reserved
-with_phone_sound : (k : KernelState) (t : TaskNo) (l : Label) (c : Call) → IsUsable k t l → c.reserved ≡ Some l → IsReservedAt (kind_of c.request.method) c.from.task c.place l → HasSoundPhone k.tasks.phones c
+with_phone_sound : (k : KernelState) (t : TaskNo) (l : Label) (c : Call) → IsUsable k t l → c.reserved ≡ Some l → IsReservedAt (who_keeps c) c.from.task c.place l → HasSoundPhone k.tasks.phones c
 with_phone_sound k t l c takes is owner = record {
   there = λ x has. subst (λ (y : Label). IsSome (phone_at k y.task y.phone.0)) (same_label l x (sym is ∙ has)) (usable_there k t l takes);
-  owner = λ x has. subst (IsReservedAt (kind_of c.request.method) c.from.task c.place) (same_label l x (sym is ∙ has)) owner;
+  owner = λ x has. subst (IsReservedAt (who_keeps c) c.from.task c.place) (same_label l x (sym is ∙ has)) owner;
   needed = λ n. rw is refl;
 }
 
@@ -405,27 +365,14 @@ sound_received_to_me k c msg t kept s live kind comes alive takes = by_kept kept
       (put_others k c s live msg c.label c.reply (Some l) (Dispatched t))
       (put_sound k c s live msg c.label c.reply (Some l) (Dispatched t) alive phone carries)
 
-received_owner : (kind : MethodKind) (from : TaskNo) (place : Place) (t : TaskNo) (l : Label) → (kind ≡ ConnectToMe → ⊥) → IsReservedAt kind from place l → IsReservedAt kind from (Dispatched t) l
-received_owner PhoneHungUp from place t l not h = h
+received_owner : (kind : MethodKind) (from : TaskNo) (place : Place) (t : TaskNo) (l : Label) → (kind ≡ ConnectToMe → ⊥) → IsReservedAt (keeper_of kind) from place l → IsReservedAt (keeper_of kind) from (Dispatched t) l
 received_owner ConnectToMe from place t l not h = absurd (not refl)
-received_owner ConnectMeTo from place t l not h = h
-received_owner DataWrite from place t l not h = h
-received_owner DataRead from place t l not h = h
-received_owner ShareOut from place t l not h = h
-received_owner ShareIn from place t l not h = h
-received_owner NotBuilt from place t l not h = h
-received_owner User from place t l not h = h
+received_owner _ from place t l not h = h
 
-received_keeps : (kind : MethodKind) (from : TaskNo) (place : Place) (code : Code) (reserved : Option Label) (t : TaskNo) → (kind ≡ ConnectToMe → ⊥) → IsPendingAt place → kept_of kind from (Dispatched t) code reserved ≡ kept_of kind from place code reserved
-received_keeps PhoneHungUp from place code reserved t not pending = refl
+received_keeps : (kind : MethodKind) (from : TaskNo) (place : Place) (code : Code) (reserved : Option Label) (t : TaskNo) → (kind ≡ ConnectToMe → ⊥) → IsPendingAt place → kept_of (keeper_of kind) from (Dispatched t) code reserved ≡ kept_of (keeper_of kind) from place code reserved
 received_keeps ConnectToMe from place code reserved t not pending = absurd (not refl)
 received_keeps ConnectMeTo from place code reserved t not pending = rw (pending_unaccepted place code pending) refl
-received_keeps DataWrite from place code reserved t not pending = refl
-received_keeps DataRead from place code reserved t not pending = refl
-received_keeps ShareOut from place code reserved t not pending = refl
-received_keeps ShareIn from place code reserved t not pending = refl
-received_keeps NotBuilt from place code reserved t not pending = refl
-received_keeps User from place code reserved t not pending = refl
+received_keeps _ from place code reserved t not pending = refl
 
 -- another call is received
 pub sound_received : (k : KernelState) (c : Call) (t : TaskNo) → IsSound k → call_at k.calls c.number.0 ≡ Some c → (kind_of c.request.method ≡ ConnectToMe → ⊥) → IsPendingAt c.place → is_alive k t ≡ true → IsSound (with_calls k (put_at k.calls c (Dispatched t)))
@@ -434,7 +381,7 @@ sound_received k c t s live not pending alive =
     let phone : HasSoundPhone k.tasks.phones (record c { place = Dispatched t }) = record {
       there = was.there;
       owner = λ l is. received_owner (kind_of c.request.method) c.from.task c.place t l not (was.owner l is);
-      needed = λ needs. was.needed (pending_needs (kind_of c.request.method) c.place (Dispatched t) c.reply.code c.reply.code pending needs);
+      needed = λ needs. was.needed (pending_needs (who_keeps c) c.place (Dispatched t) c.reply.code c.reply.code pending needs);
     } in
     sound_moved k c c (Dispatched t) s live refl refl refl refl refl alive phone (carried (kind_of c.request.method) c.place (Dispatched t) c.buffer (slice_index c.request.args 1) pending (s.calls.each c.number.0 c live).carries) (received_keeps (kind_of c.request.method) c.from.task c.place c.reply.code c.reserved t not pending)
 

@@ -8,16 +8,16 @@ use Rattle.ipc_ids.specs.declared.numbers.TaskNo.{TaskNo}
 use Rattle.ipc_ids.specs.declared.numbers.Label.{Label}
 use Rattle.ipc_ids.specs.declared.message.PhoneState.{PhoneState}
 use Rattle.ipc_ids.specs.declared.message.PhoneState.TheVariants.{Free, Connecting, Connected, HungUp}
-use Rattle.ipc_ids.specs.declared.methods.MethodKind.{MethodKind}
-use Rattle.ipc_ids.specs.declared.methods.MethodKind.TheVariants.{PhoneHungUp, ConnectToMe, ConnectMeTo, DataWrite, DataRead, ShareOut, ShareIn, NotBuilt, User}
 use Rattle.ipc_ids.specs.Methods.{kind_of}
 use Rattle.call_slab.specs.declared.call.Call.{Call}
 use Rattle.call_slab.specs.declared.call.Place.{Place}
 use Rattle.call_slab.specs.declared.call.Place.TheVariants.{Incoming, Dispatched, Answers}
 use Rattle.answerbox.specs.Calls.{CallTable, call_at, enqueue, put_at}
 use Rattle.phone_table.specs.Phones.{row_at, state_at}
+use Rattle.cleanup.specs.declared.kept.Keeper.{Keeper}
+use Rattle.cleanup.specs.declared.kept.Keeper.TheVariants.{Nobody, Receiver, Caller}
 use Rattle.cleanup.specs.State.{KernelState, alive_in, phone_at, with_calls, with_phone, with_task, start}
-use Rattle.cleanup.specs.Kept.{AreKept, phone_of, is_accepted, held_phone, kept_of, kept_phone, kept_by}
+use Rattle.cleanup.specs.Kept.{AreKept, who_keeps, phone_of, is_accepted, held_phone, kept_of, kept_phone, kept_by}
 use Rattle.cleanup.specs.Sound.{IsPlaced, IsCaller, NeedsPhone, HasSoundPhone, Carries, AreSoundCalls, AreSoundTasks, IsSound}
 use Rattle.cleanup.proofs.Lookups.{at_insert}
 use Rattle.cleanup.proofs.Rows.{some_of}
@@ -33,7 +33,7 @@ kept_calls k calls s sound same = record { calls = sound; tasks = s.tasks; kept 
 
 -- a call that has no phone reserved keeps none
 pub keeps_none : (c : Call) → c.reserved ≡ None → kept_phone c ≡ None
-keeps_none c none = by_kind (kind_of c.request.method) where
+keeps_none c none = by_keeper (who_keeps c) where
   held : (place : Place) → held_phone place None ≡ None
   held (Incoming t) = refl
   held (Dispatched t) = refl
@@ -43,19 +43,13 @@ keeps_none c none = by_kind (kind_of c.request.method) where
   asked true o e = refl
   asked false o e = e
 
-  by_kind : (kind : MethodKind) → kept_of kind c.from.task c.place c.reply.code c.reserved ≡ None
-  by_kind PhoneHungUp = refl
-  by_kind ConnectToMe = rw none (held c.place)
-  by_kind ConnectMeTo = asked (is_accepted c.place c.reply.code) (phone_of c.from.task c.reserved) (rw none refl)
-  by_kind DataWrite = refl
-  by_kind DataRead = refl
-  by_kind ShareOut = refl
-  by_kind ShareIn = refl
-  by_kind NotBuilt = refl
-  by_kind User = refl
+  by_keeper : (keeper : Keeper) → kept_of keeper c.from.task c.place c.reply.code c.reserved ≡ None
+  by_keeper Nobody = refl
+  by_keeper Receiver = rw none (held c.place)
+  by_keeper Caller = asked (is_accepted c.place c.reply.code) (phone_of c.from.task c.reserved) (rw none refl)
 
 -- a call for which no phone is reserved, and none needs to be
-pub no_phone : (phones : List (List PhoneState)) (c : Call) → c.reserved ≡ None → (NeedsPhone (kind_of c.request.method) c.place c.reply.code → ⊥) → HasSoundPhone phones c
+pub no_phone : (phones : List (List PhoneState)) (c : Call) → c.reserved ≡ None → (NeedsPhone (who_keeps c) c.place c.reply.code → ⊥) → HasSoundPhone phones c
 no_phone phones c none needless = record {
   there = λ l is. absurd (not_both c.reserved l none is);
   owner = λ l is. absurd (not_both c.reserved l none is);

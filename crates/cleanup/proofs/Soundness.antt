@@ -15,7 +15,7 @@ use Rattle.answerbox.specs.Calls.{CallTable, call_at, enqueue, put_at, without_c
 use Rattle.phone_table.specs.Phones.{row_at, state_at}
 use Rattle.cleanup.specs.State.{Tasks, alive_in, with_state_at}
 use Rattle.ipc_ids.specs.declared.methods.MethodKind.{MethodKind}
-use Rattle.ipc_ids.specs.declared.methods.MethodKind.TheVariants.{PhoneHungUp, ConnectToMe, ConnectMeTo, DataWrite, DataRead, ShareOut, ShareIn, NotBuilt, User}
+use Rattle.ipc_ids.specs.declared.methods.MethodKind.TheVariants.{DataWrite}
 use Rattle.ipc_ids.specs.Methods.{kind_of}
 use Rattle.cleanup.specs.Sound.{IsPlaced, IsCaller, IsSoundCall, AreSoundCalls, IsQuiet, AreSoundTasks, HasSoundPhone, HasBytesAt, Carries}
 use Rattle.cleanup.specs.Board.{IsPendingAt}
@@ -49,39 +49,15 @@ bytes_at (Dispatched t) bytes n h = h
 bytes_at (Answers t) bytes n h = tt
 
 pub carried : (kind : MethodKind) (old new : Place) (bytes : List ℕ) (n : ℕ) → IsPendingAt old → Carries kind old bytes n → Carries kind new bytes n
-carried PhoneHungUp old new bytes n pending h = tt
-carried ConnectToMe old new bytes n pending h = tt
-carried ConnectMeTo old new bytes n pending h = tt
-carried DataWrite old new bytes n pending h = bytes_at new bytes n (bytes_of old bytes n pending h)
-carried DataRead old new bytes n pending h = tt
-carried ShareOut old new bytes n pending h = tt
-carried ShareIn old new bytes n pending h = tt
-carried NotBuilt old new bytes n pending h = tt
-carried User old new bytes n pending h = tt
+carried kind old new bytes n pending h is = bytes_at new bytes n (bytes_of old bytes n pending (h is))
 
 -- a call of another kind carries nothing
 pub carries_none : (kind : MethodKind) (place : Place) (bytes : List ℕ) (n : ℕ) → (kind ≡ DataWrite → ⊥) → Carries kind place bytes n
-carries_none PhoneHungUp place bytes n not = tt
-carries_none ConnectToMe place bytes n not = tt
-carries_none ConnectMeTo place bytes n not = tt
-carries_none DataWrite place bytes n not = absurd (not refl)
-carries_none DataRead place bytes n not = tt
-carries_none ShareOut place bytes n not = tt
-carries_none ShareIn place bytes n not = tt
-carries_none NotBuilt place bytes n not = tt
-carries_none User place bytes n not = tt
+carries_none kind place bytes n not is = absurd (not is)
 
 -- nor does an answer
 pub answer_carries : (kind : MethodKind) (t : TaskNo) (bytes : List ℕ) (n : ℕ) → Carries kind (Answers t) bytes n
-answer_carries PhoneHungUp t bytes n = tt
-answer_carries ConnectToMe t bytes n = tt
-answer_carries ConnectMeTo t bytes n = tt
-answer_carries DataWrite t bytes n = tt
-answer_carries DataRead t bytes n = tt
-answer_carries ShareOut t bytes n = tt
-answer_carries ShareIn t bytes n = tt
-answer_carries NotBuilt t bytes n = tt
-answer_carries User t bytes n = tt
+answer_carries kind t bytes n is = tt
 
 -- one call came, or changed, and went behind all others
 pub sound_with : (tasks : Tasks) (q r : CallTable) (n : ℕ) (d : Call) → AreSoundCalls tasks q → ((m : ℕ) → call_at r m ≡ (if n == m then Some d else call_at q m)) → q.next_number ≤ r.next_number → r.next_stamp ≡ q.next_stamp + 1 → d.stamp ≡ q.next_stamp → IsSoundCall tasks r.next_number r.next_stamp n d → AreSoundCalls tasks r

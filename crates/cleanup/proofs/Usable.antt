@@ -4,16 +4,15 @@ use Rattle.std.specs.Prelude.{if◌then◌else◌, slice_get}
 use Rattle.ipc_ids.specs.declared.numbers.TaskNo.{TaskNo}
 use Rattle.ipc_ids.specs.declared.numbers.Label.{Label}
 use Rattle.ipc_ids.specs.declared.numbers.Code.{Code}
-use Rattle.ipc_ids.specs.declared.methods.MethodKind.{MethodKind}
-use Rattle.ipc_ids.specs.declared.methods.MethodKind.TheVariants.{PhoneHungUp, ConnectToMe, ConnectMeTo, DataWrite, DataRead, ShareOut, ShareIn, NotBuilt, User}
 use Rattle.ipc_ids.specs.declared.message.PhoneState.{PhoneState}
-use Rattle.ipc_ids.specs.Methods.{kind_of}
 use Rattle.call_slab.specs.declared.call.Call.{Call}
 use Rattle.call_slab.specs.declared.call.Place.{Place}
 use Rattle.answerbox.specs.Calls.{CallTable, call_at, active_calls}
 use Rattle.phone_table.specs.Phones.{row_at, is_usable}
+use Rattle.cleanup.specs.declared.kept.Keeper.{Keeper}
+use Rattle.cleanup.specs.declared.kept.Keeper.TheVariants.{Nobody, Receiver, Caller}
 use Rattle.cleanup.specs.State.{KernelState, phone_at, label_of}
-use Rattle.cleanup.specs.Kept.{AreKept, WaitsIn, kept_of, kept_phone, lent_of, lent_phone, first_usable_from, first_usable_of}
+use Rattle.cleanup.specs.Kept.{AreKept, WaitsIn, who_keeps, kept_of, kept_phone, lent_of, lent_phone, first_usable_from, first_usable_of}
 use Rattle.cleanup.proofs.Rows.{some_of}
 
 -- the phone l is one of task t, and is usable
@@ -55,16 +54,10 @@ usable_is k t l h =
 
 -- the phone that a live call keeps waits, also where its holder keeps it
 
-lent_kept : (kind : MethodKind) (from : TaskNo) (place : Place) (code : Code) (reserved : Option Label) (l : Label) → lent_of kind place reserved ≡ Some l → kept_of kind from place code reserved ≡ Some l
-lent_kept PhoneHungUp from place code reserved l h = h
-lent_kept ConnectToMe from place code reserved l h = h
-lent_kept ConnectMeTo from place code reserved l h = absurd (cc h)
-lent_kept DataWrite from place code reserved l h = h
-lent_kept DataRead from place code reserved l h = h
-lent_kept ShareOut from place code reserved l h = h
-lent_kept ShareIn from place code reserved l h = h
-lent_kept NotBuilt from place code reserved l h = h
-lent_kept User from place code reserved l h = h
+lent_kept : (keeper : Keeper) (from : TaskNo) (place : Place) (code : Code) (reserved : Option Label) (l : Label) → lent_of keeper place reserved ≡ Some l → kept_of keeper from place code reserved ≡ Some l
+lent_kept Nobody from place code reserved l h = h
+lent_kept Receiver from place code reserved l h = h
+lent_kept Caller from place code reserved l h = absurd (cc h)
 
 module _ (rows : List (List PhoneState)) (q : CallTable) (n : ℕ) (c : Call) (s : AreKept rows q) (is : call_at q n ≡ Some c) where
   waits : (o : Option Label) → ((l : Label) → o ≡ Some l → kept_phone c ≡ Some l) → WaitsIn rows o
@@ -75,4 +68,4 @@ module _ (rows : List (List PhoneState)) (q : CallTable) (n : ℕ) (c : Call) (s
   kept_waits = waits (kept_phone c) (λ l e. e)
 
   pub lent_waits : WaitsIn rows (lent_phone c)
-  lent_waits = waits (lent_phone c) (lent_kept (kind_of c.request.method) c.from.task c.place c.reply.code c.reserved)
+  lent_waits = waits (lent_phone c) (lent_kept (who_keeps c) c.from.task c.place c.reply.code c.reserved)

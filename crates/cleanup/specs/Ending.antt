@@ -37,3 +37,9 @@ pub record UsesNumbers (old new : BoxesState) : Type 0 where
 -- so many tasks that are alive
 abbrev pub all_alive : ℕ → List Bool
 all_alive n = replicate n true
+
+-- the calls, the phones and the areas are those that there were
+pub record AreUnchanged (old_boxes new_boxes : BoxesState) (old_rows new_rows : Rows) (old_memory new_memory : Memory) : Type 0 where
+  pub calls : new_boxes.calls ≡ old_boxes.calls
+  pub phones : new_rows ≡ old_rows
+  pub areas : new_memory ≡ old_memory

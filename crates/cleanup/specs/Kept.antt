@@ -5,7 +5,7 @@ use Rattle.ipc_ids.specs.declared.numbers.Label.{Label}
 use Rattle.ipc_ids.specs.declared.numbers.PhoneNo.{PhoneNo}
 use Rattle.ipc_ids.specs.declared.numbers.Code.{Code}
 use Rattle.ipc_ids.specs.declared.methods.MethodKind.{MethodKind}
-use Rattle.ipc_ids.specs.declared.methods.MethodKind.TheVariants.{PhoneHungUp, ConnectToMe, ConnectMeTo, DataWrite, DataRead, ShareOut, ShareIn, NotBuilt, User}
+use Rattle.ipc_ids.specs.declared.methods.MethodKind.TheVariants.{ConnectToMe, ConnectMeTo}
 use Rattle.ipc_ids.specs.declared.message.PhoneState.{PhoneState}
 use Rattle.ipc_ids.specs.declared.message.PhoneState.TheVariants.{Connecting}
 use Rattle.ipc_ids.specs.declared.entry.Entry.{Entry}
@@ -17,7 +17,19 @@ use Rattle.call_slab.specs.declared.call.Place.{Place}
 use Rattle.call_slab.specs.declared.call.Place.TheVariants.{Incoming, Dispatched, Answers}
 use Rattle.answerbox.specs.Calls.{CallTable, call_at, active_calls}
 use Rattle.phone_table.specs.Phones.{Rows, row_at, state_at, is_usable, first_usable}
+use Rattle.cleanup.specs.declared.kept.Keeper.{Keeper}
+use Rattle.cleanup.specs.declared.kept.Keeper.TheVariants.{Nobody, Receiver, Caller}
 use Rattle.cleanup.specs.State.{KernelState, phone_at, label_of, with_state_at}
+
+-- who keeps a phone for a call of this kind: of a CONNECT_TO_ME its receiver, of a CONNECT_ME_TO its caller
+abbrev pub keeper_of : MethodKind → Keeper
+keeper_of ConnectToMe = Receiver
+keeper_of ConnectMeTo = Caller
+keeper_of _ = Nobody
+
+-- the same for this call
+abbrev pub who_keeps : Call → Keeper
+who_keeps c = keeper_of (kind_of c.request.method)
 
 -- whether the reply accepts what the call asks for
 abbrev pub accepts : Code → Bool
@@ -43,35 +55,23 @@ is_accepted (Answers t) code = accepts code
 abbrev pub asked_phone : TaskNo → Place → Code → Option Label → Option Label
 asked_phone from place code reserved = if is_accepted place code then None else phone_of from reserved
 
-abbrev pub kept_of : MethodKind → TaskNo → Place → Code → Option Label → Option Label
-kept_of PhoneHungUp from place code reserved = None
-kept_of ConnectToMe from place code reserved = held_phone place reserved
-kept_of ConnectMeTo from place code reserved = asked_phone from place code reserved
-kept_of DataWrite from place code reserved = None
-kept_of DataRead from place code reserved = None
-kept_of ShareOut from place code reserved = None
-kept_of ShareIn from place code reserved = None
-kept_of NotBuilt from place code reserved = None
-kept_of User from place code reserved = None
+abbrev pub kept_of : Keeper → TaskNo → Place → Code → Option Label → Option Label
+kept_of Nobody from place code reserved = None
+kept_of Receiver from place code reserved = held_phone place reserved
+kept_of Caller from place code reserved = asked_phone from place code reserved
 
 -- the phone that the call keeps
 abbrev pub kept_phone : Call → Option Label
-kept_phone c = kept_of (kind_of c.request.method) c.from.task c.place c.reply.code c.reserved
+kept_phone c = kept_of (who_keeps c) c.from.task c.place c.reply.code c.reserved
 
 -- the same, where the task that holds the call keeps it
-abbrev pub lent_of : MethodKind → Place → Option Label → Option Label
-lent_of PhoneHungUp place reserved = None
-lent_of ConnectToMe place reserved = held_phone place reserved
-lent_of ConnectMeTo place reserved = None
-lent_of DataWrite place reserved = None
-lent_of DataRead place reserved = None
-lent_of ShareOut place reserved = None
-lent_of ShareIn place reserved = None
-lent_of NotBuilt place reserved = None
-lent_of User place reserved = None
+abbrev pub lent_of : Keeper → Place → Option Label → Option Label
+lent_of Nobody place reserved = None
+lent_of Receiver place reserved = held_phone place reserved
+lent_of Caller place reserved = None
 
 abbrev pub lent_phone : Call → Option Label
-lent_phone c = lent_of (kind_of c.request.method) c.place c.reserved
+lent_phone c = lent_of (who_keeps c) c.place c.reserved
 
 -- a phone that was freed is reserved no more
 abbrev pub unless_freed : Option Label → Option Label → Option Label

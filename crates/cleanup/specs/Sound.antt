@@ -6,7 +6,7 @@ use Rattle.ipc_ids.specs.declared.numbers.Code.{Code}
 use Rattle.ipc_ids.specs.declared.message.PhoneState.{PhoneState}
 use Rattle.ipc_ids.specs.declared.message.PhoneState.TheVariants.{Free, Connecting, Connected, HungUp, Slammed}
 use Rattle.ipc_ids.specs.declared.methods.MethodKind.{MethodKind}
-use Rattle.ipc_ids.specs.declared.methods.MethodKind.TheVariants.{PhoneHungUp, ConnectToMe, ConnectMeTo, DataWrite, DataRead, ShareOut, ShareIn, NotBuilt, User}
+use Rattle.ipc_ids.specs.declared.methods.MethodKind.TheVariants.{DataWrite}
 use Rattle.ipc_ids.specs.Methods.{phone_hungup, kind_of}
 use Rattle.call_slab.specs.declared.call.Call.{Call}
 use Rattle.call_slab.specs.declared.call.Place.{Place}
@@ -15,9 +15,11 @@ use Rattle.answerbox.specs.Calls.{CallTable, call_at}
 use Rattle.phone_table.specs.Phones.{state_at}
 use Rattle.address_space.specs.Memory.{Memory, areas_of}
 use Rattle.address_space.specs.Sound as spaces
+use Rattle.cleanup.specs.declared.kept.Keeper.{Keeper}
+use Rattle.cleanup.specs.declared.kept.Keeper.TheVariants.{Nobody, Receiver, Caller}
 use Rattle.cleanup.specs.State.{Tasks, KernelState, alive_in}
 use Rattle.cleanup.specs.Counts.{label_at}
-use Rattle.cleanup.specs.Kept.{AreKept, accepts, kept_by}
+use Rattle.cleanup.specs.Kept.{AreKept, accepts, kept_by, who_keeps}
 
 -- a call waits at a task that is alive, and an answer at its caller
 abbrev pub IsPlaced : Tasks → Option TaskNo → Place → Type 0
@@ -30,45 +32,35 @@ abbrev pub IsCaller : Tasks → Label → Option TaskNo → Type 0
 IsCaller tasks from None = ⊤
 IsCaller tasks from (Some u) = (u ≡ from.task) × (alive_in tasks.alive u.0 ≡ true)
 
--- a call of this kind, from this task and at this place, may have this phone reserved
+-- a receiver keeps this phone for a call at this place, or kept it
 abbrev pub IsLentAt : Place → Label → Type 0
 IsLentAt (Incoming t) l = ⊥
 IsLentAt (Dispatched t) l = l.task ≡ t
 IsLentAt (Answers t) l = ⊤
 
-abbrev pub IsReservedAt : MethodKind → TaskNo → Place → Label → Type 0
-IsReservedAt PhoneHungUp from place l = ⊥
-IsReservedAt ConnectToMe from place l = IsLentAt place l
-IsReservedAt ConnectMeTo from place l = l.task ≡ from
-IsReservedAt DataWrite from place l = ⊥
-IsReservedAt DataRead from place l = ⊥
-IsReservedAt ShareOut from place l = ⊥
-IsReservedAt ShareIn from place l = ⊥
-IsReservedAt NotBuilt from place l = ⊥
-IsReservedAt User from place l = ⊥
+-- a call with this keeper, from this task and at this place, may have this phone reserved
+abbrev pub IsReservedAt : Keeper → TaskNo → Place → Label → Type 0
+IsReservedAt Nobody from place l = ⊥
+IsReservedAt Receiver from place l = IsLentAt place l
+IsReservedAt Caller from place l = l.task ≡ from
 
--- a call of this kind, at this place and with this code of its reply, has a phone reserved
+-- a call at this place, with this code of its reply, may still connect a phone, or has connected one
 abbrev pub IsOpenAt : Place → Code → Type 0
 IsOpenAt (Incoming t) code = ⊤
 IsOpenAt (Dispatched t) code = ⊤
 IsOpenAt (Answers t) code = accepts code ≡ true
 
-abbrev pub NeedsPhone : MethodKind → Place → Code → Type 0
-NeedsPhone PhoneHungUp place code = ⊥
-NeedsPhone ConnectToMe place code = ⊥
-NeedsPhone ConnectMeTo place code = IsOpenAt place code
-NeedsPhone DataWrite place code = ⊥
-NeedsPhone DataRead place code = ⊥
-NeedsPhone ShareOut place code = ⊥
-NeedsPhone ShareIn place code = ⊥
-NeedsPhone NotBuilt place code = ⊥
-NeedsPhone User place code = ⊥
+-- a call with this keeper, at this place and with this code of its reply, has a phone reserved
+abbrev pub NeedsPhone : Keeper → Place → Code → Type 0
+NeedsPhone Nobody place code = ⊥
+NeedsPhone Receiver place code = ⊥
+NeedsPhone Caller place code = IsOpenAt place code
 
 -- the phone that is reserved for the call
 pub record HasSoundPhone (phones : List (List PhoneState)) (c : Call) : Type 0 where
   pub there : (l : Label) → c.reserved ≡ Some l → IsSome (state_at phones l.task.0 l.phone.0)
-  pub owner : (l : Label) → c.reserved ≡ Some l → IsReservedAt (kind_of c.request.method) c.from.task c.place l
-  pub needed : NeedsPhone (kind_of c.request.method) c.place c.reply.code → IsSome c.reserved
+  pub owner : (l : Label) → c.reserved ≡ Some l → IsReservedAt (who_keeps c) c.from.task c.place l
+  pub needed : NeedsPhone (who_keeps c) c.place c.reply.code → IsSome c.reserved
 
 -- a call that was not answered yet has so many bytes with it
 abbrev pub HasBytesAt : Place → List ℕ → ℕ → Type 0
@@ -78,15 +70,7 @@ HasBytesAt (Answers t) bytes n = ⊤
 
 -- a DATA_WRITE has as many as its argument 2 says
 abbrev pub Carries : MethodKind → Place → List ℕ → ℕ → Type 0
-Carries PhoneHungUp place bytes n = ⊤
-Carries ConnectToMe place bytes n = ⊤
-Carries ConnectMeTo place bytes n = ⊤
-Carries DataWrite place bytes n = HasBytesAt place bytes n
-Carries DataRead place bytes n = ⊤
-Carries ShareOut place bytes n = ⊤
-Carries ShareIn place bytes n = ⊤
-Carries NotBuilt place bytes n = ⊤
-Carries User place bytes n = ⊤
+Carries kind place bytes n = kind ≡ DataWrite → HasBytesAt place bytes n
 
 -- the record of the live call with number n
 pub record IsSoundCall (tasks : Tasks) (next_number next_stamp n : ℕ) (c : Call) : Type 0 where

@@ -3,7 +3,7 @@ ghost use Rattle.std.specs.Prelude.{◌≡◌, ◌-◌, ◌≤◌, ◌++◌, Boo
 ghost use Rattle.cleanup.specs.Sound.{IsSound};
 ghost use Rattle.cleanup.specs.Counts.{HasCounts};
 ghost use Rattle.cleanup.specs.Kill.{end_parts};
-ghost use Rattle.cleanup.specs.Ending.{IsJustEnded, HasFewActive, HasNumbers, UsesNumbers, state_of, all_alive};
+ghost use Rattle.cleanup.specs.Ending.{AreUnchanged, IsJustEnded, HasFewActive, HasNumbers, UsesNumbers, state_of, all_alive};
 
 use crate::board::Switchboard;
 use crate::kill_room::{kill_calls, kill_entries};
@@ -18,8 +18,8 @@ use std::mem;
 /// lead to it, its calls and its areas.
 ///
 /// The marks of who is alive are the caller's, `alive`, and are not read: before the mark they
-/// made a sound state with the phones, the calls and the areas, so that the kernel answers each call whose
-/// caller is not the task itself.
+/// made a sound state with the phones, the calls and the areas, so that the kernel answers each
+/// call whose caller is not the task itself.
 ///
 /// # Errors
 ///
@@ -44,13 +44,12 @@ pub fn end_task(
         ≡ (end_parts who (state_of alive phones.old boxes.old spaces.old)).state.tasks.phones) }
     ensures areas { OnOk result (spaces.new
         ≡ (end_parts who (state_of alive phones.old boxes.old spaces.old)).state.memory) }
-    ensures entries { OnOk result (out.new.entries
-        ≡ out.old.entries ++ (end_parts who (state_of alive phones.old boxes.old spaces.old)).entries) }
+    ensures entries { OnOk result (out.new.entries ≡ out.old.entries
+        ++ (end_parts who (state_of alive phones.old boxes.old spaces.old)).entries) }
     ensures counts { OnOk result (HasCounts phones.new.states phones.new.counts boxes.new.calls) }
     ensures used { UsesNumbers boxes.old boxes.new }
-    ensures calls_unchanged { OnErr result (boxes.new.calls ≡ boxes.old.calls) }
-    ensures phones_unchanged { OnErr result (phones.new ≡ phones.old) }
-    ensures areas_unchanged { OnErr result (spaces.new ≡ spaces.old) }
+    ensures unchanged { OnErr result (AreUnchanged boxes.old boxes.new phones.old phones.new
+        spaces.old spaces.new) }
     ensures trace_unchanged { OnErr result (out.new.entries ≡ out.old.entries) }
 {
     phones.check_counts();

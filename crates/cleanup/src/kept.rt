@@ -1,25 +1,49 @@
 //! The phones that connect calls keep for their connections.
 ghost use Rattle.std.specs.Prelude.{◌≡◌};
-ghost use Rattle.cleanup.specs.Kept.{phone_of, held_phone, asked_phone, kept_phone, lent_phone, unless_freed, kept_note};
+ghost use Rattle.cleanup.specs.Kept.{keeper_of, phone_of, held_phone, asked_phone, kept_phone, lent_phone, unless_freed, kept_note};
 
 use call_slab::{Call, Place};
 use ipc_ids::{Code, Entry, Label, MethodKind, PhoneState, TaskNo};
+
+/// Who keeps a phone for a call.
+#[derive(Clone, Copy)]
+pub(crate) enum Keeper {
+    /// No task.
+    Nobody,
+    /// The task that holds the call.
+    Receiver,
+    /// The task that made the call.
+    Caller,
+}
+
+impl Keeper {
+    /// Who keeps a phone for a call of this kind.
+    fn of(kind: MethodKind) -> Keeper
+        ensures { result ≡ keeper_of kind }
+    {
+        match kind {
+            MethodKind::ConnectToMe => Keeper::Receiver,
+            MethodKind::ConnectMeTo => Keeper::Caller,
+            MethodKind::PhoneHungUp
+            | MethodKind::DataWrite
+            | MethodKind::DataRead
+            | MethodKind::ShareOut
+            | MethodKind::ShareIn
+            | MethodKind::NotBuilt
+            | MethodKind::User => Keeper::Nobody,
+        }
+    }
+}
 
 /// The phone that the call keeps: a CONNECT_TO_ME one of the task that holds it, a CONNECT_ME_TO
 /// one of the task that made it, until it is accepted.
 pub(crate) fn kept_phone(call: &Call) -> Option<Label>
     ensures { result ≡ kept_phone call.now }
 {
-    match MethodKind::of(call.request.method) {
-        MethodKind::ConnectToMe => held_phone(call),
-        MethodKind::ConnectMeTo => asked_phone(call),
-        MethodKind::PhoneHungUp
-        | MethodKind::DataWrite
-        | MethodKind::DataRead
-        | MethodKind::ShareOut
-        | MethodKind::ShareIn
-        | MethodKind::NotBuilt
-        | MethodKind::User => None,
+    match Keeper::of(MethodKind::of(call.request.method)) {
+        Keeper::Nobody => None,
+        Keeper::Receiver => held_phone(call),
+        Keeper::Caller => asked_phone(call),
     }
 }
 
@@ -27,16 +51,9 @@ pub(crate) fn kept_phone(call: &Call) -> Option<Label>
 pub(crate) fn lent_phone(call: &Call) -> Option<Label>
     ensures { result ≡ lent_phone call.now }
 {
-    match MethodKind::of(call.request.method) {
-        MethodKind::ConnectToMe => held_phone(call),
-        MethodKind::PhoneHungUp
-        | MethodKind::ConnectMeTo
-        | MethodKind::DataWrite
-        | MethodKind::DataRead
-        | MethodKind::ShareOut
-        | MethodKind::ShareIn
-        | MethodKind::NotBuilt
-        | MethodKind::User => None,
+    match Keeper::of(MethodKind::of(call.request.method)) {
+        Keeper::Receiver => held_phone(call),
+        Keeper::Nobody | Keeper::Caller => None,
     }
 }
 

@@ -14,8 +14,8 @@ use crate::joins::tell;
 use ipc_ids::{CallNo, Code, Entry, MethodKind, Reply, StoreNo, TaskNo, Trace};
 
 impl Switchboard {
-    /// Accepts the SHARE_OUT that the task holds: it gets an area where the reply says, over the store
-    /// of an area of the caller. Where it does not, the code of the answer says why.
+    /// Accepts the SHARE_OUT that the task holds: it gets an area where the reply says, over the
+    /// store of an area of the caller. Where it does not, the code of the answer says why.
     pub fn accept_share_out(
         &mut self,
         number: CallNo,

@@ -8,7 +8,7 @@ use Rattle.ipc_ids.specs.declared.message.PhoneState.TheVariants.{Free, Connecti
 use Rattle.ipc_ids.specs.declared.numbers.Label.{Label}
 use Rattle.ipc_ids.specs.declared.numbers.TaskNo.{TaskNo}
 use Rattle.ipc_ids.specs.declared.methods.MethodKind.{MethodKind}
-use Rattle.ipc_ids.specs.declared.methods.MethodKind.TheVariants.{PhoneHungUp, ConnectToMe, ConnectMeTo, DataWrite, DataRead, ShareOut, ShareIn, NotBuilt, User}
+use Rattle.ipc_ids.specs.declared.methods.MethodKind.TheVariants.{ConnectToMe, ConnectMeTo, User}
 use Rattle.ipc_ids.specs.Methods.{first_user_method, kind_of}
 use Rattle.call_slab.specs.declared.call.Call.{Call}
 use Rattle.call_slab.specs.declared.call.Place.TheVariants.{Dispatched}
@@ -37,15 +37,10 @@ connect_msg change msg = record { method = msg.method; args = slice_set change.a
 
 -- the message of a call of this kind, after a change
 abbrev pub changed_msg : MethodKind → Msg → Msg → Msg
-changed_msg PhoneHungUp change msg = msg
+changed_msg User change msg = change
 changed_msg ConnectToMe change msg = connect_msg change msg
 changed_msg ConnectMeTo change msg = connect_msg change msg
-changed_msg DataWrite change msg = msg
-changed_msg DataRead change msg = msg
-changed_msg ShareOut change msg = msg
-changed_msg ShareIn change msg = msg
-changed_msg NotBuilt change msg = msg
-changed_msg User change msg = change
+changed_msg _ change msg = msg
 
 -- the message that the next receiver sees: where there is no change, the one of now
 abbrev pub msg_after : Option Msg → Call → Msg

@@ -1,7 +1,7 @@
 -- A step whose request is known is that of the task's program.
-use Rattle.std.proofs.Common.{◌≡◌, ℕ, ◌-◌, Bool, true, false, Option, None, Some, refl, ap, ◌∙◌, set, subst}
+use Rattle.std.proofs.Common.{◌≡◌, ℕ, ◌-◌, ◌<◌, length, Bool, true, false, Option, None, Some, refl, ap, ◌∙◌, set, subst}
 use Rattle.std.specs.Prelude.{slice_get, if◌then◌else◌, option_map, get_or}
-use Rattle.std.proofs.lemmas.Option.{get_or_from_slice_get}
+use Rattle.std.proofs.lemmas.Option.{get_or_from_slice_get, slice_get_within}
 use Rattle.ipc_ids.specs.declared.numbers.TaskNo.{TaskNo}
 use Rattle.ipc_ids.specs.declared.message.Request.{Request}
 use Rattle.ipc_ids.specs.declared.message.Outcome.{Outcome}
@@ -13,6 +13,13 @@ use Rattle.hipc.specs.Replay.{RunState, program_at, step_by, step}
 chosen : (b : Bool) (o : Option RawState) (p : RawState) → (if b then o else None) ≡ Some p → o ≡ Some p
 chosen true o p h = h
 chosen false o p h = absurd (cc h)
+
+-- a task that asks for something has a program
+pub asks_within : (now : RunState) (task : TaskNo) (request : Request) → option_map wanted (program_at now task) ≡ Some request → task.0 - 1 < length now.programs
+asks_within now task request asked = by_program (program_at now task) refl asked where
+  by_program : (o : Option RawState) → program_at now task ≡ o → option_map wanted o ≡ Some request → task.0 - 1 < length now.programs
+  by_program None here asked = absurd (cc asked)
+  by_program (Some p) here asked = slice_get_within now.programs (task.0 - 1) p (chosen (is_alive now.kernel task) (slice_get now.programs (task.0 - 1)) p here)
 
 asks : (p : RawState) (request : Request) → option_map wanted (Some p) ≡ Some request → wanted p ≡ request
 asks p request h = cc h

@@ -11,7 +11,7 @@ use Rattle.ipc_ids.specs.declared.numbers.StoreNo.{StoreNo}
 use Rattle.ipc_ids.specs.declared.numbers.Label.{Label}
 use Rattle.ipc_ids.specs.declared.numbers.Code.{Code}
 use Rattle.ipc_ids.specs.declared.methods.MethodKind.{MethodKind}
-use Rattle.ipc_ids.specs.declared.methods.MethodKind.TheVariants.{PhoneHungUp, ConnectToMe, ConnectMeTo, DataWrite, DataRead, ShareOut, ShareIn, NotBuilt, User}
+use Rattle.ipc_ids.specs.declared.methods.MethodKind.TheVariants.{ConnectToMe, ConnectMeTo, DataWrite, DataRead, ShareOut, ShareIn}
 use Rattle.ipc_ids.specs.declared.message.Msg.{Msg}
 use Rattle.ipc_ids.specs.declared.message.Mode.{Mode}
 use Rattle.ipc_ids.specs.declared.message.Reply.{Reply}
@@ -81,15 +81,11 @@ AfterServed q served = After q served.entries served.state
 
 -- what a kind of method says of the method
 abbrev KindSays : MethodKind → ℕ → Type 0
-KindSays PhoneHungUp n = ⊤
-KindSays ConnectToMe n = ⊤
-KindSays ConnectMeTo n = ⊤
 KindSays DataWrite n = n ≡ data_write
 KindSays DataRead n = n ≡ data_read
 KindSays ShareOut n = n ≡ share_out
 KindSays ShareIn n = n ≡ share_in
-KindSays NotBuilt n = ⊤
-KindSays User n = ⊤
+KindSays _ n = ⊤
 
 kind_says : (n : ℕ) → KindSays (kind_of n) n
 kind_says n =
@@ -177,15 +173,12 @@ module _ (t : TaskNo) (q : List Entry) (k : KernelState) (fits : AreasFit q k) (
     wanting (Err code) = goes_back code
 
     by_kind : (kind : MethodKind) → AfterServed q (sent_to u k (new_call k t p msg (place.Incoming u)) (before_send_of kind k (new_call k t p msg (place.Incoming u))))
-    by_kind PhoneHungUp = plain []
-    by_kind ConnectToMe = plain []
     by_kind ConnectMeTo = keeping (first_usable_of k t)
     by_kind DataWrite = with_bytes (write_before_send k.memory t msg.args)
     by_kind DataRead = wanting (read_before_send msg.args)
     by_kind ShareOut = wanting (out_before_send k.memory t msg.args)
     by_kind ShareIn = wanting (in_before_send msg.args)
-    by_kind NotBuilt = plain []
-    by_kind User = plain []
+    by_kind _ = plain []
 
   through : (s : PhoneState) → AfterServed q (call_through k t p msg s)
   through phone.Free = fits
@@ -321,7 +314,6 @@ module _ (t : TaskNo) (q : List Entry) (k : KernelState) (fits : AreasFit q k) (
           (inr (refl, by_call))
 
     by_kind : (u : TaskNo) → c.caller ≡ Some u → is_alive k u ≡ true → (kind : MethodKind) → KindSays kind c.request.method → AfterStep q (answer_to (on_accept_of kind k c reply t u) (Some t) u)
-    by_kind u mine lives' PhoneHungUp says = with_reply reply c.buffer None phone.Free u
     by_kind u mine lives' ConnectToMe says = with_reply (record { code = code_of (kept_phone c); args = reply.args }) c.buffer (kept_phone c) (phone.Connected u) u
     by_kind u mine lives' ConnectMeTo says = with_reply reply c.buffer (kept_phone c) (phone.Connected t) u
     by_kind u mine lives' DataWrite says = written u says (nat_lt (length c.buffer) (count_of reply.args)) refl
@@ -337,8 +329,7 @@ module _ (t : TaskNo) (q : List Entry) (k : KernelState) (fits : AreasFit q k) (
         let caller : (u ≡ c.from.task) × (alive_in k.tasks.alive u.0 ≡ true) = subst (IsCaller k.tasks c.from) mine (safe.calls.each c.number.0 c live).caller in
         shared u u (base_of c.request.args) t (base_of reply.args) row (row_in k t safe alive).0 (other_method c.request.method share_in says (λ e. absurd (omega (arith, e))))
         (λ made by method got shares. inr (method ∙ says, ap (λ (x : TaskNo). x.0) caller.0 ∙ sym by, refl, shares))
-    by_kind u mine lives' NotBuilt says = with_reply reply c.buffer None phone.Free u
-    by_kind u mine lives' User says = with_reply reply c.buffer None phone.Free u
+    by_kind u mine lives' _ says = with_reply reply c.buffer None phone.Free u
 
     accepted_for : (o : Option TaskNo) (b : Bool) → c.caller ≡ o → lives k o ≡ b → AfterStep q (accept_for k t reply c o b)
     accepted_for None b mine lives' = after_quiet q k _ _ (quiet_vanishing k c live) fits
@@ -376,26 +367,12 @@ taken q k fits t c live = by_kind where
   plain msg reserved kept = after_quiet q k _ _ (quiet_reception k c live (record c { msg = msg; reserved = reserved }) (record { number = refl; from = refl; request = refl }) kept phone.Connecting t) fits
 
   by_kind : (kind : MethodKind) → AfterServed q (reception t (on_receive_of kind k c t))
-  by_kind PhoneHungUp = plain c.msg c.reserved None
   by_kind ConnectToMe = plain _ (first_usable_of k t) (first_usable_of k t)
-  by_kind ConnectMeTo = plain c.msg c.reserved None
-  by_kind DataWrite = plain c.msg c.reserved None
-  by_kind DataRead = plain c.msg c.reserved None
-  by_kind ShareOut = plain c.msg c.reserved None
-  by_kind ShareIn = plain c.msg c.reserved None
-  by_kind NotBuilt = plain c.msg c.reserved None
-  by_kind User = plain c.msg c.reserved None
+  by_kind _ = plain c.msg c.reserved None
 
 brings_read : (kind : MethodKind) (n : ℕ) (code : Code) → KindSays kind n → brings_bytes_of kind code ≡ true → n ≡ data_read
-brings_read PhoneHungUp n code says h = absurd (cc h)
-brings_read ConnectToMe n code says h = absurd (cc h)
-brings_read ConnectMeTo n code says h = absurd (cc h)
-brings_read DataWrite n code says h = absurd (cc h)
 brings_read DataRead n code says h = says
-brings_read ShareOut n code says h = absurd (cc h)
-brings_read ShareIn n code says h = absurd (cc h)
-brings_read NotBuilt n code says h = absurd (cc h)
-brings_read User n code says h = absurd (cc h)
+brings_read _ n code says h = absurd (cc h)
 
 received : (t : TaskNo) (q : List Entry) (k : KernelState) → AreasFit q k → sound.IsSound k.memory → 1 ≤ t.0 → present q ≡ Some (entry.Head t request.Receive) → (a i : Option Call) → front k.calls (place.Answers t) ≡ a → front k.calls (place.Incoming t) ≡ i → AfterServed q (receive_first k t a i)
 received t q k fits safe some now (Some c) i is at =

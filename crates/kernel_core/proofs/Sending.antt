@@ -19,7 +19,7 @@ use Rattle.cleanup.specs.State.{KernelState, BoardState, phone_at}
 use Rattle.call_slab.specs.declared.call.Place.TheVariants.{Answers}
 use Rattle.cleanup.specs.Board.{IsAdded, IsNewCall}
 use Rattle.cleanup.specs.Kept.{IsLoose, first_usable_of, is_accepted, kept_note, or_refused, phone_of, with_kept}
-use Rattle.cleanup.specs.Joins.{acceptance}
+use Rattle.cleanup.specs.Joins.{acceptance, answer_at_once}
 use Rattle.cleanup.specs.Rooms.{HasRoom, KeepsCalls, UsesRoom}
 use Rattle.cleanup.specs.Serving.{Handed, Serves}
 use Rattle.cleanup.proofs.Soundness.{phone_kept}
@@ -127,3 +127,8 @@ sent_new old new c d noted (Err code) s = absurd s
 pub sent_served : (old new after : BoardState) (c d : Call) (noted : Option Entry) (to : TaskNo) (told : Outcome) (out now : TraceState) (r : Result Handed Code) → IsSent old new c d (Ok noted) r → Serves after told out now (acceptance (record { state = new.state; call = d; note = noted }) (Some to)) → Serves after told out now (sent_to to old.state c r)
 sent_served old new after c d noted to told out now (Ok h) s served = rw (s.state, s.call, s.note) at served
 sent_served old new after c d noted to told out now (Err code) s served = absurd s
+
+-- the call that is not sent is answered at once
+pub unsent_served : (old new after : BoardState) (c d : Call) (code : Code) (to : TaskNo) (told : Outcome) (out now : TraceState) (r : Result Handed Code) → IsSent old new c d (Err (Refused code)) r → Serves after told out now (answer_at_once new.state (record d { place = Answers d.from.task }) code) → Serves after told out now (sent_to to old.state c r)
+unsent_served old new after c d code to told out now (Ok h) s served = absurd s
+unsent_served old new after c d code to told out now (Err wanted) s served = rw (s.state, s.call, s.code) at served

@@ -8,7 +8,7 @@ use Rattle.ipc_ids.specs.declared.numbers.Code.{Code}
 use Rattle.ipc_ids.specs.declared.numbers.Label.{Label}
 use Rattle.ipc_ids.specs.declared.numbers.StoreNo.{StoreNo}
 use Rattle.ipc_ids.specs.declared.methods.MethodKind.{MethodKind}
-use Rattle.ipc_ids.specs.declared.methods.MethodKind.TheVariants.{PhoneHungUp, ConnectToMe, ConnectMeTo, DataWrite, DataRead, ShareOut, ShareIn, NotBuilt, User}
+use Rattle.ipc_ids.specs.declared.methods.MethodKind.TheVariants.{ConnectToMe, ConnectMeTo, DataWrite, DataRead, ShareOut, ShareIn}
 use Rattle.ipc_ids.specs.declared.message.Msg.{Msg}
 use Rattle.ipc_ids.specs.declared.message.Mode.{Mode}
 use Rattle.ipc_ids.specs.declared.message.Reply.{Reply}
@@ -38,7 +38,7 @@ use Rattle.forwarding.specs.Forwarding.{is_held, is_forwardable, msg_after, labe
 use Rattle.forwarding.specs.Routes.{callee_of, receiver_of, as_forwarded}
 use Rattle.address_space.specs.Memory.{Memory}
 use Rattle.address_space.specs.Memory as spaces
-use Rattle.share_hooks.specs.ShareMoments.{out_before_send, in_before_send, out_accept, in_accept}
+use Rattle.share_hooks.specs.ShareMoments.{base_of, pages_of, rights_of, out_before_send, in_before_send, out_accept, in_accept}
 use Rattle.cleanup.specs.Sharing.{shared_note, shared_at_answer}
 use Rattle.data_hooks.specs.DataMoments.{address_of, count_of, write_before_send, read_before_send, write_accept, read_accept, read_deliver}
 use Rattle.cleanup.specs.Areas.{made_note, gone_note, wrote_note}
@@ -161,15 +161,12 @@ module _ (t : TaskNo) (r : Ask) (p : List Tale) (k : KernelState) (inside : InEv
     wanting (Err code) = back_told (Step t.0 r) p k inside t q msg code refl
 
     by_kind : (kind : MethodKind) → Is (sent_to u k c (before_send_of kind k c))
-    by_kind PhoneHungUp = accepted msg None []
-    by_kind ConnectToMe = accepted msg None []
     by_kind ConnectMeTo = keeping (first_usable_of k t)
     by_kind DataWrite = with_bytes (write_before_send k.memory t msg.args)
     by_kind DataRead = wanting (read_before_send msg.args)
     by_kind ShareOut = wanting (out_before_send k.memory t msg.args)
     by_kind ShareIn = wanting (in_before_send msg.args)
-    by_kind NotBuilt = accepted msg None []
-    by_kind User = accepted msg None []
+    by_kind _ = accepted msg None []
 
   through : (q : ℕ) (msg : Msg) (s : PhoneState) → phone_at k t q ≡ Some s → Is (call_through k t q msg s)
   through q msg phone.Free h = inside
@@ -228,10 +225,9 @@ module _ (t : TaskNo) (r : Ask) (p : List Tale) (k : KernelState) (inside : InEv
 
     shared : (u : TaskNo) → c.caller ≡ Some u → is_alive k u ≡ true → (to : TaskNo) (base : ℕ) (step : spaces.Step StoreNo) → AfterStep (Step t.0 r) p (answer_to (shared_at_answer k c reply to base step) (Some t) u)
     shared u made lives' to base step =
-        area_shared_told (Step t.0 r) _ _ (answered u made lives' (reply_told reply step.told) None phone.Free (free_leads (Step t.0 r) k.tasks.alive)) to step.memory base (slice_index c.request.args 1) (slice_index c.request.args 2) step.told
+        area_shared_told (Step t.0 r) _ _ (answered u made lives' (reply_told reply step.told) None phone.Free (free_leads (Step t.0 r) k.tasks.alive)) to step.memory base (pages_of c.request.args) (rights_of c.request.args) step.told
 
     by_kind : (u : TaskNo) → c.caller ≡ Some u → is_alive k u ≡ true → (kind : MethodKind) → AfterStep (Step t.0 r) p (answer_to (on_accept_of kind k c reply t u) (Some t) u)
-    by_kind u made lives' PhoneHungUp = answered u made lives' reply None phone.Free (free_leads (Step t.0 r) k.tasks.alive)
     by_kind u made lives' ConnectToMe =
         let caller = caller_told (Step t.0 r) p k inside c u true h made lives' in
         answered u made lives' (record { code = code_of (kept_phone c); args = reply.args }) (kept_phone c) (phone.Connected u)
@@ -241,10 +237,9 @@ module _ (t : TaskNo) (r : Ask) (p : List Tale) (k : KernelState) (inside : InEv
     by_kind u made lives' DataWrite = written u made lives' (write_accept k.memory t c.buffer reply)
     by_kind u made lives' DataRead =
         let told = read_accept k.memory t c.request.args reply in with_bytes u made lives' (reply_told reply told) (bytes_told told c.buffer) None phone.Free (free_leads (Step t.0 r) k.tasks.alive)
-    by_kind u made lives' ShareOut = shared u made lives' t (slice_index reply.args 0) (out_accept k.memory u t c.request.args reply)
-    by_kind u made lives' ShareIn = shared u made lives' u (slice_index c.request.args 0) (in_accept k.memory u t c.request.args reply)
-    by_kind u made lives' NotBuilt = answered u made lives' reply None phone.Free (free_leads (Step t.0 r) k.tasks.alive)
-    by_kind u made lives' User = answered u made lives' reply None phone.Free (free_leads (Step t.0 r) k.tasks.alive)
+    by_kind u made lives' ShareOut = shared u made lives' t (base_of reply.args) (out_accept k.memory u t c.request.args reply)
+    by_kind u made lives' ShareIn = shared u made lives' u (base_of c.request.args) (in_accept k.memory u t c.request.args reply)
+    by_kind u made lives' _ = answered u made lives' reply None phone.Free (free_leads (Step t.0 r) k.tasks.alive)
 
     by_caller : (o : Option TaskNo) (b : Bool) → c.caller ≡ o → lives k o ≡ b → AfterStep (Step t.0 r) p (accept_for k t reply c o b)
     by_caller None b made lives' = gone (subst (CallerFits k.tasks.alive c.from.task) made (is_told (Step t.0 r) p k inside c.number.0 c h).caller)
@@ -328,15 +323,8 @@ module _ (t : TaskNo) (p : List Tale) (k : KernelState) (inside : InEvent (Step 
         kept phone.Connecting (λ v x. cc)
 
     by_kind : (kind : MethodKind) → AfterServed (Step t.0 Receive) p (reception t (on_receive_of kind k c t))
-    by_kind PhoneHungUp = taken c.msg c.reserved None
     by_kind ConnectToMe = taken _ (first_usable_of k t) (first_usable_of k t)
-    by_kind ConnectMeTo = taken c.msg c.reserved None
-    by_kind DataWrite = taken c.msg c.reserved None
-    by_kind DataRead = taken c.msg c.reserved None
-    by_kind ShareOut = taken c.msg c.reserved None
-    by_kind ShareIn = taken c.msg c.reserved None
-    by_kind NotBuilt = taken c.msg c.reserved None
-    by_kind User = taken c.msg c.reserved None
+    by_kind _ = taken c.msg c.reserved None
 
   receive_told : (a i : Option Call) → front k.calls (place.Answers t) ≡ a → front k.calls (place.Incoming t) ≡ i → AfterServed (Step t.0 Receive) p (receive_first k t a i)
   receive_told (Some c) i h g =

@@ -17,7 +17,7 @@ use Rattle.ipc_ids.specs.declared.message.PhoneState.TheVariants.{Free, Connecti
 use Rattle.ipc_ids.specs.declared.message.Request.{Request}
 use Rattle.ipc_ids.specs.declared.message.Request.TheVariants as request
 use Rattle.ipc_ids.specs.declared.methods.MethodKind.{MethodKind}
-use Rattle.ipc_ids.specs.declared.methods.MethodKind.TheVariants.{PhoneHungUp, ConnectToMe, ConnectMeTo, DataWrite, DataRead, ShareOut, ShareIn, NotBuilt, User}
+use Rattle.ipc_ids.specs.declared.methods.MethodKind.TheVariants.{ConnectToMe, ConnectMeTo, DataWrite, DataRead, ShareOut, ShareIn}
 use Rattle.ipc_ids.specs.Codes.{eok, ehangup, enoent, eperm, elimit, eforward}
 use Rattle.ipc_ids.specs.Methods.{kind_of}
 use Rattle.ipc_ids.specs.Tables.{most_active}
@@ -130,15 +130,12 @@ module _ (t : TaskNo) (k : KernelState) (h : IsSound k) (w : IsWithinLimits k) w
     wanting u is (Err code) = at_once (Connected u) code is (λ x. x)
 
     sent : (u : TaskNo) → phone_at k t p ≡ Some (Connected u) → (kind : MethodKind) → Keeps (sent_to u k (new_call k t p msg (Incoming u)) (before_send_of kind k (new_call k t p msg (Incoming u))))
-    sent u is PhoneHungUp = plain u is
-    sent u is ConnectToMe = plain u is
     sent u is ConnectMeTo = keeping u is (first_usable_of k t) refl
     sent u is DataWrite = with_bytes u is (write_before_send k.memory t msg.args)
     sent u is DataRead = wanting u is (read_before_send msg.args)
     sent u is ShareOut = wanting u is (out_before_send k.memory t msg.args)
     sent u is ShareIn = wanting u is (in_before_send msg.args)
-    sent u is NotBuilt = plain u is
-    sent u is User = plain u is
+    sent u is _ = plain u is
 
     through : (s : PhoneState) → phone_at k t p ≡ Some s → Keeps (call_through k t p msg s)
     through Free is = w
@@ -167,23 +164,15 @@ module _ (t : TaskNo) (k : KernelState) (h : IsSound k) (w : IsWithinLimits k) w
     gone = within_over (with_kept k (kept_phone c) Free) c (kept_on Free) live
 
     taken_on : (kind : MethodKind) → Keeps (reception t (on_receive_of kind k c t))
-    taken_on PhoneHungUp = within_put k c c (Dispatched t) w live refl refl refl
     taken_on ConnectToMe =
         let kept : Option Label = first_usable_of k t in
         within_put (with_kept k kept Connecting) c (record c { msg = with_fifth c.msg (number_of kept); reserved = kept }) (Dispatched t) (within_taken k t kept w refl) live refl refl refl
-    taken_on ConnectMeTo = within_put k c c (Dispatched t) w live refl refl refl
-    taken_on DataWrite = within_put k c c (Dispatched t) w live refl refl refl
-    taken_on DataRead = within_put k c c (Dispatched t) w live refl refl refl
-    taken_on ShareOut = within_put k c c (Dispatched t) w live refl refl refl
-    taken_on ShareIn = within_put k c c (Dispatched t) w live refl refl refl
-    taken_on NotBuilt = within_put k c c (Dispatched t) w live refl refl refl
-    taken_on User = within_put k c c (Dispatched t) w live refl refl refl
+    taken_on _ = within_put k c c (Dispatched t) w live refl refl refl
 
     put_answered : (j : KernelState) (reply : Reply) (u : TaskNo) → IsWithinLimits j → IsLive j c → IsWithinLimits (with_calls j (put_at j.calls (record c { reply = reply }) (Answers u)))
     put_answered j reply u within is = within_put j c (record c { reply = reply }) (Answers u) within is refl refl refl
 
     accepted : (reply : Reply) (u : TaskNo) (kind : MethodKind) → IsWithinLimits (answer_to (on_accept_of kind k c reply t u) (Some t) u).state
-    accepted reply u PhoneHungUp = put_answered k reply u w live
     accepted reply u ConnectToMe = put_answered (with_kept k (kept_phone c) (Connected u)) (record { code = code_of (kept_phone c); args = reply.args }) u (kept_on (Connected u)) live
     accepted reply u ConnectMeTo = put_answered (with_kept k (kept_phone c) (Connected t)) reply u (kept_on (Connected t)) live
     accepted reply u DataWrite =
@@ -194,8 +183,7 @@ module _ (t : TaskNo) (k : KernelState) (h : IsSound k) (w : IsWithinLimits k) w
         let step = out_accept k.memory u t c.request.args reply in put_answered (with_memory k step.memory) (reply_told reply step.told) u (within_memory k step.memory w) live
     accepted reply u ShareIn =
         let step = in_accept k.memory u t c.request.args reply in put_answered (with_memory k step.memory) (reply_told reply step.told) u (within_memory k step.memory w) live
-    accepted reply u NotBuilt = put_answered k reply u w live
-    accepted reply u User = put_answered k reply u w live
+    accepted reply u _ = put_answered k reply u w live
 
     accepted_for : (reply : Reply) (o : Option TaskNo) (b : Bool) → IsWithinLimits (accept_for k t reply c o b).state
     accepted_for reply None b = gone

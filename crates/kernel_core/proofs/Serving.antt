@@ -13,7 +13,7 @@ use Rattle.ipc_ids.specs.declared.message.PhoneState.TheVariants.{Free, Connecti
 use Rattle.ipc_ids.specs.declared.message.Request.{Request}
 use Rattle.ipc_ids.specs.declared.message.Request.TheVariants as R
 use Rattle.ipc_ids.specs.declared.methods.MethodKind.{MethodKind}
-use Rattle.ipc_ids.specs.declared.methods.MethodKind.TheVariants.{PhoneHungUp, ConnectToMe, ConnectMeTo, DataWrite, DataRead, ShareOut, ShareIn, NotBuilt, User}
+use Rattle.ipc_ids.specs.declared.methods.MethodKind.TheVariants.{PhoneHungUp, ConnectToMe, ConnectMeTo, DataWrite, DataRead, ShareOut, ShareIn}
 use Rattle.ipc_ids.specs.Codes.{ehangup, enoent, eperm, elimit, eforward}
 use Rattle.ipc_ids.specs.Methods.{kind_of}
 use Rattle.ipc_ids.specs.Tables.{most_active}
@@ -33,7 +33,7 @@ use Rattle.data_hooks.proofs.Lengths.{write_length}
 use Rattle.share_hooks.specs.ShareMoments.{out_before_send, in_before_send}
 use Rattle.cleanup.proofs.SoundShare.{sound_accepted_share_out, sound_accepted_share_in}
 use Rattle.cleanup.specs.State.{KernelState, Transition, is_alive, phone_at, with_calls, with_memory, label_of}
-use Rattle.cleanup.specs.Kept.{accepts, first_usable_of}
+use Rattle.cleanup.specs.Kept.{keeper_of, accepts, first_usable_of}
 use Rattle.cleanup.specs.Sound.{IsPlaced, NeedsPhone, Carries, HasSoundMemory, IsSound}
 use Rattle.cleanup.specs.Joins.{bare_reply, new_call, acceptance, answer_at_once, reception, delivery, answer_to, settle, lives, drop_answer, hang_up}
 use Rattle.cleanup.specs.Data.{delivered_read}
@@ -80,28 +80,14 @@ callable_method m h = by_test (m == 0) _ h where
   by_test false other g = refl
 
 -- an answer that does not accept needs no phone
-declined_needless : (kind : MethodKind) (t : TaskNo) (code : Code) → accepts code ≡ false → NeedsPhone kind (Answers t) code → ⊥
-declined_needless PhoneHungUp t code declines needs = needs
-declined_needless ConnectToMe t code declines needs = needs
+declined_needless : (kind : MethodKind) (t : TaskNo) (code : Code) → accepts code ≡ false → NeedsPhone (keeper_of kind) (Answers t) code → ⊥
 declined_needless ConnectMeTo t code declines needs = false≢true (sym declines ∙ needs)
-declined_needless DataWrite t code declines needs = needs
-declined_needless DataRead t code declines needs = needs
-declined_needless ShareOut t code declines needs = needs
-declined_needless ShareIn t code declines needs = needs
-declined_needless NotBuilt t code declines needs = needs
-declined_needless User t code declines needs = needs
+declined_needless _ t code declines needs = needs
 
 -- an answer that brings bytes is that of a DATA_READ
 brings_read : (kind : MethodKind) (code : Code) → brings_bytes_of kind code ≡ true → kind ≡ DataRead
-brings_read PhoneHungUp code h = absurd (false≢true h)
-brings_read ConnectToMe code h = absurd (false≢true h)
-brings_read ConnectMeTo code h = absurd (false≢true h)
-brings_read DataWrite code h = absurd (false≢true h)
 brings_read DataRead code h = refl
-brings_read ShareOut code h = absurd (false≢true h)
-brings_read ShareIn code h = absurd (false≢true h)
-brings_read NotBuilt code h = absurd (false≢true h)
-brings_read User code h = absurd (false≢true h)
+brings_read _ code h = absurd (false≢true h)
 
 -- the requests of a task that is alive
 
@@ -110,13 +96,13 @@ module _ (t : TaskNo) (k : KernelState) (alive : is_alive k t ≡ true) (h : IsS
   Follows s = IsSound s.state
 
   -- a new call, which keeps no phone
-  made : (p : ℕ) (msg : Msg) (s : PhoneState) (place : Place) (reply : Reply) (bytes : List ℕ) → phone_at k t p ≡ Some s → not (is_callable (kind_of msg.method)) ≡ false → IsPlaced k.tasks (Some t) place → (NeedsPhone (kind_of msg.method) place reply.code → ⊥) → Carries (kind_of msg.method) place bytes (slice_index msg.args 1)
+  made : (p : ℕ) (msg : Msg) (s : PhoneState) (place : Place) (reply : Reply) (bytes : List ℕ) → phone_at k t p ≡ Some s → not (is_callable (kind_of msg.method)) ≡ false → IsPlaced k.tasks (Some t) place → (NeedsPhone (keeper_of (kind_of msg.method)) place reply.code → ⊥) → Carries (kind_of msg.method) place bytes (slice_index msg.args 1)
       → IsSound (with_calls k (enqueue k.calls (record (new_call k t p msg place) { reply = reply; buffer = bytes })))
   made p msg s place reply bytes is callable placed needless carries =
       let c : Call = record (new_call k t p msg place) { reply = reply; buffer = bytes } in
       sound_enqueued k c h refl placed (refl, alive) (is_some (phone_at k t p) s is) (callable_method msg.method callable) (no_phone k.tasks.phones c refl needless) carries (keeps_none c refl)
 
-  back : (p : ℕ) (msg : Msg) (s : PhoneState) (code : Code) → phone_at k t p ≡ Some s → not (is_callable (kind_of msg.method)) ≡ false → (NeedsPhone (kind_of msg.method) (Answers t) code → ⊥) → Follows (answer_at_once k (new_call k t p msg (Answers t)) code)
+  back : (p : ℕ) (msg : Msg) (s : PhoneState) (code : Code) → phone_at k t p ≡ Some s → not (is_callable (kind_of msg.method)) ≡ false → (NeedsPhone (keeper_of (kind_of msg.method)) (Answers t) code → ⊥) → Follows (answer_at_once k (new_call k t p msg (Answers t)) code)
   back p msg s code is callable needless = made p msg s (Answers t) (bare_reply code) [] is callable refl needless (answer_carries (kind_of msg.method) t [] (slice_index msg.args 1))
 
   at_once : (p : ℕ) (msg : Msg) (s : PhoneState) (code : Code) → phone_at k t p ≡ Some s → not (is_callable (kind_of msg.method)) ≡ false → accepts code ≡ false → Follows (answer_at_once k (new_call k t p msg (Answers t)) code)
@@ -127,7 +113,7 @@ module _ (t : TaskNo) (k : KernelState) (alive : is_alive k t ≡ true) (h : IsS
     abbrev c : Call
     c = new_call k t p msg (Incoming u)
 
-    plain : (kind : MethodKind) → kind_of msg.method ≡ kind → (NeedsPhone kind (Incoming u) c.reply.code → ⊥) → (kind ≡ DataWrite → ⊥) → Follows (acceptance (as_it_is k c) (Some u))
+    plain : (kind : MethodKind) → kind_of msg.method ≡ kind → (NeedsPhone (keeper_of kind) (Incoming u) c.reply.code → ⊥) → (kind ≡ DataWrite → ⊥) → Follows (acceptance (as_it_is k c) (Some u))
     plain kind same needless other =
         made p msg (Connected u) (Incoming u) c.reply [] is callable (h.tasks.leads t.0 p u is) (λ needs. needless (rw same at needs)) (carries_none (kind_of msg.method) (Incoming u) [] (slice_index msg.args 1) (λ e. other (sym same ∙ e)))
 
@@ -139,23 +125,20 @@ module _ (t : TaskNo) (k : KernelState) (alive : is_alive k t ≡ true) (h : IsS
 
     with_bytes : (told : Result (List ℕ) Code) → write_before_send k.memory t msg.args ≡ told → kind_of msg.method ≡ DataWrite → Follows (sent_to u k c (carrying k c told))
     with_bytes (Ok bytes) copied kind =
-        made p msg (Connected u) (Incoming u) c.reply bytes is callable (h.tasks.leads t.0 p u is) (λ needs. rw kind at needs) (rw kind (write_length k.memory t msg.args bytes h.memory.spaces copied).all)
+        made p msg (Connected u) (Incoming u) c.reply bytes is callable (h.tasks.leads t.0 p u is) (λ needs. rw kind at needs) (λ _. (write_length k.memory t msg.args bytes h.memory.spaces copied).all)
     with_bytes (Err code) copied kind = back p msg (Connected u) code is callable (λ needs. rw kind at needs)
 
-    wanting : (kind : MethodKind) → kind_of msg.method ≡ kind → ((place : Place) (code : Code) → NeedsPhone kind place code → ⊥) → (kind ≡ DataWrite → ⊥) → (told : Result Unit Code) → Follows (sent_to u k c (asking k c told))
+    wanting : (kind : MethodKind) → kind_of msg.method ≡ kind → ((place : Place) (code : Code) → NeedsPhone (keeper_of kind) place code → ⊥) → (kind ≡ DataWrite → ⊥) → (told : Result Unit Code) → Follows (sent_to u k c (asking k c told))
     wanting kind same needless other (Ok done) = plain kind same (needless (Incoming u) c.reply.code) other
     wanting kind same needless other (Err code) = back p msg (Connected u) code is callable (λ needs. needless (Answers t) code (rw same at needs))
 
     sent : (kind : MethodKind) → kind_of msg.method ≡ kind → Follows (sent_to u k c (before_send_of kind k c))
-    sent PhoneHungUp kind = plain PhoneHungUp kind (λ needs. needs) (λ e. cc)
-    sent ConnectToMe kind = plain ConnectToMe kind (λ needs. needs) (λ e. cc)
     sent ConnectMeTo kind = keeping (first_usable_of k t) refl kind
     sent DataWrite kind = with_bytes (write_before_send k.memory t msg.args) refl kind
     sent DataRead kind = wanting DataRead kind (λ place code needs. needs) (λ e. cc) (read_before_send msg.args)
     sent ShareOut kind = wanting ShareOut kind (λ place code needs. needs) (λ e. cc) (out_before_send k.memory t msg.args)
     sent ShareIn kind = wanting ShareIn kind (λ place code needs. needs) (λ e. cc) (in_before_send msg.args)
-    sent NotBuilt kind = plain NotBuilt kind (λ needs. needs) (λ e. cc)
-    sent User kind = plain User kind (λ needs. needs) (λ e. cc)
+    sent other kind = plain other kind (λ needs. needs) (λ e. cc)
 
   through : (p : ℕ) (msg : Msg) (s : PhoneState) → phone_at k t p ≡ Some s → not (is_callable (kind_of msg.method)) ≡ false → Follows (call_through k t p msg s)
   through p msg Free is callable = h
@@ -181,15 +164,8 @@ module _ (t : TaskNo) (k : KernelState) (alive : is_alive k t ≡ true) (h : IsS
 
   -- what the moment at which it is received makes of a call
   taken_on : (c : Call) → IsLive k c → same_place c.place (Incoming t) ≡ true → (kind : MethodKind) → kind_of c.request.method ≡ kind → Follows (reception t (on_receive_of kind k c t))
-  taken_on c live here PhoneHungUp kind = taken_plain c live here (λ e. cc)
   taken_on c live here ConnectToMe kind = sound_received_to_me k c (with_fifth c.msg (number_of (first_usable_of k t))) t (first_usable_of k t) h live kind here alive (λ l first. usable_is k t l first)
-  taken_on c live here ConnectMeTo kind = taken_plain c live here (λ e. cc)
-  taken_on c live here DataWrite kind = taken_plain c live here (λ e. cc)
-  taken_on c live here DataRead kind = taken_plain c live here (λ e. cc)
-  taken_on c live here ShareOut kind = taken_plain c live here (λ e. cc)
-  taken_on c live here ShareIn kind = taken_plain c live here (λ e. cc)
-  taken_on c live here NotBuilt kind = taken_plain c live here (λ e. cc)
-  taken_on c live here User kind = taken_plain c live here (λ e. cc)
+  taken_on c live here _ kind = taken_plain c live here (λ e. cc)
 
   received : (a i : Option Call) → front k.calls (Answers t) ≡ a → front k.calls (Incoming t) ≡ i → Follows (receive_first k t a i)
   received (Some c) i first second =
@@ -207,15 +183,13 @@ module _ (t : TaskNo) (k : KernelState) (alive : is_alive k t ≡ true) (h : IsS
     settled reply by declines = sound_settle_for k c reply by c.caller (lives k c.caller) h live pending declines refl
 
     accepted : (reply : Reply) (u : TaskNo) → accepts reply.code ≡ true → c.caller ≡ Some u → (kind : MethodKind) → kind_of c.request.method ≡ kind → IsSound (answer_to (on_accept_of kind k c reply t u) (Some t) u).state
-    accepted reply u accepting from PhoneHungUp kind = sound_finished k c reply (Some t) u h live (rw kind tt) pending from
     accepted reply u accepting from ConnectToMe kind = sound_accepted_to_me k c reply (Some t) u h live kind pending from
     accepted reply u accepting from ConnectMeTo kind = sound_accepted_me_to k c reply t (Some t) u h live kind pending accepting alive from
     accepted reply u accepting from DataWrite kind = sound_accepted_write k c reply t (Some t) u h live kind pending from
     accepted reply u accepting from DataRead kind = sound_accepted_read k c reply t (Some t) u h live kind pending from
     accepted reply u accepting from ShareOut kind = sound_accepted_share_out k c reply t (Some t) u h live kind pending alive from
     accepted reply u accepting from ShareIn kind = sound_accepted_share_in k c reply t (Some t) u h live kind pending alive from
-    accepted reply u accepting from NotBuilt kind = sound_finished k c reply (Some t) u h live (rw kind tt) pending from
-    accepted reply u accepting from User kind = sound_finished k c reply (Some t) u h live (rw kind tt) pending from
+    accepted reply u accepting from _ kind = sound_finished k c reply (Some t) u h live (rw kind tt) pending from
 
     accepted_for : (reply : Reply) (o : Option TaskNo) (b : Bool) → accepts reply.code ≡ true → c.caller ≡ o → IsSound (accept_for k t reply c o b).state
     accepted_for reply None b accepting from = sound_gone k c h live

@@ -11,7 +11,7 @@ use Rattle.ipc_ids.specs.declared.message.PhoneState.TheVariants.{Free, Connecti
 use Rattle.ipc_ids.specs.declared.message.Request.{Request}
 use Rattle.ipc_ids.specs.declared.message.Request.TheVariants as R
 use Rattle.ipc_ids.specs.declared.methods.MethodKind.{MethodKind}
-use Rattle.ipc_ids.specs.declared.methods.MethodKind.TheVariants.{PhoneHungUp, ConnectToMe, ConnectMeTo, DataWrite, DataRead, ShareOut, ShareIn, NotBuilt, User}
+use Rattle.ipc_ids.specs.declared.methods.MethodKind.TheVariants.{ConnectToMe, ConnectMeTo, DataWrite, DataRead, ShareOut, ShareIn}
 use Rattle.ipc_ids.specs.Codes.{enoent, eperm, eforward}
 use Rattle.ipc_ids.specs.Methods.{kind_of}
 use Rattle.ipc_ids.specs.Tables.{most_active}
@@ -65,15 +65,12 @@ module _ (k : KernelState) (t : TaskNo) (p : ℕ) (msg : Msg) where
   wanting u (Err code) = refl
 
   sent : (u : TaskNo) (kind : MethodKind) → Keeps k (sent_to u k (new_call k t p msg (Incoming u)) (before_send_of kind k (new_call k t p msg (Incoming u))))
-  sent u PhoneHungUp = refl
-  sent u ConnectToMe = refl
   sent u ConnectMeTo = keeping u (first_usable_of k t)
   sent u DataWrite = with_bytes u (write_before_send k.memory t msg.args)
   sent u DataRead = wanting u (read_before_send msg.args)
   sent u ShareOut = wanting u (out_before_send k.memory t msg.args)
   sent u ShareIn = wanting u (in_before_send msg.args)
-  sent u NotBuilt = refl
-  sent u User = refl
+  sent u _ = refl
 
   through : (s : PhoneState) → Keeps k (call_through k t p msg s)
   through Free = refl
@@ -113,15 +110,10 @@ forwarded k t p mode change (Some c) (Ok f) = refl
 -- an answer
 module _ (k : KernelState) (t : TaskNo) (c : Call) (reply : Reply) where
   accepted : (u : TaskNo) (kind : MethodKind) → Stays k (answer_to (on_accept_of kind k c reply t u) (Some t) u).state
-  accepted u PhoneHungUp = refl
-  accepted u ConnectToMe = refl
-  accepted u ConnectMeTo = refl
   accepted u DataWrite = (write_accept_keeps k.memory t c.buffer reply).next
-  accepted u DataRead = refl
   accepted u ShareOut = (out_accept_keeps k.memory u t c.request.args reply).next
   accepted u ShareIn = (in_accept_keeps k.memory u t c.request.args reply).next
-  accepted u NotBuilt = refl
-  accepted u User = refl
+  accepted u _ = refl
 
   accepted_for : (o : Option TaskNo) (b : Bool) → Stays k (accept_for k t reply c o b).state
   accepted_for None b = refl
@@ -137,15 +129,8 @@ answered k t reply (Some c) = by_test (λ (o : Option Call). Keeps k (answer_hel
 
 -- a receive
 taken_on : (k : KernelState) (t : TaskNo) (c : Call) (kind : MethodKind) → Keeps k (reception t (on_receive_of kind k c t))
-taken_on k t c PhoneHungUp = refl
 taken_on k t c ConnectToMe = refl
-taken_on k t c ConnectMeTo = refl
-taken_on k t c DataWrite = refl
-taken_on k t c DataRead = refl
-taken_on k t c ShareOut = refl
-taken_on k t c ShareIn = refl
-taken_on k t c NotBuilt = refl
-taken_on k t c User = refl
+taken_on k t c _ = refl
 
 received : (k : KernelState) (t : TaskNo) (a i : Option Call) → Keeps k (receive_first k t a i)
 received k t (Some c) i = by_test (λ (d : Handed). Keeps k (delivery t d)) (brings_bytes c) (delivered_read k c t) _ (λ _. (read_deliver_keeps k.memory t c.request.args c.buffer).next) (λ _. refl)

@@ -9,7 +9,7 @@ use Rattle.ipc_ids.specs.declared.message.Msg.{Msg}
 use Rattle.ipc_ids.specs.declared.message.Reply.{Reply}
 use Rattle.ipc_ids.specs.declared.message.PhoneState.TheVariants.{Connecting}
 use Rattle.ipc_ids.specs.declared.methods.MethodKind.{MethodKind}
-use Rattle.ipc_ids.specs.declared.methods.MethodKind.TheVariants.{PhoneHungUp, ConnectToMe, ConnectMeTo, DataWrite, DataRead, ShareOut, ShareIn, NotBuilt, User}
+use Rattle.ipc_ids.specs.declared.methods.MethodKind.TheVariants.{ConnectToMe, ConnectMeTo, DataWrite, DataRead, ShareOut, ShareIn}
 use Rattle.ipc_ids.specs.Codes.{elimit}
 use Rattle.ipc_ids.specs.Methods.{kind_of}
 use Rattle.call_slab.specs.declared.call.Call.{Call}
@@ -50,15 +50,12 @@ asking k c (Ok done) = Ok (as_it_is k c)
 asking k c (Err code) = Err code
 
 abbrev pub before_send_of : MethodKind → KernelState → Call → Result Handed Code
-before_send_of PhoneHungUp k c = Ok (as_it_is k c)
-before_send_of ConnectToMe k c = Ok (as_it_is k c)
 before_send_of ConnectMeTo k c = keeping_to_send k c (first_usable_of k c.from.task)
 before_send_of DataWrite k c = carrying k c (write_before_send k.memory c.from.task c.request.args)
 before_send_of DataRead k c = asking k c (read_before_send c.request.args)
 before_send_of ShareOut k c = asking k c (out_before_send k.memory c.from.task c.request.args)
 before_send_of ShareIn k c = asking k c (in_before_send c.request.args)
-before_send_of NotBuilt k c = Ok (as_it_is k c)
-before_send_of User k c = Ok (as_it_is k c)
+before_send_of _ k c = Ok (as_it_is k c)
 
 abbrev pub before_send : KernelState → Call → Result Handed Code
 before_send k c = before_send_of (kind_of c.request.method) k c
@@ -77,15 +74,8 @@ keeping_to_receive k c kept =
     }
 
 abbrev pub on_receive_of : MethodKind → KernelState → Call → TaskNo → Handed
-on_receive_of PhoneHungUp k c t = as_it_is k c
 on_receive_of ConnectToMe k c t = keeping_to_receive k c (first_usable_of k t)
-on_receive_of ConnectMeTo k c t = as_it_is k c
-on_receive_of DataWrite k c t = as_it_is k c
-on_receive_of DataRead k c t = as_it_is k c
-on_receive_of ShareOut k c t = as_it_is k c
-on_receive_of ShareIn k c t = as_it_is k c
-on_receive_of NotBuilt k c t = as_it_is k c
-on_receive_of User k c t = as_it_is k c
+on_receive_of _ k c t = as_it_is k c
 
 abbrev pub on_receive : KernelState → Call → TaskNo → Handed
 on_receive k c t = on_receive_of (kind_of c.request.method) k c t
@@ -93,15 +83,13 @@ on_receive k c t = on_receive_of (kind_of c.request.method) k c t
 -- as task t accepts a call of this caller, the kept phone leads to the other of the two; a DATA_WRITE writes its bytes, a
 -- DATA_READ reads those that it takes with it, and a share gives one of the two an area
 abbrev pub on_accept_of : MethodKind → KernelState → Call → Reply → TaskNo → TaskNo → Handed
-on_accept_of PhoneHungUp k c reply t caller = as_it_is k (record c { reply = reply })
 on_accept_of ConnectToMe k c reply t caller = accepted_to_me k c reply caller
 on_accept_of ConnectMeTo k c reply t caller = accepted_me_to k c reply t
 on_accept_of DataWrite k c reply t caller = accepted_write k c reply t
 on_accept_of DataRead k c reply t caller = accepted_read k c reply t
 on_accept_of ShareOut k c reply t caller = accepted_share_out k c reply t caller
 on_accept_of ShareIn k c reply t caller = accepted_share_in k c reply t caller
-on_accept_of NotBuilt k c reply t caller = as_it_is k (record c { reply = reply })
-on_accept_of User k c reply t caller = as_it_is k (record c { reply = reply })
+on_accept_of _ k c reply t caller = as_it_is k (record c { reply = reply })
 
 abbrev pub on_accept : KernelState → Call → Reply → TaskNo → TaskNo → Handed
 on_accept k c reply t caller = on_accept_of (kind_of c.request.method) k c reply t caller
@@ -112,27 +100,13 @@ with_phone_named None reply = reply
 with_phone_named (Some l) reply = reply_with_fifth reply l.phone.0
 
 abbrev pub reply_of : MethodKind → Call → Reply
-reply_of PhoneHungUp c = c.reply
-reply_of ConnectToMe c = c.reply
 reply_of ConnectMeTo c = if accepts c.reply.code then with_phone_named c.reserved c.reply else c.reply
-reply_of DataWrite c = c.reply
-reply_of DataRead c = c.reply
-reply_of ShareOut c = c.reply
-reply_of ShareIn c = c.reply
-reply_of NotBuilt c = c.reply
-reply_of User c = c.reply
+reply_of _ c = c.reply
 
 -- whether the answer brings bytes: that of a DATA_READ that was accepted
 abbrev pub brings_bytes_of : MethodKind → Code → Bool
-brings_bytes_of PhoneHungUp code = false
-brings_bytes_of ConnectToMe code = false
-brings_bytes_of ConnectMeTo code = false
-brings_bytes_of DataWrite code = false
 brings_bytes_of DataRead code = accepts code
-brings_bytes_of ShareOut code = false
-brings_bytes_of ShareIn code = false
-brings_bytes_of NotBuilt code = false
-brings_bytes_of User code = false
+brings_bytes_of _ code = false
 
 abbrev pub brings_bytes : Call → Bool
 brings_bytes c = brings_bytes_of (kind_of c.request.method) c.reply.code

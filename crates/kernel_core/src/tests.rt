@@ -1,10 +1,12 @@
-//! A call from task to task, a forwarded call, in `connect` calls that connect tasks, in `data` calls that
-//! carry bytes, in `areas` the memory of tasks, and in `kill` the end of tasks, with ample memory.
+//! A call from task to task, a forwarded call, in `connect` calls that connect tasks, in `data`
+//! calls that carry bytes, in `share` calls that share a page, in `areas` the memory of tasks, and
+//! in `kill` the end of tasks, with ample memory.
 
 mod areas;
 mod connect;
 mod data;
 mod kill;
+mod share;
 
 use crate::Kernel;
 use ipc_ids::{
@@ -147,6 +149,15 @@ impl Machine {
         }
         Ok(self.kernel.kill(who, &mut self.trace)?)
     }
+}
+
+/// Two tasks, where the first calls the second over its phone 0.
+fn two_tasks(alloc: Global) -> Result<Machine, Fail> {
+    let mut kernel = Kernel::new(alloc);
+    kernel.add_task(1)?;
+    kernel.add_task(1)?;
+    kernel.wire(ONE, PhoneNo(0), TWO);
+    Ok(Machine::new(alloc, kernel))
 }
 
 /// The request to make an area.

@@ -11,7 +11,7 @@ use Rattle.ipc_ids.specs.declared.numbers.Label.{Label}
 use Rattle.ipc_ids.specs.declared.numbers.Code.{Code}
 use Rattle.ipc_ids.specs.declared.numbers.StoreNo.{StoreNo}
 use Rattle.ipc_ids.specs.declared.methods.MethodKind.{MethodKind}
-use Rattle.ipc_ids.specs.declared.methods.MethodKind.TheVariants.{PhoneHungUp, ConnectToMe, ConnectMeTo, DataWrite, DataRead, ShareOut, ShareIn, NotBuilt, User}
+use Rattle.ipc_ids.specs.declared.methods.MethodKind.TheVariants.{ConnectToMe, User}
 use Rattle.ipc_ids.specs.declared.message.PhoneState.{PhoneState}
 use Rattle.ipc_ids.specs.declared.message.PhoneState.TheVariants.{Free, Connecting}
 use Rattle.ipc_ids.specs.declared.message.Outcome.TheVariants as outcome
@@ -66,7 +66,7 @@ note_drops_none t k (Some l) s = (tt, tt)
 
 -- each user's method is of one kind
 user_kind : (method : ℕ) → first_user_method ≤ method → kind_of method ≡ User
-user_kind method user = rw (ne_eqb method 0 (λ e. omega arith), ne_eqb method 1 (λ e. omega arith), ne_eqb method 2 (λ e. omega arith), ne_eqb method 3 (λ e. omega arith), ne_eqb method 4 (λ e. omega arith), not_below) refl where
+user_kind method user = rw (ne_eqb method 0 (λ e. omega arith), ne_eqb method 1 (λ e. omega arith), ne_eqb method 2 (λ e. omega arith), ne_eqb method 3 (λ e. omega arith), ne_eqb method 4 (λ e. omega arith), ne_eqb method 5 (λ e. omega arith), ne_eqb method 6 (λ e. omega arith), not_below) refl where
   not_below : nat_lt method first_user_method ≡ false
   not_below = grind (arith, nat_tests)
 
@@ -83,15 +83,8 @@ as_it_was k c = record { calls = refl; number = refl; label = refl; note = λ t 
 received_call : (k : KernelState) (c : Call) (t : TaskNo) → IsOfCall k c (on_receive k c t)
 received_call k c t = by_kind (kind_of c.request.method) where
   by_kind : (kind : MethodKind) → IsOfCall k c (on_receive_of kind k c t)
-  by_kind PhoneHungUp = as_it_was k c
   by_kind ConnectToMe = record { calls = refl; number = refl; label = refl; note = λ u j. note_drops_none u j (first_usable_of k t) Connecting }
-  by_kind ConnectMeTo = as_it_was k c
-  by_kind DataWrite = as_it_was k c
-  by_kind DataRead = as_it_was k c
-  by_kind ShareOut = as_it_was k c
-  by_kind ShareIn = as_it_was k c
-  by_kind NotBuilt = as_it_was k c
-  by_kind User = as_it_was k c
+  by_kind _ = as_it_was k c
 
 -- an entry of bytes that were written drops no call
 wrote_drops_none : (t u : TaskNo) (k : KernelState) (at count : ℕ) (told : Result (Option StoreNo) Code) → DropsHangupsOnly t k (option_to_list (wrote_note u at count told))

@@ -1,19 +1,8 @@
 //! Calls that carry bytes from the first task to the second, and back.
-use super::{Machine, ONE, TWO};
-use crate::Kernel;
+use super::{Machine, ONE, TWO, two_tasks};
 use ipc_ids::methods::{DATA_READ, DATA_WRITE};
-use ipc_ids::{Code, Msg, PhoneNo, Reply};
-use std::alloc::Global;
+use ipc_ids::{Code, Msg, Reply};
 use std::test::Fail;
-
-/// Two tasks, where the first calls the second over its phone 0.
-fn two_tasks(alloc: Global) -> Result<Machine, Fail> {
-    let mut kernel = Kernel::new(alloc);
-    kernel.add_task(1)?;
-    kernel.add_task(1)?;
-    kernel.wire(ONE, PhoneNo(0), TWO);
-    Ok(Machine::new(alloc, kernel))
-}
 
 /// So many bytes from an address on, by that method.
 fn bytes_at(method: u64, at: u64, count: u64) -> Msg {

@@ -1,5 +1,5 @@
 use Rattle.kernel_core.specs.Moments.{before_send}
-use Rattle.kernel_core.proofs.Sending.{room_kept, sent_new, sent_served, unsent_new, uses_after}
+use Rattle.kernel_core.proofs.Sending.{room_kept, sent_new, sent_served, unsent_new, unsent_served, uses_after}
 use Rattle.kernel_core.proofs.calling.send.Goals as goal
 
 pub accept-requires-clause-new_call : goal.accept-requires-clause-new_call
@@ -17,3 +17,7 @@ returns-in-Ok-clause-served c =
 
 pub returns-in-Ok-clause-room : goal.returns-in-Ok-clause-room
 returns-in-Ok-clause-room c = uses_after c.before_send.ensures.keeps c.accept.ensures.room
+
+pub returns-in-Err-Refused-clause-served : goal.returns-in-Err-Refused-clause-served
+returns-in-Err-Refused-clause-served c =
+    unsent_served c.args.board.now c.before_send.new.board c.answer_at_once.new.self c.args.call c.before_send.new.call c.in-Err-Refused.code c.args.to c.answer_at_once.result c.args.out.now c.answer_at_once.new.out (before_send c.args.board.now.state c.args.call) (rw c.in-Err-Refused.field-0-is at c.in-Err-Refused.ensures.sent) (rw c.in-Err-Refused.field-0-is at c.answer_at_once.ensures.served)
