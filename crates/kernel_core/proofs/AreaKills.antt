@@ -1,5 +1,5 @@
 -- A kill keeps what the entries tell of areas.
-use Rattle.std.proofs.Common.{ℕ, ◌≡◌, ◌≤◌, ◌<◌, ◌+◌, ◌-◌, true, Option, Some, None, List, [], ◌∷◌, ◌++◌, length, Ok, refl, sym, ◌∙◌, ap, subst, arith}
+use Rattle.std.proofs.Common.{ℕ, ◌≡◌, ◌+◌, true, Option, Some, None, List, [], ◌∷◌, length, Ok, refl, sym, subst}
 use Rattle.std.specs.Prelude.{◌==◌}
 use Rattle.ipc_ids.specs.declared.numbers.TaskNo.{TaskNo}
 use Rattle.ipc_ids.specs.declared.message.PhoneState.{PhoneState}
@@ -12,9 +12,9 @@ use Rattle.ipc_ids.proofs.LawfulAreas.{on_top-append}
 use Rattle.call_slab.specs.declared.call.Call.{Call}
 use Rattle.call_slab.specs.declared.call.Place.{Place}
 use Rattle.call_slab.specs.declared.call.Place.TheVariants as place
-use Rattle.answerbox.specs.Calls.{call_at, calls_at, calls_by, with_record}
+use Rattle.answerbox.specs.Calls.{calls_at, calls_by, with_record}
 use Rattle.answerbox.proofs.Callers.{calls_of_live}
-use Rattle.address_space.specs.Memory.{Memory, first_area, count_areas, drop_area}
+use Rattle.address_space.specs.Memory.{first_area, count_areas, drop_area}
 use Rattle.address_space.specs.Sound as sound
 use Rattle.address_space.proofs.Ending.{first_is_dropped}
 use Rattle.address_space.proofs.Numbers.{next_at_drop}
@@ -22,12 +22,12 @@ use Rattle.address_space.proofs.Rows.{length_drop}
 use Rattle.address_space.proofs.Soundness.{sound_drop}
 use Rattle.cleanup.specs.State.{KernelState, Transition, then_do, phone_at, label_of, is_alive}
 use Rattle.cleanup.specs.Joins.{bare_reply, lives, drop_answer, forget_call}
-use Rattle.cleanup.specs.Kill.{width, task_no, mark_ended, hang_up_at, hang_up_own_phones, slam, slam_at, slam_phones_of, slam_other, slam_phones_to, first_at, settle_call, settle_calls_at, settle_incoming, settle_dispatched, drop_answers, first_call_of, forget_calls_elsewhere, end_phones_and_calls, drop_first_area, drop_areas, kill}
+use Rattle.cleanup.specs.Kill.{width, task_no, mark_ended, hang_up_at, hang_up_own_phones, slam, slam_at, slam_phones_of, slam_other, slam_phones_to, first_at, settle_call, settle_calls_at, settle_incoming, settle_dispatched, drop_answers, first_call_of, forget_calls_elsewhere, drop_first_area, drop_areas, kill}
 use Rattle.cleanup.specs.Areas.{lose_first_area}
 use Rattle.cleanup.specs.Sound.{IsSound}
 use Rattle.cleanup.proofs.Lookups.{at_insert}
 use Rattle.cleanup.proofs.Histories.{then_tells, each_tells, drain_tells}
-use Rattle.cleanup.proofs.Killing.{after_calls, calls_steady}
+use Rattle.cleanup.proofs.Killing.{calls_steady}
 use Rattle.cleanup.proofs.Queues.{forget_step}
 use Rattle.kernel_core.specs.Kernel.{kill_event}
 use Rattle.kernel_core.specs.History.{killed_entries}

@@ -1,12 +1,11 @@
 -- Each request keeps what the entries tell of areas.
-use Rattle.std.proofs.Common.{ℕ, suc, zero, ◌≡◌, ◌≤◌, ◌<◌, ◌+◌, ◌*◌, ◌-◌, ◌⊎◌, max, Bool, true, false, not, Option, Some, None, List, [], ◌∷◌, ◌++◌, length, Result, Ok, Err, refl, sym, ◌∙◌, ap, subst, inl, inr, arith, nat_le}
+use Rattle.std.proofs.Common.{ℕ, suc, zero, ◌≡◌, ◌≤◌, ◌<◌, ◌+◌, ◌*◌, ◌-◌, ◌⊎◌, max, Bool, true, false, not, Option, Some, None, List, [], ◌∷◌, length, Result, Ok, Err, refl, sym, ◌∙◌, ap, subst, inl, inr, arith, nat_le}
 use Rattle.std.specs.Prelude.{◌==◌, if◌then◌else◌, nat_lt, take, slice_index, bit_and, ⊤, slice_get, unwrap_or}
-use Rattle.std.specs.Option.{option_to_list, option_map_or}
-use Rattle.std.proofs.lemmas.Bool.{eqb-true, eq-eqb, false≢true}
+use Rattle.std.specs.Option.{option_to_list}
+use Rattle.std.proofs.lemmas.Bool.{eqb-true}
 use Rattle.std.proofs.lemmas.Bool.Decides.{nat_tests}
 use Rattle.std.proofs.lemmas.List.{length-take-le}
 use Rattle.ipc_ids.specs.declared.numbers.TaskNo.{TaskNo}
-use Rattle.ipc_ids.specs.declared.numbers.CallNo.{CallNo}
 use Rattle.ipc_ids.specs.declared.numbers.StoreNo.{StoreNo}
 use Rattle.ipc_ids.specs.declared.numbers.Label.{Label}
 use Rattle.ipc_ids.specs.declared.numbers.Code.{Code}
@@ -26,7 +25,7 @@ use Rattle.ipc_ids.specs.Methods.{kind_of, phone_hungup, connect_to_me, connect_
 use Rattle.ipc_ids.specs.Tables.{most_active}
 use Rattle.ipc_ids.specs.Holdings as entries
 use Rattle.ipc_ids.specs.Holdings.{Holding, Making, on_top, present, last_store, making}
-use Rattle.ipc_ids.specs.AreaLaw.{SharesFrom, Shares, SharesAsked, SharesMade, HasMethod, Pokes, AcceptsWrite, TakesRead, IsLawfulEntry}
+use Rattle.ipc_ids.specs.AreaLaw.{SharesFrom, Shares, SharesAsked, SharesMade, Pokes, AcceptsWrite, TakesRead}
 use Rattle.ipc_ids.proofs.LawfulAreas.{on_top-append}
 use Rattle.call_slab.specs.declared.call.Call.{Call}
 use Rattle.call_slab.specs.declared.call.Place.TheVariants as place
@@ -42,13 +41,13 @@ use Rattle.address_space.specs.Memory as spaces
 use Rattle.address_space.specs.Sound as sound
 use Rattle.address_space.proofs.Numbers.{next_at_write, next_at_drop}
 use Rattle.address_space.proofs.Rows.{areas_at_write}
-use Rattle.data_hooks.specs.DataMoments.{address_of, count_of, write_before_send, read_before_send, write_accept, read_accept, read_deliver}
-use Rattle.share_hooks.specs.ShareMoments.{base_of, pages_of, rights_of, out_before_send, in_before_send, out_accept, in_accept}
+use Rattle.data_hooks.specs.DataMoments.{address_of, count_of, write_before_send, read_before_send, read_accept}
+use Rattle.share_hooks.specs.ShareMoments.{base_of, pages_of, rights_of, out_before_send, in_before_send}
 use Rattle.cleanup.specs.State.{KernelState, Transition, with_calls, with_memory, with_event, phone_at, label_of, alive_in, is_alive}
-use Rattle.cleanup.specs.Kept.{accepts, first_usable_of, kept_phone, lent_phone, with_kept, kept_note}
-use Rattle.cleanup.specs.Joins.{bare_reply, drop_answer, new_call, hangup_call, hang_up, acceptance, answer_at_once, answer_to, code_of, lives, reception, delivery, settle_for}
+use Rattle.cleanup.specs.Kept.{accepts, first_usable_of, kept_phone, with_kept, kept_note}
+use Rattle.cleanup.specs.Joins.{bare_reply, drop_answer, new_call, hangup_call, hang_up, acceptance, answer_at_once, answer_to, code_of, lives, reception, delivery}
 use Rattle.cleanup.specs.Areas.{made_note, gone_note, wrote_note}
-use Rattle.cleanup.specs.Data.{reply_told, bytes_told, written_at_answer, written_at_delivery, delivered_read}
+use Rattle.cleanup.specs.Data.{reply_told, bytes_told, written_at_answer, delivered_read}
 use Rattle.cleanup.specs.Sharing.{shared_note, shared_at_answer}
 use Rattle.cleanup.specs.Serving.{Handed, Served}
 use Rattle.cleanup.specs.Sound.{IsSound, IsCaller}
@@ -64,10 +63,10 @@ use Rattle.kernel_core.specs.Forward.{failed_forward, forward_told}
 use Rattle.kernel_core.specs.Request.{serve_request}
 use Rattle.kernel_core.specs.Kernel.{serve}
 use Rattle.kernel_core.specs.History.{served_entries}
-use Rattle.kernel_core.specs.AreaHistory.{holding, Asks, IsMadeAs, AreasFit}
+use Rattle.kernel_core.specs.AreaHistory.{holding, Asks, AreasFit}
 use Rattle.kernel_core.proofs.InEvent.{by_test}
 use Rattle.kernel_core.proofs.HeldAreas.{IsAtOnly, area_made, area_shared, area_dropped, area_written, make_refused, share_refused, drop_refused}
-use Rattle.kernel_core.proofs.AreaSteps.{all_tell, IsOfOne, IsQuietStep, all_lead_back, after_quiet, IsOwn, own_call, own_front, kept_quiet, quiet_hand, quiet_vanishing, quiet_drop, quiet_answer, quiet_reception, quiet_delivery, quiet_passage, quiet_settle, begun, made_call, got_area, lost_area, same_areas, bytes_written}
+use Rattle.kernel_core.proofs.AreaSteps.{all_tell, IsOfOne, all_lead_back, after_quiet, IsOwn, own_call, own_front, kept_quiet, quiet_hand, quiet_vanishing, quiet_drop, quiet_answer, quiet_reception, quiet_delivery, quiet_passage, quiet_settle, begun, made_call, got_area, lost_area, same_areas, bytes_written}
 
 -- after these entries more, in that state
 abbrev pub After : List Entry → List Entry → KernelState → Type 0

@@ -1,5 +1,5 @@
 -- What each kind of entry and each change of a call keeps of what the entries tell of areas.
-use Rattle.std.proofs.Common.{ℕ, suc, ◌≡◌, ◌≤◌, ◌⊎◌, ◌+◌, ◌<◌, ◌-◌, max, Bool, true, false, Option, Some, None, List, [], ◌∷◌, ◌++◌, length, Result, Ok, Err, refl, sym, ◌∙◌, ap, subst, inl, inr, arith}
+use Rattle.std.proofs.Common.{ℕ, suc, ◌≡◌, max, Bool, true, false, Option, Some, None, List, [], ◌∷◌, refl, sym, ◌∙◌, ap, subst, inl, inr}
 use Rattle.std.specs.Prelude.{◌==◌, ◌&&◌, if◌then◌else◌, ⊤}
 use Rattle.std.specs.Option.{option_to_list}
 use Rattle.std.proofs.lemmas.Bool.{eq-eqb, ne_eqb}
@@ -7,7 +7,6 @@ use Rattle.ipc_ids.specs.declared.numbers.TaskNo.{TaskNo}
 use Rattle.ipc_ids.specs.declared.numbers.CallNo.{CallNo}
 use Rattle.ipc_ids.specs.declared.numbers.StoreNo.{StoreNo}
 use Rattle.ipc_ids.specs.declared.numbers.Label.{Label}
-use Rattle.ipc_ids.specs.declared.numbers.Code.{Code}
 use Rattle.ipc_ids.specs.declared.message.Msg.{Msg}
 use Rattle.ipc_ids.specs.declared.message.Reply.{Reply}
 use Rattle.ipc_ids.specs.declared.message.PhoneState.{PhoneState}
@@ -21,13 +20,13 @@ use Rattle.ipc_ids.specs.AreaLaw.{IsLawfulEntry, WereLawful}
 use Rattle.call_slab.specs.declared.call.Call.{Call}
 use Rattle.call_slab.specs.declared.call.Place.{Place}
 use Rattle.call_slab.specs.declared.call.Place.TheVariants as place
-use Rattle.answerbox.specs.Calls.{CallTable, call_at, enqueue, put_at, without_call, front}
+use Rattle.answerbox.specs.Calls.{CallTable, call_at, put_at, without_call, front}
 use Rattle.answerbox.proofs.Fronts.{front_live}
 use Rattle.address_space.specs.Areas.{Area}
 use Rattle.address_space.specs.Memory.{Memory, area_at}
-use Rattle.cleanup.specs.State.{KernelState, Transition, with_calls, with_memory}
+use Rattle.cleanup.specs.State.{KernelState, with_calls, with_memory}
 use Rattle.cleanup.specs.Kept.{kept_phone, lent_phone, with_kept, kept_note}
-use Rattle.cleanup.specs.Joins.{vanishing, answer_to, settle_for, declined_call, drop_answer, passage, passed_call, reception, delivery, acceptance}
+use Rattle.cleanup.specs.Joins.{vanishing, answer_to, settle_for, declined_call, drop_answer, passage, passed_call, reception, delivery}
 use Rattle.cleanup.specs.Serving.{Handed}
 use Rattle.cleanup.proofs.Lookups.{at_insert, at_remove, chosen}
 use Rattle.kernel_core.specs.AreaHistory.{holding, Asks, IsMadeAs, AreasFit}

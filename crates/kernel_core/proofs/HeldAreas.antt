@@ -1,18 +1,17 @@
 -- The area of a task at a base, as areas are made, shared, dropped and written to.
-use Rattle.std.proofs.Common.{◌≡◌, ℕ, zero, suc, ◌+◌, ◌-◌, ◌*◌, ◌<◌, ◌≤◌, Bool, true, false, cond, not, ◌&&◌, List, [], ◌∷◌, ◌++◌, length, Option, Some, None, Result, Ok, Err, refl, sym, ◌∙◌, ap, subst, inl, inr, arith, All}
-use Rattle.std.specs.Prelude.{◌==◌, ◌||◌, if◌then◌else◌, nat_lt, bit_and, take, remove, slice_get, slice_set, slice_index_or, unwrap_or, option_map, ⊤}
+use Rattle.std.proofs.Common.{◌≡◌, ℕ, zero, suc, ◌+◌, ◌-◌, ◌*◌, ◌<◌, ◌≤◌, Bool, true, false, cond, not, ◌&&◌, List, [], ◌∷◌, ◌++◌, length, Option, Some, None, Ok, Err, refl, sym, ◌∙◌, ap, subst, inl, inr, arith, All}
+use Rattle.std.specs.Prelude.{◌==◌, ◌||◌, if◌then◌else◌, nat_lt, bit_and, remove, slice_get, slice_set, slice_index_or, unwrap_or, option_map, ⊤}
 use Rattle.std.specs.List.{AllPairs, list_any, position_or_len}
 use Rattle.std.proofs.lemmas.Bool.Decides.{nat_tests}
-use Rattle.std.proofs.lemmas.Bool.{cases_eq, eq-eqb, ne_eqb, eqb-true, false≢true}
+use Rattle.std.proofs.lemmas.Bool.{cases_eq, eq-eqb, ne_eqb, eqb-true}
 use Rattle.std.proofs.lemmas.List.Elements.{All-head, All-tail}
 use Rattle.ipc_ids.specs.declared.numbers.TaskNo.{TaskNo}
 use Rattle.ipc_ids.specs.declared.numbers.StoreNo.{StoreNo}
 use Rattle.ipc_ids.specs.declared.numbers.Code.{Code}
 use Rattle.ipc_ids.specs.Codes.{eperm, einval, eexist, elimit}
-use Rattle.address_space.specs.declared.area.Right.{Right}
 use Rattle.address_space.specs.declared.area.Right.TheVariants.{Write}
-use Rattle.address_space.specs.Areas.{Area, IsInRange, end_of, overlaps, allows, holds, holder, place_of, area_in, is_malformed, is_taken, is_full, is_subset, refusal}
-use Rattle.address_space.specs.Memory.{Memory, areas_of, with_areas, area_at, refused, spot_in, spot_of, write_spot, write, make_unless, make, drop_place, drop_at, drop_area, share_unless, share_area, share}
+use Rattle.address_space.specs.Areas.{Area, IsInRange, overlaps, allows, holds, holder, place_of, area_in, is_malformed, is_taken, is_full, is_subset, refusal}
+use Rattle.address_space.specs.Memory.{Memory, areas_of, with_areas, area_at, refused, spot_in, spot_of, write_spot, write, make_unless, make, drop_at, drop_area, share_unless, share_area, share}
 use Rattle.address_space.specs.Sound.{IsSound, AreApart, IsOver}
 use Rattle.address_space.proofs.Keeping.{in_holder, within}
 use Rattle.address_space.proofs.Soundness.{lawful_of, over_of}
