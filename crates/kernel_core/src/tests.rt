@@ -1,6 +1,6 @@
 //! A call from task to task, a forwarded call, in `connect` calls that connect tasks, in `data`
-//! calls that carry bytes, in `share` calls that share a page, in `areas` the memory of tasks, and
-//! in `kill` the end of tasks, with ample memory.
+//! calls that carry bytes, in `share` calls that share areas, in `areas` the memory of tasks, and in
+//! `kill` the end of tasks, with ample memory.
 
 mod areas;
 mod connect;
@@ -51,201 +51,251 @@ fn first_phone(task: TaskNo) -> Label {
     }
 }
 
-/// Up to 64 bytes.
-fn short(bytes: &[u8]) -> Result<Short, Fail> {
-    match Short::from_slice(bytes) {
-        Some(short) => Ok(short),
-        None => Err(Fail::new("too many bytes")),
-    }
-}
-
-/// A kernel, what it told, and how much of that was looked at.
-#[derive(Drop)]
-struct Machine {
-    kernel: Kernel,
-    trace: Trace,
-    seen: usize,
-}
-
-/// What tasks ask, and what they are told.
-impl Machine {
-    /// The kernel, which has told nothing.
-    fn new(alloc: Global, kernel: Kernel) -> Machine {
-        let (trace, seen) = (Trace::new(alloc), 0);
-        Machine {
-            kernel,
-            trace,
-            seen,
-        }
-    }
-
-    /// The task asks this and is told that.
-    fn does(&mut self, who: TaskNo, asked: Request, told: Outcome) -> Result<(), Fail> {
-        if !self.kernel.alive(who) || self.kernel.events() >= 100 {
-            return Err(Fail::new("no such task, or too many events"));
-        }
-        let outcome = self.kernel.serve(who, &asked, &mut self.trace)?;
-        if outcome != told {
-            return Err(Fail::new("the task is told otherwise"));
-        }
-        Ok(())
-    }
-
-    fn refuses(&mut self, who: TaskNo, asked: Request, code: Code) -> Result<(), Fail> {
-        self.does(who, asked, Outcome::Refused(code))
-    }
-
-    /// A call over a phone, which is accepted with this number.
-    fn calls(&mut self, who: TaskNo, phone: u64, msg: Msg, call: u64) -> Result<(), Fail> {
-        let told = Outcome::Accepted(CallNo(call));
-        self.does(who, Request::Call { phone, msg }, told)
-    }
-
-    /// A call comes that shows phone 0 of a task.
-    fn receives(&mut self, who: TaskNo, call: u64, msg: Msg, from: TaskNo) -> Result<(), Fail> {
-        let told = Outcome::Received {
-            call: CallNo(call),
-            msg,
-            label: first_phone(from),
-        };
-        self.does(who, Request::Receive, told)
-    }
-
-    fn answers(&mut self, who: TaskNo, call: u64, reply: Reply) -> Result<(), Fail> {
-        self.does(who, Request::Answer { call, reply }, Outcome::Done)
-    }
-
-    /// The answer of a call comes.
-    fn gets(&mut self, who: TaskNo, call: u64, reply: Reply) -> Result<(), Fail> {
-        let call = CallNo(call);
-        self.does(who, Request::Receive, Outcome::Answered { call, reply })
-    }
-
-    /// Nothing comes.
-    fn gets_nothing(&mut self, who: TaskNo) -> Result<(), Fail> {
-        self.does(who, Request::Receive, Outcome::Empty)
-    }
-
-    /// An area with both rights is made.
-    fn makes(&mut self, who: TaskNo, base: u64, pages: u64) -> Result<(), Fail> {
-        self.does(who, make(base, pages, 3), Outcome::Done)
-    }
-
-    fn pokes(&mut self, who: TaskNo, at: u64, bytes: &[u8]) -> Result<(), Fail> {
-        let bytes = short(bytes)?;
-        self.does(who, Request::Poke { at, bytes }, Outcome::Done)
-    }
-
-    /// As many bytes as these are read, and are these.
-    fn peeks(&mut self, who: TaskNo, at: u64, bytes: &[u8]) -> Result<(), Fail> {
-        let count = bytes.len() as u64;
-        let told = Outcome::Bytes(short(bytes)?);
-        self.does(who, Request::Peek { at, count }, told)
-    }
-
-    fn kill(&mut self, who: TaskNo) -> Result<(), Fail> {
-        if !self.kernel.alive(who) || self.kernel.events() >= 100 {
-            return Err(Fail::new("no such task, or too many events"));
-        }
-        Ok(self.kernel.kill(who, &mut self.trace)?)
-    }
-}
-
 /// Two tasks, where the first calls the second over its phone 0.
-fn two_tasks(alloc: Global) -> Result<Machine, Fail> {
+fn two_tasks(alloc: Global) -> Result<Kernel, Fail> {
     let mut kernel = Kernel::new(alloc);
     kernel.add_task(1)?;
     kernel.add_task(1)?;
     kernel.wire(ONE, PhoneNo(0), TWO);
-    Ok(Machine::new(alloc, kernel))
+    Ok(kernel)
 }
 
-/// The request to make an area.
-fn make(base: u64, pages: u64, rights: u64) -> Request {
-    Request::AreaMake {
+/// What a task asks.
+#[derive(Clone, Copy)]
+enum Asks<'a> {
+    Call { phone: u64, msg: Msg },
+    Receive,
+    Answer { call: u64, reply: Reply },
+    /// Pass that call on over phone 0, changed, so that it shows this phone.
+    Route(u64),
+    Make { base: u64, pages: u64, rights: u64 },
+    Lose(u64),
+    Poke { at: u64, bytes: &'a [u8] },
+    Peek { at: u64, count: u64 },
+}
+
+/// What a task is told.
+#[derive(Clone, Copy)]
+enum Told<'a> {
+    Done,
+    Refused(Code),
+    Accepted(u64),
+    /// A call that shows phone 0 of that task.
+    Received { call: u64, msg: Msg, from: TaskNo },
+    Answered { call: u64, reply: Reply },
+    Empty,
+    Bytes(&'a [u8]),
+}
+
+/// A task, what it asks and what it is told.
+type Step<'a> = (TaskNo, Asks<'a>, Told<'a>);
+
+/// A call over a phone, which is accepted with this number.
+fn calls<'a>(who: TaskNo, phone: u64, msg: Msg, call: u64) -> Step<'a> {
+    (who, Asks::Call { phone, msg }, Told::Accepted(call))
+}
+
+fn receives<'a>(who: TaskNo, call: u64, msg: Msg, from: TaskNo) -> Step<'a> {
+    (who, Asks::Receive, Told::Received { call, msg, from })
+}
+
+fn answers<'a>(who: TaskNo, call: u64, reply: Reply) -> Step<'a> {
+    (who, Asks::Answer { call, reply }, Told::Done)
+}
+
+/// The answer of a call comes.
+fn gets<'a>(who: TaskNo, call: u64, reply: Reply) -> Step<'a> {
+    (who, Asks::Receive, Told::Answered { call, reply })
+}
+
+fn gets_nothing<'a>(who: TaskNo) -> Step<'a> {
+    (who, Asks::Receive, Told::Empty)
+}
+
+fn refuses(who: TaskNo, asks: Asks, code: Code) -> Step {
+    (who, asks, Told::Refused(code))
+}
+
+/// An area with both rights.
+fn area<'a>(base: u64, pages: u64) -> Asks<'a> {
+    Asks::Make {
         base,
         pages,
-        rights,
+        rights: 3,
     }
 }
 
-/// What was told, entry by entry.
-impl Machine {
-    /// This is the next entry.
-    fn tells(&mut self, entry: Entry) -> Result<(), Fail> {
-        match self.trace.entries().get(self.seen) {
-            Some(next) if is_same(next, &entry) => {
-                self.seen += 1;
-                Ok(())
-            }
-            _ => Err(Fail::new("the entry is another one")),
-        }
-    }
+fn makes<'a>(who: TaskNo, base: u64, pages: u64) -> Step<'a> {
+    (who, area(base, pages), Told::Done)
+}
 
-    /// There is no further entry.
-    fn tells_no_more(&self) -> Result<(), Fail> {
-        if self.trace.entries().len() != self.seen {
-            return Err(Fail::new("there are further entries"));
-        }
-        Ok(())
-    }
+fn pokes(who: TaskNo, at: u64, bytes: &[u8]) -> Step {
+    (who, Asks::Poke { at, bytes }, Told::Done)
+}
 
-    /// A call over phone 0 of a task to another task.
-    fn accepted(&mut self, call: u64, from: TaskNo, method: u64, to: TaskNo) -> Result<(), Fail> {
-        self.tells(Entry::Accepted {
-            call: CallNo(call),
-            from: first_phone(from),
-            method,
-            to: Some(to),
-        })
-    }
+/// As many bytes as these are read, and are these.
+fn peeks(who: TaskNo, at: u64, bytes: &[u8]) -> Step {
+    let count = bytes.len() as u64;
+    (who, Asks::Peek { at, count }, Told::Bytes(bytes))
+}
 
-    fn received(&mut self, call: u64, by: TaskNo) -> Result<(), Fail> {
-        let call = CallNo(call);
-        self.tells(Entry::Received { call, by })
-    }
-
-    fn answered(&mut self, call: u64, reply: Reply, by: Option<TaskNo>) -> Result<(), Fail> {
-        let call = CallNo(call);
-        self.tells(Entry::Answered { call, reply, by })
-    }
-
-    fn delivered(&mut self, call: u64, to: TaskNo) -> Result<(), Fail> {
-        let call = CallNo(call);
-        self.tells(Entry::Delivered { call, to })
-    }
-
-    /// Phone 0 of that task from now on.
-    fn phone_is(&mut self, task: TaskNo, state: PhoneState) -> Result<(), Fail> {
-        let phone = first_phone(task);
-        self.tells(Entry::PhoneIs { phone, state })
-    }
-
-    /// An area that was made with both rights.
-    fn area_made(&mut self, task: TaskNo, base: u64, pages: u64, store: u64) -> Result<(), Fail> {
-        let (rights, store) = (3, StoreNo(store));
-        self.tells(Entry::AreaMade {
-            task,
+fn request(asks: Asks) -> Result<Request, Fail> {
+    Ok(match asks {
+        Asks::Call { phone, msg } => Request::Call { phone, msg },
+        Asks::Receive => Request::Receive,
+        Asks::Answer { call, reply } => Request::Answer { call, reply },
+        Asks::Route(call) => Request::Forward {
+            call,
+            phone: 0,
+            mode: Mode::Route,
+            change: Some(CHANGED),
+        },
+        Asks::Make {
             base,
             pages,
             rights,
-            store,
-        })
-    }
+        } => Request::AreaMake {
+            base,
+            pages,
+            rights,
+        },
+        Asks::Lose(base) => Request::AreaDrop { base },
+        Asks::Poke { at, bytes } => match Short::from_slice(bytes) {
+            Some(bytes) => Request::Poke { at, bytes },
+            None => return Err(Fail::new("too many bytes")),
+        },
+        Asks::Peek { at, count } => Request::Peek { at, count },
+    })
+}
 
-    fn area_gone(&mut self, task: TaskNo, base: u64) -> Result<(), Fail> {
-        self.tells(Entry::AreaGone { task, base })
+fn is_told(outcome: &Outcome, told: Told) -> bool {
+    match (outcome, told) {
+        (Outcome::Done, Told::Done) => true,
+        (Outcome::Refused(code), Told::Refused(wanted)) => *code == wanted,
+        (Outcome::Accepted(call), Told::Accepted(wanted)) => call.0 == wanted,
+        (
+            Outcome::Received { call, msg, label },
+            Told::Received {
+                call: number,
+                msg: asked,
+                from,
+            },
+        ) => { call.0 == number && *msg == asked && *label == first_phone(from) }
+        (
+            Outcome::Answered { call, reply },
+            Told::Answered {
+                call: number,
+                reply: given,
+            },
+        ) => { call.0 == number && *reply == given }
+        (Outcome::Empty, Told::Empty) => true,
+        (Outcome::Bytes(bytes), Told::Bytes(wanted)) => bytes.as_slice() == wanted,
+        _ => false,
     }
+}
 
-    fn wrote(&mut self, task: TaskNo, at: u64, count: u64, store: u64) -> Result<(), Fail> {
-        let store = StoreNo(store);
-        self.tells(Entry::Wrote {
-            task,
-            at,
-            count,
-            store,
-        })
+/// Whether the task is told so.
+fn does(
+    kernel: &mut Kernel,
+    who: TaskNo,
+    asks: Asks,
+    told: Told,
+    trace: &mut Trace,
+) -> Result<bool, Fail> {
+    if !kernel.alive(who) || kernel.events() >= 100 {
+        return Err(Fail::new("no such task, or too many events"));
     }
+    let outcome = kernel.serve(who, &request(asks)?, trace)?;
+    Ok(is_told(&outcome, told))
+}
+
+/// Whether each request in turn is told so.
+fn are_told(kernel: &mut Kernel, steps: &[Step], trace: &mut Trace) -> Result<bool, Fail> {
+    for (who, asks, told) in steps {
+        if !does(kernel, *who, *asks, *told, trace)? {
+            return Ok(false);
+        }
+    }
+    Ok(true)
+}
+
+fn end_task(kernel: &mut Kernel, who: TaskNo, trace: &mut Trace) -> Result<(), Fail> {
+    if !kernel.alive(who) || kernel.events() >= 100 {
+        return Err(Fail::new("no such task, or too many events"));
+    }
+    Ok(kernel.kill(who, trace)?)
+}
+
+/// A call over phone 0 of a task to another task.
+fn accepted(call: u64, from: TaskNo, method: u64, to: TaskNo) -> Entry {
+    Entry::Accepted {
+        call: CallNo(call),
+        from: first_phone(from),
+        method,
+        to: Some(to),
+    }
+}
+
+fn received(call: u64, by: TaskNo) -> Entry {
+    let call = CallNo(call);
+    Entry::Received { call, by }
+}
+
+fn answered(call: u64, reply: Reply, by: Option<TaskNo>) -> Entry {
+    let call = CallNo(call);
+    Entry::Answered { call, reply, by }
+}
+
+fn delivered(call: u64, to: TaskNo) -> Entry {
+    let call = CallNo(call);
+    Entry::Delivered { call, to }
+}
+
+/// A call that is passed on over phone 0.
+fn forwarded(call: u64, by: TaskNo, to: TaskNo) -> Entry {
+    let (call, label) = (CallNo(call), first_phone(by));
+    Entry::Forwarded {
+        call,
+        by,
+        to,
+        label,
+    }
+}
+
+/// Phone 0 of that task from now on.
+fn phone_is(task: TaskNo, state: PhoneState) -> Entry {
+    let phone = first_phone(task);
+    Entry::PhoneIs { phone, state }
+}
+
+/// An area that was made with both rights.
+fn area_made(task: TaskNo, base: u64, pages: u64, store: u64) -> Entry {
+    let (rights, store) = (3, StoreNo(store));
+    Entry::AreaMade {
+        task,
+        base,
+        pages,
+        rights,
+        store,
+    }
+}
+
+fn area_gone(task: TaskNo, base: u64) -> Entry {
+    Entry::AreaGone { task, base }
+}
+
+fn wrote(task: TaskNo, at: u64, count: u64, store: u64) -> Entry {
+    let store = StoreNo(store);
+    Entry::Wrote {
+        task,
+        at,
+        count,
+        store,
+    }
+}
+
+fn are_same(left: &[Entry], right: &[Entry]) -> bool {
+    left.len() == right.len() && left.iter().zip(right).all(|(l, r)| is_same(l, r))
 }
 
 fn is_same(left: &Entry, right: &Entry) -> bool {
@@ -353,29 +403,24 @@ fn a_call_is_answered(rt: HostRuntime) -> Result<(), Fail> {
     assert_eq!(rt; kernel.add_task(64), Ok(ONE));
     assert_eq!(rt; kernel.add_task(64), Ok(TWO));
     kernel.wire(ONE, PhoneNo(0), TWO);
-    let mut machine = Machine::new(rt.alloc(), kernel);
-    machine.calls(ONE, 0, ASKED, 1)?;
-    machine.receives(TWO, 1, ASKED, ONE)?;
-    machine.answers(TWO, 1, GIVEN)?;
-    machine.gets(ONE, 1, GIVEN)?;
-    machine.gets_nothing(ONE)?;
-    machine.accepted(1, ONE, 512, TWO)?;
-    machine.received(1, TWO)?;
-    machine.answered(1, GIVEN, Some(TWO))?;
-    machine.delivered(1, ONE)?;
-    machine.tells_no_more()?;
-    assert_eq!(rt; machine.kernel.events(), 5);
+    let steps = [
+        calls(ONE, 0, ASKED, 1),
+        receives(TWO, 1, ASKED, ONE),
+        answers(TWO, 1, GIVEN),
+        gets(ONE, 1, GIVEN),
+        gets_nothing(ONE),
+    ];
+    let mut trace = Trace::new(rt.alloc());
+    assert!(rt; are_told(&mut kernel, &steps, &mut trace)?);
+    let entries = [
+        accepted(1, ONE, 512, TWO),
+        received(1, TWO),
+        answered(1, GIVEN, Some(TWO)),
+        delivered(1, ONE),
+    ];
+    assert!(rt; are_same(trace.entries(), &entries));
+    assert_eq!(rt; kernel.events(), 5);
     Ok(())
-}
-
-/// The first call goes over phone 0, changed, and shows that phone.
-fn route() -> Request {
-    Request::Forward {
-        call: 1,
-        phone: 0,
-        mode: Mode::Route,
-        change: Some(CHANGED),
-    }
 }
 
 #[test]
@@ -386,27 +431,27 @@ fn a_call_is_forwarded(rt: HostRuntime) -> Result<(), Fail> {
     assert_eq!(rt; kernel.add_task(1), Ok(THREE));
     kernel.wire(ONE, PhoneNo(0), TWO);
     kernel.wire(TWO, PhoneNo(0), THREE);
-    let mut machine = Machine::new(rt.alloc(), kernel);
-    let (call, reply, label) = (1, GIVEN, first_phone(TWO));
-    machine.calls(ONE, 0, ASKED, call)?;
-    machine.receives(TWO, call, ASKED, ONE)?;
-    machine.does(TWO, route(), Outcome::Done)?;
-    machine.refuses(TWO, Request::Answer { call, reply }, Code::ENOENT)?;
-    machine.receives(THREE, call, CHANGED, TWO)?;
-    machine.answers(THREE, call, reply)?;
-    machine.gets_nothing(TWO)?;
-    machine.gets(ONE, call, reply)?;
-    machine.accepted(call, ONE, 512, TWO)?;
-    machine.received(call, TWO)?;
-    let (by, to) = (TWO, THREE);
-    machine.tells(Entry::Forwarded {
-        call: CallNo(call),
-        by,
-        to,
-        label,
-    })?;
-    machine.received(call, THREE)?;
-    machine.answered(call, reply, Some(THREE))?;
-    machine.delivered(call, ONE)?;
-    machine.tells_no_more()
+    let (call, reply) = (1, GIVEN);
+    let steps = [
+        calls(ONE, 0, ASKED, 1),
+        receives(TWO, 1, ASKED, ONE),
+        (TWO, Asks::Route(1), Told::Done),
+        refuses(TWO, Asks::Answer { call, reply }, Code::ENOENT),
+        receives(THREE, 1, CHANGED, TWO),
+        answers(THREE, 1, GIVEN),
+        gets_nothing(TWO),
+        gets(ONE, 1, GIVEN),
+    ];
+    let mut trace = Trace::new(rt.alloc());
+    assert!(rt; are_told(&mut kernel, &steps, &mut trace)?);
+    let entries = [
+        accepted(1, ONE, 512, TWO),
+        received(1, TWO),
+        forwarded(1, TWO, THREE),
+        received(1, THREE),
+        answered(1, GIVEN, Some(THREE)),
+        delivered(1, ONE),
+    ];
+    assert!(rt; are_same(trace.entries(), &entries));
+    Ok(())
 }

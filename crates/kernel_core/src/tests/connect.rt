@@ -1,8 +1,8 @@
 //! Calls that connect two tasks.
-use super::{ASKED, GIVEN, Machine, ONE, TWO};
+use super::{ASKED, GIVEN, ONE, TWO, answers, are_told, calls, gets, receives};
 use crate::Kernel;
 use ipc_ids::methods::{CONNECT_ME_TO, CONNECT_TO_ME};
-use ipc_ids::{Code, Entry, Msg, PhoneNo, PhoneState, Reply};
+use ipc_ids::{Code, Entry, Msg, PhoneNo, PhoneState, Reply, Trace};
 use std::test::Fail;
 
 /// A reply of success that names this phone.
@@ -27,15 +27,18 @@ fn a_caller_gets_a_phone_to_the_task_that_answers(rt: HostRuntime) -> Result<(),
     assert_eq!(rt; kernel.add_task(2), Ok(ONE));
     assert_eq!(rt; kernel.add_task(2), Ok(TWO));
     kernel.wire(ONE, PhoneNo(0), TWO);
-    let mut machine = Machine::new(rt.alloc(), kernel);
-    machine.calls(ONE, 0, Msg::bare(CONNECT_ME_TO), 1)?;
-    machine.receives(TWO, 1, with_fifth(CONNECT_ME_TO, 65), ONE)?;
-    machine.answers(TWO, 1, naming(0))?;
-    machine.gets(ONE, 1, naming(1))?;
-    machine.calls(ONE, 1, ASKED, 2)?;
+    let steps = [
+        calls(ONE, 0, Msg::bare(CONNECT_ME_TO), 1),
+        receives(TWO, 1, with_fifth(CONNECT_ME_TO, 65), ONE),
+        answers(TWO, 1, naming(0)),
+        gets(ONE, 1, naming(1)),
+        calls(ONE, 1, ASKED, 2),
+    ];
+    let mut trace = Trace::new(rt.alloc());
+    assert!(rt; are_told(&mut kernel, &steps, &mut trace)?);
     assert!(rt;
         matches!(
-            machine.trace.entries().get(1),
+            trace.entries().get(1),
             Some(Entry::PhoneIs {
                 state: PhoneState::Connecting,
                 ..
@@ -51,10 +54,14 @@ fn a_receiver_gets_a_phone_to_the_caller(rt: HostRuntime) -> Result<(), Fail> {
     assert_eq!(rt; kernel.add_task(1), Ok(ONE));
     assert_eq!(rt; kernel.add_task(1), Ok(TWO));
     kernel.wire(ONE, PhoneNo(0), TWO);
-    let mut machine = Machine::new(rt.alloc(), kernel);
-    machine.calls(ONE, 0, Msg::bare(CONNECT_TO_ME), 1)?;
-    machine.receives(TWO, 1, Msg::bare(CONNECT_TO_ME), ONE)?;
-    machine.answers(TWO, 1, GIVEN)?;
-    machine.gets(ONE, 1, GIVEN)?;
-    machine.calls(TWO, 0, ASKED, 2)
+    let steps = [
+        calls(ONE, 0, Msg::bare(CONNECT_TO_ME), 1),
+        receives(TWO, 1, Msg::bare(CONNECT_TO_ME), ONE),
+        answers(TWO, 1, GIVEN),
+        gets(ONE, 1, GIVEN),
+        calls(TWO, 0, ASKED, 2),
+    ];
+    let mut trace = Trace::new(rt.alloc());
+    assert!(rt; are_told(&mut kernel, &steps, &mut trace)?);
+    Ok(())
 }

@@ -1,8 +1,11 @@
 //! A forwarder that is killed, and a caller and its receiver that are, with memory for all of it.
 
-use super::{ASKED, CHANGED, FOUR, GIVEN, Machine, ONE, THREE, TWO, first_phone, route};
+use super::{
+    ASKED, Asks, CHANGED, FOUR, GIVEN, ONE, THREE, TWO, Told, accepted, answered, answers,
+    are_same, are_told, calls, delivered, end_task, forwarded, gets, phone_is, received, receives,
+};
 use crate::Kernel;
-use ipc_ids::{CallNo, Code, Entry, Msg, Outcome, PhoneNo, PhoneState, Reply};
+use ipc_ids::{CallNo, Code, Entry, Msg, PhoneNo, PhoneState, Reply, Trace};
 use std::test::Fail;
 
 #[test]
@@ -13,34 +16,59 @@ fn a_forwarder_is_killed(rt: HostRuntime) -> Result<(), Fail> {
     assert_eq!(rt; kernel.add_task(1), Ok(THREE));
     kernel.wire(ONE, PhoneNo(0), TWO);
     kernel.wire(TWO, PhoneNo(0), THREE);
-    let mut machine = Machine::new(rt.alloc(), kernel);
-    machine.calls(ONE, 0, ASKED, 1)?;
-    machine.receives(TWO, 1, ASKED, ONE)?;
-    machine.does(TWO, route(), Outcome::Done)?;
-    machine.kill(TWO)?;
-    assert!(rt; !machine.kernel.alive(TWO));
-    machine.receives(THREE, 1, CHANGED, TWO)?;
-    machine.answers(THREE, 1, GIVEN)?;
-    machine.gets(ONE, 1, GIVEN)?;
-    machine.accepted(1, ONE, 512, TWO)?;
-    machine.received(1, TWO)?;
-    let (by, to, label) = (TWO, THREE, first_phone(TWO));
-    machine.tells(Entry::Forwarded {
-        call: CallNo(1),
-        by,
-        to,
-        label,
-    })?;
-    machine.accepted(2, TWO, 0, THREE)?;
-    machine.phone_is(TWO, PhoneState::HungUp)?;
-    machine.phone_is(ONE, PhoneState::Slammed)?;
-    machine.tells(Entry::Forgotten(CallNo(2)))?;
-    machine.received(1, THREE)?;
-    machine.answered(1, GIVEN, Some(THREE))?;
-    machine.delivered(1, ONE)?;
-    machine.tells_no_more()?;
-    assert_eq!(rt; machine.kernel.events(), 7);
+    let before = [
+        calls(ONE, 0, ASKED, 1),
+        receives(TWO, 1, ASKED, ONE),
+        (TWO, Asks::Route(1), Told::Done),
+    ];
+    let after = [
+        receives(THREE, 1, CHANGED, TWO),
+        answers(THREE, 1, GIVEN),
+        gets(ONE, 1, GIVEN),
+    ];
+    let mut trace = Trace::new(rt.alloc());
+    assert!(rt; are_told(&mut kernel, &before, &mut trace)?);
+    end_task(&mut kernel, TWO, &mut trace)?;
+    assert!(rt; !kernel.alive(TWO));
+    assert!(rt; are_told(&mut kernel, &after, &mut trace)?);
+    let entries = [
+        accepted(1, ONE, 512, TWO),
+        received(1, TWO),
+        forwarded(1, TWO, THREE),
+        accepted(2, TWO, 0, THREE),
+        phone_is(TWO, PhoneState::HungUp),
+        phone_is(ONE, PhoneState::Slammed),
+        Entry::Forgotten(CallNo(2)),
+        received(1, THREE),
+        answered(1, GIVEN, Some(THREE)),
+        delivered(1, ONE),
+    ];
+    assert!(rt; are_same(trace.entries(), &entries));
+    assert_eq!(rt; kernel.events(), 7);
     Ok(())
+}
+
+/// What the end of the fourth task tells, and then that of the second.
+fn ends_are_told(told: &[Entry]) -> bool {
+    let hung_up = Reply::bare(Code::EHANGUP);
+    let (call, at) = (CallNo(2), TWO);
+    let entries = [
+        accepted(5, FOUR, 0, TWO),
+        phone_is(FOUR, PhoneState::HungUp),
+        Entry::Forgotten(CallNo(4)),
+        Entry::Forgotten(CallNo(5)),
+        accepted(6, TWO, 0, ONE),
+        phone_is(TWO, PhoneState::HungUp),
+        phone_is(ONE, PhoneState::Slammed),
+        phone_is(THREE, PhoneState::Slammed),
+        answered(3, hung_up, None),
+        Entry::Vanished(CallNo(4)),
+        Entry::Vanished(CallNo(5)),
+        answered(1, hung_up, None),
+        Entry::Dropped { call, at },
+        Entry::Forgotten(CallNo(6)),
+    ];
+    are_same(told, &entries)
 }
 
 #[test]
@@ -54,36 +82,24 @@ fn a_caller_and_its_receiver_are_killed(rt: HostRuntime) -> Result<(), Fail> {
     kernel.wire(TWO, PhoneNo(0), ONE);
     kernel.wire(THREE, PhoneNo(0), TWO);
     kernel.wire(FOUR, PhoneNo(0), TWO);
-    let mut machine = Machine::new(rt.alloc(), kernel);
-    let (done, hung_up) = (Reply::bare(Code::EOK), Reply::bare(Code::EHANGUP));
-    machine.calls(ONE, 0, Msg::bare(512), 1)?;
-    machine.receives(TWO, 1, Msg::bare(512), ONE)?;
-    machine.calls(TWO, 0, Msg::bare(513), 2)?;
-    machine.receives(ONE, 2, Msg::bare(513), TWO)?;
-    machine.answers(ONE, 2, done)?;
-    machine.calls(THREE, 0, Msg::bare(514), 3)?;
-    machine.calls(FOUR, 0, Msg::bare(515), 4)?;
-    machine.trace.clear();
-    machine.kill(FOUR)?;
-    machine.kill(TWO)?;
-    machine.accepted(5, FOUR, 0, TWO)?;
-    machine.phone_is(FOUR, PhoneState::HungUp)?;
-    machine.tells(Entry::Forgotten(CallNo(4)))?;
-    machine.tells(Entry::Forgotten(CallNo(5)))?;
-    machine.accepted(6, TWO, 0, ONE)?;
-    machine.phone_is(TWO, PhoneState::HungUp)?;
-    machine.phone_is(ONE, PhoneState::Slammed)?;
-    machine.phone_is(THREE, PhoneState::Slammed)?;
-    machine.answered(3, hung_up, None)?;
-    machine.tells(Entry::Vanished(CallNo(4)))?;
-    machine.tells(Entry::Vanished(CallNo(5)))?;
-    machine.answered(1, hung_up, None)?;
-    let (call, at) = (CallNo(2), TWO);
-    machine.tells(Entry::Dropped { call, at })?;
-    machine.tells(Entry::Forgotten(CallNo(6)))?;
-    machine.tells_no_more()?;
-    assert!(rt; !machine.kernel.alive(TWO) && !machine.kernel.alive(FOUR));
-    assert!(rt; machine.kernel.alive(ONE) && machine.kernel.alive(THREE));
-    assert_eq!(rt; machine.kernel.events(), 9);
+    let done = Reply::bare(Code::EOK);
+    let steps = [
+        calls(ONE, 0, Msg::bare(512), 1),
+        receives(TWO, 1, Msg::bare(512), ONE),
+        calls(TWO, 0, Msg::bare(513), 2),
+        receives(ONE, 2, Msg::bare(513), TWO),
+        answers(ONE, 2, done),
+        calls(THREE, 0, Msg::bare(514), 3),
+        calls(FOUR, 0, Msg::bare(515), 4),
+    ];
+    let mut trace = Trace::new(rt.alloc());
+    assert!(rt; are_told(&mut kernel, &steps, &mut trace)?);
+    trace.clear();
+    end_task(&mut kernel, FOUR, &mut trace)?;
+    end_task(&mut kernel, TWO, &mut trace)?;
+    assert!(rt; ends_are_told(trace.entries()));
+    assert!(rt; !kernel.alive(TWO) && !kernel.alive(FOUR));
+    assert!(rt; kernel.alive(ONE) && kernel.alive(THREE));
+    assert_eq!(rt; kernel.events(), 9);
     Ok(())
 }
