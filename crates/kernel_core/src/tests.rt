@@ -1,5 +1,6 @@
-//! A call from task to task, a forwarded call, in `connect` calls that connect tasks, in `data` calls that
-//! carry bytes, in `areas` the memory of tasks, and in `kill` the end of tasks, with ample memory.
+//! A call from task to task, a forwarded call, in `connect` calls that connect tasks, in `data`
+//! calls that carry bytes, in `areas` the memory of tasks, and in `kill` the end of tasks, with
+//! ample memory.
 
 mod areas;
 mod connect;
