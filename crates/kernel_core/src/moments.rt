@@ -189,7 +189,8 @@ pub(crate) fn brings_bytes(call: &Call) -> bool
     }
 }
 
-/// As an answer is delivered that brings no bytes: the answer of a CONNECT_ME_TO that was accepted names the phone.
+/// As an answer is delivered that brings no bytes: the answer of a CONNECT_ME_TO that was accepted
+/// names the phone.
 /// Returns the reply that its caller is told.
 pub(crate) fn on_delivery(call: &Call) -> Reply
     ensures { result ≡ reply_of (kind_of call.now.request.method) call.now }
