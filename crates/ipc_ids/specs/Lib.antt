@@ -1,11 +1,15 @@
 pub mod AreaLaw
 pub mod Codes
+pub mod Exchanges
+pub mod Facts
 pub mod Holdings
 pub mod Lawful
 pub mod Laws
 pub mod Life
 pub mod Methods
 pub mod Origins
+pub mod Program
+pub mod Replies
 pub mod Tables
 pub mod Tales
 pub mod Text

@@ -1,9 +1,10 @@
 //! The entries of a trace.
 
-use crate::message::{Outcome, PhoneState, Reply, Request};
-use crate::numbers::{CallNo, Label, StoreNo, TaskNo};
+use crate::message::{ExchangeMode, Outcome, PhoneState, Reply, Request, Why};
+use crate::numbers::{CallNo, Code, ExchangeNo, FibrilNo, Label, StoreNo, TaskNo};
 
-/// One line of a trace: the head of an event, an effect, or an outcome.
+/// One line of a trace: the head of an event, an effect, an outcome, or what a program tells of its
+/// fibrils.
 #[derive(Drop)]
 pub enum Entry {
     /// The task asks for this.
@@ -75,4 +76,62 @@ pub enum Entry {
         store: StoreNo,
     },
     Outcome(Outcome),
+    /// The fibril sent the call, from this slot; where `slot` is `None`, for the exchange that it
+    /// begins.
+    Sent {
+        task: TaskNo,
+        fibril: FibrilNo,
+        call: CallNo,
+        slot: Option<u32>,
+    },
+    /// The answer of the call, which the fibril sent from this slot or for the exchange that it
+    /// begins, went to the fibril.
+    Gets {
+        task: TaskNo,
+        fibril: FibrilNo,
+        call: CallNo,
+        slot: Option<u32>,
+        reply: Reply,
+    },
+    Blocks {
+        task: TaskNo,
+        fibril: FibrilNo,
+        why: Why,
+    },
+    /// The fibril of a new connection, which this label leads to.
+    Starts {
+        task: TaskNo,
+        fibril: FibrilNo,
+        label: Label,
+    },
+    Ends {
+        task: TaskNo,
+        fibril: FibrilNo,
+    },
+    /// The fibril has begun the exchange: a new one, or a parallel one that was idle.
+    Begins {
+        task: TaskNo,
+        fibril: FibrilNo,
+        exchange: ExchangeNo,
+        mode: ExchangeMode,
+        session: u32,
+        phone: u64,
+    },
+    ExchangeEnds {
+        task: TaskNo,
+        fibril: FibrilNo,
+        exchange: ExchangeNo,
+    },
+    /// The task has the idle exchange no longer: its phone is hung up.
+    Drops {
+        task: TaskNo,
+        fibril: FibrilNo,
+        exchange: ExchangeNo,
+    },
+    /// The program itself refused what the fibril asked.
+    RefusedOp {
+        task: TaskNo,
+        fibril: FibrilNo,
+        code: Code,
+    },
 }

@@ -1,6 +1,6 @@
 //! The words that all crates share: numbers of tasks, phones and calls, methods, messages and
-//! replies, what a task asks and is told, what a script says, and the entries of a trace. The laws
-//! of calls stand here too, over a list of entries alone.
+//! replies, what a task asks and is told, what a script says, what each kind of program does, and
+//! the entries of a trace. The laws of calls stand here too, over a list of entries alone.
 //!
 //! Contracts see every type as the record or enum that it is, but for `Ops`, `Bodies`,
 //! `Buffer` and `Short`, which they see as lists, and `Trace`, a list of entries with room for more.
@@ -13,6 +13,7 @@ mod message;
 pub mod methods;
 mod numbers;
 mod op;
+mod program;
 mod short;
 #[cfg(test)]
 mod tests;
@@ -21,9 +22,10 @@ mod trace;
 pub use buffer::Buffer;
 pub use entry::Entry;
 pub use laws::lawful_lists_keep_the_laws;
-pub use message::{Event, Mode, Msg, Outcome, PhoneState, Reply, Request};
+pub use message::{Event, ExchangeMode, Mode, Msg, Outcome, PhoneState, Reply, Request, Why};
 pub use methods::MethodKind;
-pub use numbers::{CallNo, Code, Label, PhoneNo, StoreNo, TaskNo};
+pub use numbers::{CallNo, Code, ExchangeNo, FibrilNo, Label, PhoneNo, StoreNo, TaskNo};
 pub use op::{Bodies, Body, Op, Ops, Value};
+pub use program::Program;
 pub use short::Short;
 pub use trace::{NoMemory, Trace};

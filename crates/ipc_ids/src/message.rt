@@ -1,5 +1,5 @@
-//! Messages and replies, what a task asks of the kernel and what it is told, and the events of a
-//! schedule.
+//! Messages and replies, what a task asks of the kernel and what it is told, how exchanges share a
+//! phone and what a fibril waits for, and the events of a schedule.
 ghost use Rattle.std.specs.Prelude.{◌≡◌, replicate};
 
 use crate::numbers::{CallNo, Code, Label, TaskNo};
@@ -101,6 +101,30 @@ pub enum Outcome {
     Empty,
     /// What a peek read.
     Bytes(Short),
+}
+
+/// How the exchanges of a session share its phone.
+#[derive(Clone, Copy, Debug, PartialEq, Eq)]
+pub enum ExchangeMode {
+    /// Any number at a time, all over the session's phone.
+    Atomic,
+    /// One at a time, over the session's phone.
+    Serialize,
+    /// Any number at a time, each over a phone of its own.
+    Parallel,
+}
+
+/// What a fibril waits for.
+#[derive(Clone, Copy, Debug, PartialEq, Eq)]
+pub enum Why {
+    /// The answer of this call.
+    Answer(CallNo),
+    /// The end of the exchange that is begun of this session, from 0 to 15.
+    Mutex(u32),
+    /// The end of some exchange, whose phone it may then use.
+    Phone,
+    /// A call of its connection.
+    Message,
 }
 
 /// One event of a schedule.
@@ -230,6 +254,40 @@ impl fmt::Display for Mode {
         match self {
             Mode::Plain => f.write_str("plain"),
             Mode::Route => f.write_str("route"),
+        }
+    }
+}
+
+impl fmt::Display for ExchangeMode {
+    ghost use Rattle.std.specs.Prelude.{Some};
+    ghost use Rattle.ipc_ids.specs.Text.{exchange_mode_text};
+
+    ghost output = { λ mode. Some (exchange_mode_text mode) };
+
+    fn fmt<W: fmt::Write>(&self, f: &mut fmt::Formatter<W>) -> fmt::Result {
+        match self {
+            ExchangeMode::Atomic => f.write_str("atomic"),
+            ExchangeMode::Serialize => f.write_str("serialize"),
+            ExchangeMode::Parallel => f.write_str("parallel"),
+        }
+    }
+}
+
+impl fmt::Display for Why {
+    ghost use Rattle.std.specs.Prelude.{Some};
+    ghost use Rattle.ipc_ids.specs.Text.{why_text};
+
+    ghost output = { λ why. Some (why_text why) };
+
+    fn fmt<W: fmt::Write>(&self, f: &mut fmt::Formatter<W>) -> fmt::Result {
+        match self {
+            Why::Answer(call) => {
+                let number = call.0;
+                write!(f, "answer {number}")
+            }
+            Why::Mutex(session) => write!(f, "mutex {session}"),
+            Why::Phone => f.write_str("phone"),
+            Why::Message => f.write_str("message"),
         }
     }
 }

@@ -1,4 +1,4 @@
-//! Numbers of tasks, phones, calls and stores, and the codes of answers.
+//! Numbers of tasks, phones, calls, stores, fibrils and exchanges, and the codes of answers.
 
 use std::fmt;
 
@@ -17,6 +17,16 @@ pub struct CallNo(pub u64);
 /// A store of bytes, from 1 on in the order in which stores are made. No number is used twice.
 #[derive(Clone, Copy, Debug, PartialEq, Eq)]
 pub struct StoreNo(pub u64);
+
+/// A fibril of a task, from 1 on in the order in which the task makes its fibrils. No number is used
+/// twice.
+#[derive(Clone, Copy, Debug, PartialEq, Eq)]
+pub struct FibrilNo(pub u64);
+
+/// An exchange of a task, from 1 on in the order in which the task begins new ones. No number is used
+/// twice.
+#[derive(Clone, Copy, Debug, PartialEq, Eq)]
+pub struct ExchangeNo(pub u64);
 
 /// What an answer says. 0 is success; a task may answer with any number.
 #[derive(Clone, Copy, Debug, PartialEq, Eq)]

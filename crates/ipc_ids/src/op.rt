@@ -1,7 +1,7 @@
 //! What a script says: operations, and bodies of them.
 ghost use Rattle.std.specs.Prelude.{◌≡◌, [], ◌∷◌, ◌++◌, OnOk, OnErr};
 
-use crate::message::Mode;
+use crate::message::{ExchangeMode, Mode};
 use crate::short::Short;
 use crate::trace::NoMemory;
 use std::alloc::Global;
@@ -14,7 +14,8 @@ pub enum Value {
     Register(u32),
 }
 
-/// One operation of a body. An argument that the script leaves out is `Value::Number(0)`.
+/// One operation of a body. An argument that the script leaves out is `Value::Number(0)`. Those from
+/// `CallSlot` on are those of fibrils. Slots and handles have the numbers 0 to 7, sessions 0 to 15.
 #[derive(Debug, PartialEq, Eq, Drop)]
 pub enum Op {
     Call {
@@ -70,6 +71,41 @@ pub enum Op {
         right: Value,
         to: u32,
     },
+    /// A call from a slot, which has no call yet.
+    CallSlot {
+        slot: u32,
+        phone: Value,
+        method: Value,
+        args: [Value; 5],
+    },
+    /// A call from a slot, over the phone of the exchange that the handle names.
+    Send {
+        slot: u32,
+        handle: u32,
+        method: Value,
+        args: [Value; 5],
+    },
+    /// Waits for the answer of the slot's call.
+    Wait(u32),
+    /// Waits for the next call of the fibril's connection.
+    Next,
+    /// Lets the other fibrils go on first.
+    Yield,
+    /// Makes a session over a phone.
+    OpenSession {
+        session: u32,
+        phone: Value,
+        mode: ExchangeMode,
+    },
+    /// Begins an exchange of the session, which the handle names from then on.
+    Begin {
+        handle: u32,
+        session: u32,
+    },
+    /// Ends the exchange that the handle names.
+    End(u32),
+    /// Closes the session.
+    Close(u32),
 }
 
 impl Op {
@@ -145,6 +181,46 @@ impl Op {
                 right: *right,
                 to: *to,
             },
+            Op::CallSlot {
+                slot,
+                phone,
+                method,
+                args,
+            } => Op::CallSlot {
+                slot: *slot,
+                phone: *phone,
+                method: *method,
+                args: *args,
+            },
+            Op::Send {
+                slot,
+                handle,
+                method,
+                args,
+            } => Op::Send {
+                slot: *slot,
+                handle: *handle,
+                method: *method,
+                args: *args,
+            },
+            Op::Wait(slot) => Op::Wait(*slot),
+            Op::Next => Op::Next,
+            Op::Yield => Op::Yield,
+            Op::OpenSession {
+                session,
+                phone,
+                mode,
+            } => Op::OpenSession {
+                session: *session,
+                phone: *phone,
+                mode: *mode,
+            },
+            Op::Begin { handle, session } => Op::Begin {
+                handle: *handle,
+                session: *session,
+            },
+            Op::End(handle) => Op::End(*handle),
+            Op::Close(session) => Op::Close(*session),
         }
     }
 }
