@@ -1,10 +1,10 @@
 -- The room of a kill: what a part adds to, and what a later part finds.
-use Rattle.std.proofs.Common.{◌≡◌, ℕ, zero, suc, ◌+◌, ◌*◌, ◌-◌, ◌<◌, ◌≤◌, Bool, true, false, cond, inl, inr, Option, None, Some, List, length, refl, ap, sym, subst, ◌∙◌, arith, set}
-use Rattle.std.specs.Prelude.{◌==◌, if◌then◌else◌}
+use Rattle.std.proofs.Common.{◌≡◌, ℕ, zero, suc, ◌+◌, ◌*◌, ◌-◌, ◌<◌, ◌≤◌, Bool, true, false, cond, inl, inr, Option, None, Some, List, [], ◌∷◌, length, refl, ap, sym, subst, ◌∙◌, arith, set}
+use Rattle.std.specs.Prelude.{◌==◌, ◌&&◌, ◌||◌, if◌then◌else◌}
 use Rattle.std.specs.Option.{option_map_or}
 use Rattle.std.proofs.lemmas.Option.{slice_get_past}
 use Rattle.std.proofs.lemmas.Bool.{cases_eq, cases_lt, eq-eqb, ne_eqb, false≢true}
-use Rattle.std.specs.FinMap.{FinMap, get, insert, entries}
+use Rattle.std.specs.FinMap.{FinMap, find, get, insert, len, entries, get-entries}
 use Rattle.std.specs.Ordering.{nat_cmp}
 use Rattle.ipc_ids.specs.declared.numbers.TaskNo.{TaskNo}
 use Rattle.ipc_ids.specs.declared.numbers.Label.{Label}
@@ -14,26 +14,31 @@ use Rattle.ipc_ids.specs.Codes.{ehangup}
 use Rattle.call_slab.specs.declared.call.Call.{Call}
 use Rattle.call_slab.specs.declared.call.Place.{Place}
 use Rattle.call_slab.specs.declared.call.Place.TheVariants.{Incoming, Dispatched, Answers}
-use Rattle.answerbox.specs.Calls.{call_at, front, same_place, is_caller, enqueue, put_at, without_call, count_of, calls_at, calls_by}
+use Rattle.answerbox.specs.Calls.{CallTable, call_at, front, same_place, is_caller, enqueue, put_at, without_call, count_of, calls_at, calls_by}
 use Rattle.answerbox.proofs.Counts.{count-len, count-insert, count-replace, count-without_call}
-use Rattle.answerbox.proofs.Fronts.{front_live}
+use Rattle.answerbox.proofs.Fronts.{front_live, no_front-has_no_calls, ties}
 use Rattle.phone_table.specs.Phones.{row_at, state_at}
 use Rattle.cleanup.specs.State.{KernelState, Transition, alive_in, is_alive, phone_at, with_state_at, with_calls, live_calls, each}
 use Rattle.cleanup.specs.Counts.{AreNumbered}
 use Rattle.cleanup.specs.Joins.{bare_reply, hangup_call, hang_up, declined_call, settle_for, lives, drop_answer}
 use Rattle.cleanup.specs.Kept.{kept_phone, with_kept}
 use Rattle.cleanup.specs.Kill.{width, task_no, hang_up_at, hang_up_own_phones, slam, slam_at, slam_other, slam_phones_to, first_at, settle_call, settle_calls_at, drop_answers}
-use Rattle.cleanup.specs.Rooms.{calls_of_hangup}
-use Rattle.cleanup.specs.KillRoom.{total, own_calls, leading_at, leading, kill_calls, kill_moves}
+use Rattle.cleanup.specs.Rooms.{calls_of_hangup, has_phone, tells_two, vanish_entries, settle_entries, settle_moves}
+use Rattle.cleanup.specs.Board.{IsPendingAt, IsCallOf}
+use Rattle.cleanup.specs.KillRoom.{total, own_calls, leading_at, leading, kill_calls, kill_moves, moves_at, entries_at}
 use Rattle.cleanup.proofs.Endings.{length_rows}
 use Rattle.cleanup.proofs.Lookups.{at_insert, row_at_set}
 use Rattle.cleanup.proofs.Keeping.{each_with, each_without}
-use Rattle.cleanup.proofs.Repeats.{by_test, each_keeps, drain_keeps}
+use Rattle.cleanup.proofs.Repeats.{NoneIs, by_test, each_keeps, drain_keeps, drain_empties}
 use Rattle.cleanup.proofs.Silence.{slams_keep}
-use Rattle.cleanup.proofs.Queues.{IsLive, answered}
+use Rattle.cleanup.proofs.Queues.{IsLive, answered, fewer_calls, over_less, put_less, settle_less, over_none}
 use Rattle.cleanup.proofs.KilledPhones.{written_elsewhere}
 
 -- sums
+
+one_or_none : (b : Bool) → (if b then 1 else 0) ≤ 1
+one_or_none true = omega arith
+one_or_none false = omega arith
 
 -- one number more
 total_more : (f : ℕ → ℕ) (n i : ℕ) → total f (suc n) i ≡ total f n i + f (i + n)
@@ -65,10 +70,6 @@ total_room f n m lt = let h = total_less f (n + 1) m (omega (arith, lt)) in let 
 pub total_same : (f g : ℕ → ℕ) (n i : ℕ) → ((q : ℕ) → i ≤ q → f q ≡ g q) → total f n i ≡ total g n i
 total_same f g zero i same = refl
 total_same f g (suc n) i same = let here = same i (omega arith) in let rest = total_same f g n (i + 1) (λ q le. same q (omega (arith, le))) in omega (arith, here, rest)
-
-one_or_none : (b : Bool) → (if b then 1 else 0) ≤ 1
-one_or_none true = omega arith
-one_or_none false = omega arith
 
 -- the phones that a step leaves as they were
 
@@ -197,30 +198,106 @@ hangups_add test t (suc n) i k =
     omega (arith, one, rest, same)
 
 -- a hangup that fails the test is none more
-hang_none : (test : Call → Bool) (k : KernelState) (t : TaskNo) (p : ℕ) (o : Option PhoneState) → ((c : Call) (u : TaskNo) → c.place ≡ Incoming u → test c ≡ false) → count_of test (entries (hang_up k t p o).state.calls.records) ≤ count_of test (entries k.calls.records)
+hang_none : (test : Call → Bool) (k : KernelState) (t : TaskNo) (p : ℕ) (o : Option PhoneState) → ((c : Call) (u : TaskNo) → c.place ≡ Incoming u → c.caller ≡ Some t → kept_phone c ≡ None → test c ≡ false) → count_of test (entries (hang_up k t p o).state.calls.records) ≤ count_of test (entries k.calls.records)
 hang_none test k t p None fails = omega arith
 hang_none test k t p (Some Free) fails = omega arith
 hang_none test k t p (Some Connecting) fails = omega arith
 hang_none test k t p (Some (Connected u)) fails =
     let c : Call = record (hangup_call k t p u) { stamp = k.calls.next_stamp } in
     let h = put_most test k.calls.records k.calls.next_number c in
-    let g = rw (fails c u refl) at h in
+    let g = rw (fails c u refl refl refl) at h in
     omega (arith, g)
 hang_none test k t p (Some HungUp) fails = omega arith
 hang_none test k t p (Some Slammed) fails = omega arith
 
-hangups_none : (test : Call → Bool) (t : TaskNo) (k : KernelState) → ((c : Call) (u : TaskNo) → c.place ≡ Incoming u → test c ≡ false) → count_of test (entries (hang_up_own_phones t k).state.calls.records) ≤ count_of test (entries k.calls.records)
+hangups_none : (test : Call → Bool) (t : TaskNo) (k : KernelState) → ((c : Call) (u : TaskNo) → c.place ≡ Incoming u → c.caller ≡ Some t → kept_phone c ≡ None → test c ≡ false) → count_of test (entries (hang_up_own_phones t k).state.calls.records) ≤ count_of test (entries k.calls.records)
 hangups_none test t k fails = each_keeps (hang_up_at t) (λ j. count_of test (entries j.calls.records) ≤ count_of test (entries k.calls.records))
     (λ j p h. let one = hang_none test j t p (phone_at j t p) fails in omega (arith, one, h)) (width k.tasks.phones t.0) 0 k (omega arith)
 
+-- counts of calls
+
+count_weaker : (a b : Call → Bool) → ((c : Call) → a c ≡ true → b c ≡ true) → (es : List (ℕ × Call)) → count_of a es ≤ count_of b es
+count_weaker a b h [] = omega arith
+count_weaker a b h (e ∷ es) = step (a e.1) (b e.1) (count_of a es) (count_of b es) (h e.1) (count_weaker a b h es) where
+  step : (x y : Bool) (m n : ℕ) → (x ≡ true → y ≡ true) → m ≤ n → cond x 1 0 + m ≤ cond y 1 0 + n
+  step true true m n h le = omega (arith, le)
+  step true false m n h le = absurd (false≢true (h refl))
+  step false true m n h le = omega (arith, le)
+  step false false m n h le = omega (arith, le)
+
+count_either : (a b : Call → Bool) (es : List (ℕ × Call)) → count_of (λ c. a c || b c) es ≤ count_of a es + count_of b es
+count_either a b [] = omega arith
+count_either a b (e ∷ es) = step (a e.1) (b e.1) (count_of (λ c. a c || b c) es) (count_of a es) (count_of b es) (count_either a b es) where
+  step : (x y : Bool) (l m n : ℕ) → l ≤ m + n → cond (x || y) 1 0 + l ≤ cond x 1 0 + m + (cond y 1 0 + n)
+  step true true l m n le = omega (arith, le)
+  step true false l m n le = omega (arith, le)
+  step false true l m n le = omega (arith, le)
+  step false false l m n le = omega (arith, le)
+
+-- where no call passes, none is counted
+count_none : (test : Call → Bool) (n : ℕ) (k : KernelState) → len k.calls.records ≤ n → NoneIs test k → count_of test (entries k.calls.records) ≡ 0
+count_none test zero k few h = let most = count-len test k.calls.records in omega (arith, most, few)
+count_none test (suc n) k few h = by_list (entries k.calls.records) refl (count_none test n) where
+  by_list : (es : List (ℕ × Call)) → entries k.calls.records ≡ es → ((j : KernelState) → len j.calls.records ≤ n → NoneIs test j → count_of test (entries j.calls.records) ≡ 0) → count_of test (entries k.calls.records) ≡ 0
+  by_list [] is fewer = ap (count_of test) is
+  by_list (e ∷ es) is fewer =
+      let there : call_at k.calls e.0 ≡ Some e.1 = get-entries k.calls.records e.0 ∙ ap (find nat_cmp e.0) is ∙ rw (ties e.0) refl in
+      let sum = rw (h e.0 e.1 there) at (count-without_call test k.calls e.0 e.1 there) in
+      let less = fewer_calls k.calls e.0 e.1 there in
+      let rest = fewer (with_calls k (without_call k.calls e.0)) (omega (arith, few, less)) (over_none test k e.0 h) in
+      omega (arith, sum, rest)
+
+-- the calls that wait at t, and those of t
+abbrev waits_or_made : TaskNo → Call → Bool
+waits_or_made t c = same_place c.place (Incoming t) || is_caller t c.caller
+
+made_after_hangups : (t : TaskNo) (k j : KernelState) → j ≡ (hang_up_own_phones t k).state → count_of (waits_or_made t) (entries j.calls.records) ≤ calls_at k.calls (Incoming t) + calls_by k.calls t + own_calls k.tasks.phones t
+made_after_hangups t k j is =
+    let added = hangups_add (waits_or_made t) t (width k.tasks.phones t.0) 0 k in
+    let either = count_either (λ c. same_place c.place (Incoming t)) (λ c. is_caller t c.caller) (entries k.calls.records) in
+    rw is (omega (arith, added, either))
+
+none_both : (a b : Bool) → b ≡ false → (a && b) ≡ false
+none_both true b e = e
+none_both false b e = refl
+
+first_of : (a b : Bool) → (a && b) ≡ true → a ≡ true
+first_of true b e = refl
+first_of false b e = absurd (false≢true e)
+
+-- the calls at a place that pass a test are some of those at the place
+pub some_at : (test : Call → Bool) (k : KernelState) (place : Place) → count_of (λ c. same_place c.place place && test c) (entries k.calls.records) ≤ calls_at k.calls place
+some_at test k place = count_weaker (λ c. same_place c.place place && test c) (λ c. same_place c.place place) (λ c e. first_of (same_place c.place place) (test c) e) (entries k.calls.records)
+
+lives_same : (k j : KernelState) → j.tasks.alive ≡ k.tasks.alive → (o : Option TaskNo) → lives j o ≡ lives k o
+lives_same k j same None = refl
+lives_same k j same (Some u) = ap (λ (alive : List Bool). alive_in alive u.0) same
+
+-- where a call of a hangup of t fails the test, t has no more such calls after its hangups than wait there
+waiting_pass : (test : Call → Bool) (t : TaskNo) (k j : KernelState) → j ≡ (hang_up_own_phones t k).state → ((c : Call) → c.caller ≡ Some t → kept_phone c ≡ None → test c ≡ false) → count_of (λ c. same_place c.place (Incoming t) && test c) (entries j.calls.records) ≤ calls_at k.calls (Incoming t)
+waiting_pass test t k j is fails =
+    let none = hangups_none (λ c. same_place c.place (Incoming t) && test c) t k (λ c u e from kept. none_both (same_place c.place (Incoming t)) (test c) (fails c from kept)) in
+    let some = some_at test k (Incoming t) in
+    rw is (omega (arith, none, some))
+
+-- a slam leaves the calls
+slam_calls : (t u : TaskNo) (k : KernelState) (p : ℕ) (o : Option PhoneState) → (slam t u k p o).state.calls ≡ k.calls
+slam_calls t u k p None = refl
+slam_calls t u k p (Some Free) = refl
+slam_calls t u k p (Some Connecting) = refl
+slam_calls t u k p (Some (Connected v)) = by_test (λ (x : Transition). x.state.calls ≡ k.calls) (v.0 == t.0) _ _ (λ _. refl) (λ _. refl)
+slam_calls t u k p (Some HungUp) = refl
+slam_calls t u k p (Some Slammed) = refl
+
+slams_calls : (t : TaskNo) (k j : KernelState) → j ≡ (slam_phones_to t k).state → j.calls ≡ k.calls
+slams_calls t k j is = ap (λ (i : KernelState). i.calls) is ∙ slams_keep t (λ i. i.calls ≡ k.calls) (λ u p i g. slam_calls t u i p (phone_at i u p) ∙ g) k refl
+
 -- the parts
 
--- the calls have their numbers, t has ended, and at most so many calls wait at it, are held by it, are answers for it
--- and are its own
-pub record Finds (t : TaskNo) (waiting held told own : ℕ) (k : KernelState) : Type 0 where
+-- the calls have their numbers, t has ended, and at most so many calls are held by it, are answers for it and are its own
+pub record Finds (t : TaskNo) (held told own : ℕ) (k : KernelState) : Type 0 where
   pub numbered : AreNumbered k.calls
   pub ended : is_alive k t ≡ false
-  pub waits : calls_at k.calls (Incoming t) ≤ waiting
   pub holds : calls_at k.calls (Dispatched t) ≤ held
   pub answers : calls_at k.calls (Answers t) ≤ told
   pub made : calls_by k.calls t ≤ own
@@ -243,23 +320,21 @@ hang_marked t k p (Some (Connected u)) h =
       ended = h.ended;
     }
 
-pub finds_after_hangups : (t : TaskNo) (k j : KernelState) → j ≡ (hang_up_own_phones t k).state → AreNumbered k.calls → is_alive k t ≡ false → Finds t (calls_at k.calls (Incoming t) + own_calls k.tasks.phones t) (calls_at k.calls (Dispatched t)) (calls_at k.calls (Answers t)) (calls_by k.calls t + own_calls k.tasks.phones t) j
+pub finds_after_hangups : (t : TaskNo) (k j : KernelState) → j ≡ (hang_up_own_phones t k).state → AreNumbered k.calls → is_alive k t ≡ false → Finds t (calls_at k.calls (Dispatched t)) (calls_at k.calls (Answers t)) (calls_by k.calls t + own_calls k.tasks.phones t) j
 finds_after_hangups t k j is numbered ended =
     let marked = each_keeps (hang_up_at t) (AreMarked t) (λ i p h. hang_marked t i p (phone_at i t p) h) (width k.tasks.phones t.0) 0 k (record { numbered = numbered; ended = ended }) in
-    let incoming = hangups_add (λ c. same_place c.place (Incoming t)) t (width k.tasks.phones t.0) 0 k in
     let mine = hangups_add (λ c. is_caller t c.caller) t (width k.tasks.phones t.0) 0 k in
-    subst (Finds t (calls_at k.calls (Incoming t) + own_calls k.tasks.phones t) (calls_at k.calls (Dispatched t)) (calls_at k.calls (Answers t)) (calls_by k.calls t + own_calls k.tasks.phones t)) (sym is) (record {
+    subst (Finds t (calls_at k.calls (Dispatched t)) (calls_at k.calls (Answers t)) (calls_by k.calls t + own_calls k.tasks.phones t)) (sym is) (record {
       numbered = marked.numbered;
       ended = marked.ended;
-      waits = omega (arith, incoming);
-      holds = hangups_none (λ c. same_place c.place (Dispatched t)) t k (λ c u e. ap (λ (x : Place). same_place x (Dispatched t)) e);
-      answers = hangups_none (λ c. same_place c.place (Answers t)) t k (λ c u e. ap (λ (x : Place). same_place x (Answers t)) e);
+      holds = hangups_none (λ c. same_place c.place (Dispatched t)) t k (λ c u e _ _. ap (λ (x : Place). same_place x (Dispatched t)) e);
+      answers = hangups_none (λ c. same_place c.place (Answers t)) t k (λ c u e _ _. ap (λ (x : Place). same_place x (Answers t)) e);
       made = omega (arith, mine);
     })
 
-module _ (t : TaskNo) (waiting held told own : ℕ) where
+module _ (t : TaskNo) (held told own : ℕ) where
   abbrev F : KernelState → Type 0
-  F = Finds t waiting held told own
+  F = Finds t held told own
 
   -- the second part changes phones alone
   slam_finds : (u : TaskNo) (p : ℕ) (k : KernelState) (o : Option PhoneState) → F k → F (slam t u k p o).state
@@ -269,7 +344,7 @@ module _ (t : TaskNo) (waiting held told own : ℕ) where
   slam_finds u p k (Some HungUp) h = h
   slam_finds u p k (Some Slammed) h = h
   slam_finds u p k (Some (Connected v)) h =
-      by_test (λ (x : Transition). F x.state) (v.0 == t.0) _ _ (λ _. record { numbered = h.numbered; ended = h.ended; waits = h.waits; holds = h.holds; answers = h.answers; made = h.made }) (λ _. h)
+      by_test (λ (x : Transition). F x.state) (v.0 == t.0) _ _ (λ _. record { numbered = h.numbered; ended = h.ended; holds = h.holds; answers = h.answers; made = h.made }) (λ _. h)
 
   pub finds_after_slams : (k j : KernelState) → j ≡ (slam_phones_to t k).state → F k → F j
   finds_after_slams k j is h = subst F (sym is) (slams_keep t F (λ u p i g. slam_finds u p i (phone_at i u p) g) k h)
@@ -282,7 +357,6 @@ module _ (t : TaskNo) (waiting held told own : ℕ) where
   over_finds k c kept is h = record {
     numbered = each_without (λ n d. d.number.0 ≡ n) k.calls c.number.0 h.numbered;
     ended = h.ended;
-    waits = over_most (λ d. same_place d.place (Incoming t)) k c waiting is h.waits;
     holds = over_most (λ d. same_place d.place (Dispatched t)) k c held is h.holds;
     answers = over_most (λ d. same_place d.place (Answers t)) k c told is h.answers;
     made = over_most (λ d. is_caller t d.caller) k c own is h.made;
@@ -305,7 +379,6 @@ module _ (t : TaskNo) (waiting held told own : ℕ) where
         record {
           numbered = each_with (λ n x. x.number.0 ≡ n) k.calls (put_at k.calls (declined_call c (bare_reply ehangup)) (Answers u)) c.number.0 d h.numbered (λ m. at_insert k.calls.records c.number.0 m d) refl;
           ended = h.ended;
-          waits = failed_most (λ x. same_place x.place (Incoming t)) k c d waiting is refl h.waits;
           holds = failed_most (λ x. same_place x.place (Dispatched t)) k c d held is refl h.holds;
           answers = failed_most (λ x. same_place x.place (Answers t)) k c d told is (ne_eqb u.0 t.0 (λ e. false≢true (sym h.ended ∙ ap (alive_in k.tasks.alive) (sym e) ∙ alive))) h.answers;
           made = same_most (λ x. is_caller t x.caller) k c d own is refl h.made;
@@ -317,34 +390,192 @@ module _ (t : TaskNo) (waiting held told own : ℕ) where
   pub finds_after_settles : (place : Place) (k j : KernelState) → j ≡ (settle_calls_at place k).state → F k → F j
   finds_after_settles place k j is h = subst F (sym is) (drain_keeps (first_at place) settle_call F (λ i c g e. settle_finds i c (live_front i place c g e) g) (calls_at k.calls place) k h)
 
+  -- a call that waits at t is settled, and is one of t no more
+  made_less : (k : KernelState) (c : Call) → IsLive k c → same_place c.place (Incoming t) ≡ true → F k → suc (count_of (waits_or_made t) (entries (settle_call k c).state.calls.records)) ≡ count_of (waits_or_made t) (entries k.calls.records)
+  made_less k c is stands h = by_caller c.caller (lives k c.caller) refl refl where
+    passes : waits_or_made t c ≡ true
+    passes = rw stands refl
+
+    by_caller : (o : Option TaskNo) (b : Bool) → c.caller ≡ o → lives k o ≡ b → suc (count_of (waits_or_made t) (entries (settle_for k c (bare_reply ehangup) None o b).state.calls.records)) ≡ count_of (waits_or_made t) (entries k.calls.records)
+    by_caller None b from alive = over_less (waits_or_made t) k c is passes
+    by_caller (Some u) false from alive = over_less (waits_or_made t) k c is passes
+    by_caller (Some u) true from alive =
+        put_less (waits_or_made t) k c (answered k c u) is passes
+        (ap (is_caller t) from ∙ ne_eqb u.0 t.0 (λ e. false≢true (sym h.ended ∙ ap (alive_in k.tasks.alive) (sym e) ∙ alive)))
+
+  record IsLess (start k : KernelState) : Type 0 where
+    pub finds : F k
+    pub less : count_of (waits_or_made t) (entries k.calls.records) + calls_at start.calls (Incoming t) ≤ count_of (waits_or_made t) (entries start.calls.records) + calls_at k.calls (Incoming t)
+
+  -- the calls of t that waited at t are over then
+  settled_made : (k j : KernelState) → j ≡ (settle_calls_at (Incoming t) k).state → F k → calls_by j.calls t + calls_at k.calls (Incoming t) ≤ count_of (waits_or_made t) (entries k.calls.records)
+  settled_made k j is h =
+      let step : (i : KernelState) (c : Call) → IsLess k i → front i.calls (Incoming t) ≡ Some c → IsLess k (settle_call i c).state =
+      λ i c g e.
+      let live = live_front i (Incoming t) c g.finds e in
+      let stands = (front_live i.calls (Incoming t) c e).2 in
+      let mine = made_less i c live stands g.finds in
+      let one = settle_less (λ x. same_place x.place (Incoming t)) i c live stands (λ u. refl) in
+      record { finds = settle_finds i c live g.finds; less = omega (arith, mine, one, g.less) } in
+      let all = drain_keeps (first_at (Incoming t)) settle_call (IsLess k) step (calls_at k.calls (Incoming t)) k (record { finds = h; less = omega arith }) in
+      let none = drain_empties (first_at (Incoming t)) settle_call F (λ i c g e. settle_finds i c (live_front i (Incoming t) c g e) g) (λ c. same_place c.place (Incoming t)) (λ i e. no_front-has_no_calls i.calls (Incoming t) e)
+      (λ i c g e. settle_less (λ x. same_place x.place (Incoming t)) i c (live_front i (Incoming t) c g e) (front_live i.calls (Incoming t) c e).2 (λ u. refl))
+      (calls_at k.calls (Incoming t)) k h (omega arith) in
+      let after : KernelState = (settle_calls_at (Incoming t) k).state in
+      let empty = count_none (λ c. same_place c.place (Incoming t)) (len after.calls.records) after (omega arith) none in
+      let most = count_weaker (λ c. is_caller t c.caller) (waits_or_made t) (λ c e. either (same_place c.place (Incoming t)) (is_caller t c.caller) e) (entries after.calls.records) in
+      let less = all.less in
+      rw is (omega (arith, less, empty, most))
+    where
+      either : (a b : Bool) → b ≡ true → (a || b) ≡ true
+      either true b e = refl
+      either false b e = e
+
   pub finds_after_drops : (k j : KernelState) → j ≡ (drop_answers t k).state → F k → F j
   finds_after_drops k j is h = subst F (sym is) (drain_keeps (first_at (Answers t)) (drop_answer t) F (λ i c g e. over_finds i c (kept_phone c) (live_front i (Answers t) c g e) g) (calls_at k.calls (Answers t)) k h)
 
 -- at most so many as the phones and calls of k tell
 abbrev pub FindsFrom : TaskNo → KernelState → KernelState → Type 0
-FindsFrom t k = Finds t (calls_at k.calls (Incoming t) + own_calls k.tasks.phones t) (calls_at k.calls (Dispatched t)) (calls_at k.calls (Answers t)) (calls_by k.calls t + own_calls k.tasks.phones t)
+FindsFrom t k = Finds t (calls_at k.calls (Dispatched t)) (calls_at k.calls (Answers t)) (calls_by k.calls t + own_calls k.tasks.phones t)
 
 module _ (t : TaskNo) (k k1 k2 : KernelState) (is1 : k1 ≡ (hang_up_own_phones t k).state) (is2 : k2 ≡ (slam_phones_to t k1).state) (numbered : AreNumbered k.calls) (ended : is_alive k t ≡ false) where
   pub finds_second : FindsFrom t k k2
-  finds_second = finds_after_slams t _ _ _ _ k1 k2 is2 (finds_after_hangups t k k1 is1 numbered ended)
+  finds_second = finds_after_slams t _ _ _ k1 k2 is2 (finds_after_hangups t k k1 is1 numbered ended)
+
+  module _ (alive : k2.tasks.alive ≡ k.tasks.alive) where
+    same_calls : k2.calls ≡ k1.calls
+    same_calls = slams_calls t k1 k2 is2
+
+    -- the calls that wait after the hangups and have a caller who is alive, or make two entries
+    pub second_moves : moves_at k2 (Incoming t) ≤ calls_at k.calls (Incoming t)
+    second_moves =
+        let few = waiting_pass (λ c. lives k c.caller) t k k1 is1 (λ c from kept. ap (lives k) from ∙ ended) in
+        let here = ap (λ (q : CallTable). count_of (λ c. same_place c.place (Incoming t) && lives k c.caller) (entries q.records)) same_calls in
+        let marks = count_weaker (λ c. same_place c.place (Incoming t) && lives k2 c.caller) (λ c. same_place c.place (Incoming t) && lives k c.caller) (λ c e. ap (λ b. same_place c.place (Incoming t) && b) (sym (lives_same k k2 alive c.caller)) ∙ e) (entries k2.calls.records) in
+        omega (arith, few, here, marks)
+
+    pub second_entries : entries_at k2 (Incoming t) ≤ calls_at k2.calls (Incoming t) + calls_at k.calls (Incoming t)
+    second_entries =
+        let few = waiting_pass (tells_two k) t k k1 is1 (λ c from kept. ap (λ b. b || has_phone (kept_phone c)) (ap (lives k) from ∙ ended) ∙ ap has_phone kept) in
+        let here = ap (λ (q : CallTable). count_of (λ c. same_place c.place (Incoming t) && tells_two k c) (entries q.records)) same_calls in
+        let marks = count_weaker (λ c. same_place c.place (Incoming t) && tells_two k2 c) (λ c. same_place c.place (Incoming t) && tells_two k c) (λ c e. ap (λ b. same_place c.place (Incoming t) && (b || has_phone (kept_phone c))) (sym (lives_same k k2 alive c.caller)) ∙ e) (entries k2.calls.records) in
+        omega (arith, few, here, marks)
+
+  -- the calls that wait after the hangups are some of those that waited, of those of t, and of the hangups
+  pub second_made : calls_at k2.calls (Incoming t) ≤ calls_at k.calls (Incoming t) + calls_by k.calls t + own_calls k.tasks.phones t
+  second_made =
+      let most = count_weaker (λ c. same_place c.place (Incoming t)) (waits_or_made t) (λ c e. ap (λ b. b || is_caller t c.caller) e) (entries k2.calls.records) in
+      let same = ap (λ (q : CallTable). count_of (waits_or_made t) (entries q.records)) (slams_calls t k1 k2 is2) in
+      let few = made_after_hangups t k k1 is1 in
+      omega (arith, most, same, few)
 
   module _ (k3 : KernelState) (is3 : k3 ≡ (settle_calls_at (Incoming t) k2).state) where
-    pub finds_third : FindsFrom t k k3
-    finds_third = finds_after_settles t _ _ _ _ (Incoming t) k2 k3 is3 finds_second
+    -- a call of a hangup that came to t itself is over, and is one of t no more
+    pub third_made : calls_by k3.calls t + calls_at k2.calls (Incoming t) ≤ calls_at k.calls (Incoming t) + calls_by k.calls t + own_calls k.tasks.phones t
+    third_made =
+        let settled = settled_made t _ _ _ k2 k3 is3 finds_second in
+        let same = ap (λ (q : CallTable). count_of (waits_or_made t) (entries q.records)) (slams_calls t k1 k2 is2) in
+        let few = made_after_hangups t k k1 is1 in
+        omega (arith, settled, same, few)
+
+    abbrev FindsLeft : KernelState → Type 0
+    FindsLeft = Finds t (calls_at k.calls (Dispatched t)) (calls_at k.calls (Answers t)) (calls_by k3.calls t)
+
+    pub finds_third : FindsLeft k3
+    finds_third =
+        let h = finds_after_settles t _ _ _ (Incoming t) k2 k3 is3 finds_second in
+        record { numbered = h.numbered; ended = h.ended; holds = h.holds; answers = h.answers; made = omega arith }
 
     module _ (k4 : KernelState) (is4 : k4 ≡ (settle_calls_at (Dispatched t) k3).state) where
-      pub finds_fourth : FindsFrom t k k4
-      finds_fourth = finds_after_settles t _ _ _ _ (Dispatched t) k3 k4 is4 finds_third
+      pub finds_fourth : FindsLeft k4
+      finds_fourth = finds_after_settles t _ _ _ (Dispatched t) k3 k4 is4 finds_third
 
-      pub finds_fifth : (k5 : KernelState) → k5 ≡ (drop_answers t k4).state → FindsFrom t k k5
-      finds_fifth k5 is5 = finds_after_drops t _ _ _ _ k4 k5 is5 finds_fourth
+      pub finds_fifth : (k5 : KernelState) → k5 ≡ (drop_answers t k4).state → FindsLeft k5
+      finds_fifth k5 is5 = finds_after_drops t _ _ _ k4 k5 is5 finds_fourth
+
+-- a call that is settled is at its place no more
+settle_sum : (test : Call → Bool) (k : KernelState) (c : Call) → IsLive k c → ((u : TaskNo) → test (answered k c u) ≡ false) → count_of test (entries (settle_call k c).state.calls.records) + (if test c then 1 else 0) ≤ count_of test (entries k.calls.records)
+settle_sum test k c is fails = by_caller c.caller (lives k c.caller) where
+  over : count_of test (entries (without_call k.calls c.number.0).records) + cond (test c) 1 0 ≤ count_of test (entries k.calls.records)
+  over = let sum = count-without_call test k.calls c.number.0 c is in omega (arith, sum)
+
+  by_caller : (o : Option TaskNo) (b : Bool) → count_of test (entries (settle_for k c (bare_reply ehangup) None o b).state.calls.records) + cond (test c) 1 0 ≤ count_of test (entries k.calls.records)
+  by_caller None b = over
+  by_caller (Some u) false = over
+  by_caller (Some u) true = let sum = rw (fails u) at (count-replace test k.calls.records c.number.0 c (answered k c u) is) in omega (arith, sum)
+
+not_answers : (place : Place) → IsPendingAt place → (u : TaskNo) (b : Bool) → (same_place (Answers u) place && b) ≡ false
+not_answers (Incoming t) p u b = refl
+not_answers (Dispatched t) p u b = refl
+not_answers (Answers t) p u b = absurd p
+
+settle_alive : (k : KernelState) (c : Call) → (settle_call k c).state.tasks.alive ≡ k.tasks.alive
+settle_alive k c = by_caller c.caller (lives k c.caller) where
+  by_caller : (o : Option TaskNo) (b : Bool) → (settle_for k c (bare_reply ehangup) None o b).state.tasks.alive ≡ k.tasks.alive
+  by_caller None b = refl
+  by_caller (Some u) false = refl
+  by_caller (Some u) true = refl
+
+module _ (k : KernelState) (place : Place) (c : Call) (pending : IsPendingAt place) (numbered : AreNumbered k.calls) (front_is : front k.calls place ≡ Some c) where
+  front_stands : IsLive k c × (same_place c.place place ≡ true)
+  front_stands = let f = front_live k.calls place c front_is in (ap (call_at k.calls) (numbered f.0 c f.1) ∙ f.1, f.2)
+
+  -- what is settled at a place needs no room there any more
+  settled : (test after : Call → Bool) → ((d : Call) → after d ≡ test d) → count_of (λ d. same_place d.place place && after d) (entries (settle_call k c).state.calls.records) + (if test c then 1 else 0) ≤ count_of (λ d. same_place d.place place && test d) (entries k.calls.records)
+  settled test after same =
+      let f = front_stands in
+      let sum = rw f.1 at (settle_sum (λ d. same_place d.place place && test d) k c f.0 (λ u. not_answers place pending u (test (answered k c u)))) in
+      let marks = count_weaker (λ d. same_place d.place place && after d) (λ d. same_place d.place place && test d) (λ d e. ap (λ b. same_place d.place place && b) (sym (same d)) ∙ e) (entries (settle_call k c).state.calls.records) in
+      omega (arith, sum, marks)
+
+  pub settled_moves : moves_at (settle_call k c).state place + settle_moves k (Some c) ≤ moves_at k place
+  settled_moves = settled (λ d. lives k d.caller) (λ d. lives (settle_call k c).state d.caller) (λ d. lives_same k (settle_call k c).state (settle_alive k c) d.caller)
+
+  pub settled_entries : entries_at (settle_call k c).state place + settle_entries k (Some c) ≤ entries_at k place
+  settled_entries =
+      let f = front_stands in
+      let two = settled (tells_two k) (tells_two (settle_call k c).state) (λ d. ap (λ b. b || has_phone (kept_phone d)) (lives_same k (settle_call k c).state (settle_alive k c) d.caller)) in
+      let one = settle_sum (λ d. same_place d.place place) k c f.0 (λ u. at_no_answers place pending u) in
+      let sum = rw f.1 at one in
+      omega (arith, two, sum)
+    where
+      at_no_answers : (place : Place) → IsPendingAt place → (u : TaskNo) → same_place (Answers u) place ≡ false
+      at_no_answers (Incoming t) p u = refl
+      at_no_answers (Dispatched t) p u = refl
+      at_no_answers (Answers t) p u = absurd p
+
+-- the room of one call
+pub few_vanish_entries : (o : Option Call) → vanish_entries o ≤ 2
+few_vanish_entries None = omega arith
+few_vanish_entries (Some c) = let h = one_or_none (has_phone (kept_phone c)) in omega (arith, h)
+
+pub few_settle_entries : (k : KernelState) (o : Option Call) → settle_entries k o ≤ 2
+few_settle_entries k None = omega arith
+few_settle_entries k (Some c) = let h = one_or_none (tells_two k c) in omega (arith, h)
+
+pub few_settle_moves : (k : KernelState) (o : Option Call) → settle_moves k o ≤ 1
+few_settle_moves k None = omega arith
+few_settle_moves k (Some c) = one_or_none (lives k c.caller)
+
+pub vanish_in_settle : (k : KernelState) (o : Option Call) → vanish_entries o ≤ settle_entries k o
+vanish_in_settle k None = omega arith
+vanish_in_settle k (Some c) = by_both (lives k c.caller) (has_phone (kept_phone c)) where
+  by_both : (a b : Bool) → 1 + cond b 1 0 ≤ 1 + cond (a || b) 1 0
+  by_both true true = omega arith
+  by_both true false = omega arith
+  by_both false b = omega arith
+
+-- a call whose caller is alive is moved, and makes two entries at most
+pub settle_answered : (k : KernelState) (o : Option Call) (u : TaskNo) → IsCallOf o u → is_alive k u ≡ true → (1 ≤ settle_moves k o) × (2 ≤ settle_entries k o)
+settle_answered k None u from alive = absurd from
+settle_answered k (Some c) u from alive = (rw (from, alive) (omega arith), rw (from, alive) (omega arith))
 
 -- as many phones of other tasks lead to t after the hangups
 pub same_slams : (t : TaskNo) (k j : KernelState) → j ≡ (hang_up_own_phones t k).state → leading t j.tasks.phones ≡ leading t k.tasks.phones
 same_slams t k j is = ap (λ (i : KernelState). leading t i.tasks.phones) is ∙ same_leading t k (hang_up_own_phones t k).state (hangups_keep_others t k)
 
--- a kill puts a call at a place at most twice for each call that is live, and for each hangup
-pub few_moves : (k : KernelState) (t : TaskNo) → kill_moves k t ≤ 2 * kill_calls k t + 2 * live_calls k
+-- a kill puts a call at a place at most twice for each call that is live, and once for each hangup
+pub few_moves : (k : KernelState) (t : TaskNo) → kill_moves k t ≤ kill_calls k t + 2 * live_calls k
 few_moves k t =
     let waiting = count-len (λ c. same_place c.place (Incoming t)) k.calls.records in
     let held = count-len (λ c. same_place c.place (Dispatched t)) k.calls.records in

@@ -4,19 +4,19 @@ use Rattle.std.specs.Prelude.{◌==◌, if◌then◌else◌, slice_get, unwrap_o
 use Rattle.std.proofs.lemmas.Bool.{cases_eq, eq-eqb, ne_eqb, false≢true}
 use Rattle.cleanup.specs.State.{alive_in}
 
-get_set_same : (xs : List Bool) (i : ℕ) (v x : Bool) → slice_get xs i ≡ Some x → slice_get (set xs i v) i ≡ Some v
+pub get_set_same : (xs : List Bool) (i : ℕ) (v x : Bool) → slice_get xs i ≡ Some x → slice_get (set xs i v) i ≡ Some v
 get_set_same [] i v x h = absurd (cc h)
 get_set_same (y ∷ xs) zero v x h = refl
 get_set_same (y ∷ xs) (suc i) v x h = get_set_same xs i v x h
 
-get_set_other : (xs : List Bool) (i j : ℕ) (v : Bool) → (i ≡ j → ⊥) → slice_get (set xs i v) j ≡ slice_get xs j
+pub get_set_other : (xs : List Bool) (i j : ℕ) (v : Bool) → (i ≡ j → ⊥) → slice_get (set xs i v) j ≡ slice_get xs j
 get_set_other [] i j v ne = refl
 get_set_other (y ∷ xs) zero zero v ne = absurd (ne refl)
 get_set_other (y ∷ xs) zero (suc j) v ne = refl
 get_set_other (y ∷ xs) (suc i) zero v ne = refl
 get_set_other (y ∷ xs) (suc i) (suc j) v ne = get_set_other xs i j v (λ e. ne (ap suc e))
 
-alive_at : (marks : List Bool) (t : ℕ) → alive_in marks t ≡ true → (t ≡ 0 → ⊥) × (slice_get marks (t - 1) ≡ Some true)
+pub alive_at : (marks : List Bool) (t : ℕ) → alive_in marks t ≡ true → (t ≡ 0 → ⊥) × (slice_get marks (t - 1) ≡ Some true)
 alive_at marks t h = (λ e. false≢true (sym (no_task e) ∙ h), by_look (t == 0) (slice_get marks (t - 1)) h) where
   no_task : t ≡ 0 → alive_in marks t ≡ false
   no_task e = rw (eq-eqb t 0 e)
@@ -31,7 +31,7 @@ module _ (marks : List Bool) (t : ℕ) (alive : alive_in marks t ≡ true) where
   pub ended_here : alive_in (set marks (t - 1) false) t ≡ false
   ended_here = let a = alive_at marks t alive in rw (ne_eqb t 0 a.0, get_set_same marks (t - 1) false true a.1)
 
-  apart : (u : ℕ) → (u ≡ t → ⊥) → (u ≡ 0 → ⊥) → t - 1 ≡ u - 1 → ⊥
+  pub apart : (u : ℕ) → (u ≡ t → ⊥) → (u ≡ 0 → ⊥) → t - 1 ≡ u - 1 → ⊥
   apart u ne nz e = let a = (alive_at marks t alive).0 in ne (omega arith)
 
   -- and no other

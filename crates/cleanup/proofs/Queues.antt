@@ -173,13 +173,13 @@ forget_alone marks t k c h is made none =
 
 -- one call fewer passes
 
-over_less : (test : Call → Bool) (k : KernelState) (c : Call) → IsLive k c → test c ≡ true → suc (count_of test (entries (without_call k.calls c.number.0).records)) ≡ count_of test (entries k.calls.records)
+pub over_less : (test : Call → Bool) (k : KernelState) (c : Call) → IsLive k c → test c ≡ true → suc (count_of test (entries (without_call k.calls c.number.0).records)) ≡ count_of test (entries k.calls.records)
 over_less test k c is passes = let sum = rw passes at (count-without_call test k.calls c.number.0 c is) in omega arith
 
-put_less : (test : Call → Bool) (k : KernelState) (c d : Call) → IsLive k c → test c ≡ true → test d ≡ false → suc (count_of test (entries (insert k.calls.records c.number.0 d))) ≡ count_of test (entries k.calls.records)
+pub put_less : (test : Call → Bool) (k : KernelState) (c d : Call) → IsLive k c → test c ≡ true → test d ≡ false → suc (count_of test (entries (insert k.calls.records c.number.0 d))) ≡ count_of test (entries k.calls.records)
 put_less test k c d is passes fails = let sum = rw (passes, fails) at (count-replace test k.calls.records c.number.0 c d is) in omega arith
 
-settle_less : (test : Call → Bool) (k : KernelState) (c : Call) → IsLive k c → test c ≡ true → ((u : TaskNo) → test (answered k c u) ≡ false) → suc (count_of test (entries (settle_call k c).state.calls.records)) ≡ count_of test (entries k.calls.records)
+pub settle_less : (test : Call → Bool) (k : KernelState) (c : Call) → IsLive k c → test c ≡ true → ((u : TaskNo) → test (answered k c u) ≡ false) → suc (count_of test (entries (settle_call k c).state.calls.records)) ≡ count_of test (entries k.calls.records)
 settle_less test k c is passes fails = by_caller c.caller (lives k c.caller) where
   by_caller : (o : Option TaskNo) (b : Bool) → suc (count_of test (entries (settle_for k c (bare_reply ehangup) None o b).state.calls.records)) ≡ count_of test (entries k.calls.records)
   by_caller None b = over_less test k c is passes
@@ -192,7 +192,7 @@ forget_less test k c is passes fails =
 
 -- where no call passes, none does after a step to one that fails
 
-over_none : (test : Call → Bool) (k : KernelState) (m : ℕ) → NoneIs test k → NoneIs test (with_calls k (without_call k.calls m))
+pub over_none : (test : Call → Bool) (k : KernelState) (m : ℕ) → NoneIs test k → NoneIs test (with_calls k (without_call k.calls m))
 over_none test k m h n c is = elim (chosen m n None (call_at k.calls n) (Some c) (sym (at_remove k.calls.records m n) ∙ is)) [ inl e ↦ absurd (cc e.1) | inr e ↦ h n c e.1 ]
 
 insert_none : (test : Call → Bool) (k : KernelState) (m : ℕ) (d : Call) → NoneIs test k → test d ≡ false → (n : ℕ) (c : Call) → get (insert k.calls.records m d) n ≡ Some c → test c ≡ false

@@ -2,7 +2,6 @@
 use Rattle.std.proofs.Common.{◌≡◌, true, Option, Some}
 use Rattle.ipc_ids.specs.declared.numbers.TaskNo.{TaskNo}
 use Rattle.ipc_ids.specs.declared.message.Reply.{Reply}
-use Rattle.ipc_ids.specs.declared.methods.MethodKind.TheVariants.{ShareOut, ShareIn}
 use Rattle.ipc_ids.specs.Methods.{kind_of}
 use Rattle.call_slab.specs.declared.call.Call.{Call}
 use Rattle.answerbox.specs.Calls.{call_at}
@@ -12,7 +11,9 @@ use Rattle.share_hooks.proofs.Keeping.{KeepsOthers, out_accept_keeps, in_accept_
 use Rattle.cleanup.specs.State.{KernelState, is_alive, with_memory}
 use Rattle.cleanup.specs.Joins.{answer_to}
 use Rattle.cleanup.specs.Data.{reply_told}
-use Rattle.cleanup.specs.Sharing.{accepted_share_out, accepted_share_in}
+use Rattle.cleanup.specs.declared.sharing.Share.{Share}
+use Rattle.cleanup.specs.declared.sharing.Share.TheVariants.{Out, In}
+use Rattle.cleanup.specs.Sharing.{accepted_share, kind_of_share}
 use Rattle.cleanup.specs.Board.{IsPendingAt}
 use Rattle.cleanup.specs.Sound.{IsSound}
 use Rattle.cleanup.proofs.SoundMemory.{memory_shared}
@@ -22,15 +23,12 @@ use Rattle.cleanup.proofs.SoundJoins.{caller_alive, sound_finished}
 with_shared_memory : (k : KernelState) (m : Memory) (t : TaskNo) → is_alive k t ≡ true → KeepsOthers t k.memory m → IsSound k → IsSound (with_memory k m)
 with_shared_memory k m t alive shared s = record { calls = s.calls; tasks = s.tasks; kept = s.kept; keepers = s.keepers; memory = memory_shared t alive shared s.memory }
 
--- a SHARE_OUT is accepted by task t
-pub sound_accepted_share_out : (k : KernelState) (c : Call) (reply : Reply) (t : TaskNo) (by : Option TaskNo) (u : TaskNo) → IsSound k → call_at k.calls c.number.0 ≡ Some c → kind_of c.request.method ≡ ShareOut → IsPendingAt c.place → is_alive k t ≡ true → c.caller ≡ Some u → IsSound (answer_to (accepted_share_out k c reply t u) by u).state
-sound_accepted_share_out k c reply t by u s live kind pending alive from =
+-- a share call is accepted by task t
+pub sound_accepted_share : (way : Share) (k : KernelState) (c : Call) (reply : Reply) (t : TaskNo) (by : Option TaskNo) (u : TaskNo) → IsSound k → call_at k.calls c.number.0 ≡ Some c → kind_of c.request.method ≡ kind_of_share way → IsPendingAt c.place → is_alive k t ≡ true → c.caller ≡ Some u → IsSound (answer_to (accepted_share way k c reply t u) by u).state
+sound_accepted_share Out k c reply t by u s live kind pending alive from =
     let step = out_accept k.memory u t c.request.args reply in
     sound_finished (with_memory k step.memory) c (reply_told reply step.told) by u (with_shared_memory k step.memory t alive (out_accept_keeps k.memory u t c.request.args reply) s) live (rw kind tt) pending from
-
--- a SHARE_IN is accepted by task t
-pub sound_accepted_share_in : (k : KernelState) (c : Call) (reply : Reply) (t : TaskNo) (by : Option TaskNo) (u : TaskNo) → IsSound k → call_at k.calls c.number.0 ≡ Some c → kind_of c.request.method ≡ ShareIn → IsPendingAt c.place → is_alive k t ≡ true → c.caller ≡ Some u → IsSound (answer_to (accepted_share_in k c reply t u) by u).state
-sound_accepted_share_in k c reply t by u s live kind pending alive from =
+sound_accepted_share In k c reply t by u s live kind pending alive from =
     let step = in_accept k.memory u t c.request.args reply in
     let caller = (caller_alive k.tasks c.from c.caller u from (s.calls.each c.number.0 c live).caller).1 in
     sound_finished (with_memory k step.memory) c (reply_told reply step.told) by u (with_shared_memory k step.memory u caller (in_accept_keeps k.memory u t c.request.args reply) s) live (rw kind tt) pending from

@@ -1,12 +1,12 @@
 -- What the end of a task asks of the phones, calls and areas that it is given, and what it leaves of them.
-use Rattle.std.specs.Prelude.{◌≡◌, ℕ, ◌+◌, ◌*◌, ◌^◌, ◌<◌, ◌≤◌, Bool, true, false, List, Some, length, replicate}
-use Rattle.std.specs.FinMap.{len}
+use Rattle.std.specs.Prelude.{◌≡◌, ℕ, ◌+◌, ◌^◌, ◌<◌, ◌≤◌, Bool, true, false, List, Some, length, replicate}
 use Rattle.ipc_ids.specs.declared.numbers.TaskNo.{TaskNo}
 use Rattle.answerbox.specs.Calls.{CallTable, BoxesState}
 use Rattle.phone_table.specs.Phones.{Rows, count_at}
 use Rattle.address_space.specs.Memory.{Memory}
 use Rattle.cleanup.specs.State.{KernelState, alive_in, state_from}
 use Rattle.cleanup.specs.Counts.{IsCounted}
+use Rattle.cleanup.specs.KillRoom.{own_calls, moves_of}
 
 -- the task is one of those with marks, and is marked as ended
 pub record IsJustEnded (alive : List Bool) (who : TaskNo) : Type 0 where
@@ -28,11 +28,12 @@ pub record HasNumbers (calls : CallTable) : Type 0 where
   pub numbers : calls.next_number < 2 ^ 61
   pub stamps : calls.next_stamp < 2 ^ 61
 
--- the numbers and stamps that were used, and that the tasks with places are the same
-pub record UsesNumbers (old new : BoxesState) : Type 0 where
+-- the numbers and stamps that the end of the task uses at most, and that the tasks with places are the same
+pub record UsesNumbers (who : TaskNo) (phones : Rows) (old new : BoxesState) : Type 0 where
   pub places : new.tasks ≡ old.tasks
-  pub numbers : new.calls.next_number ≤ old.calls.next_number + 64
-  pub stamps : new.calls.next_stamp ≤ old.calls.next_stamp + 2 * len old.calls.records + 192
+  pub few : own_calls phones.states who ≤ 64
+  pub numbers : new.calls.next_number ≤ old.calls.next_number + own_calls phones.states who
+  pub stamps : new.calls.next_stamp ≤ old.calls.next_stamp + moves_of phones.states old.calls who
 
 -- so many tasks that are alive
 abbrev pub all_alive : ℕ → List Bool

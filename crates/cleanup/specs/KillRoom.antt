@@ -1,15 +1,18 @@
 -- The room that the end of task t takes at most, counted from the phones, the calls and the areas that it can touch.
-use Rattle.std.specs.Prelude.{ℕ, zero, suc, ◌+◌, ◌*◌, ◌==◌, if◌then◌else◌, Option, None, Some, List, length}
+use Rattle.std.specs.Prelude.{ℕ, zero, suc, ◌+◌, ◌*◌, ◌==◌, ◌&&◌, if◌then◌else◌, Option, None, Some, List, length}
 use Rattle.ipc_ids.specs.declared.numbers.TaskNo.{TaskNo}
 use Rattle.ipc_ids.specs.declared.message.PhoneState.{PhoneState}
 use Rattle.ipc_ids.specs.declared.message.PhoneState.TheVariants.{Free, Connecting, Connected, HungUp, Slammed}
+use Rattle.std.specs.FinMap.{entries}
+use Rattle.call_slab.specs.declared.call.Place.{Place}
 use Rattle.call_slab.specs.declared.call.Place.TheVariants.{Incoming, Dispatched, Answers}
-use Rattle.answerbox.specs.Calls.{calls_at, calls_by}
+use Rattle.answerbox.specs.Calls.{CallTable, same_place, count_of, calls_at, calls_by}
 use Rattle.phone_table.specs.Phones.{state_at}
 use Rattle.address_space.specs.Memory.{count_areas}
 use Rattle.cleanup.specs.State.{KernelState}
 use Rattle.cleanup.specs.Kill.{width}
-use Rattle.cleanup.specs.Rooms.{calls_of_hangup, entries_of_hangup}
+use Rattle.cleanup.specs.Joins.{lives}
+use Rattle.cleanup.specs.Rooms.{tells_two, calls_of_hangup, entries_of_hangup}
 
 -- the sum of these for so many numbers, from i on
 abbrev pub total : (ℕ → ℕ) → ℕ → ℕ → ℕ
@@ -48,15 +51,25 @@ leading t rows = total (leading_at t rows) (length rows) 0
 abbrev pub kill_calls : KernelState → TaskNo → ℕ
 kill_calls k t = own_calls k.tasks.phones t
 
--- how many times it puts a call at a place: those of its hangups, which may come to t itself, and the calls that wait
--- at t or that t holds
+-- how many calls at this place the kernel answers
+abbrev pub moves_at : KernelState → Place → ℕ
+moves_at k place = count_of (λ c. same_place c.place place && lives k c.caller) (entries k.calls.records)
+
+-- how many entries there are at most as the calls at this place are settled
+abbrev pub entries_at : KernelState → Place → ℕ
+entries_at k place = calls_at k.calls place + count_of (λ c. same_place c.place place && tells_two k c) (entries k.calls.records)
+
+-- how many times it puts a call at a place: those of its hangups, and the calls that wait at t or that t holds
+abbrev pub moves_of : List (List PhoneState) → CallTable → TaskNo → ℕ
+moves_of rows calls t = own_calls rows t + calls_at calls (Incoming t) + calls_at calls (Dispatched t)
+
 abbrev pub kill_moves : KernelState → TaskNo → ℕ
-kill_moves k t = 2 * own_calls k.tasks.phones t + calls_at k.calls (Incoming t) + calls_at k.calls (Dispatched t)
+kill_moves k t = moves_of k.tasks.phones k.calls t
 
 -- how many entries its phones and calls make: those of its hangups, one for each phone that is slammed, two for each call
--- at t, one for each call of t, and for each call of a hangup three more, which may come to t itself and is one of t
+-- at t, one for each call of t, and one for each call of a hangup
 abbrev pub phone_and_call_entries : KernelState → TaskNo → ℕ
-phone_and_call_entries k t = own_entries k.tasks.phones t + leading t k.tasks.phones + 2 * (calls_at k.calls (Incoming t) + calls_at k.calls (Dispatched t) + calls_at k.calls (Answers t)) + calls_by k.calls t + 3 * own_calls k.tasks.phones t
+phone_and_call_entries k t = own_entries k.tasks.phones t + leading t k.tasks.phones + 2 * (calls_at k.calls (Incoming t) + calls_at k.calls (Dispatched t) + calls_at k.calls (Answers t)) + calls_by k.calls t + own_calls k.tasks.phones t
 
 -- how many entries it makes: those, and one for each area of t
 abbrev pub kill_entries : KernelState → TaskNo → ℕ

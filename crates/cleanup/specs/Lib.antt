@@ -10,6 +10,6 @@ pub mod Sharing
 pub mod Kill
 pub mod Limits
 pub mod Board
-pub mod Ending
 pub mod Rooms
 pub mod KillRoom
+pub mod Ending

@@ -2,7 +2,8 @@
 ghost use Rattle.std.specs.Prelude.{◌≡◌, ℕ, ◌+◌, ◌-◌, ◌^◌, ◌<◌, ◌≤◌, ◌++◌, ◌∷◌, [], replicate, true, Some, None, IsSome, IfSome, IfNone, IfOk, OnOk, OnErr, length};
 ghost use Rattle.std.specs.Option.{option_copied};
 ghost use Rattle.address_space.specs.Memory.{with_task as with_areas, Tells};
-ghost use Rattle.share_hooks.specs.ShareMoments.{out_before_send, out_accept, in_accept};
+ghost use Rattle.share_hooks.specs.ShareMoments.{out_before_send};
+ghost use Rattle.cleanup.specs.Sharing.{share_step};
 ghost use Rattle.data_hooks.specs.DataMoments.{write_before_send, write_accept, read_accept, read_deliver};
 ghost use Rattle.answerbox.specs.Places.{IsAt};
 ghost use Rattle.answerbox.specs.Calls.{call_at, task_of, enqueue, without_call, received, without_caller, active_calls, front, calls_of, calls_at, calls_by};
@@ -25,6 +26,7 @@ use crate::phones::{
     connect_to_answerer, connect_to_caller, hang_phone, keep_to_receive, keep_to_send,
     release_kept, slam_phone, width,
 };
+use crate::sharing::Share;
 use address_space::{SpaceFault, Spaces};
 use answerbox::Boxes;
 use call_slab::{Call, Place};
@@ -664,13 +666,14 @@ impl Switchboard {
         out_before_send(&self.spaces, caller, args)
     }
 
-    /// Gives the task an area over the store of one of the caller's, where the reply says.
+    /// Gives the task or its caller an area over the store of one of the other's.
     ///
     /// # Errors
     ///
     /// The code of the refusal; then nothing has changed.
-    pub(crate) fn share_out(
+    pub(crate) fn share(
         &mut self,
+        way: Share,
         call: CallNo,
         reply: &Reply,
         t: TaskNo,
@@ -680,40 +683,17 @@ impl Switchboard {
         requires added { IsAdded self.old.state t }
         requires caller { IsAdded self.old.state caller }
         ensures told { IfSome (call_at self.old.state.calls call.0) (λ c. result
-            ≡ (out_accept self.old.state.memory caller t c.request.args reply.now).told) }
+            ≡ (share_step way self.old.state.memory caller t c.request.args reply.now).told) }
         ensures state { IfSome (call_at self.old.state.calls call.0) (λ c. self.new.state
             ≡ with_memory self.old.state
-            (out_accept self.old.state.memory caller t c.request.args reply.now).memory) }
+            (share_step way self.old.state.memory caller t c.request.args reply.now).memory) }
         ensures keeps { KeepsCalls self.old self.new }
     {
-        let record = self.boxes.get(call).unwrap();
-        out_accept(&mut self.spaces, caller, t, &record.request.args, reply)
-    }
-
-    /// Gives the caller an area over the store of one of the task's, where the call asked.
-    ///
-    /// # Errors
-    ///
-    /// The code of the refusal; then nothing has changed.
-    pub(crate) fn share_in(
-        &mut self,
-        call: CallNo,
-        reply: &Reply,
-        t: TaskNo,
-        caller: TaskNo,
-    ) -> Result<StoreNo, Code>
-        requires live { IsSome (call_at self.old.state.calls call.0) }
-        requires added { IsAdded self.old.state t }
-        requires caller { IsAdded self.old.state caller }
-        ensures told { IfSome (call_at self.old.state.calls call.0) (λ c. result
-            ≡ (in_accept self.old.state.memory caller t c.request.args reply.now).told) }
-        ensures state { IfSome (call_at self.old.state.calls call.0) (λ c. self.new.state
-            ≡ with_memory self.old.state
-            (in_accept self.old.state.memory caller t c.request.args reply.now).memory) }
-        ensures keeps { KeepsCalls self.old self.new }
-    {
-        let record = self.boxes.get(call).unwrap();
-        in_accept(&mut self.spaces, caller, t, &record.request.args, reply)
+        let args = &self.boxes.get(call).unwrap().request.args;
+        match way {
+            Share::Out => out_accept(&mut self.spaces, caller, t, args, reply),
+            Share::In => in_accept(&mut self.spaces, caller, t, args, reply),
+        }
     }
 
     /// The call takes the reply and these bytes to the answers of its caller, and what it reserves

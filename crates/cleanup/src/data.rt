@@ -1,12 +1,11 @@
 //! The data methods: the joins of their answers and deliveries.
-ghost use Rattle.std.specs.Prelude.{◌≡◌, true, IsSome, IfSome};
+ghost use Rattle.std.specs.Prelude.{◌≡◌, Some, IsSome};
 ghost use Rattle.answerbox.specs.Calls.{call_at};
-ghost use Rattle.cleanup.specs.State.{is_alive};
 ghost use Rattle.cleanup.specs.Areas.{wrote_note};
 ghost use Rattle.cleanup.specs.Data.{accepted_write, accepted_read, code_told, read_delivery_live};
-ghost use Rattle.cleanup.specs.Board.{IsAdded, IsHeldBy};
+ghost use Rattle.cleanup.specs.Board.{IsAdded};
 ghost use Rattle.cleanup.specs.Joins.{answer_to, on_call};
-ghost use Rattle.cleanup.specs.Rooms.{HasRoom, UsesRoom};
+ghost use Rattle.cleanup.specs.Rooms.{HasRoom, MayAccept, UsesRoom};
 ghost use Rattle.cleanup.specs.Serving.{Does, DoesOrLeaves, Serves};
 
 use crate::board::Switchboard;
@@ -25,12 +24,7 @@ impl Switchboard {
         caller: TaskNo,
         out: &mut Trace,
     )
-        requires number { IfSome (call_at self.old.state.calls number.0) (λ c. c.number ≡ number) }
-        requires held { IsHeldBy (call_at self.old.state.calls number.0)
-            MethodKind.DataWrite who caller }
-        requires added { IsAdded self.old.state who }
-        requires alive { is_alive self.old.state caller ≡ true }
-        requires room { HasRoom self.old out.old 0 1 2 }
+        requires accepting { MayAccept self.old out.old number MethodKind.DataWrite who caller }
         ensures step { Does self.new out.old out.new
             (on_call (λ k c. answer_to (accepted_write k c reply.now who) (Some who) caller)
             self.old.state number.0) }
@@ -38,14 +32,8 @@ impl Switchboard {
     {
         let told = self.write_held(number, reply, who);
         let (code, args) = (code_told(&told), reply.args);
-        let answer = Reply { code, args };
-        self.answer(number, &answer, caller);
-        out.push(Entry::Answered {
-            call: number,
-            reply: answer,
-            by: Some(who),
-        });
-        tell(wrote_note(who, args[0], args[1], &told), out);
+        let note = wrote_note(who, args[0], args[1], &told);
+        self.finish_telling(number, &Reply { code, args }, note, who, caller, out);
     }
 
     /// Accepts the DATA_READ that the task holds: the call takes the bytes with it that the reply
@@ -62,12 +50,7 @@ impl Switchboard {
         caller: TaskNo,
         out: &mut Trace,
     ) -> Result<(), NoMemory>
-        requires number { IfSome (call_at self.old.state.calls number.0) (λ c. c.number ≡ number) }
-        requires held { IsHeldBy (call_at self.old.state.calls number.0)
-            MethodKind.DataRead who caller }
-        requires added { IsAdded self.old.state who }
-        requires alive { is_alive self.old.state caller ≡ true }
-        requires room { HasRoom self.old out.old 0 1 2 }
+        requires accepting { MayAccept self.old out.old number MethodKind.DataRead who caller }
         ensures step { DoesOrLeaves result self.old self.new out.old out.new
             (on_call (λ k c. answer_to (accepted_read k c reply.now who) (Some who) caller)
             self.old.state number.0) }
@@ -89,13 +72,7 @@ impl Switchboard {
                 Ok(())
             }
             Err(SpaceFault::Refused(code)) => {
-                let answer = Reply { code, args };
-                self.answer(number, &answer, caller);
-                out.push(Entry::Answered {
-                    call: number,
-                    reply: answer,
-                    by: Some(who),
-                });
+                self.finish(number, &Reply { code, args }, who, caller, out);
                 Ok(())
             }
             Err(SpaceFault::NoMemory) => Err(NoMemory),

@@ -47,7 +47,7 @@ pub fn end_task(
     ensures entries { OnOk result (out.new.entries ≡ out.old.entries
         ++ (end_parts who (state_of alive phones.old boxes.old spaces.old)).entries) }
     ensures counts { OnOk result (HasCounts phones.new.states phones.new.counts boxes.new.calls) }
-    ensures used { UsesNumbers boxes.old boxes.new }
+    ensures used { UsesNumbers who phones.old boxes.old boxes.new }
     ensures unchanged { OnErr result (AreUnchanged boxes.old boxes.new phones.old phones.new
         spaces.old spaces.new) }
     ensures trace_unchanged { OnErr result (out.new.entries ≡ out.old.entries) }
@@ -56,9 +56,10 @@ pub fn end_task(
     let _next = boxes.next_number();
     let tasks = phones.tasks() as usize;
     let alloc = boxes.alloc();
+    let new_calls = kill_calls(who, phones);
     let marks = all_alive(alloc, tasks)?;
     let entries = kill_entries(who, phones, boxes, spaces)?;
-    boxes.reserve(kill_calls(who, phones))?;
+    boxes.reserve(new_calls)?;
     out.reserve(entries)?;
     let mut board = Switchboard::of(
         marks,

@@ -7,10 +7,10 @@ ghost use Rattle.call_slab.specs.declared.call.Place.TheVariants.{Answers};
 ghost use Rattle.cleanup.specs.Kept.{IsLoose, MayReserve, accepts, kept_phone};
 ghost use Rattle.cleanup.specs.Joins.{on_call, acceptance, answer_at_once, passage, reception_live, delivery_live, releasing, drop_answer, vanishing, forget_call, answer_to, declined, accepted_to_me, accepted_me_to, settle_live, hang_up, hangup_refusal};
 ghost use Rattle.cleanup.specs.Kill.{slam_at};
-ghost use Rattle.cleanup.specs.Board.{IsAdded, IsPending, IsCallOf, IsHeldBy, IsNewCall};
+ghost use Rattle.cleanup.specs.Board.{IsAdded, IsPending, IsCallOf, IsNewCall};
 ghost use Rattle.cleanup.specs.KillRoom.{leads_to};
-ghost use Rattle.cleanup.specs.Rooms.{HasRoom, UsesRoom, HasRoomToHangUp, UsesRoomToHangUp};
-ghost use Rattle.cleanup.specs.Serving.{Does, Serves, as_it_is};
+ghost use Rattle.cleanup.specs.Rooms.{HasRoom, MayAccept, UsesRoom, HasRoomToHangUp, UsesRoomToHangUp, settle_entries, settle_moves, vanish_entries};
+ghost use Rattle.cleanup.specs.Serving.{Does, Serves, as_it_is, with_note};
 
 use crate::board::Switchboard;
 use crate::kept::{kept_note, kept_phone};
@@ -196,9 +196,24 @@ impl Switchboard {
         ensures step { Does self.new out.old out.new (on_call vanishing self.old.state number.0) }
         ensures room { UsesRoom self.old self.new out.old out.new 0 0 2 }
     {
+        self.vanish_exactly(number, out);
+    }
+
+    /// The same, with room for a second entry only where the call keeps a phone.
+    fn vanish_exactly(&mut self, number: CallNo, out: &mut Trace)
+        requires live { IsSome (call_at self.old.state.calls number.0) }
+        requires room { HasRoom self.old out.old 0 0
+            (vanish_entries (call_at self.old.state.calls number.0)) }
+        ensures step { Does self.new out.old out.new (on_call vanishing self.old.state number.0) }
+        ensures room { UsesRoom self.old self.new out.old out.new 0 0
+            (vanish_entries (call_at self.old.state.calls number.0)) }
+    {
         let call = self.leave(number);
         out.push(Entry::Vanished(call.number));
-        self.free(kept_phone(&call), out);
+        match kept_phone(&call) {
+            Some(phone) => self.free(Some(phone), out),
+            None => {}
+        }
     }
 
     /// Frees the phone, which no call keeps, where there is one.
@@ -261,12 +276,7 @@ impl Switchboard {
         caller: TaskNo,
         out: &mut Trace,
     )
-        requires number { IfSome (call_at self.old.state.calls number.0) (λ c. c.number ≡ number) }
-        requires held { IsHeldBy (call_at self.old.state.calls number.0)
-            MethodKind.ConnectToMe who caller }
-        requires added { IsAdded self.old.state who }
-        requires alive { is_alive self.old.state caller ≡ true }
-        requires room { HasRoom self.old out.old 0 1 2 }
+        requires accepting { MayAccept self.old out.old number MethodKind.ConnectToMe who caller }
         ensures step { Does self.new out.old out.new
             (on_call (λ k c. answer_to (accepted_to_me k c reply.now caller) (Some who) caller)
             self.old.state number.0) }
@@ -292,13 +302,8 @@ impl Switchboard {
         caller: TaskNo,
         out: &mut Trace,
     )
-        requires number { IfSome (call_at self.old.state.calls number.0) (λ c. c.number ≡ number) }
-        requires held { IsHeldBy (call_at self.old.state.calls number.0)
-            MethodKind.ConnectMeTo who caller }
+        requires accepting { MayAccept self.old out.old number MethodKind.ConnectMeTo who caller }
         requires accepts { accepts reply.now.code ≡ true }
-        requires added { IsAdded self.old.state who }
-        requires alive { is_alive self.old.state caller ≡ true }
-        requires room { HasRoom self.old out.old 0 1 2 }
         ensures step { Does self.new out.old out.new
             (on_call (λ k c. answer_to (accepted_me_to k c reply.now who) (Some who) caller)
             self.old.state number.0) }
@@ -333,25 +338,55 @@ impl Switchboard {
             self.old.state number.0) }
         ensures room { UsesRoom self.old self.new out.old out.new 0 1 2 }
     {
+        self.finish_telling(number, reply, None, who, caller, out);
+    }
+
+    /// Moves the call, for which no phone is kept, with the reply to the answers of its caller, and
+    /// tells the note, where there is one, behind the answer.
+    pub(crate) fn finish_telling(
+        &mut self,
+        number: CallNo,
+        reply: &Reply,
+        note: Option<Entry>,
+        who: TaskNo,
+        caller: TaskNo,
+        out: &mut Trace,
+    )
+        requires number { IfSome (call_at self.old.state.calls number.0) (λ c. c.number ≡ number) }
+        requires called { IsCallOf (call_at self.old.state.calls number.0) caller }
+        requires unkept { IfSome (call_at self.old.state.calls number.0)
+            (λ c. kept_phone (record c { reply = reply.now; place = Answers caller }) ≡ None) }
+        requires alive { is_alive self.old.state caller ≡ true }
+        requires room { HasRoom self.old out.old 0 1 2 }
+        ensures step { Does self.new out.old out.new (on_call
+            (λ k c. answer_to (with_note k (record c { reply = reply.now }) note) (Some who) caller)
+            self.old.state number.0) }
+        ensures room { UsesRoom self.old self.new out.old out.new 0 1 2 }
+    {
         self.answer(number, reply, caller);
         out.push(Entry::Answered {
             call: number,
             reply: *reply,
             by: Some(who),
         });
+        tell(note, out);
     }
 
     /// Answers the call with a reply that does not accept, in the name of a task or of the kernel
     /// where `by` is `None`. Where its caller has ended the call vanishes.
     pub fn settle(&mut self, number: CallNo, reply: &Reply, by: Option<TaskNo>, out: &mut Trace)
         requires pending { IsPending (call_at self.old.state.calls number.0) }
-        requires room { HasRoom self.old out.old 0 1 2 }
+        requires room { HasRoom self.old out.old 0
+            (settle_moves self.old.state (call_at self.old.state.calls number.0))
+            (settle_entries self.old.state (call_at self.old.state.calls number.0)) }
         ensures step { Does self.new out.old out.new
             (settle_live self.old.state reply.now by (call_at self.old.state.calls number.0)) }
-        ensures room { UsesRoom self.old self.new out.old out.new 0 1 2 }
+        ensures room { UsesRoom self.old self.new out.old out.new 0
+            (settle_moves self.old.state (call_at self.old.state.calls number.0))
+            (settle_entries self.old.state (call_at self.old.state.calls number.0)) }
     {
         let caller = self.get(number).unwrap().caller;
-        self.settle_for(number, caller, reply, by, out);
+        self.settle_exactly(number, caller, reply, by, out);
     }
 
     /// Settles the call of this caller, whose record was looked up before.
@@ -371,9 +406,34 @@ impl Switchboard {
             (settle_live self.old.state reply.now by (call_at self.old.state.calls number.0)) }
         ensures room { UsesRoom self.old self.new out.old out.new 0 1 2 }
     {
+        self.settle_exactly(number, caller, reply, by, out);
+    }
+
+    /// The same, with room for a move only where the caller is alive, and for a second entry only
+    /// there and where the call keeps a phone.
+    fn settle_exactly(
+        &mut self,
+        number: CallNo,
+        caller: Option<TaskNo>,
+        reply: &Reply,
+        by: Option<TaskNo>,
+        out: &mut Trace,
+    )
+        requires pending { IsPending (call_at self.old.state.calls number.0) }
+        requires number { IfSome (call_at self.old.state.calls number.0) (λ c. c.number ≡ number) }
+        requires caller { IfSome (call_at self.old.state.calls number.0) (λ c. c.caller ≡ caller) }
+        requires room { HasRoom self.old out.old 0
+            (settle_moves self.old.state (call_at self.old.state.calls number.0))
+            (settle_entries self.old.state (call_at self.old.state.calls number.0)) }
+        ensures step { Does self.new out.old out.new
+            (settle_live self.old.state reply.now by (call_at self.old.state.calls number.0)) }
+        ensures room { UsesRoom self.old self.new out.old out.new 0
+            (settle_moves self.old.state (call_at self.old.state.calls number.0))
+            (settle_entries self.old.state (call_at self.old.state.calls number.0)) }
+    {
         match caller {
             Some(caller) if self.is_alive(caller) => self.refuse(number, *reply, by, caller, out),
-            _ => self.vanish(number, out),
+            _ => self.vanish_exactly(number, out),
         }
     }
 

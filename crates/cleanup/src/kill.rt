@@ -2,11 +2,11 @@
 ghost use Rattle.std.specs.Prelude.{◌≡◌, ◌+◌, ◌*◌, ◌^◌, ◌<◌, ◌≤◌, false, IfOk, OnOk, OnErr, length};
 ghost use Rattle.answerbox.specs.Calls.{task_of, calls_at, calls_by};
 ghost use Rattle.call_slab.specs.declared.call.Place.TheVariants.{Answers};
-ghost use Rattle.cleanup.specs.State.{live_calls, is_alive};
+ghost use Rattle.cleanup.specs.State.{is_alive};
 ghost use Rattle.address_space.specs.Memory.{count_areas};
 ghost use Rattle.cleanup.specs.Kill.{kill, end_parts, end_phones_and_calls, drop_areas, hang_up_own_phones, slam_phones_to, slam_other, slam_phones_of, settle_calls_at, drop_answers, forget_calls_elsewhere};
 ghost use Rattle.cleanup.specs.Board.{IsAdded, IsPendingAt, FewFrom};
-ghost use Rattle.cleanup.specs.KillRoom.{kill_calls, kill_moves, kill_entries, phone_and_call_entries, own_entries, leading, leading_at, leading_of};
+ghost use Rattle.cleanup.specs.KillRoom.{kill_calls, kill_moves, kill_entries, moves_at, entries_at, phone_and_call_entries, own_entries, leading, leading_at, leading_of};
 ghost use Rattle.cleanup.specs.Rooms.{HasRoom, UsesRoom};
 ghost use Rattle.cleanup.specs.Serving.{Does, Leaves};
 
@@ -27,15 +27,18 @@ impl Switchboard {
         requires few_calls { self.old.state.calls.next_number < 2 ^ 61 }
         requires few_stamps { self.old.state.calls.next_stamp < 2 ^ 61 }
         ensures step { OnOk result (Does self.new out.old out.new (kill self.old.state who)) }
-        ensures numbers { self.new.state.calls.next_number ≤ self.old.state.calls.next_number + 64 }
-        ensures stamps { self.new.state.calls.next_stamp ≤ self.old.state.calls.next_stamp + 2 *
-            live_calls self.old.state + 192 }
+        ensures numbers { self.new.state.calls.next_number ≤ self.old.state.calls.next_number
+            + kill_calls self.old.state who }
+        ensures stamps { self.new.state.calls.next_stamp ≤ self.old.state.calls.next_stamp
+            + kill_moves self.old.state who }
+        ensures few { kill_calls self.old.state who ≤ 64 }
         ensures events { self.new.state.events ≡ self.old.state.events }
         ensures unchanged { OnErr result (Leaves self.old self.new out.old out.new) }
     {
         let _next = self.next_number();
+        let calls = self.kill_calls(who);
         let entries = self.kill_entries(who)?;
-        self.reserve(self.kill_calls(who))?;
+        self.reserve(calls)?;
         out.reserve(entries)?;
         self.end_reserved(who, out);
         Ok(())
@@ -45,13 +48,13 @@ impl Switchboard {
     pub(crate) fn end_reserved(&mut self, who: TaskNo, out: &mut Trace)
         requires added { IsAdded self.old.state who }
         requires few_active { FewFrom self.old.state who 0 }
-        requires few_phones { kill_calls self.old.state who ≤ 64 }
         requires room { HasRoom self.old out.old (kill_calls self.old.state who)
             (kill_moves self.old.state who) (kill_entries self.old.state who) }
         ensures step { Does self.new out.old out.new (kill self.old.state who) }
-        ensures numbers { self.new.state.calls.next_number ≤ self.old.state.calls.next_number + 64 }
-        ensures stamps { self.new.state.calls.next_stamp ≤ self.old.state.calls.next_stamp + 2 *
-            live_calls self.old.state + 192 }
+        ensures numbers { self.new.state.calls.next_number ≤ self.old.state.calls.next_number
+            + kill_calls self.old.state who }
+        ensures stamps { self.new.state.calls.next_stamp ≤ self.old.state.calls.next_stamp
+            + kill_moves self.old.state who }
         ensures events { self.new.state.events ≡ self.old.state.events }
         ensures places { self.new.places ≡ self.old.places }
     {
@@ -156,13 +159,14 @@ impl Switchboard {
     fn settle_calls_at(&mut self, place: Place, out: &mut Trace)
         requires added { task_of place ≤ length self.old.state.tasks.alive }
         requires pending { IsPendingAt place }
-        requires room { HasRoom self.old out.old 0 (calls_at self.old.state.calls place)
-            (2 * calls_at self.old.state.calls place) }
+        requires room { HasRoom self.old out.old 0 (moves_at self.old.state place)
+            (entries_at self.old.state place) }
         ensures step { Does self.new out.old out.new (settle_calls_at place self.old.state) }
         ensures room { UsesRoom self.old self.new out.old out.new 0
-            (calls_at self.old.state.calls place) (2 * calls_at self.old.state.calls place) }
+            (moves_at self.old.state place) (entries_at self.old.state place) }
     {
         for _ in 0..self.calls_at(place) {
+            let _next = self.next_number();
             match self.front(place) {
                 Some(number) => self.settle(number, &Reply::bare(Code::EHANGUP), None, out),
                 None => return,

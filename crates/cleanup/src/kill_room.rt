@@ -43,7 +43,7 @@ pub(crate) fn kill_entries(
     ensures { IfOk result (λ n. n
         ≡ kill_entries_of (state_from [] phones.now.states boxes.now.calls spaces.now 0) who) }
 {
-    let own = own_entries(who, phones) + 3 * kill_calls(who, phones);
+    let own = own_entries(who, phones) + kill_calls(who, phones);
     let waiting = boxes.calls_at(Place::Incoming(who));
     let held = boxes.calls_at(Place::Dispatched(who));
     let told = boxes.calls_at(Place::Answers(who));

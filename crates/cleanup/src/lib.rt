@@ -27,3 +27,4 @@ pub use ending::end_task;
 pub use joins::Arrival;
 pub use kept::kept_note;
 pub use laws::active_calls_are_few;
+pub use sharing::Share;

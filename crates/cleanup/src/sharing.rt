@@ -1,88 +1,69 @@
-//! The share methods: the joins of their answers.
-ghost use Rattle.std.specs.Prelude.{◌≡◌, true, IsSome, IfSome};
-ghost use Rattle.answerbox.specs.Calls.{call_at};
-ghost use Rattle.cleanup.specs.State.{is_alive};
+//! The share methods: the join of their answers.
+ghost use Rattle.std.specs.Prelude.{◌≡◌, Some};
 ghost use Rattle.cleanup.specs.Data.{code_told};
-ghost use Rattle.cleanup.specs.Sharing.{accepted_share_out, accepted_share_in, shared_note};
-ghost use Rattle.cleanup.specs.Board.{IsAdded, IsHeldBy};
+ghost use Rattle.cleanup.specs.Sharing.{accepted_share, base_for, kind_of_share, shared_note, taker_of};
 ghost use Rattle.cleanup.specs.Joins.{answer_to, on_call};
-ghost use Rattle.cleanup.specs.Rooms.{HasRoom, UsesRoom};
+ghost use Rattle.cleanup.specs.Rooms.{MayAccept, UsesRoom};
 ghost use Rattle.cleanup.specs.Serving.{Does};
 
 use crate::board::Switchboard;
-use crate::joins::tell;
-use ipc_ids::{CallNo, Code, Entry, MethodKind, Reply, StoreNo, TaskNo, Trace};
+use ipc_ids::{CallNo, Code, Entry, Reply, StoreNo, TaskNo, Trace};
 
-impl Switchboard {
-    /// Accepts the SHARE_OUT that the task holds: it gets an area where the reply says, over the
-    /// store of an area of the caller. Where it does not, the code of the answer says why.
-    pub fn accept_share_out(
-        &mut self,
-        number: CallNo,
-        reply: &Reply,
-        who: TaskNo,
-        caller: TaskNo,
-        out: &mut Trace,
-    )
-        requires number { IfSome (call_at self.old.state.calls number.0) (λ c. c.number ≡ number) }
-        requires held { IsHeldBy (call_at self.old.state.calls number.0)
-            MethodKind.ShareOut who caller }
-        requires added { IsAdded self.old.state who }
-        requires alive { is_alive self.old.state caller ≡ true }
-        requires room { HasRoom self.old out.old 0 1 2 }
-        ensures step { Does self.new out.old out.new (on_call
-            (λ k c. answer_to (accepted_share_out k c reply.now who caller) (Some who) caller)
-            self.old.state number.0) }
-        ensures room { UsesRoom self.old self.new out.old out.new 0 1 2 }
+/// The two ways in which an area is shared.
+#[derive(Clone, Copy)]
+pub enum Share {
+    /// A SHARE_OUT: the task that answers gets an area of the caller.
+    Out,
+    /// A SHARE_IN: the caller gets an area of the task that answers.
+    In,
+}
+
+impl Share {
+    /// Who gets an area as the task answers the caller.
+    fn taker(self, answerer: TaskNo, caller: TaskNo) -> TaskNo
+        ensures { result ≡ taker_of self answerer caller }
     {
-        let asked = self.get(number).unwrap().request.args;
-        let told = self.share_out(number, reply, who, caller);
-        let (code, args) = (code_told(&told), reply.args);
-        let answer = Reply { code, args };
-        self.answer(number, &answer, caller);
-        out.push(Entry::Answered {
-            call: number,
-            reply: answer,
-            by: Some(who),
-        });
-        tell(shared_note(who, args[0], asked[1], asked[2], &told), out);
+        match self {
+            Share::Out => answerer,
+            Share::In => caller,
+        }
     }
 
-    /// Accepts the SHARE_IN that the task holds: the caller gets an area where it asked, over the
-    /// store of an area of the task. Where it does not, the code of the answer says why.
-    pub fn accept_share_in(
+    /// Where that area begins: the reply says so, or the call asked so.
+    fn base(self, asked: &[u64; 5], args: &[u64; 5]) -> u64
+        ensures { result ≡ base_for self asked.now args.now }
+    {
+        match self {
+            Share::Out => args[0],
+            Share::In => asked[0],
+        }
+    }
+}
+
+impl Switchboard {
+    /// Accepts the share call that the task holds: one of the two gets an area over the store of
+    /// an area of the other. Where it does not, the code of the answer says why.
+    pub fn accept_share(
         &mut self,
+        way: Share,
         number: CallNo,
         reply: &Reply,
         who: TaskNo,
         caller: TaskNo,
         out: &mut Trace,
     )
-        requires number { IfSome (call_at self.old.state.calls number.0) (λ c. c.number ≡ number) }
-        requires held { IsHeldBy (call_at self.old.state.calls number.0)
-            MethodKind.ShareIn who caller }
-        requires added { IsAdded self.old.state who }
-        requires alive { is_alive self.old.state caller ≡ true }
-        requires room { HasRoom self.old out.old 0 1 2 }
+        requires accepting { MayAccept self.old out.old number (kind_of_share way) who caller }
         ensures step { Does self.new out.old out.new (on_call
-            (λ k c. answer_to (accepted_share_in k c reply.now who caller) (Some who) caller)
+            (λ k c. answer_to (accepted_share way k c reply.now who caller) (Some who) caller)
             self.old.state number.0) }
         ensures room { UsesRoom self.old self.new out.old out.new 0 1 2 }
     {
         let asked = self.get(number).unwrap().request.args;
-        let told = self.share_in(number, reply, who, caller);
+        let told = self.share(way, number, reply, who, caller);
         let (code, args) = (code_told(&told), reply.args);
-        let answer = Reply { code, args };
-        self.answer(number, &answer, caller);
-        out.push(Entry::Answered {
-            call: number,
-            reply: answer,
-            by: Some(who),
-        });
-        tell(
-            shared_note(caller, asked[0], asked[1], asked[2], &told),
-            out,
-        );
+        let (task, base) = (way.taker(who, caller), way.base(&asked, &args));
+        let note = shared_note(task, base, asked[1], asked[2], &told);
+        self.finish_telling(number, &Reply { code, args }, note, who, caller, out);
     }
 }
 

@@ -29,7 +29,7 @@ use Rattle.cleanup.proofs.Histories.{then_tells, each_tells, drain_tells}
 use Rattle.cleanup.proofs.Silence.{IsEnding, own_phones_hung_up, phones_slammed}
 use Rattle.cleanup.proofs.Queues.{IsUnanswered, incoming_settled, dispatched_settled, answers_dropped, forget_unanswered, call_from, forget_step}
 use Rattle.cleanup.proofs.Killing.{sound_kill, after_hangups, after_slams, after_incoming, after_dispatched, kill_leaves_nothing, HasNothingOf}
-use Rattle.cleanup.proofs.MarkChanges.{ended_here, alive_elsewhere}
+use Rattle.cleanup.proofs.MarkChanges.{get_set_same, get_set_other, alive_at, apart, ended_here, alive_elsewhere}
 use Rattle.cleanup.proofs.Limits.{within_kill}
 use Rattle.kernel_core.proofs.ServedLimits.{within_event}
 use Rattle.kernel_core.specs.Kernel.{kill_event}
@@ -40,40 +40,15 @@ use Rattle.kernel_core.proofs.ServedHistories.{hang_up_told, alive_is, core_of, 
 
 -- who has ended, where the mark of task t is taken away
 
-set_same : (xs : List Bool) (i : ℕ) (v x : Bool) → slice_get xs i ≡ Some x → slice_get (set xs i v) i ≡ Some v
-set_same [] i v x h = absurd (cc h)
-set_same (y ∷ xs) zero v x h = refl
-set_same (y ∷ xs) (suc i) v x h = set_same xs i v x h
-
-set_other : (xs : List Bool) (i j : ℕ) (v : Bool) → (i ≡ j → ⊥) → slice_get (set xs i v) j ≡ slice_get xs j
-set_other [] i j v ne = refl
-set_other (y ∷ xs) zero zero v ne = absurd (ne refl)
-set_other (y ∷ xs) zero (suc j) v ne = refl
-set_other (y ∷ xs) (suc i) zero v ne = refl
-set_other (y ∷ xs) (suc i) (suc j) v ne = set_other xs i j v (λ e. ne (ap suc e))
-
-alive_at : (alive : List Bool) (t : ℕ) → alive_in alive t ≡ true → (t ≡ 0 → ⊥) × (slice_get alive (t - 1) ≡ Some true)
-alive_at alive t h = (λ e. false≢true (sym (no_task e) ∙ h), by_look (t == 0) (slice_get alive (t - 1)) h) where
-  no_task : t ≡ 0 → alive_in alive t ≡ false
-  no_task e = rw (eq-eqb t 0 e)
-
-  by_look : (b : Bool) (o : Option Bool) → (if b then false else unwrap_or o false) ≡ true → o ≡ Some true
-  by_look true o h = absurd (cc h)
-  by_look false None h = absurd (cc h)
-  by_look false (Some b) h = ap Some h
-
 module _ (alive : List Bool) (t : ℕ) (lives : alive_in alive t ≡ true) where
   abbrev after : List Bool
   after = set alive (t - 1) false
 
   now_ended : is_ended after t ≡ true
-  now_ended = let a = alive_at alive t lives in rw (ne_eqb t 0 a.0, set_same alive (t - 1) false true a.1)
-
-  apart : (u : ℕ) → (t ≡ u → ⊥) → (u ≡ 0 → ⊥) → t - 1 ≡ u - 1 → ⊥
-  apart u ne nz e = let a = (alive_at alive t lives).0 in ne (omega arith)
+  now_ended = let a = alive_at alive t lives in rw (ne_eqb t 0 a.0, get_set_same alive (t - 1) false true a.1)
 
   ended_elsewhere : (u : ℕ) → (t ≡ u → ⊥) → is_ended after u ≡ is_ended alive u
-  ended_elsewhere u ne = elim (cases_eq u 0) [ inl e ↦ rw (eq-eqb u 0 e) | inr nz ↦ rw (ne_eqb u 0 nz, set_other alive (t - 1) (u - 1) false (apart u ne nz)) ]
+  ended_elsewhere u ne = elim (cases_eq u 0) [ inl e ↦ rw (eq-eqb u 0 e) | inr nz ↦ rw (ne_eqb u 0 nz, get_set_other alive (t - 1) (u - 1) false (apart alive t lives u (λ e. ne (sym e)) nz)) ]
 
   ended_is : (u : ℕ) → is_ended after u ≡ (if t == u then true else is_ended alive u)
   ended_is u = elim (cases_eq t u) [

@@ -31,7 +31,8 @@ use Rattle.address_space.specs.Memory.{Memory}
 use Rattle.data_hooks.specs.DataMoments.{write_before_send, read_before_send}
 use Rattle.data_hooks.proofs.Lengths.{write_length}
 use Rattle.share_hooks.specs.ShareMoments.{out_before_send, in_before_send}
-use Rattle.cleanup.proofs.SoundShare.{sound_accepted_share_out, sound_accepted_share_in}
+use Rattle.cleanup.specs.declared.sharing.Share.TheVariants.{Out, In}
+use Rattle.cleanup.proofs.SoundShare.{sound_accepted_share}
 use Rattle.cleanup.specs.State.{KernelState, Transition, is_alive, phone_at, with_calls, with_memory, label_of}
 use Rattle.cleanup.specs.Kept.{keeper_of, accepts, first_usable_of}
 use Rattle.cleanup.specs.Sound.{IsPlaced, NeedsPhone, Carries, HasSoundMemory, IsSound}
@@ -187,8 +188,8 @@ module _ (t : TaskNo) (k : KernelState) (alive : is_alive k t ≡ true) (h : IsS
     accepted reply u accepting from ConnectMeTo kind = sound_accepted_me_to k c reply t (Some t) u h live kind pending accepting alive from
     accepted reply u accepting from DataWrite kind = sound_accepted_write k c reply t (Some t) u h live kind pending from
     accepted reply u accepting from DataRead kind = sound_accepted_read k c reply t (Some t) u h live kind pending from
-    accepted reply u accepting from ShareOut kind = sound_accepted_share_out k c reply t (Some t) u h live kind pending alive from
-    accepted reply u accepting from ShareIn kind = sound_accepted_share_in k c reply t (Some t) u h live kind pending alive from
+    accepted reply u accepting from ShareOut kind = sound_accepted_share Out k c reply t (Some t) u h live kind pending alive from
+    accepted reply u accepting from ShareIn kind = sound_accepted_share In k c reply t (Some t) u h live kind pending alive from
     accepted reply u accepting from _ kind = sound_finished k c reply (Some t) u h live (rw kind tt) pending from
 
     accepted_for : (reply : Reply) (o : Option TaskNo) (b : Bool) → accepts reply.code ≡ true → c.caller ≡ o → IsSound (accept_for k t reply c o b).state

@@ -13,6 +13,8 @@ use Rattle.answerbox.proofs.Counts.{active-len}
 use Rattle.cleanup.specs.Board.{FewActive}
 use Rattle.kernel_core.specs.Kernel.{IsSteady, serve, kill_event}
 use Rattle.cleanup.specs.Kill.{kill}
+use Rattle.cleanup.specs.KillRoom.{kill_calls, kill_moves}
+use Rattle.cleanup.proofs.KillRoom.{few_moves}
 use Rattle.kernel_core.specs.Request.{serve_request}
 use Rattle.kernel_core.proofs.Serving.{sound_serve}
 use Rattle.kernel_core.proofs.Stores.{serve_stores, kill_stores}
@@ -93,15 +95,17 @@ killed_after k killed j t does counts = rw (counts, does) refl
 pub steady_killed : (k killed j : KernelState) (t : TaskNo) → IsSteady k → is_alive k t ≡ true → k.events < 2 ^ 24
     → live_calls k < k.calls.next_number
     → killed ≡ (kill k t).state → j ≡ with_event killed
-    → killed.calls.next_number ≤ k.calls.next_number + 64
-    → killed.calls.next_stamp ≤ k.calls.next_stamp + 2 * live_calls k + 192
+    → killed.calls.next_number ≤ k.calls.next_number + kill_calls k t
+    → killed.calls.next_stamp ≤ k.calls.next_stamp + kill_moves k t
+    → kill_calls k t ≤ 64
     → killed.events ≡ k.events
     → IsSteady j
-steady_killed k killed j t s alive few_events live does counts numbers stamps events =
+steady_killed k killed j t s alive few_events live does counts numbers stamps few events =
+    let moves = few_moves k t in
     steady_kill k j t s alive (killed_after k killed j t does counts)
     (rw counts (omega (arith, events)))
-    (rw counts (omega (arith, numbers, events, s.numbers)))
-    (rw counts (omega (arith, stamps, numbers, events, s.numbers, s.stamps, few_events, live)))
+    (rw counts (omega (arith, numbers, few, events, s.numbers)))
+    (rw counts (omega (arith, stamps, moves, few, events, s.numbers, s.stamps, few_events, live)))
 
 -- no phone has more active calls than there are calls
 pub few_active : (k : KernelState) → IsSteady k → k.events < 2 ^ 24 → live_calls k < k.calls.next_number → FewActive k

@@ -18,7 +18,8 @@ use Rattle.cleanup.specs.Kept.{accepts, first_usable_of, kept_note, with_kept}
 use Rattle.data_hooks.specs.DataMoments.{write_before_send, read_before_send}
 use Rattle.cleanup.specs.Joins.{accepted_to_me, accepted_me_to, with_delivery}
 use Rattle.share_hooks.specs.ShareMoments.{out_before_send, in_before_send}
-use Rattle.cleanup.specs.Sharing.{accepted_share_out, accepted_share_in}
+use Rattle.cleanup.specs.declared.sharing.Share.TheVariants.{Out, In}
+use Rattle.cleanup.specs.Sharing.{accepted_share}
 use Rattle.cleanup.specs.Data.{accepted_write, accepted_read, delivered_read}
 use Rattle.cleanup.specs.Serving.{Handed, as_it_is}
 
@@ -87,8 +88,8 @@ on_accept_of ConnectToMe k c reply t caller = accepted_to_me k c reply caller
 on_accept_of ConnectMeTo k c reply t caller = accepted_me_to k c reply t
 on_accept_of DataWrite k c reply t caller = accepted_write k c reply t
 on_accept_of DataRead k c reply t caller = accepted_read k c reply t
-on_accept_of ShareOut k c reply t caller = accepted_share_out k c reply t caller
-on_accept_of ShareIn k c reply t caller = accepted_share_in k c reply t caller
+on_accept_of ShareOut k c reply t caller = accepted_share Out k c reply t caller
+on_accept_of ShareIn k c reply t caller = accepted_share In k c reply t caller
 on_accept_of _ k c reply t caller = as_it_is k (record c { reply = reply })
 
 abbrev pub on_accept : KernelState → Call → Reply → TaskNo → TaskNo → Handed

@@ -1,6 +1,7 @@
 //! The kernel.
 ghost use Rattle.ipc_ids.specs.declared.entry.Entry.{Entry};
 ghost use Rattle.std.specs.Prelude.{List, [], ◌≡◌, ◌+◌, ◌^◌, ◌<◌, ◌≤◌, ◌++◌, true, Some, IfOk, OnOk, OnErr, length};
+ghost use Rattle.ipc_ids.specs.Program.{fits};
 ghost use Rattle.cleanup.specs.State.{start, is_alive, phone_at, with_task, with_phone};
 ghost use Rattle.cleanup.specs.Board.{IsLimit};
 ghost use Rattle.cleanup.specs.Sound.{IsSound};
@@ -107,6 +108,7 @@ impl Kernel {
         ensures state { OnOk result (self.new ≡ (serve self.old who request.now).state) }
         ensures outcome { IfOk result (λ outcome. outcome
             ≡ (serve self.old who request.now).outcome) }
+        ensures fits { IfOk result (λ outcome. fits request.now outcome ≡ true) }
         ensures entries { OnOk result (out.new.entries
             ≡ out.old.entries ++ (serve self.old who request.now).entries) }
         ensures events { OnOk result (self.new.events ≡ self.old.events + 1) }

@@ -1,21 +1,20 @@
 //! The four moments of a call at which its method does more than carry a message.
-ghost use Rattle.std.specs.Prelude.{◌≡◌, ◌≤◌, true, IsSome, IfSome};
+ghost use Rattle.std.specs.Prelude.{◌≡◌, ◌≤◌, true, Some, IsSome};
 ghost use Rattle.ipc_ids.specs.Methods.{kind_of};
 ghost use Rattle.call_slab.specs.declared.call.Place.TheVariants.{Incoming};
 ghost use Rattle.answerbox.specs.Calls.{call_at};
 ghost use Rattle.answerbox.specs.Places.{IsAt};
-ghost use Rattle.cleanup.specs.State.{is_alive};
-ghost use Rattle.cleanup.specs.Board.{IsAdded, IsHeldBy, IsNewCall};
+ghost use Rattle.cleanup.specs.Board.{IsAdded, IsNewCall};
 ghost use Rattle.cleanup.specs.Joins.{on_call, answer_to};
 ghost use Rattle.cleanup.specs.Kept.{accepts};
-ghost use Rattle.cleanup.specs.Rooms.{HasRoom, KeepsCalls, UsesRoom};
+ghost use Rattle.cleanup.specs.Rooms.{KeepsCalls, MayAccept, UsesRoom};
 ghost use Rattle.cleanup.specs.Serving.{DoesOrLeaves};
 ghost use Rattle.kernel_core.specs.Moments.{with_fifth, with_phone_named, number_of, reply_of, brings_bytes, before_send as before_send_of, on_receive as on_receive_of, on_accept as on_accept_of};
 ghost use Rattle.kernel_core.specs.Handing.{IsSent, Arrives};
 
 use address_space::SpaceFault;
 use call_slab::Call;
-use cleanup::{Arrival, Switchboard, kept_note};
+use cleanup::{Arrival, Share, Switchboard, kept_note};
 use data_hooks::read_before_send;
 use ipc_ids::{
     CallNo, Code, Entry, Label, MethodKind, Msg, NoMemory, PhoneState, Reply, TaskNo, Trace,
@@ -117,8 +116,8 @@ pub(crate) fn on_receive(board: &mut Switchboard, number: CallNo, who: TaskNo) -
 }
 
 /// As the task accepts a call of that caller: a phone that was kept for it leads to the other of
-/// the two, the bytes of a DATA_WRITE are written, those of a DATA_READ are taken along, and a share
-/// gives one of the two an area.
+/// the two, the bytes of a DATA_WRITE are written, those of a DATA_READ are taken along, and a
+/// share gives one of the two an area.
 ///
 /// # Errors
 ///
@@ -132,12 +131,8 @@ pub(crate) fn on_accept(
     caller: TaskNo,
     out: &mut Trace,
 ) -> Result<(), NoMemory>
-    requires number { IfSome (call_at board.old.state.calls number.0) (λ c. c.number ≡ number) }
-    requires held { IsHeldBy (call_at board.old.state.calls number.0) kind who caller }
+    requires accepting { MayAccept board.old out.old number kind who caller }
     requires accepts { accepts reply.now.code ≡ true }
-    requires added { IsAdded board.old.state who }
-    requires alive { is_alive board.old.state caller ≡ true }
-    requires room { HasRoom board.old out.old 0 1 2 }
     ensures step { DoesOrLeaves result board.old board.new out.old out.new
         (on_call (λ k c. answer_to (on_accept_of k c reply.now who caller) (Some who) caller)
         board.old.state number.0) }
@@ -158,11 +153,11 @@ pub(crate) fn on_accept(
         }
         MethodKind::DataRead => board.accept_read(number, reply, who, caller, out),
         MethodKind::ShareOut => {
-            board.accept_share_out(number, reply, who, caller, out);
+            board.accept_share(Share::Out, number, reply, who, caller, out);
             Ok(())
         }
         MethodKind::ShareIn => {
-            board.accept_share_in(number, reply, who, caller, out);
+            board.accept_share(Share::In, number, reply, who, caller, out);
             Ok(())
         }
         MethodKind::PhoneHungUp | MethodKind::NotBuilt | MethodKind::User => {

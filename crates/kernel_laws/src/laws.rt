@@ -1,10 +1,13 @@
-//! What a kill and a receive come to, over all sound states.
+//! What a kill and a receive come to, over all sound states, and how effects and outcomes agree.
 ghost use Rattle.std.specs.Prelude.{◌≡◌, true};
 ghost use Rattle.ipc_ids.specs.declared.numbers.TaskNo.{TaskNo};
+ghost use Rattle.ipc_ids.specs.declared.message.Request.{Request};
 ghost use Rattle.cleanup.specs.State.{KernelState, is_alive};
 ghost use Rattle.cleanup.specs.Sound.{IsSound};
 ghost use Rattle.cleanup.specs.Kill.{kill};
 ghost use Rattle.kernel_core.specs.Receiving.{receive};
+ghost use Rattle.kernel_core.specs.Kernel.{serve, kill_event};
+ghost use Rattle.kernel_core.specs.Effects.{AreEffects, IsHonest};
 ghost use Rattle.kernel_laws.specs.KillLaws.{EndsTask, LeavesNothingOf, EndsWaitingFirst, ClosesPhones, ClosesCalls, ClosesAreas};
 ghost use Rattle.kernel_laws.specs.ReceiveLaws.{IsLawfulReceive};
 
@@ -30,4 +33,12 @@ pub fn kills_leave_nothing()
 pub fn receives_are_lawful()
     ensures { (k : KernelState) (t : TaskNo) → IsSound k
         → IsLawfulReceive t k (receive k t) }
+{}
+
+/// The kernel tells of a request and of a kill by effects alone. A task is told that its call was
+/// accepted only where an effect says so, and of an answer only where an effect delivers it.
+pub fn events_are_honest()
+    ensures serves { (k : KernelState) (t : TaskNo) (asked : Request)
+        → IsHonest (serve k t asked).entries (serve k t asked).outcome }
+    ensures kills { (k : KernelState) (t : TaskNo) → AreEffects (kill_event k t).entries }
 {}

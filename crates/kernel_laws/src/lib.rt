@@ -2,10 +2,10 @@
 //!
 //! The definitions of a kill and of a receive go through the same steps as the code, so that a wrong
 //! step in both would still be proved. The laws here name no step: they say what a kill and a receive
-//! come to. The functions have empty bodies; what they promise is proved of the definitions that
-//! `kernel_core` and `cleanup` meet.
+//! come to, and that the entries of any event agree with its outcome. The functions have empty bodies;
+//! what they promise is proved of the definitions that `kernel_core` and `cleanup` meet.
 #![tactic(auto)]
 
 mod laws;
 
-pub use laws::{kills_leave_nothing, receives_are_lawful};
+pub use laws::{events_are_honest, kills_leave_nothing, receives_are_lawful};

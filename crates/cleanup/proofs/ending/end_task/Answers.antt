@@ -39,7 +39,7 @@ end_reserved-requires-clause-room g c =
     let stamp = ap (λ (j : KernelState). j.calls.next_stamp) same in
     let spare = c.of-board.ensures.spare ∙ ap (λ (b : BoxesState). b.spare) c.replace-2.ensures.value in
     let few = few_moves k c.args.who in
-    let counted = c.kill_calls.ensures in
+    let counted = c.kill_calls-new_calls.ensures in
     let most = c.requires.1.1.1.0 in
     record {
       numbers = omega (arith, number, calls, counted.calls, counted.few, most.numbers);
@@ -75,11 +75,11 @@ pub returns-clause-used : goal.returns-clause-used
 returns-clause-used g c =
     let used = c.end_reserved.ensures in
     let calls = c.into_parts-rows.ensures.calls in
-    let before = ap (λ (k : KernelState). k.calls) (board g c) in
     let numbers = ap (λ (q : CallTable). q.next_number) calls in
     let stamps = ap (λ (q : CallTable). q.next_stamp) calls in
     record {
       places = rw (c.into_parts-rows.ensures.places, used.places, c.of-board.ensures.places, c.replace-2.ensures.value, c.reserve.ensures.tasks) refl;
-      numbers = rw (numbers) (rw before at used.numbers);
-      stamps = rw (stamps) (rw before at used.stamps);
+      few = omega (arith, c.kill_calls-new_calls.ensures.calls, c.kill_calls-new_calls.ensures.few);
+      numbers = rw (numbers) (rw (board g c) at used.numbers);
+      stamps = rw (stamps) (rw (board g c) at used.stamps);
     }

@@ -13,7 +13,7 @@ end_reserved-requires-clause-room c =
     let number = ap (λ (k : KernelState). k.calls.next_number) same in
     let stamp = ap (λ (k : KernelState). k.calls.next_stamp) same in
     let few = few_moves c.args.self.now.state c.args.who in
-    let counted = c.kill_calls.ensures in
+    let counted = c.kill_calls-calls.ensures in
     record {
       numbers = omega (arith, number, calls, counted.calls, counted.few, c.requires.few_calls);
       stamps = omega (arith, stamp, moves, few, counted.calls, counted.few, c.requires.few_calls, c.requires.few_stamps, c.next_number-next.ensures.few);

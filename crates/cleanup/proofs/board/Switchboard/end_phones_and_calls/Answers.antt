@@ -1,5 +1,8 @@
-use Rattle.std.proofs.Common.{arith}
-use Rattle.cleanup.proofs.KillRoom.{finds_second, finds_third, finds_fourth, finds_fifth, same_slams}
+use Rattle.std.proofs.Common.{◌∙◌, arith}
+use Rattle.cleanup.proofs.KillRoom.{some_at, second_moves, second_entries, second_made, finds_third, third_made, finds_fourth, finds_fifth, same_slams}
+use Rattle.call_slab.specs.declared.call.Place.TheVariants.{Dispatched}
+use Rattle.cleanup.specs.Joins.{lives}
+use Rattle.cleanup.specs.Rooms.{tells_two}
 use Rattle.cleanup.proofs.Turns.{uses_both, uses_less, room_left}
 use Rattle.cleanup.proofs.board.Switchboard.end_phones_and_calls.Goals as goal
 
@@ -13,38 +16,61 @@ slam_phones_to-requires c = record {
 pub settle_calls_at-requires-clause-room : goal.settle_calls_at-requires-clause-room
 settle_calls_at-requires-clause-room c =
     let slams = same_slams c.args.who c.args.self.now.state c.hang_up_own_phones.new.self.state c.hang_up_own_phones.ensures.step.state in
-    let second = finds_second c.args.who c.args.self.now.state c.hang_up_own_phones.new.self.state c.slam_phones_to.new.self.state c.hang_up_own_phones.ensures.step.state c.slam_phones_to.ensures.step.state c.next_number-next.ensures.numbered c.requires.ended in
-    room_left c.requires.room (uses_both c.hang_up_own_phones.ensures.room c.slam_phones_to.ensures.room) (omega (arith)) (omega (arith, second.waits)) (omega (arith, slams, second.waits))
+    let alive = c.slam_phones_to.ensures.room.alive ∙ c.hang_up_own_phones.ensures.room.alive in
+    let moves = second_moves c.args.who c.args.self.now.state c.hang_up_own_phones.new.self.state c.slam_phones_to.new.self.state c.hang_up_own_phones.ensures.step.state c.slam_phones_to.ensures.step.state c.next_number-next.ensures.numbered c.requires.ended alive in
+    let entries = second_entries c.args.who c.args.self.now.state c.hang_up_own_phones.new.self.state c.slam_phones_to.new.self.state c.hang_up_own_phones.ensures.step.state c.slam_phones_to.ensures.step.state c.next_number-next.ensures.numbered c.requires.ended alive in
+    let below = second_made c.args.who c.args.self.now.state c.hang_up_own_phones.new.self.state c.slam_phones_to.new.self.state c.hang_up_own_phones.ensures.step.state c.slam_phones_to.ensures.step.state c.next_number-next.ensures.numbered c.requires.ended in
+    room_left c.requires.room (uses_both c.hang_up_own_phones.ensures.room c.slam_phones_to.ensures.room) (omega (arith)) (omega (arith, moves)) (omega (arith, slams, entries, below))
 
 pub settle_calls_at-requires-2-clause-room : goal.settle_calls_at-requires-2-clause-room
 settle_calls_at-requires-2-clause-room c =
     let slams = same_slams c.args.who c.args.self.now.state c.hang_up_own_phones.new.self.state c.hang_up_own_phones.ensures.step.state in
-    let second = finds_second c.args.who c.args.self.now.state c.hang_up_own_phones.new.self.state c.slam_phones_to.new.self.state c.hang_up_own_phones.ensures.step.state c.slam_phones_to.ensures.step.state c.next_number-next.ensures.numbered c.requires.ended in
+    let alive = c.slam_phones_to.ensures.room.alive ∙ c.hang_up_own_phones.ensures.room.alive in
+    let moves = second_moves c.args.who c.args.self.now.state c.hang_up_own_phones.new.self.state c.slam_phones_to.new.self.state c.hang_up_own_phones.ensures.step.state c.slam_phones_to.ensures.step.state c.next_number-next.ensures.numbered c.requires.ended alive in
+    let entries = second_entries c.args.who c.args.self.now.state c.hang_up_own_phones.new.self.state c.slam_phones_to.new.self.state c.hang_up_own_phones.ensures.step.state c.slam_phones_to.ensures.step.state c.next_number-next.ensures.numbered c.requires.ended alive in
     let third = finds_third c.args.who c.args.self.now.state c.hang_up_own_phones.new.self.state c.slam_phones_to.new.self.state c.hang_up_own_phones.ensures.step.state c.slam_phones_to.ensures.step.state c.next_number-next.ensures.numbered c.requires.ended c.settle_calls_at.new.self.state c.settle_calls_at.ensures.step.state in
-    room_left c.requires.room (uses_both (uses_both c.hang_up_own_phones.ensures.room c.slam_phones_to.ensures.room) c.settle_calls_at.ensures.room) (omega (arith)) (omega (arith, second.waits, third.holds)) (omega (arith, slams, second.waits, third.holds))
+    let made = third_made c.args.who c.args.self.now.state c.hang_up_own_phones.new.self.state c.slam_phones_to.new.self.state c.hang_up_own_phones.ensures.step.state c.slam_phones_to.ensures.step.state c.next_number-next.ensures.numbered c.requires.ended c.settle_calls_at.new.self.state c.settle_calls_at.ensures.step.state in
+    let held = some_at (λ d. lives c.settle_calls_at.new.self.state d.caller) c.settle_calls_at.new.self.state (Dispatched c.args.who) in
+    let two = some_at (tells_two c.settle_calls_at.new.self.state) c.settle_calls_at.new.self.state (Dispatched c.args.who) in
+    room_left c.requires.room (uses_both (uses_both c.hang_up_own_phones.ensures.room c.slam_phones_to.ensures.room) c.settle_calls_at.ensures.room) (omega (arith)) (omega (arith, moves, held, third.holds)) (omega (arith, slams, entries, held, two, made, moves, third.holds))
 
 pub drop_answers-requires-clause-room : goal.drop_answers-requires-clause-room
 drop_answers-requires-clause-room c =
     let slams = same_slams c.args.who c.args.self.now.state c.hang_up_own_phones.new.self.state c.hang_up_own_phones.ensures.step.state in
-    let second = finds_second c.args.who c.args.self.now.state c.hang_up_own_phones.new.self.state c.slam_phones_to.new.self.state c.hang_up_own_phones.ensures.step.state c.slam_phones_to.ensures.step.state c.next_number-next.ensures.numbered c.requires.ended in
+    let alive = c.slam_phones_to.ensures.room.alive ∙ c.hang_up_own_phones.ensures.room.alive in
+    let moves = second_moves c.args.who c.args.self.now.state c.hang_up_own_phones.new.self.state c.slam_phones_to.new.self.state c.hang_up_own_phones.ensures.step.state c.slam_phones_to.ensures.step.state c.next_number-next.ensures.numbered c.requires.ended alive in
+    let entries = second_entries c.args.who c.args.self.now.state c.hang_up_own_phones.new.self.state c.slam_phones_to.new.self.state c.hang_up_own_phones.ensures.step.state c.slam_phones_to.ensures.step.state c.next_number-next.ensures.numbered c.requires.ended alive in
     let third = finds_third c.args.who c.args.self.now.state c.hang_up_own_phones.new.self.state c.slam_phones_to.new.self.state c.hang_up_own_phones.ensures.step.state c.slam_phones_to.ensures.step.state c.next_number-next.ensures.numbered c.requires.ended c.settle_calls_at.new.self.state c.settle_calls_at.ensures.step.state in
+    let made = third_made c.args.who c.args.self.now.state c.hang_up_own_phones.new.self.state c.slam_phones_to.new.self.state c.hang_up_own_phones.ensures.step.state c.slam_phones_to.ensures.step.state c.next_number-next.ensures.numbered c.requires.ended c.settle_calls_at.new.self.state c.settle_calls_at.ensures.step.state in
+    let held = some_at (λ d. lives c.settle_calls_at.new.self.state d.caller) c.settle_calls_at.new.self.state (Dispatched c.args.who) in
+    let two = some_at (tells_two c.settle_calls_at.new.self.state) c.settle_calls_at.new.self.state (Dispatched c.args.who) in
     let fourth = finds_fourth c.args.who c.args.self.now.state c.hang_up_own_phones.new.self.state c.slam_phones_to.new.self.state c.hang_up_own_phones.ensures.step.state c.slam_phones_to.ensures.step.state c.next_number-next.ensures.numbered c.requires.ended c.settle_calls_at.new.self.state c.settle_calls_at.ensures.step.state c.settle_calls_at-2.new.self.state c.settle_calls_at-2.ensures.step.state in
-    room_left c.requires.room (uses_both (uses_both (uses_both c.hang_up_own_phones.ensures.room c.slam_phones_to.ensures.room) c.settle_calls_at.ensures.room) c.settle_calls_at-2.ensures.room) (omega (arith)) (omega (arith, second.waits, third.holds)) (omega (arith, slams, second.waits, third.holds, fourth.answers))
+    room_left c.requires.room (uses_both (uses_both (uses_both c.hang_up_own_phones.ensures.room c.slam_phones_to.ensures.room) c.settle_calls_at.ensures.room) c.settle_calls_at-2.ensures.room) (omega (arith)) (omega (arith, moves, held, third.holds)) (omega (arith, slams, entries, held, two, made, moves, third.holds, fourth.answers))
 
 pub forget_calls_elsewhere-requires-clause-room : goal.forget_calls_elsewhere-requires-clause-room
 forget_calls_elsewhere-requires-clause-room c =
     let slams = same_slams c.args.who c.args.self.now.state c.hang_up_own_phones.new.self.state c.hang_up_own_phones.ensures.step.state in
-    let second = finds_second c.args.who c.args.self.now.state c.hang_up_own_phones.new.self.state c.slam_phones_to.new.self.state c.hang_up_own_phones.ensures.step.state c.slam_phones_to.ensures.step.state c.next_number-next.ensures.numbered c.requires.ended in
+    let alive = c.slam_phones_to.ensures.room.alive ∙ c.hang_up_own_phones.ensures.room.alive in
+    let moves = second_moves c.args.who c.args.self.now.state c.hang_up_own_phones.new.self.state c.slam_phones_to.new.self.state c.hang_up_own_phones.ensures.step.state c.slam_phones_to.ensures.step.state c.next_number-next.ensures.numbered c.requires.ended alive in
+    let entries = second_entries c.args.who c.args.self.now.state c.hang_up_own_phones.new.self.state c.slam_phones_to.new.self.state c.hang_up_own_phones.ensures.step.state c.slam_phones_to.ensures.step.state c.next_number-next.ensures.numbered c.requires.ended alive in
     let third = finds_third c.args.who c.args.self.now.state c.hang_up_own_phones.new.self.state c.slam_phones_to.new.self.state c.hang_up_own_phones.ensures.step.state c.slam_phones_to.ensures.step.state c.next_number-next.ensures.numbered c.requires.ended c.settle_calls_at.new.self.state c.settle_calls_at.ensures.step.state in
+    let made = third_made c.args.who c.args.self.now.state c.hang_up_own_phones.new.self.state c.slam_phones_to.new.self.state c.hang_up_own_phones.ensures.step.state c.slam_phones_to.ensures.step.state c.next_number-next.ensures.numbered c.requires.ended c.settle_calls_at.new.self.state c.settle_calls_at.ensures.step.state in
+    let held = some_at (λ d. lives c.settle_calls_at.new.self.state d.caller) c.settle_calls_at.new.self.state (Dispatched c.args.who) in
+    let two = some_at (tells_two c.settle_calls_at.new.self.state) c.settle_calls_at.new.self.state (Dispatched c.args.who) in
     let fourth = finds_fourth c.args.who c.args.self.now.state c.hang_up_own_phones.new.self.state c.slam_phones_to.new.self.state c.hang_up_own_phones.ensures.step.state c.slam_phones_to.ensures.step.state c.next_number-next.ensures.numbered c.requires.ended c.settle_calls_at.new.self.state c.settle_calls_at.ensures.step.state c.settle_calls_at-2.new.self.state c.settle_calls_at-2.ensures.step.state in
     let fifth = finds_fifth c.args.who c.args.self.now.state c.hang_up_own_phones.new.self.state c.slam_phones_to.new.self.state c.hang_up_own_phones.ensures.step.state c.slam_phones_to.ensures.step.state c.next_number-next.ensures.numbered c.requires.ended c.settle_calls_at.new.self.state c.settle_calls_at.ensures.step.state c.settle_calls_at-2.new.self.state c.settle_calls_at-2.ensures.step.state c.drop_answers.new.self.state c.drop_answers.ensures.step.state in
-    room_left c.requires.room (uses_both (uses_both (uses_both (uses_both c.hang_up_own_phones.ensures.room c.slam_phones_to.ensures.room) c.settle_calls_at.ensures.room) c.settle_calls_at-2.ensures.room) c.drop_answers.ensures.room) (omega (arith)) (omega (arith, second.waits, third.holds)) (omega (arith, slams, second.waits, third.holds, fourth.answers, fifth.made))
+    room_left c.requires.room (uses_both (uses_both (uses_both (uses_both c.hang_up_own_phones.ensures.room c.slam_phones_to.ensures.room) c.settle_calls_at.ensures.room) c.settle_calls_at-2.ensures.room) c.drop_answers.ensures.room) (omega (arith)) (omega (arith, moves, held, third.holds)) (omega (arith, slams, entries, held, two, made, moves, third.holds, fourth.answers, fifth.made))
 
 pub returns-clause-room : goal.returns-clause-room
 returns-clause-room c =
     let slams = same_slams c.args.who c.args.self.now.state c.hang_up_own_phones.new.self.state c.hang_up_own_phones.ensures.step.state in
-    let second = finds_second c.args.who c.args.self.now.state c.hang_up_own_phones.new.self.state c.slam_phones_to.new.self.state c.hang_up_own_phones.ensures.step.state c.slam_phones_to.ensures.step.state c.next_number-next.ensures.numbered c.requires.ended in
+    let alive = c.slam_phones_to.ensures.room.alive ∙ c.hang_up_own_phones.ensures.room.alive in
+    let moves = second_moves c.args.who c.args.self.now.state c.hang_up_own_phones.new.self.state c.slam_phones_to.new.self.state c.hang_up_own_phones.ensures.step.state c.slam_phones_to.ensures.step.state c.next_number-next.ensures.numbered c.requires.ended alive in
+    let entries = second_entries c.args.who c.args.self.now.state c.hang_up_own_phones.new.self.state c.slam_phones_to.new.self.state c.hang_up_own_phones.ensures.step.state c.slam_phones_to.ensures.step.state c.next_number-next.ensures.numbered c.requires.ended alive in
     let third = finds_third c.args.who c.args.self.now.state c.hang_up_own_phones.new.self.state c.slam_phones_to.new.self.state c.hang_up_own_phones.ensures.step.state c.slam_phones_to.ensures.step.state c.next_number-next.ensures.numbered c.requires.ended c.settle_calls_at.new.self.state c.settle_calls_at.ensures.step.state in
+    let made = third_made c.args.who c.args.self.now.state c.hang_up_own_phones.new.self.state c.slam_phones_to.new.self.state c.hang_up_own_phones.ensures.step.state c.slam_phones_to.ensures.step.state c.next_number-next.ensures.numbered c.requires.ended c.settle_calls_at.new.self.state c.settle_calls_at.ensures.step.state in
+    let held = some_at (λ d. lives c.settle_calls_at.new.self.state d.caller) c.settle_calls_at.new.self.state (Dispatched c.args.who) in
+    let two = some_at (tells_two c.settle_calls_at.new.self.state) c.settle_calls_at.new.self.state (Dispatched c.args.who) in
     let fourth = finds_fourth c.args.who c.args.self.now.state c.hang_up_own_phones.new.self.state c.slam_phones_to.new.self.state c.hang_up_own_phones.ensures.step.state c.slam_phones_to.ensures.step.state c.next_number-next.ensures.numbered c.requires.ended c.settle_calls_at.new.self.state c.settle_calls_at.ensures.step.state c.settle_calls_at-2.new.self.state c.settle_calls_at-2.ensures.step.state in
     let fifth = finds_fifth c.args.who c.args.self.now.state c.hang_up_own_phones.new.self.state c.slam_phones_to.new.self.state c.hang_up_own_phones.ensures.step.state c.slam_phones_to.ensures.step.state c.next_number-next.ensures.numbered c.requires.ended c.settle_calls_at.new.self.state c.settle_calls_at.ensures.step.state c.settle_calls_at-2.new.self.state c.settle_calls_at-2.ensures.step.state c.drop_answers.new.self.state c.drop_answers.ensures.step.state in
-    uses_less (uses_both (uses_both (uses_both (uses_both (uses_both c.hang_up_own_phones.ensures.room c.slam_phones_to.ensures.room) c.settle_calls_at.ensures.room) c.settle_calls_at-2.ensures.room) c.drop_answers.ensures.room) c.forget_calls_elsewhere.ensures.room) (omega (arith)) (omega (arith, second.waits, third.holds)) (omega (arith, slams, second.waits, third.holds, fourth.answers, fifth.made))
+    uses_less (uses_both (uses_both (uses_both (uses_both (uses_both c.hang_up_own_phones.ensures.room c.slam_phones_to.ensures.room) c.settle_calls_at.ensures.room) c.settle_calls_at-2.ensures.room) c.drop_answers.ensures.room) c.forget_calls_elsewhere.ensures.room) (omega (arith)) (omega (arith, moves, held, third.holds)) (omega (arith, slams, entries, held, two, made, moves, third.holds, fourth.answers, fifth.made))

@@ -3,6 +3,7 @@ use Rattle.cleanup.specs.State.{KernelState}
 use Rattle.kernel_core.specs.Kernel.{serve}
 use Rattle.kernel_core.specs.History.{HistoryFits, served_entries}
 use Rattle.kernel_core.proofs.Steadiness.{few_active, few_stores, steady_served, served_after}
+use Rattle.kernel_core.proofs.FittingOutcomes.{served_fits}
 use Rattle.kernel_core.proofs.ServedHistories.{serve_fits}
 use Rattle.kernel_core.proofs.kernel.Kernel.serve.Goals as goal
 
@@ -14,6 +15,9 @@ serve_request-requires-clause-few_tasks c = rw c.reserve.ensures.state c.self.in
 
 pub serve_request-requires-clause-few_stores : goal.serve_request-requires-clause-few_stores
 serve_request-requires-clause-few_stores c = rw c.reserve.ensures.state (few_stores c.self.inside.board.state c.self.invariant (rw (← c.self.view_is) at c.requires.few_events))
+
+pub returns-in-Ok-clause-fits : goal.returns-in-Ok-clause-fits
+returns-in-Ok-clause-fits c = served_fits c.self.inside.board.state c.reserve.new.self.state c.args.who c.args.request.now _ c.self.invariant.sound c.reserve.ensures.state c.in-Ok.ensures.served.outcome
 
 pub invariant_of-self-in-Ok : goal.invariant_of-self-in-Ok
 invariant_of-self-in-Ok c =
