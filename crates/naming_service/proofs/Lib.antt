@@ -1,0 +1,5 @@
+mod Calls
+mod Entries
+mod Examples
+mod RegistrationLaws
+mod Results
