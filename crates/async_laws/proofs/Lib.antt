@@ -1,0 +1,10 @@
+pub mod AnswerFacts
+pub mod ExchangeFacts
+pub mod ExchangePlans
+pub mod FibrilFacts
+pub mod StepsFit
+pub mod EventsFit
+pub mod OwnEntries
+pub mod Linking
+pub mod NewTasks
+pub mod QuietTasks

@@ -1,0 +1,13 @@
+//! What the state of an async task says of the entries of a run so far, and that each event of the
+//! run keeps it; so the laws of replies and of exchanges hold of every run.
+//!
+//! The crate has no code: each of its functions has an empty body, and its clauses are laws over
+//! lists of entries and the definitions of async tasks.
+#![tactic(auto)]
+
+mod laws;
+
+pub use laws::{
+    events_keep_the_fit, fitting_entries_keep_the_laws, lawful_runs_keep_the_fit,
+    laws_of_calls_keep_the_promises,
+};

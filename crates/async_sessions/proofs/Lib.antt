@@ -1,0 +1,4 @@
+pub mod Lookups
+pub mod Searches
+pub mod Answers
+pub mod Sound

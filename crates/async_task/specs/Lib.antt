@@ -1,0 +1,10 @@
+pub mod AsyncState
+pub mod Contexts
+pub mod Turns
+pub mod Wanted
+pub mod Calls
+pub mod Exchanges
+pub mod Answers
+pub mod Connections
+pub mod Steps
+pub mod Program

@@ -1,0 +1,160 @@
+//! Operations that call, wait and yield.
+ghost use Rattle.std.specs.Prelude.{◌≡◌, ◌^◌, ◌<◌, Some};
+ghost use Rattle.fibril_core.specs.Fibrils.{current, IsWithinBounds};
+ghost use Rattle.fibril_core.specs.Conns.{conn_of_fibril, take_answer};
+ghost use Rattle.async_task.specs.AsyncState.{Does, IsReady};
+ghost use Rattle.async_task.specs.Contexts.{slot_at};
+ghost use Rattle.async_task.specs.Calls.{refuse_op, block, send_call, call_outcome, call_slot};
+ghost use Rattle.async_task.specs.Calls.{send_over, wait_slot, next_call, with_taken, yield_op};
+
+use crate::awaited::Awaited;
+use crate::context::{Context, Slot};
+use crate::machine::Machine;
+use fibril_core::Taken;
+use ipc_ids::{CallNo, Code, Entry, FibrilNo, Msg, Outcome, Trace, Why};
+
+impl Machine {
+    /// The task refuses the operation.
+    pub(crate) fn refuse_op(&mut self, f: FibrilNo, t: Context, code: Code, out: &mut Trace)
+        requires entry { 0 < out.old.spare }
+        ensures { Does self.new out.old out.new (refuse_op self.old.state f t code) }
+    {
+        self.set_context(f, t.after_refused(code));
+        out.push(Entry::RefusedOp {
+            task: self.me,
+            fibril: f,
+            code,
+        });
+    }
+
+    /// The present fibril, which is `f`, blocks.
+    pub(crate) fn block(&mut self, f: FibrilNo, why: Why, out: &mut Trace)
+        requires entry { 0 < out.old.spare }
+        requires bounds { IsWithinBounds self.old.state.order }
+        requires present { current self.old.state.order ≡ Some f }
+        ensures { Does self.new out.old out.new (block self.old.state f why) }
+    {
+        self.fibrils.block_on(why);
+        out.push(Entry::Blocks {
+            task: self.me,
+            fibril: f,
+            why,
+        });
+    }
+
+    /// A call from a slot.
+    pub(crate) fn call_slot(
+        &mut self,
+        f: FibrilNo,
+        t: Context,
+        slot: u32,
+        got: &Outcome,
+        out: &mut Trace,
+    )
+        requires ready { IsReady self.old out.old }
+        ensures { Does self.new out.old out.new
+            (call_slot self.old.state f t slot got.now (slot_at t slot)) }
+    {
+        match t.slot(slot) {
+            Slot::Closed => self.call_outcome(f, t, slot, got, out),
+            Slot::Sent(_) | Slot::Answered(_, _) => self.refuse_op(f, t, Code::EBUSY, out),
+        }
+    }
+
+    /// A call from a slot over the phone of an exchange, if that is begun.
+    pub(crate) fn send_over(
+        &mut self,
+        f: FibrilNo,
+        t: Context,
+        slot: u32,
+        phone: Option<u64>,
+        got: &Outcome,
+        out: &mut Trace,
+    )
+        requires ready { IsReady self.old out.old }
+        ensures { Does self.new out.old out.new
+            (send_over self.old.state f t slot got.now (slot_at t slot) phone) }
+    {
+        match phone {
+            Some(_) => self.call_slot(f, t, slot, got, out),
+            None => self.refuse_op(f, t, Code::ENOENT, out),
+        }
+    }
+
+    fn call_outcome(&mut self, f: FibrilNo, t: Context, slot: u32, got: &Outcome, out: &mut Trace)
+        requires ready { IsReady self.old out.old }
+        ensures { Does self.new out.old out.new (call_outcome self.old.state f t slot got.now) }
+    {
+        match got {
+            Outcome::Accepted(call) => self.send_call(f, t, slot, *call, out),
+            Outcome::Refused(code) => self.set_context(f, t.after_refused(*code)),
+            _ => {}
+        }
+    }
+
+    fn send_call(&mut self, f: FibrilNo, t: Context, slot: u32, call: CallNo, out: &mut Trace)
+        requires ready { IsReady self.old out.old }
+        ensures { Does self.new out.old out.new (send_call self.old.state f t slot call) }
+    {
+        self.set_context(f, t.after_accepted(slot, call));
+        self.awaited.push_reserved(Awaited {
+            call,
+            fibril: f,
+            slot: Some(slot),
+        });
+        out.push(Entry::Sent {
+            task: self.me,
+            fibril: f,
+            call,
+            slot: Some(slot),
+        });
+    }
+
+    /// Waits for the answer in a slot. `f` is the present fibril.
+    pub(crate) fn wait_slot(&mut self, f: FibrilNo, t: Context, slot: u32, out: &mut Trace)
+        requires ready { IsReady self.old out.old }
+        requires present { current self.old.state.order ≡ Some f }
+        ensures { Does self.new out.old out.new
+            (wait_slot self.old.state f t slot (slot_at t slot)) }
+    {
+        match t.slot(slot) {
+            Slot::Closed => self.refuse_op(f, t, Code::ENOENT, out),
+            Slot::Sent(call) => self.block(f, Why::Answer(call), out),
+            Slot::Answered(call, reply) => {
+                self.set_context(f, t.after_answered(slot, call, &reply));
+            }
+        }
+    }
+
+    /// Asks the connection for its next call. `f` is the present fibril.
+    pub(crate) fn next_call(&mut self, f: FibrilNo, t: Context, out: &mut Trace)
+        requires ready { IsReady self.old out.old }
+        requires present { current self.old.state.order ≡ Some f }
+        ensures { Does self.new out.old out.new (next_call (with_taken self.old.state f) f t
+            (take_answer (conn_of_fibril f self.old.state.conns))) }
+    {
+        match self.conns.take_next(f) {
+            Taken::Call(call, msg, label) => {
+                self.set_context(f, t.with_received(call, &msg, label).at_next());
+            }
+            Taken::HungUp(label) => {
+                self.set_context(
+                    f,
+                    t.with_received(CallNo(0), &Msg::bare(0), label).at_next(),
+                );
+            }
+            Taken::Wait => self.block(f, Why::Message, out),
+            Taken::NoConnection => self.refuse_op(f, t, Code::ENOENT, out),
+        }
+    }
+
+    /// Lets the other fibrils go on first. `f` is the present one.
+    pub(crate) fn yield_op(&mut self, f: FibrilNo, t: Context)
+        requires bounds { IsWithinBounds self.old.state.order }
+        requires present { current self.old.state.order ≡ Some f }
+        ensures { self.new.state ≡ yield_op self.old.state f t }
+    {
+        self.set_context(f, t.at_next());
+        self.fibrils.yield_now();
+    }
+}

@@ -1,0 +1,7 @@
+pub mod Bounds
+pub mod Connections
+pub mod Firsts
+pub mod Orders
+pub mod Places
+pub mod Searches
+pub mod Waking

@@ -1,0 +1,55 @@
+-- What the calls on fibrils come to, in the words of numbers, statuses and stamps.
+use Rattle.std.specs.Prelude.{◌≡◌, ◌≢◌, ℕ, ◌+◌, ◌<◌, ◌≤◌, Option, None, Some, slice_get}
+use Rattle.ipc_ids.specs.declared.message.Why.{Why}
+use Rattle.fibril_core.specs.declared.fibrils.Status.{Status}
+use Rattle.fibril_core.specs.declared.fibrils.Status.TheVariants.{Ready, Blocked}
+use Rattle.fibril_core.specs.declared.fibrils.Fibril.{Fibril}
+use Rattle.fibril_core.specs.Fibrils.{FibrilOrder, fibril_at}
+
+-- the status of a fibril, if there is one
+abbrev pub status_in : Option Fibril → Option Status
+status_in None = None
+status_in (Some x) = Some x.status
+
+-- the status of the fibril with this number
+abbrev pub status_of : FibrilOrder → ℕ → Option Status
+status_of o n = status_in (fibril_at o n)
+
+-- the stamp of a fibril, if there is one
+abbrev pub stamp_in : Option Fibril → ℕ
+stamp_in None = 0
+stamp_in (Some x) = x.stamp
+
+-- the stamp of the fibril with this number
+abbrev pub stamp_of : FibrilOrder → ℕ → ℕ
+stamp_of o n = stamp_in (fibril_at o n)
+
+-- each fibril has the number of its place, from 1 on, and a stamp that no other has, below the next one
+pub record IsSound (o : FibrilOrder) : Type 0 where
+  pub numbered : (i : ℕ) (x : Fibril) → slice_get o.fibrils i ≡ Some x → x.number.0 ≡ i + 1
+  pub stamped : (i : ℕ) (x : Fibril) → slice_get o.fibrils i ≡ Some x → x.stamp < o.next_stamp
+  pub apart : (i j : ℕ) (x y : Fibril) → slice_get o.fibrils i ≡ Some x → slice_get o.fibrils j ≡ Some y → x.stamp ≡ y.stamp → i ≡ j
+
+-- the fibril with this number has this status, and no other with this status has a smaller stamp
+pub record IsFirst (o : FibrilOrder) (status : Status) (n : ℕ) : Type 0 where
+  pub here : status_of o n ≡ Some status
+  pub least : (m : ℕ) → status_of o m ≡ Some status → stamp_of o n ≤ stamp_of o m
+
+-- no fibril has this status
+abbrev pub HasNone : FibrilOrder → Status → Type 0
+HasNone o status = (n : ℕ) → status_of o n ≢ Some status
+
+-- the fibril with this number has this status after a call, with a stamp above all others, which are as before
+pub record Becomes (o after : FibrilOrder) (n : ℕ) (new : Status) : Type 0 where
+  pub status : status_of after n ≡ Some new
+  pub last : (m : ℕ) → m ≢ n → stamp_of after m < stamp_of after n
+  pub others : (m : ℕ) → m ≢ n → fibril_at after m ≡ fibril_at o m
+
+-- all that were blocked on that are ready after a call, behind all others, in the order of their blocking; the
+-- others are as before
+pub record WakesAll (o after : FibrilOrder) (w : Why) : Type 0 where
+  pub none : HasNone after (Blocked w)
+  pub ready : (n : ℕ) → status_of o n ≡ Some (Blocked w) → status_of after n ≡ Some Ready
+  pub order : (m n : ℕ) → status_of o m ≡ Some (Blocked w) → status_of o n ≡ Some (Blocked w) → stamp_of o m < stamp_of o n → stamp_of after m < stamp_of after n
+  pub behind : (m n : ℕ) → status_of o m ≢ Some (Blocked w) → status_of o n ≡ Some (Blocked w) → stamp_of after m < stamp_of after n
+  pub others : (n : ℕ) → status_of o n ≢ Some (Blocked w) → fibril_at after n ≡ fibril_at o n

@@ -1,0 +1,4 @@
+pub mod Fibrils
+pub mod Conns
+pub mod FibrilLaws
+pub mod ConnLaws

@@ -1,0 +1,222 @@
+//! The connections of a task.
+ghost use Rattle.std.specs.Prelude.{◌≡◌, ◌+◌, ◌<◌, ◌≤◌, OnOk, OnErr, None, IfOk, IfSome, length, position, slice_get, remove};
+ghost use Rattle.std.specs.Option.{option_copied};
+ghost use Rattle.fibril_core.specs.Conns.{no_conns, serves, leads_to, conn_of_fibril, conn_of_label, fibril_of, lose_labels, start, take_answer, take_next, route_answer, route, owed_by, finish};
+
+use crate::conn::{
+    Conn, Queue, Routed, Taken, count_owed, fibril_of, lose_label, owed_by, route_to, take_first,
+};
+use crate::owed::Owed;
+use ipc_ids::{CallNo, FibrilNo, Label, Msg, NoMemory};
+use std::alloc::Global;
+use std::marker::Model;
+
+/// The connections of a task, with room for `spare` more.
+#[derive(Drop)]
+pub struct Conns {
+    conns: Vec<Conn>,
+    alloc: Global,
+}
+
+impl Model for Conns {
+    ghost use Rattle.std.specs.Prelude.{◌-◌, vec_len};
+    ghost use Rattle.std.specs.Vec.{vec_capacity};
+    ghost use Rattle.fibril_core.specs.Conns.{ConnsState};
+
+    ghost Value = { ConnsState };
+
+    ghost view = { λ a. record {
+      conns = a.conns.items;
+      spare = vec_capacity a.conns - vec_len a.conns;
+    } };
+}
+
+impl Conns {
+    /// No connections; it takes no memory.
+    pub fn new(alloc: Global) -> Conns
+        ensures { result.conns ≡ no_conns }
+    {
+        Conns {
+            conns: Vec::new(alloc),
+            alloc,
+        }
+    }
+
+    /// The fibril of the connection to which the label leads. Takes no memory.
+    pub fn holder(&self, label: Label) -> Option<FibrilNo>
+        ensures { result ≡ fibril_of (conn_of_label label self.now.conns) }
+    {
+        match place_of_label(&self.conns, label) {
+            Some(i) => fibril_of(self.conns.get(i)),
+            None => None,
+        }
+    }
+
+    /// Makes room for one more connection.
+    ///
+    /// # Errors
+    ///
+    /// `NoMemory` where there was no room and no memory was found.
+    pub fn reserve(&mut self) -> Result<(), NoMemory>
+        ensures conns { self.new.conns ≡ self.old.conns }
+        ensures room { OnOk result (0 < self.new.spare) }
+        ensures full { OnErr result (self.old.spare ≡ 0) }
+        ensures spare { self.old.spare ≤ self.new.spare }
+    {
+        match self.conns.reserve(1) {
+            Ok(()) => Ok(()),
+            Err(_) => Err(NoMemory),
+        }
+    }
+
+    /// Starts a connection, which the fibril serves. An older one with that label loses the label
+    /// and is closed. There is room for it.
+    pub fn start_reserved(&mut self, label: Label, f: FibrilNo)
+        requires room { 0 < self.old.spare }
+        requires serves_none { conn_of_fibril f self.old.conns ≡ None }
+        ensures conns { self.new.conns ≡ start label f self.old.conns }
+        ensures spare { self.old.spare ≤ self.new.spare + 1 }
+    {
+        lose_labels(&mut self.conns, label);
+        self.conns.push_reserved(Conn {
+            fibril: f,
+            label,
+            routes: true,
+            queue: Queue::new(self.alloc),
+            closed: false,
+            close_call: None,
+        });
+    }
+
+    /// Starts a connection, which the fibril serves. An older one with that label loses the label
+    /// and is closed.
+    ///
+    /// # Errors
+    ///
+    /// `NoMemory` where there was no room and no memory was found. Nothing has changed then.
+    pub fn start(&mut self, label: Label, f: FibrilNo) -> Result<(), NoMemory>
+        requires serves_none { conn_of_fibril f self.old.conns ≡ None }
+        ensures conns { OnOk result (self.new.conns ≡ start label f self.old.conns) }
+        ensures unchanged { OnErr result (self.new.conns ≡ self.old.conns) }
+        ensures full { OnErr result (self.old.spare ≡ 0) }
+    {
+        match self.reserve() {
+            Ok(()) => {
+                self.start_reserved(label, f);
+                Ok(())
+            }
+            Err(e) => Err(e),
+        }
+    }
+
+    /// Takes a received call to the connection to which its label leads.
+    ///
+    /// # Errors
+    ///
+    /// `NoMemory` where no memory was found. Nothing has changed then.
+    pub fn route(&mut self, label: Label, call: CallNo, msg: Msg) -> Result<Routed, NoMemory>
+        ensures told { IfOk result (λ r. r
+            ≡ route_answer msg.method (conn_of_label label self.old.conns)) }
+        ensures conns { OnOk result (self.new.conns ≡ route label call msg self.old.conns) }
+        ensures unchanged { OnErr result (self.new.conns ≡ self.old.conns) }
+        ensures spare { self.old.spare ≤ self.new.spare }
+    {
+        match place_of_label(&self.conns, label) {
+            Some(i) => route_to(&mut self.conns[i], call, msg),
+            None => Ok(Routed::Unknown),
+        }
+    }
+
+    /// Takes the first queued call of the fibril's connection. Takes no memory.
+    pub fn take_next(&mut self, f: FibrilNo) -> Taken
+        ensures told { result ≡ take_answer (conn_of_fibril f self.old.conns) }
+        ensures conns { self.new.conns ≡ take_next f self.old.conns }
+        ensures spare { self.old.spare ≤ self.new.spare }
+    {
+        match place_of_fibril(&self.conns, f) {
+            Some(i) => take_first(&mut self.conns[i]),
+            None => Taken::NoConnection,
+        }
+    }
+
+    /// How many answers `finish` would give. Takes no memory.
+    pub fn owed(&self, f: FibrilNo) -> u64
+        ensures { result ≡ length (owed_by (conn_of_fibril f self.now.conns)) }
+    {
+        match conn_of_fibril(&self.conns, f) {
+            Some(conn) => count_owed(conn),
+            None => 0,
+        }
+    }
+
+    /// Ends the connection of the fibril, if it has one, and gives the answers that it owes:
+    /// `EHANGUP` for each queued call in order, then `EOK` for the close call.
+    ///
+    /// # Errors
+    ///
+    /// `NoMemory` where no memory was found. Nothing has changed then.
+    pub fn finish(&mut self, f: FibrilNo) -> Result<Owed, NoMemory>
+        ensures owed { IfOk result (λ owed. owed ≡ owed_by (conn_of_fibril f self.old.conns)) }
+        ensures conns { OnOk result (self.new.conns ≡ finish f self.old.conns) }
+        ensures unchanged { OnErr result (self.new.conns ≡ self.old.conns) }
+        ensures spare { self.old.spare ≤ self.new.spare }
+    {
+        match place_of_fibril(&self.conns, f) {
+            Some(i) => self.finish_at(i),
+            None => Ok(Owed::new(self.alloc)),
+        }
+    }
+
+    fn finish_at(&mut self, i: usize) -> Result<Owed, NoMemory>
+        requires in_range { i < length self.old.conns }
+        ensures owed { IfOk result (λ owed. owed ≡ owed_by (slice_get self.old.conns i)) }
+        ensures conns { OnOk result (self.new.conns ≡ remove self.old.conns i) }
+        ensures unchanged { OnErr result (self.new.conns ≡ self.old.conns) }
+        ensures spare { self.old.spare ≤ self.new.spare }
+    {
+        match owed_by(self.alloc, self.conns.get(i)) {
+            Ok(owed) => {
+                let _over = self.conns.remove(i);
+                Ok(owed)
+            }
+            Err(e) => Err(e),
+        }
+    }
+}
+
+/// Where the connection of this fibril stands.
+fn place_of_fibril(conns: &[Conn], f: FibrilNo) -> Option<usize>
+    ensures place { result ≡ position (serves f) conns.now }
+    ensures in_range { IfSome result (λ i. i < length conns.now) }
+{
+    conns.iter().position(|conn| conn.fibril == f)
+}
+
+/// Where the connection to which the label leads stands.
+fn place_of_label(conns: &[Conn], label: Label) -> Option<usize>
+    ensures place { result ≡ position (leads_to label) conns.now }
+    ensures in_range { IfSome result (λ i. i < length conns.now) }
+{
+    conns
+        .iter()
+        .position(|conn| conn.routes && conn.label == label)
+}
+
+/// The connection of this fibril.
+fn conn_of_fibril(conns: &[Conn], f: FibrilNo) -> Option<&Conn>
+    ensures { option_copied result ≡ conn_of_fibril f conns.now }
+{
+    match place_of_fibril(conns, f) {
+        Some(i) => conns.get(i),
+        None => None,
+    }
+}
+
+/// The label leads to none of these from now on, and the one that it led to is closed.
+fn lose_labels(conns: &mut [Conn], label: Label)
+    ensures { conns.new ≡ lose_labels label conns.old }
+{
+    for conn in conns.iter_mut() {
+        lose_label(conn, label);
+    }
+}

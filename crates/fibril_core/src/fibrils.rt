@@ -1,0 +1,292 @@
+//! Fibrils by number, and since when each is ready or blocked.
+ghost use Rattle.std.specs.Prelude.{◌≡◌, ◌+◌, ◌^◌, ◌<◌, ◌≤◌, OnOk, OnErr, IfOk, IsSome, length};
+ghost use Rattle.std.specs.Option.{option_copied};
+ghost use Rattle.fibril_core.specs.Fibrils.{no_fibrils, first_with, current, first_blocked, next_number, why_in, why_of, IsWithinBounds, spawned, put_fibril, with_status, block_on, yield_now, end_current, make_ready, wake_first, wake_all};
+
+use ipc_ids::{CallNo, FibrilNo, NoMemory, Why};
+use std::alloc::Global;
+use std::marker::Model;
+
+/// Whether a fibril goes on.
+#[derive(Clone, Copy, Debug, PartialEq, Eq)]
+pub enum Status {
+    Ready,
+    Blocked(Why),
+    Ended,
+}
+
+/// A fibril. The stamp says when it last became ready or blocked.
+#[derive(Clone, Copy)]
+pub struct Fibril {
+    pub number: FibrilNo,
+    pub status: Status,
+    pub stamp: u64,
+}
+
+/// The fibrils of a task, with room for `spare` more.
+#[derive(Drop)]
+pub struct Fibrils {
+    fibrils: Vec<Fibril>,
+    next_stamp: u64,
+}
+
+impl Model for Fibrils {
+    ghost use Rattle.std.specs.Prelude.{◌-◌, vec_len};
+    ghost use Rattle.std.specs.Vec.{vec_capacity};
+    ghost use Rattle.fibril_core.specs.Fibrils.{FibrilsState};
+
+    ghost Value = { FibrilsState };
+
+    ghost view = { λ a. record {
+      order = record { fibrils = a.fibrils.items; next_stamp = a.next_stamp };
+      spare = vec_capacity a.fibrils - vec_len a.fibrils;
+    } };
+}
+
+impl Fibrils {
+    /// No fibrils; it takes no memory.
+    pub fn new(alloc: Global) -> Fibrils
+        ensures { result.order ≡ no_fibrils }
+    {
+        Fibrils {
+            fibrils: Vec::new(alloc),
+            next_stamp: 1,
+        }
+    }
+
+    /// Makes room for one more fibril.
+    ///
+    /// # Errors
+    ///
+    /// `NoMemory` where there was no room and no memory was found.
+    pub fn reserve(&mut self) -> Result<(), NoMemory>
+        ensures order { self.new.order ≡ self.old.order }
+        ensures room { OnOk result (0 < self.new.spare) }
+        ensures full { OnErr result (self.old.spare ≡ 0) }
+        ensures spare { self.old.spare ≤ self.new.spare }
+    {
+        match self.fibrils.reserve(1) {
+            Ok(()) => Ok(()),
+            Err(_) => Err(NoMemory),
+        }
+    }
+
+    /// The number that the next fibril gets.
+    pub fn next_number(&self) -> FibrilNo
+        requires bounds { IsWithinBounds self.now.order }
+        ensures { result ≡ next_number self.now.order }
+    {
+        FibrilNo(self.fibrils.len() as u64 + 1)
+    }
+
+    /// Makes a fibril, which is ready behind the others, and gives its number. There is room for
+    /// it.
+    pub fn spawn_reserved(&mut self) -> FibrilNo
+        requires room { 0 < self.old.spare }
+        requires bounds { IsWithinBounds self.old.order }
+        ensures number { result ≡ next_number self.old.order }
+        ensures order { self.new.order ≡ spawned self.old.order }
+        ensures spare { self.old.spare ≤ self.new.spare + 1 }
+    {
+        let number = FibrilNo(self.fibrils.len() as u64 + 1);
+        self.fibrils.push_reserved(Fibril {
+            number,
+            status: Status::Ready,
+            stamp: self.next_stamp,
+        });
+        self.next_stamp += 1;
+        number
+    }
+
+    /// Makes a fibril, which is ready behind the others, and gives its number.
+    ///
+    /// # Errors
+    ///
+    /// `NoMemory` where there was no room and no memory was found. Nothing has changed then.
+    pub fn spawn(&mut self) -> Result<FibrilNo, NoMemory>
+        requires bounds { IsWithinBounds self.old.order }
+        ensures number { IfOk result (λ f. f ≡ next_number self.old.order) }
+        ensures order { OnOk result (self.new.order ≡ spawned self.old.order) }
+        ensures unchanged { OnErr result (self.new.order ≡ self.old.order) }
+        ensures full { OnErr result (self.old.spare ≡ 0) }
+    {
+        match self.reserve() {
+            Ok(()) => Ok(self.spawn_reserved()),
+            Err(e) => Err(e),
+        }
+    }
+
+    /// The fibril that has been ready longest. Takes no memory.
+    pub fn current(&self) -> Option<FibrilNo>
+        ensures { result ≡ current self.now.order }
+    {
+        match first_with(&self.fibrils, Status::Ready) {
+            Some(fibril) => Some(fibril.number),
+            None => None,
+        }
+    }
+
+    /// What the fibril is blocked on, if it is. Takes no memory.
+    pub fn why(&self, f: FibrilNo) -> Option<Why>
+        ensures { result ≡ why_of self.now.order f }
+    {
+        if f.0 == 0 {
+            return None;
+        }
+        match self.fibrils.get(f.0 as usize - 1) {
+            Some(fibril) => why_in(fibril.status),
+            None => None,
+        }
+    }
+
+    /// The present fibril blocks.
+    pub fn block_on(&mut self, why: Why)
+        requires current { IsSome (current self.old.order) }
+        requires bounds { IsWithinBounds self.old.order }
+        ensures order { self.new.order ≡ block_on self.old.order why }
+        ensures spare { self.new.spare ≡ self.old.spare }
+    {
+        if let Some(f) = self.current() {
+            self.stamp(f, Status::Blocked(why));
+        }
+    }
+
+    /// The present fibril is ready behind the others.
+    pub fn yield_now(&mut self)
+        requires current { IsSome (current self.old.order) }
+        requires bounds { IsWithinBounds self.old.order }
+        ensures order { self.new.order ≡ yield_now self.old.order }
+        ensures spare { self.new.spare ≡ self.old.spare }
+    {
+        if let Some(f) = self.current() {
+            self.stamp(f, Status::Ready);
+        }
+    }
+
+    /// The present fibril ends. It keeps its stamp.
+    pub fn end_current(&mut self)
+        requires current { IsSome (current self.old.order) }
+        ensures order { self.new.order ≡ end_current self.old.order }
+        ensures spare { self.new.spare ≡ self.old.spare }
+    {
+        if let Some(fibril) = first_with(&self.fibrils, Status::Ready) {
+            let mut over = *fibril;
+            over.status = Status::Ended;
+            self.put(over);
+        }
+    }
+
+    /// A blocked fibril is ready behind the others.
+    pub fn wake_fibril(&mut self, f: FibrilNo)
+        requires blocked { IsSome (why_of self.old.order f) }
+        requires bounds { IsWithinBounds self.old.order }
+        ensures order { self.new.order ≡ make_ready self.old.order f }
+        ensures spare { self.new.spare ≡ self.old.spare }
+    {
+        self.stamp(f, Status::Ready);
+    }
+
+    /// Makes ready, and gives, the fibril that blocked first on the answer of this call.
+    pub fn wake_answer(&mut self, call: CallNo) -> Option<FibrilNo>
+        requires bounds { IsWithinBounds self.old.order }
+        ensures fibril { result ≡ first_blocked self.old.order (Why.Answer call) }
+        ensures order { self.new.order ≡ wake_first self.old.order (Why.Answer call) }
+        ensures spare { self.new.spare ≡ self.old.spare }
+    {
+        let first = self.first_blocked(Why::Answer(call));
+        if let Some(f) = first {
+            self.stamp(f, Status::Ready);
+        }
+        first
+    }
+
+    /// Makes all fibrils ready that are blocked on the mutex of the session, in the order of their
+    /// blocking.
+    pub fn wake_mutex(&mut self, session: u32)
+        requires bounds { IsWithinBounds self.old.order }
+        ensures order { self.new.order ≡ wake_all self.old.order (Why.Mutex session) }
+        ensures spare { self.new.spare ≡ self.old.spare }
+    {
+        self.wake_all(Why::Mutex(session));
+    }
+
+    /// Makes all fibrils ready that are blocked on a phone, in the order of their blocking.
+    pub fn wake_phone(&mut self)
+        requires bounds { IsWithinBounds self.old.order }
+        ensures order { self.new.order ≡ wake_all self.old.order Why.Phone }
+        ensures spare { self.new.spare ≡ self.old.spare }
+    {
+        self.wake_all(Why::Phone);
+    }
+
+    fn wake_all(&mut self, why: Why)
+        requires bounds { IsWithinBounds self.old.order }
+        ensures order { self.new.order ≡ wake_all self.old.order why }
+        ensures spare { self.new.spare ≡ self.old.spare }
+    {
+        for _ in 0..self.fibrils.len() {
+            match self.first_blocked(why) {
+                Some(f) => self.stamp(f, Status::Ready),
+                None => {}
+            }
+        }
+    }
+
+    fn first_blocked(&self, why: Why) -> Option<FibrilNo>
+        ensures { result ≡ first_blocked self.now.order why }
+    {
+        match first_with(&self.fibrils, Status::Blocked(why)) {
+            Some(fibril) => Some(fibril.number),
+            None => None,
+        }
+    }
+
+    /// The fibril has this status from now on.
+    fn stamp(&mut self, f: FibrilNo, status: Status)
+        requires few_stamps { self.old.order.next_stamp < 2 ^ 63 }
+        ensures order { self.new.order ≡ with_status self.old.order f status }
+        ensures spare { self.new.spare ≡ self.old.spare }
+    {
+        let stamp = self.next_stamp;
+        self.put(Fibril {
+            number: f,
+            status,
+            stamp,
+        });
+        self.next_stamp = stamp + 1;
+    }
+
+    /// The record stands under its number, where there is a fibril of this number.
+    fn put(&mut self, fibril: Fibril)
+        ensures order { self.new.order ≡ put_fibril self.old.order fibril }
+        ensures spare { self.new.spare ≡ self.old.spare }
+    {
+        let i = (fibril.number.0 as usize).saturating_sub(1);
+        if i < self.fibrils.len() {
+            self.fibrils[i] = fibril;
+        }
+    }
+}
+
+/// What this status is blocked on.
+fn why_in(status: Status) -> Option<Why>
+    ensures { result ≡ why_in status }
+{
+    match status {
+        Status::Blocked(why) => Some(why),
+        Status::Ready | Status::Ended => None,
+    }
+}
+
+/// The fibril that has had this status longest.
+fn first_with(fibrils: &[Fibril], status: Status) -> Option<&Fibril>
+    ensures { option_copied result ≡ first_with status fibrils.now }
+{
+    let mut first: Option<&Fibril> = None;
+    for fibril in fibrils {
+        if fibril.status == status && first.is_none_or(|best| fibril.stamp < best.stamp) {
+            first = Some(fibril);
+        }
+    }
+    first
+}
