@@ -6,3 +6,4 @@ pub mod Places
 pub mod ReaderAnswers
 pub mod Readings
 pub mod Soundness
+pub mod TaskKinds

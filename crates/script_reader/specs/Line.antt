@@ -1,23 +1,23 @@
 -- What one line says after a script: the script with the line's part, or the reason why it is at fault.
-use Rattle.std.specs.Prelude.{ℕ, List, [], ◌∷◌, ◌&&◌, nat_le, Option, Some, None, Result, Ok, Err, if◌then◌else◌, codes}
+use Rattle.std.specs.Prelude.{ℕ, Bool, true, false, List, [], ◌∷◌, ◌&&◌, nat_le, Option, Some, None, Result, Ok, Err, if◌then◌else◌, codes}
 use Rattle.std.specs.List.{list_all}
 use Rattle.std.specs.Option.{option_and_then}
 use Rattle.ipc_ids.specs.Tables.{most_phones}
 use Rattle.script_reader.specs.declared.fault.Reason.{Reason}
 use Rattle.script_reader.specs.declared.fault.Reason.TheVariants.{Fault}
 use Rattle.script_reader.specs.declared.word.Verb.{Verb}
-use Rattle.script_reader.specs.declared.word.Verb.TheVariants.{Task, Wire, Op}
+use Rattle.script_reader.specs.declared.word.Verb.TheVariants.{Ns, Task, Fibril, Connection, Wire, Op}
 use Rattle.script_reader.specs.declared.word.OpVerb.{OpVerb}
 use Rattle.script_reader.specs.declared.plan.Kind.{Kind}
-use Rattle.script_reader.specs.declared.plan.Kind.TheVariants.{Raw}
+use Rattle.script_reader.specs.declared.plan.Kind.TheVariants.{Raw, Async}
 use Rattle.script_reader.specs.Text.{is_allowed, words}
 use Rattle.script_reader.specs.Word.{look_up, verb_of, number, name_of}
-use Rattle.script_reader.specs.Operation.{◌>>=◌, needed, op_of}
+use Rattle.script_reader.specs.Operation.{◌>>=◌, needed, op_in}
 use Rattle.script_reader.specs.Plan.{Plan}
-use Rattle.script_reader.specs.Draft.{with_task, with_wire, with_op}
+use Rattle.script_reader.specs.Draft.{with_service, with_task, with_body, with_wire, with_op, present}
 
 abbrev pub kinds : List (List ℕ × Kind)
-kinds = (codes "raw", Raw) ∷ []
+kinds = (codes "raw", Raw) ∷ (codes "async", Async) ∷ []
 
 unfoldable pub kind_of : List ℕ → Option Kind
 kind_of word = look_up kinds word
@@ -34,7 +34,7 @@ task_with name kind limit = do
   limit ← needed limit
   Ok (name, kind, limit)
 
--- NAME raw [N], where 64 phones stand for an N that is left out
+-- NAME raw [N] or NAME async [N], where 64 phones stand for an N that is left out
 unfoldable pub task_of : List (List ℕ) → Result (List ℕ × Kind × ℕ) Reason
 task_of (name ∷ kind ∷ []) = task_with name kind (Some most_phones)
 task_of (name ∷ kind ∷ limit ∷ []) = task_with name kind (limit_of limit)
@@ -49,18 +49,31 @@ wire_of (from ∷ phone ∷ to ∷ []) = do
   Ok (from, phone, to)
 wire_of _ = Err Fault
 
+-- no words
+unfoldable pub ns : Plan → List (List ℕ) → Result Plan Reason
+ns plan [] = with_service plan
+ns plan (_ ∷ _) = Err Fault
+
 unfoldable pub task : Plan → List (List ℕ) → Result Plan Reason
 task plan words = task_of words >>= λ (name, kind, limit). with_task plan name kind limit
+
+-- a body of connections or of a fibril; no words
+unfoldable pub body : Plan → Bool → List (List ℕ) → Result Plan Reason
+body plan connection [] = with_body plan connection
+body plan connection (_ ∷ _) = Err Fault
 
 unfoldable pub wire : Plan → List (List ℕ) → Result Plan Reason
 wire plan words = wire_of words >>= λ (from, phone, to). with_wire plan from phone to
 
 unfoldable pub operation : Plan → OpVerb → List (List ℕ) → Result Plan Reason
-operation plan verb words = op_of verb words >>= with_op plan
+operation plan verb words = op_in (present plan) verb words >>= with_op plan
 
 abbrev pub after_verb : Plan → Option Verb → List (List ℕ) → Result Plan Reason
 after_verb plan None words = Err Fault
+after_verb plan (Some Ns) words = ns plan words
 after_verb plan (Some Task) words = task plan words
+after_verb plan (Some Fibril) words = body plan false words
+after_verb plan (Some Connection) words = body plan true words
 after_verb plan (Some Wire) words = wire plan words
 after_verb plan (Some (Op verb)) words = operation plan verb words
 

@@ -1,5 +1,5 @@
 -- What an operation's line says, from the words behind the first.
-use Rattle.std.specs.Prelude.{ℕ, ◌-◌, List, [], ◌∷◌, ◌++◌, length, replicate, Option, Some, Result, Ok, Err, option_map, nat_le, if◌then◌else◌}
+use Rattle.std.specs.Prelude.{ℕ, ◌-◌, None, List, [], ◌∷◌, ◌++◌, length, replicate, Option, Some, Result, Ok, Err, option_map, nat_le, if◌then◌else◌}
 use Rattle.std.specs.Option.{option_and_then, ok_or}
 use Rattle.ipc_ids.specs.declared.op.Value.{Value}
 use Rattle.ipc_ids.specs.declared.op.Value.TheVariants.{Number}
@@ -7,9 +7,11 @@ use Rattle.ipc_ids.specs.declared.op.Op.{Op}
 use Rattle.ipc_ids.specs.declared.op.Op.TheVariants as ops
 use Rattle.script_reader.specs.declared.fault.Reason.{Reason}
 use Rattle.script_reader.specs.declared.fault.Reason.TheVariants.{Fault}
+use Rattle.script_reader.specs.declared.plan.Kind.{Kind}
+use Rattle.script_reader.specs.declared.plan.Kind.TheVariants.{Naming, Raw, Async}
 use Rattle.script_reader.specs.declared.word.OpVerb.{OpVerb}
 use Rattle.script_reader.specs.declared.word.OpVerb.TheVariants as verbs
-use Rattle.script_reader.specs.Word.{value, register, mode_of, number_below, bytes_of}
+use Rattle.script_reader.specs.Word.{value, register, mode_of, exchange_mode_of, number_below, bytes_of}
 
 -- a step that may be at fault
 infixl 10 ◌>>=◌
@@ -139,18 +141,135 @@ jump_equal_op words = two_and_place words >>= λ (left, right, to). Ok (ops.Jump
 unfoldable pub jump_differ_op : List (List ℕ) → Result Op Reason
 jump_differ_op words = two_and_place words >>= λ (left, right, to). Ok (ops.JumpDiffer left right to)
 
--- the form of each first word
-abbrev pub op_of : OpVerb → List (List ℕ) → Result Op Reason
-op_of verbs.Call words = call_op words
-op_of verbs.Receive words = receive_op words
-op_of verbs.Answer words = answer_op words
-op_of verbs.Forward words = forward_op words
-op_of verbs.Hangup words = hangup_op words
-op_of verbs.Area words = area_op words
-op_of verbs.Unarea words = unarea_op words
-op_of verbs.Poke words = poke_op words
-op_of verbs.Peek words = peek_op words
-op_of verbs.Set words = set_op words
-op_of verbs.Jump words = jump_op words
-op_of verbs.JumpEqual words = jump_equal_op words
-op_of verbs.JumpDiffer words = jump_differ_op words
+-- one of the 8 slots of a fibril
+unfoldable pub slot_of : List ℕ → Option ℕ
+slot_of word = number_below 8 word
+
+-- one of the 8 handles of a fibril
+unfoldable pub handle_of : List ℕ → Option ℕ
+handle_of word = number_below 8 word
+
+-- one of the 16 sessions of a task
+unfoldable pub session_of : List ℕ → Option ℕ
+session_of word = number_below 16 word
+
+-- SLOT V V [V up to five]
+unfoldable pub call_slot_op : List (List ℕ) → Result Op Reason
+call_slot_op (slot ∷ phone ∷ method ∷ others) =
+    if nat_le (length others) 5 then (do
+      slot ← needed (slot_of slot)
+      phone ← needed (value phone)
+      method ← needed (value method)
+      args ← needed (arguments others)
+      Ok (ops.CallSlot slot phone method args))
+    else Err Fault
+call_slot_op _ = Err Fault
+
+-- SLOT HANDLE V [V up to five]
+unfoldable pub send_op : List (List ℕ) → Result Op Reason
+send_op (slot ∷ handle ∷ method ∷ others) =
+    if nat_le (length others) 5 then (do
+      slot ← needed (slot_of slot)
+      handle ← needed (handle_of handle)
+      method ← needed (value method)
+      args ← needed (arguments others)
+      Ok (ops.Send slot handle method args))
+    else Err Fault
+send_op _ = Err Fault
+
+-- SLOT
+unfoldable pub wait_op : List (List ℕ) → Result Op Reason
+wait_op (slot ∷ []) = needed (slot_of slot) >>= λ slot. Ok (ops.Wait slot)
+wait_op _ = Err Fault
+
+-- no words
+unfoldable pub next_op : List (List ℕ) → Result Op Reason
+next_op [] = Ok ops.Next
+next_op (_ ∷ _) = Err Fault
+
+-- no words
+unfoldable pub yield_op : List (List ℕ) → Result Op Reason
+yield_op [] = Ok ops.Yield
+yield_op (_ ∷ _) = Err Fault
+
+-- SESSION V MODE
+unfoldable pub open_op : List (List ℕ) → Result Op Reason
+open_op (session ∷ phone ∷ mode ∷ []) = do
+  session ← needed (session_of session)
+  phone ← needed (value phone)
+  mode ← needed (exchange_mode_of mode)
+  Ok (ops.OpenSession session phone mode)
+open_op _ = Err Fault
+
+-- HANDLE SESSION
+unfoldable pub begin_op : List (List ℕ) → Result Op Reason
+begin_op (handle ∷ session ∷ []) = do
+  handle ← needed (handle_of handle)
+  session ← needed (session_of session)
+  Ok (ops.Begin handle session)
+begin_op _ = Err Fault
+
+-- HANDLE
+unfoldable pub end_op : List (List ℕ) → Result Op Reason
+end_op (handle ∷ []) = needed (handle_of handle) >>= λ handle. Ok (ops.End handle)
+end_op _ = Err Fault
+
+-- SESSION
+unfoldable pub close_op : List (List ℕ) → Result Op Reason
+close_op (session ∷ []) = needed (session_of session) >>= λ session. Ok (ops.Close session)
+close_op _ = Err Fault
+
+-- the form of each first word in a raw task
+abbrev pub raw_op_of : OpVerb → List (List ℕ) → Result Op Reason
+raw_op_of verbs.Call words = call_op words
+raw_op_of verbs.Receive words = receive_op words
+raw_op_of verbs.Answer words = answer_op words
+raw_op_of verbs.Forward words = forward_op words
+raw_op_of verbs.Hangup words = hangup_op words
+raw_op_of verbs.Area words = area_op words
+raw_op_of verbs.Unarea words = unarea_op words
+raw_op_of verbs.Poke words = poke_op words
+raw_op_of verbs.Peek words = peek_op words
+raw_op_of verbs.Set words = set_op words
+raw_op_of verbs.Jump words = jump_op words
+raw_op_of verbs.JumpEqual words = jump_equal_op words
+raw_op_of verbs.JumpDiffer words = jump_differ_op words
+raw_op_of verbs.Wait words = Err Fault
+raw_op_of verbs.Next words = Err Fault
+raw_op_of verbs.Yield words = Err Fault
+raw_op_of verbs.Send words = Err Fault
+raw_op_of verbs.Open words = Err Fault
+raw_op_of verbs.Begin words = Err Fault
+raw_op_of verbs.End words = Err Fault
+raw_op_of verbs.Close words = Err Fault
+
+-- the form of each first word in an async task
+abbrev pub async_op_of : OpVerb → List (List ℕ) → Result Op Reason
+async_op_of verbs.Call words = call_slot_op words
+async_op_of verbs.Receive words = Err Fault
+async_op_of verbs.Answer words = answer_op words
+async_op_of verbs.Forward words = forward_op words
+async_op_of verbs.Hangup words = Err Fault
+async_op_of verbs.Area words = area_op words
+async_op_of verbs.Unarea words = unarea_op words
+async_op_of verbs.Poke words = poke_op words
+async_op_of verbs.Peek words = peek_op words
+async_op_of verbs.Set words = set_op words
+async_op_of verbs.Jump words = jump_op words
+async_op_of verbs.JumpEqual words = jump_equal_op words
+async_op_of verbs.JumpDiffer words = jump_differ_op words
+async_op_of verbs.Wait words = wait_op words
+async_op_of verbs.Next words = next_op words
+async_op_of verbs.Yield words = yield_op words
+async_op_of verbs.Send words = send_op words
+async_op_of verbs.Open words = open_op words
+async_op_of verbs.Begin words = begin_op words
+async_op_of verbs.End words = end_op words
+async_op_of verbs.Close words = close_op words
+
+-- the form of each first word in a task of this kind, if one takes operations
+abbrev pub op_in : Option Kind → OpVerb → List (List ℕ) → Result Op Reason
+op_in None verb words = Err Fault
+op_in (Some Naming) verb words = Err Fault
+op_in (Some Raw) verb words = raw_op_of verb words
+op_in (Some Async) verb words = async_op_of verb words

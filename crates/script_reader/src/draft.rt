@@ -1,10 +1,11 @@
 //! A script that is still read: its last task may get more operations.
-ghost use Rattle.std.specs.Prelude.{◌≡◌, ◌≤◌, ◌++◌, None, IfOk, OnOk};
-ghost use Rattle.script_reader.specs.Draft.{last_plan, last_plans, plan_of, IsStep, IsWhole, is_wired, limit_at, with_task, with_wire, with_op, task_with_op, Follows};
+ghost use Rattle.std.specs.Prelude.{◌≡◌, ◌≢◌, ◌≤◌, ◌++◌, None, IfOk, IfSome, OnOk};
+ghost use Rattle.script_reader.specs.declared.plan.Kind.TheVariants.{Naming};
+ghost use Rattle.script_reader.specs.Draft.{last_plan, last_plans, plan_of, IsStep, IsWhole, is_wired, limit_at, leads_to_service, if_any, first_body, is_async, is_full, present, taken_by, taker, with_service, with_task, with_body, with_wire, with_op, task_with_body, task_with_op, body_with_op, HasHeadOf, HasLastBody, Follows};
 ghost use Rattle.script_reader.specs.Names.{is_ns};
 ghost use Rattle.script_reader.specs.Plan.{nothing};
-ghost use Rattle.script_reader.specs.Ranges.{KeepsRanges};
-ghost use Rattle.script_reader.specs.Sound.{IsLimit, IsRawTask};
+ghost use Rattle.script_reader.specs.Ranges.{IsOpOf};
+ghost use Rattle.script_reader.specs.Sound.{IsLimit, IsSoundTask, is_naming, has_service, fibrils, connections};
 
 use crate::fault::{LineFault, Reason};
 use crate::name::Name;
@@ -15,15 +16,23 @@ use std::alloc::Global;
 
 const MOST_TASKS: usize = 64;
 
+const MOST_PHONES: u32 = 64;
+
 const MOST_OPERATIONS: usize = 4096;
 
-/// The task whose operations are read.
+const MOST_FIBRILS: usize = 16;
+
+const MOST_CONNECTIONS: usize = 1;
+
+/// The task whose operations are read: the bodies before its last one, and the last one, to which the
+/// operations go, if it has one.
 #[derive(Drop)]
 pub struct LastTask {
     pub name: Name,
     pub kind: Kind,
     pub limit: u32,
-    pub ops: Ops,
+    pub bodies: Bodies,
+    pub body: Option<Body>,
 }
 
 /// The tasks before the last one, the last one, the wires, and the names of all tasks.
@@ -41,43 +50,154 @@ fn is_ns(name: &[u8]) -> bool
     name == b"ns".as_slice()
 }
 
-/// Whether a task's phone leads somewhere.
+fn is_naming(kind: Kind) -> bool
+    ensures { result ≡ is_naming kind }
+{
+    match kind {
+        Kind::Naming => true,
+        Kind::Raw | Kind::Async => false,
+    }
+}
+
+/// Whether a wire begins at a task's phone.
 fn is_wired(wires: &[Wire], from: u64, phone: u64) -> bool
     ensures { result ≡ is_wired wires.now from phone }
 {
     wires.iter().any(|wire| wire.from.0 == from && u64::from(wire.phone.0) == phone)
 }
 
+/// The body that a task of this kind has from the start.
+fn first_body(alloc: Global, kind: Kind) -> Option<Body>
+    ensures { result ≡ first_body kind }
+{
+    match kind {
+        Kind::Naming | Kind::Async => None,
+        Kind::Raw => Some(Body {
+            connection: false,
+            ops: Ops::new(alloc),
+        }),
+    }
+}
+
+/// Gives a body one more operation.
+fn add_op_to(body: &mut Body, op: Op) -> Result<(), LineFault>
+    ensures value { Follows result body.new (body_with_op op body.old) }
+    ensures connection { body.new.connection ≡ body.old.connection }
+{
+    if body.ops.as_slice().len() >= MOST_OPERATIONS {
+        return Err(LineFault::Bad(Reason::Fault));
+    }
+    body.ops.push(op)?;
+    Ok(())
+}
+
+fn is_async(kind: Kind) -> bool
+    ensures { result ≡ is_async kind }
+{
+    match kind {
+        Kind::Async => true,
+        Kind::Naming | Kind::Raw => false,
+    }
+}
+
+fn fibrils(bodies: &[Body]) -> usize
+    ensures { result ≡ fibrils bodies.now }
+{
+    let mut count = 0;
+    for body in bodies {
+        if !body.connection {
+            count += 1;
+        }
+    }
+    count
+}
+
+fn connections(bodies: &[Body]) -> usize
+    ensures { result ≡ connections bodies.now }
+{
+    let mut count = 0;
+    for body in bodies {
+        if body.connection {
+            count += 1;
+        }
+    }
+    count
+}
+
+/// Whether there is no room for one more body, of connections or of a fibril.
+fn is_full(connection: bool, bodies: &[Body]) -> bool
+    ensures { result ≡ is_full connection bodies.now }
+{
+    match connection {
+        true => connections(bodies) >= MOST_CONNECTIONS,
+        false => fibrils(bodies) >= MOST_FIBRILS,
+    }
+}
+
 impl LastTask {
-    fn add_op(&mut self, op: Op) -> Result<(), LineFault>
-        requires ranges { KeepsRanges op }
-        requires raw { IsRawTask (last_plan self.old) }
-        ensures value { Follows result (last_plan self.new) (task_with_op op (last_plan self.old)) }
-        ensures name { self.new.name ≡ self.old.name }
-        ensures limit { self.new.limit ≡ self.old.limit }
-        ensures raw { OnOk result (IsRawTask (last_plan self.new)) }
+    /// Ends the last body.
+    fn end_body(&mut self) -> Result<(), NoMemory>
+        ensures bodies { OnOk result (self.new.bodies ≡ self.old.bodies ++ if_any self.old.body) }
+        ensures body { OnOk result (self.new.body ≡ None) }
+        ensures head { HasHeadOf (last_plan self.old) (last_plan self.new) }
     {
-        if self.ops.as_slice().len() >= MOST_OPERATIONS {
+        match self.body.take() {
+            None => Ok(()),
+            Some(body) => self.bodies.push(body),
+        }
+    }
+
+    /// Begins a body, of connections or of a fibril.
+    #[tactic(auto, unfolding(crate::specs::Draft::task_with_body))]
+    fn add_body(&mut self, alloc: Global, connection: bool) -> Result<(), LineFault>
+        requires sound { IsSoundTask (last_plan self.old) }
+        ensures value { Follows result (last_plan self.new)
+            (task_with_body connection (last_plan self.old)) }
+        ensures head { HasHeadOf (last_plan self.old) (last_plan self.new) }
+        ensures sound { OnOk result
+            (IsSoundTask (last_plan self.new) × HasLastBody self.new) }
+    {
+        if !is_async(self.kind) {
             return Err(LineFault::Bad(Reason::Fault));
         }
-        self.ops.push(op)?;
+        self.end_body()?;
+        if is_full(connection, self.bodies.as_slice()) {
+            return Err(LineFault::Bad(Reason::Fault));
+        }
+        self.body = Some(Body {
+            connection,
+            ops: Ops::new(alloc),
+        });
         Ok(())
     }
 
-    /// The task with the operations that it has.
-    fn into_plan(self, alloc: Global) -> Result<TaskPlan, NoMemory>
+    /// Gives the last body one more operation.
+    fn add_op(&mut self, op: Op) -> Result<(), LineFault>
+        requires of_kind { IfSome (taken_by self.old) (λ kind. IsOpOf kind op) }
+        requires last_body { HasLastBody self.old }
+        requires sound { IsSoundTask (last_plan self.old) }
+        ensures value { Follows result (last_plan self.new) (task_with_op op (last_plan self.old)) }
+        ensures head { HasHeadOf (last_plan self.old) (last_plan self.new) }
+        ensures sound { OnOk result
+            (IsSoundTask (last_plan self.new) × HasLastBody self.new) }
+    {
+        match &mut self.body {
+            None => Err(LineFault::Bad(Reason::Fault)),
+            Some(body) => add_op_to(body, op),
+        }
+    }
+
+    /// The task with the bodies that it has.
+    fn into_plan(self) -> Result<TaskPlan, NoMemory>
         ensures { IfOk result (λ task. task ≡ last_plan self) }
     {
-        let mut bodies = Bodies::new(alloc);
-        bodies.push(Body {
-            connection: false,
-            ops: self.ops,
-        })?;
+        let mut last = self;
+        last.end_body()?;
         Ok(TaskPlan {
-            name: self.name,
-            kind: self.kind,
-            limit: self.limit,
-            bodies,
+            name: last.name,
+            kind: last.kind,
+            limit: last.limit,
+            bodies: last.bodies,
         })
     }
 }
@@ -96,7 +216,7 @@ impl Draft {
     }
 
     /// Ends the last task.
-    fn end_task(&mut self, alloc: Global) -> Result<(), NoMemory>
+    fn end_task(&mut self) -> Result<(), NoMemory>
         ensures done { OnOk result (self.new.done ≡ self.old.done ++ last_plans self.old.last) }
         ensures last { OnOk result (self.new.last ≡ None) }
         ensures wires { self.new.wires ≡ self.old.wires }
@@ -105,10 +225,33 @@ impl Draft {
         match self.last.take() {
             None => Ok(()),
             Some(last) => {
-                let task = last.into_plan(alloc)?;
+                let task = last.into_plan()?;
                 self.done.push(task)
             }
         }
+    }
+
+    /// Adds the naming service, as the first task.
+    #[tactic(auto, unfolding(crate::specs::Draft::with_service))]
+    pub fn add_service(&mut self, alloc: Global) -> Result<(), LineFault>
+        requires { IsWhole self.old }
+        ensures value { IsStep result self.old self.new with_service }
+        ensures whole { OnOk result (IsWhole self.new) }
+    {
+        if self.names.len() > 0 {
+            return Err(LineFault::Bad(Reason::Fault));
+        }
+        let name = Name::ns();
+        self.names.push(alloc, name.as_slice())?;
+        self.end_task()?;
+        self.last = Some(LastTask {
+            name,
+            kind: Kind::Naming,
+            limit: MOST_PHONES,
+            bodies: Bodies::new(alloc),
+            body: None,
+        });
+        Ok(())
     }
 
     #[tactic(auto, unfolding(crate::specs::Draft::with_task))]
@@ -119,6 +262,7 @@ impl Draft {
         kind: Kind,
         limit: u32,
     ) -> Result<(), LineFault>
+        requires not_naming { kind ≢ Naming }
         requires limit { IsLimit limit }
         requires whole { IsWhole self.old }
         ensures value { IsStep result self.old self.new (λ plan. with_task plan name kind limit) }
@@ -131,12 +275,13 @@ impl Draft {
             return Err(LineFault::Bad(Reason::Fault));
         }
         self.names.push(alloc, name.as_slice())?;
-        self.end_task(alloc)?;
+        self.end_task()?;
         self.last = Some(LastTask {
             name,
             kind,
             limit,
-            ops: Ops::new(alloc),
+            bodies: Bodies::new(alloc),
+            body: first_body(alloc, kind),
         });
         Ok(())
     }
@@ -155,6 +300,26 @@ impl Draft {
         }
     }
 
+    /// Whether the first task is the naming service.
+    fn has_service(&self) -> bool
+        ensures { result ≡ has_service (plan_of self.now).tasks }
+    {
+        match self.done.as_slice() {
+            [first, ..] => is_naming(first.kind),
+            [] => match &self.last {
+                Some(last) => is_naming(last.kind),
+                None => false,
+            },
+        }
+    }
+
+    /// Whether the phone of the task at a place leads to the naming service from the start.
+    fn leads_to_service(&self, place: usize, phone: u64) -> bool
+        ensures { result ≡ leads_to_service (plan_of self.now).tasks place phone }
+    {
+        self.has_service() && place != 0 && phone == 0
+    }
+
     #[tactic(auto, unfolding(crate::specs::Draft::with_wire))]
     pub fn add_wire(&mut self, from: &[u8], phone: u64, to: &[u8]) -> Result<(), LineFault>
         requires whole { IsWhole self.old }
@@ -166,7 +331,8 @@ impl Draft {
         let to = self.names.place_of(to).ok_or(Reason::Fault)?;
         let limit = self.limit_at(from);
         let number = from as u64 + 1;
-        if phone >= u64::from(limit) || is_wired(self.wires.as_slice(), number, phone) {
+        let is_wired = is_wired(self.wires.as_slice(), number, phone);
+        if phone >= u64::from(limit) || is_wired || self.leads_to_service(from, phone) {
             return Err(LineFault::Bad(Reason::Fault));
         }
         self.wires.push(Wire {
@@ -177,10 +343,41 @@ impl Draft {
         Ok(())
     }
 
+    fn taker(&self) -> Option<Kind>
+        ensures { result ≡ taker self.now }
+    {
+        match &self.last {
+            Some(last) if last.body.is_some() => Some(last.kind),
+            _ => None,
+        }
+    }
+
+    /// The kind of the last task, if it has a body that takes operations.
+    pub fn present(&self) -> Option<Kind>
+        requires { IsWhole self.now }
+        ensures taker { result ≡ taker self.now }
+        ensures value { result ≡ present (plan_of self.now) }
+    {
+        self.taker()
+    }
+
+    /// Gives the last task one more body.
+    #[tactic(auto, unfolding(crate::specs::Draft::with_body))]
+    pub fn add_body(&mut self, alloc: Global, connection: bool) -> Result<(), LineFault>
+        requires { IsWhole self.old }
+        ensures value { IsStep result self.old self.new (λ plan. with_body plan connection) }
+        ensures whole { OnOk result (IsWhole self.new) }
+    {
+        match &mut self.last {
+            None => Err(LineFault::Bad(Reason::Fault)),
+            Some(last) => last.add_body(alloc, connection),
+        }
+    }
+
     /// Gives the last task one more operation.
     #[tactic(auto, unfolding(crate::specs::Draft::with_op))]
     pub fn add_op(&mut self, op: Op) -> Result<(), LineFault>
-        requires ranges { KeepsRanges op }
+        requires of_kind { IfSome (taker self.old) (λ kind. IsOpOf kind op) }
         requires whole { IsWhole self.old }
         ensures value { IsStep result self.old self.new (λ plan. with_op plan op) }
         ensures whole { OnOk result (IsWhole self.new) }
@@ -192,12 +389,12 @@ impl Draft {
     }
 
     /// The script of all the lines.
-    pub fn into_script(self, alloc: Global) -> Result<Script, NoMemory>
+    pub fn into_script(self) -> Result<Script, NoMemory>
         requires { IsWhole self }
         ensures { IfOk result (λ script. script ≡ plan_of self) }
     {
         let mut draft = self;
-        draft.end_task(alloc)?;
+        draft.end_task()?;
         Ok(Script {
             tasks: draft.done,
             wires: draft.wires,

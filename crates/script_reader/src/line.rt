@@ -1,15 +1,16 @@
 //! What one line adds to a script.
-ghost use Rattle.std.specs.Prelude.{◌≡◌, IfSome, IfOk, OnOk};
+ghost use Rattle.std.specs.Prelude.{◌≡◌, ◌≢◌, IfSome, IfOk, OnOk};
 ghost use Rattle.std.specs.Option.{ForSome};
+ghost use Rattle.script_reader.specs.declared.plan.Kind.TheVariants.{Naming};
 ghost use Rattle.script_reader.specs.Text.{texts};
-ghost use Rattle.script_reader.specs.Line.{kind_of, limit_of, task_with, task_of, wire_of, task, wire, operation, after_words, after_line};
+ghost use Rattle.script_reader.specs.Line.{kind_of, limit_of, task_with, task_of, wire_of, ns, task, body, wire, operation, after_words, after_line};
 ghost use Rattle.script_reader.specs.Draft.{IsStep, IsWhole};
 ghost use Rattle.script_reader.specs.Sound.{IsLimit};
 
 use crate::draft::Draft;
 use crate::fault::{LineFault, Reason};
 use crate::name::Name;
-use crate::operation::op_of;
+use crate::operation::op_in;
 use crate::plan::Kind;
 use crate::text::{all_allowed, words};
 use crate::word::{OpVerb, Verb, look_up, number, verb_of};
@@ -17,10 +18,11 @@ use std::alloc::Global;
 
 const MOST_PHONES: u32 = 64;
 
-const KINDS: [(&[u8], Kind); 1] = [(b"raw", Kind::Raw)];
+const KINDS: [(&[u8], Kind); 2] = [(b"raw", Kind::Raw), (b"async", Kind::Async)];
 
 fn kind_of(word: &[u8]) -> Option<Kind>
-    ensures { result ≡ kind_of word.now }
+    ensures value { result ≡ kind_of word.now }
+    ensures not_naming { IfSome result (λ kind. kind ≢ Naming) }
 {
     look_up(&KINDS, word)
 }
@@ -43,6 +45,7 @@ fn limit_of(word: &[u8]) -> Option<u32>
 fn task_with(name: &[u8], kind: &[u8], limit: Option<u32>) -> Result<(Name, Kind, u32), Reason>
     requires { ForSome limit IsLimit }
     ensures value { result ≡ task_with name.now kind.now limit }
+    ensures not_naming { IfOk result (λ task. task.1 ≢ Naming) }
     ensures within { IfOk result (λ task. IsLimit task.2) }
 {
     let name = Name::from_slice(name).ok_or(Reason::Fault)?;
@@ -51,10 +54,11 @@ fn task_with(name: &[u8], kind: &[u8], limit: Option<u32>) -> Result<(Name, Kind
     Ok((name, kind, limit))
 }
 
-/// `NAME raw`, or `NAME raw N`
+/// `NAME raw` or `NAME async`, and maybe the number of phones
 #[tactic(auto, unfolding(crate::specs::Line::task_of))]
 fn task_of(words: &[&[u8]]) -> Result<(Name, Kind, u32), Reason>
     ensures value { result ≡ task_of (texts words.now) }
+    ensures not_naming { IfOk result (λ task. task.1 ≢ Naming) }
     ensures within { IfOk result (λ task. IsLimit task.2) }
 {
     match words {
@@ -80,6 +84,19 @@ fn wire_of(words: &[&[u8]]) -> Result<(Name, u64, Name), Reason>
     }
 }
 
+/// No words.
+#[tactic(auto, unfolding(crate::specs::Line::ns))]
+fn add_service(draft: &mut Draft, alloc: Global, words: &[&[u8]]) -> Result<(), LineFault>
+    requires { IsWhole draft.old }
+    ensures value { IsStep result draft.old draft.new (λ plan. ns plan (texts words.now)) }
+    ensures whole { OnOk result (IsWhole draft.new) }
+{
+    match words {
+        [] => draft.add_service(alloc),
+        _ => Err(LineFault::Bad(Reason::Fault)),
+    }
+}
+
 #[tactic(auto, unfolding(crate::specs::Line::task))]
 fn add_task(draft: &mut Draft, alloc: Global, words: &[&[u8]]) -> Result<(), LineFault>
     requires { IsWhole draft.old }
@@ -88,6 +105,25 @@ fn add_task(draft: &mut Draft, alloc: Global, words: &[&[u8]]) -> Result<(), Lin
 {
     let (name, kind, limit) = task_of(words)?;
     draft.add_task(alloc, name, kind, limit)
+}
+
+/// A body of connections or of a fibril; no words.
+#[tactic(auto, unfolding(crate::specs::Line::body))]
+fn add_body(
+    draft: &mut Draft,
+    alloc: Global,
+    connection: bool,
+    words: &[&[u8]],
+) -> Result<(), LineFault>
+    requires { IsWhole draft.old }
+    ensures value { IsStep result draft.old draft.new
+        (λ plan. body plan connection (texts words.now)) }
+    ensures whole { OnOk result (IsWhole draft.new) }
+{
+    match words {
+        [] => draft.add_body(alloc, connection),
+        _ => Err(LineFault::Bad(Reason::Fault)),
+    }
 }
 
 #[tactic(auto, unfolding(crate::specs::Line::wire))]
@@ -107,7 +143,7 @@ fn add_operation(draft: &mut Draft, verb: OpVerb, words: &[&[u8]]) -> Result<(),
         (λ plan. operation plan verb (texts words.now)) }
     ensures whole { OnOk result (IsWhole draft.new) }
 {
-    let op = op_of(verb, words)?;
+    let op = op_in(draft.present(), verb, words)?;
     draft.add_op(op)
 }
 
@@ -121,7 +157,10 @@ fn add_words(draft: &mut Draft, alloc: Global, words: &[&[u8]]) -> Result<(), Li
     };
     match verb_of(*first) {
         None => Err(LineFault::Bad(Reason::Fault)),
+        Some(Verb::Ns) => add_service(draft, alloc, others),
         Some(Verb::Task) => add_task(draft, alloc, others),
+        Some(Verb::Fibril) => add_body(draft, alloc, false, others),
+        Some(Verb::Connection) => add_body(draft, alloc, true, others),
         Some(Verb::Wire) => add_wire(draft, others),
         Some(Verb::Op(verb)) => add_operation(draft, verb, others),
     }

@@ -49,7 +49,7 @@ fn read(alloc: Global, bytes: &[u8]) -> Result<Script, ScriptFault>
     let lines = lines(alloc, bytes)?;
     let mut draft = Draft::new(alloc);
     add_lines(&mut draft, alloc, lines.as_slice())?;
-    let script = draft.into_script(alloc)?;
+    let script = draft.into_script()?;
     Ok(script)
 }
 

@@ -1,11 +1,11 @@
 //! Whole files, compared field by field, and what each fault's line is.
-ghost use Rattle.std.specs.Prelude.{◌≢◌, ◌<◌, ◌≤◌, length, All};
+ghost use Rattle.std.specs.Prelude.{◌≢◌, ◌<◌, ◌≤◌, length, All, IfSome};
 ghost use Rattle.script_reader.specs.Names.{ns_name};
 ghost use Rattle.script_reader.specs.Ranges.{KeepsRanges};
 ghost use Rattle.script_reader.specs.Schedule.{IsOnTaskOf};
 
 use crate::{Kind, Reason, ScheduleFault, Script, ScriptFault, read_schedule, read_script};
-use ipc_ids::{Event, Mode, Op, Short, TaskNo, Value};
+use ipc_ids::{Event, ExchangeMode, Mode, Op, Short, TaskNo, Value};
 use std::test::Fail;
 
 const SCRIPT: &[u8] = b"# two tasks and two wires
@@ -29,23 +29,29 @@ jumpne r1 W 0x2";
 const SCHEDULE: &[u8] =
     b"step client#once\n\nstep s_9 x 2\nkill s_9\n\thangup s_9 18446744073709551615 \n";
 
-/// What a consumer of a script relies on: no task has the name of the naming service.
-fn name(script: &Script, index: usize) -> &[u8]
+/// What a consumer of a script relies on: no raw task has the name of the naming service.
+fn raw_name(script: &Script, index: usize) -> Option<&[u8]>
     requires { index < length script.now.tasks }
-    ensures { result.now ≢ ns_name }
+    ensures { IfSome result (λ name. name.now ≢ ns_name) }
 {
-    script.tasks.as_slice()[index].name.as_slice()
+    let task = &script.tasks.as_slice()[index];
+    match task.kind {
+        Kind::Naming | Kind::Async => None,
+        Kind::Raw => Some(task.name.as_slice()),
+    }
 }
 
-/// What a consumer of a script relies on: what a task does is there and in range.
-fn operations(script: &Script, index: usize) -> &[Op]
+/// What a consumer of a script relies on: what a raw task does is there and in range.
+fn operations(script: &Script, index: usize) -> Option<&[Op]>
     requires { index < length script.now.tasks }
-    ensures few { length result.now ≤ 4096 }
-    ensures ranges { All KeepsRanges result.now }
+    ensures few { IfSome result (λ ops. length ops.now ≤ 4096) }
+    ensures ranges { IfSome result (λ ops. All KeepsRanges ops.now) }
 {
-    script.tasks.as_slice()[index].bodies.as_slice()[0]
-        .ops
-        .as_slice()
+    let task = &script.tasks.as_slice()[index];
+    match task.kind {
+        Kind::Naming | Kind::Async => None,
+        Kind::Raw => Some(task.bodies.as_slice()[0].ops.as_slice()),
+    }
 }
 
 /// What a consumer of a script relies on: each wire leads from a task that is there.
@@ -91,13 +97,15 @@ fn tasks_and_wires_are_read(rt: HostRuntime) {
     let script = read_script(rt.alloc(), SCRIPT).expect(&rt, "a script");
     let tasks = script.tasks.as_slice();
     assert_eq!(rt; tasks.len(), 2);
-    assert_eq!(rt; name(&script, 0), b"client".as_slice());
+    assert_eq!(rt; raw_name(&script, 0), Some(b"client".as_slice()));
     assert_eq!(rt; tasks[0].kind, Kind::Raw);
     assert_eq!(rt; tasks[0].limit, 2);
-    assert_eq!(rt; name(&script, 1), b"s_9".as_slice());
+    assert_eq!(rt; raw_name(&script, 1), Some(b"s_9".as_slice()));
     assert_eq!(rt; tasks[1].limit, 64);
-    assert_eq!(rt; operations(&script, 0).len(), 5);
-    assert_eq!(rt; operations(&script, 1).len(), 6);
+    let ops = operations(&script, 0).expect(&rt, "a raw task");
+    assert_eq!(rt; ops.len(), 5);
+    let ops = operations(&script, 1).expect(&rt, "a raw task");
+    assert_eq!(rt; ops.len(), 6);
     let wires = script.wires.as_slice();
     assert_eq!(rt; wires.len(), 2);
     let (first, second) = (wires[0], wires[1]);
@@ -267,13 +275,12 @@ fn fault_of_script(rt: &HostRuntime, bytes: &[u8]) -> Option<u64> {
 
 #[test]
 fn the_first_faulty_line_of_a_script_is_named(rt: HostRuntime) {
-    let faults: [(&[u8], u64); 30] = [
+    let faults: [(&[u8], u64); 29] = [
         (b"task a raw\r\n", 1),
         (b"task a raw\n# \x7f\n", 2),
         (b"\n\nfoo\nbar", 3),
-        (b"ns", 1),
         (b"receive", 1),
-        (b"task a async", 1),
+        (b"task a naming", 1),
         (b"task a", 1),
         (b"task a raw 1 2", 1),
         (b"task a raw 0", 1),
@@ -303,6 +310,257 @@ fn the_first_faulty_line_of_a_script_is_named(rt: HostRuntime) {
         assert_eq!(rt; fault_of_script(&rt, bytes), Some(line), "at {line}");
     }
     assert_eq!(rt; fault_of_script(&rt, b""), None);
+}
+
+const SERVICE_SCRIPT: &[u8] =
+    b"# the service\n\n ns # first\ntask a raw\nwire ns 0 a\nwire a 1 ns\n";
+
+#[test]
+fn the_naming_service_is_the_first_task(rt: HostRuntime) {
+    let script = read_script(rt.alloc(), SERVICE_SCRIPT).expect(&rt, "a script");
+    let tasks = script.tasks.as_slice();
+    assert_eq!(rt; tasks.len(), 2);
+    assert_eq!(rt; tasks[0].kind, Kind::Naming);
+    assert_eq!(rt; tasks[0].name.as_slice(), b"ns".as_slice());
+    assert_eq!(rt; tasks[0].limit, 64);
+    assert_eq!(rt; tasks[0].bodies.as_slice().len(), 0);
+    assert_eq!(rt; raw_name(&script, 1), Some(b"a".as_slice()));
+    let wires = script.wires.as_slice();
+    assert_eq!(rt; wires.len(), 2);
+    let (first, second) = (wires[0], wires[1]);
+    assert_eq!(rt; (first.from.0, first.phone.0, first.to.0), (1, 0, 2));
+    assert_eq!(rt; (second.from.0, second.phone.0, second.to.0), (2, 1, 1));
+}
+
+#[test]
+fn a_schedule_names_the_naming_service(rt: HostRuntime) {
+    let script = read_script(rt.alloc(), b"ns").expect(&rt, "a script");
+    let events = read_schedule(rt.alloc(), b"step ns\nhangup ns 0\nkill ns", &script);
+    let events = events.expect(&rt, "a schedule");
+    let wanted = [
+        Event::Step(TaskNo(1)),
+        Event::Hangup(TaskNo(1), 0),
+        Event::Kill(TaskNo(1)),
+    ];
+    assert_eq!(rt; events.as_slice(), wanted.as_slice());
+}
+
+#[test]
+fn the_naming_service_has_its_place(rt: HostRuntime) {
+    let faults: [(&[u8], u64); 9] = [
+        (b"ns 1", 1),
+        (b"ns\nns", 2),
+        (b"task a raw\nns", 2),
+        (b"ns\nreceive", 2),
+        (b"ns\ntask ns raw", 2),
+        (b"ns\ntask a raw\nwire a 0 ns", 3),
+        (b"ns\ntask a raw\nwire a 0 a", 3),
+        (b"ns\ntask a raw\nwire a 1 a\nwire ns 64 a", 4),
+        (b"ns\nwire ns 0 ns\nwire ns 0 ns", 3),
+    ];
+    for (bytes, line) in faults {
+        assert_eq!(rt; fault_of_script(&rt, bytes), Some(line), "at {line}");
+    }
+}
+
+const ASYNC_SCRIPT: &[u8] = b"task s async 3
+connection
+next
+fibril
+call 7 1 512 r1
+wire s 0 s
+wait 0
+yield
+answer r2 EOK
+fibril
+task c async
+";
+
+/// The operation at a place of a body of the first task.
+fn op_of_body(script: &Script, body: usize, place: usize) -> Option<&Op> {
+    let task = script.tasks.as_slice().get(0)?;
+    let body = task.bodies.as_slice().get(body)?;
+    body.ops.as_slice().get(place)
+}
+
+#[test]
+fn async_tasks_are_read(rt: HostRuntime) {
+    let script = read_script(rt.alloc(), ASYNC_SCRIPT).expect(&rt, "a script");
+    let tasks = script.tasks.as_slice();
+    assert_eq!(rt; tasks.len(), 2);
+    assert_eq!(rt; (tasks[0].kind, tasks[0].limit), (Kind::Async, 3));
+    assert_eq!(rt; (tasks[1].kind, tasks[1].limit), (Kind::Async, 64));
+    assert_eq!(rt; tasks[1].bodies.as_slice().len(), 0);
+    let bodies = tasks[0].bodies.as_slice();
+    let wanted = [(true, 1), (false, 4), (false, 0)];
+    assert_eq!(rt; bodies.len(), wanted.len());
+    for (body, want) in bodies.iter().zip(wanted.iter()) {
+        assert_eq!(rt; (body.connection, body.ops.as_slice().len()), *want);
+    }
+    assert_eq!(rt; script.wires.as_slice().len(), 1);
+}
+
+#[test]
+fn operations_of_fibrils_are_read(rt: HostRuntime) {
+    let script = read_script(rt.alloc(), ASYNC_SCRIPT).expect(&rt, "a script");
+    assert_eq!(rt; op_of_body(&script, 0, 0), Some(&Op::Next));
+    let wanted = [
+        Op::CallSlot {
+            slot: 7,
+            phone: number(1),
+            method: number(512),
+            args: [
+                Value::Register(1),
+                number(0),
+                number(0),
+                number(0),
+                number(0),
+            ],
+        },
+        Op::Wait(0),
+        Op::Yield,
+        Op::Answer {
+            call: Value::Register(2),
+            code: number(0),
+            args: [number(0); 5],
+        },
+    ];
+    for (place, want) in wanted.iter().enumerate() {
+        assert_eq!(rt; op_of_body(&script, 1, place), Some(want), "at {place}");
+    }
+}
+
+const EXCHANGE_SCRIPT: &[u8] = b"task c async
+fibril
+open 15 r1 serialize
+begin 7 15
+send 7 6 512 r31 2 3 4 5
+end 7
+close 15
+open 0 63 atomic
+open 1 2 parallel
+";
+
+#[test]
+fn operations_of_exchanges_are_read(rt: HostRuntime) {
+    let script = read_script(rt.alloc(), EXCHANGE_SCRIPT).expect(&rt, "a script");
+    let wanted = [
+        Op::OpenSession {
+            session: 15,
+            phone: Value::Register(1),
+            mode: ExchangeMode::Serialize,
+        },
+        Op::Begin {
+            handle: 7,
+            session: 15,
+        },
+        Op::Send {
+            slot: 7,
+            handle: 6,
+            method: number(512),
+            args: [
+                Value::Register(31),
+                number(2),
+                number(3),
+                number(4),
+                number(5),
+            ],
+        },
+        Op::End(7),
+        Op::Close(15),
+        Op::OpenSession {
+            session: 0,
+            phone: number(63),
+            mode: ExchangeMode::Atomic,
+        },
+        Op::OpenSession {
+            session: 1,
+            phone: number(2),
+            mode: ExchangeMode::Parallel,
+        },
+    ];
+    for (place, want) in wanted.iter().enumerate() {
+        assert_eq!(rt; op_of_body(&script, 0, place), Some(want), "at {place}");
+    }
+}
+
+#[test]
+fn the_words_of_exchanges_are_counted_and_of_their_kinds(rt: HostRuntime) {
+    let faults: [&[u8]; 12] = [
+        b"task a async\nfibril\nsend 8 0 512",
+        b"task a async\nfibril\nsend 0 8 512",
+        b"task a async\nfibril\nsend 0 0",
+        b"task a async\nfibril\nsend 0 0 512 1 2 3 4 5 6",
+        b"task a async\nfibril\nopen 16 0 atomic",
+        b"task a async\nfibril\nopen 0 0 route",
+        b"task a async\nfibril\nopen 0 0",
+        b"task a async\nfibril\nbegin 8 0",
+        b"task a async\nfibril\nbegin 0 16",
+        b"task a async\nfibril\nend 8",
+        b"task a async\nfibril\nclose 16",
+        b"task a async\nfibril\nclose r1",
+    ];
+    for bytes in faults {
+        assert_eq!(rt; fault_of_script(&rt, bytes), Some(3));
+    }
+}
+
+#[test]
+fn each_kind_of_task_has_its_operations(rt: HostRuntime) {
+    let faults: [(&[u8], u64); 16] = [
+        (b"task a raw\nfibril", 2),
+        (b"task a raw\nconnection", 2),
+        (b"ns\nfibril", 2),
+        (b"fibril", 1),
+        (b"task a raw\nwait 0", 2),
+        (b"task a raw\nnext", 2),
+        (b"task a raw\nyield", 2),
+        (b"task a raw\nsend 0 0 512", 2),
+        (b"task a raw\nopen 0 0 atomic", 2),
+        (b"task a raw\nbegin 0 0", 2),
+        (b"task a raw\nend 0", 2),
+        (b"task a raw\nclose 0", 2),
+        (b"task a async\nyield", 2),
+        (b"task a async\nfibril\nreceive", 3),
+        (b"task a async\nfibril\nhangup 0", 3),
+        (b"task a async\nfibril\ncall 0 512", 3),
+    ];
+    for (bytes, line) in faults {
+        assert_eq!(rt; fault_of_script(&rt, bytes), Some(line), "at {line}");
+    }
+}
+
+#[test]
+fn the_words_of_fibrils_are_counted_and_of_their_kinds(rt: HostRuntime) {
+    let faults: [&[u8]; 10] = [
+        b"task a async\nfibril\ncall 8 0 512",
+        b"task a async\nfibril\ncall r1 0 512",
+        b"task a async\nfibril\ncall 0 0 512 1 2 3 4 5 6",
+        b"task a async\nfibril\nwait",
+        b"task a async\nfibril\nwait 8",
+        b"task a async\nfibril\nwait 0 0",
+        b"task a async\nfibril\nnext 0",
+        b"task a async\nfibril\nyield 0",
+        b"task a async\nfibril\nfibril 1",
+        b"task a async\nconnection\nconnection",
+    ];
+    for bytes in faults {
+        assert_eq!(rt; fault_of_script(&rt, bytes), Some(3));
+    }
+    assert_eq!(rt; fault_of_script(&rt, b"task a async 65"), Some(1));
+}
+
+#[test]
+fn an_async_task_has_16_fibrils_at_most(rt: HostRuntime) -> Result<(), Fail> {
+    let mut text = Vec::new(rt.alloc());
+    text.extend_from_slice(b"task a async\nconnection\n")?;
+    for _ in 0..16 {
+        text.extend_from_slice(b"fibril\n")?;
+    }
+    assert_eq!(rt; fault_of_script(&rt, text.as_slice()), None);
+    text.extend_from_slice(b"fibril")?;
+    assert_eq!(rt; fault_of_script(&rt, text.as_slice()), Some(19));
+    Ok(())
 }
 
 /// The line of the first fault, or `None` where the bytes spell events.
