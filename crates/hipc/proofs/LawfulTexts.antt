@@ -5,7 +5,7 @@ use Rattle.io_edge.specs.Edge.{Gives}
 use Rattle.script_reader.specs.Plan.{Plan}
 use Rattle.script_reader.specs.Sound.{IsSound}
 use Rattle.script_reader.specs.Reading.{script_of, schedule_of}
-use Rattle.hipc.specs.Replay.{run}
+use Rattle.schedule_replay.specs.Run.{run}
 use Rattle.hipc.specs.Text.{text_of}
 use Rattle.hipc.specs.Due.{Files, files_of}
 use Rattle.hipc.specs.LawfulRun.{IsLawfulText, WritesLawfulRun, WritesLawfulRunOfFiles, WritesLawfulRunOf}

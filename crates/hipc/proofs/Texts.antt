@@ -5,7 +5,7 @@ use Rattle.std.proofs.lemmas.List.{append-nil, drop_all}
 use Rattle.ipc_ids.specs.declared.entry.Entry.{Entry}
 use Rattle.ipc_ids.specs.declared.message.Event.{Event}
 use Rattle.hipc.specs.Text.{text_of_entry, text_of}
-use Rattle.hipc.specs.Replay.{RunState, turn, run_from}
+use Rattle.schedule_replay.specs.Run.{RunState, turn, run_from}
 
 text_append : (a b : List Entry) → text_of (a ++ b) ≡ text_of a ++ text_of b
 text_append [] b = refl

@@ -1,23 +1,29 @@
--- A run that keeps the laws of calls and of shared areas, and when the program writes one.
+-- A run that keeps the laws of calls, of shared areas, of replies and of exchanges, and when the
+-- program writes one.
 use Rattle.std.specs.Prelude.{ℕ, ◌≡◌, List, Option, Some, Ok}
 use Rattle.std.specs.Io.KnownBytes.{Appends}
 use Rattle.ipc_ids.specs.declared.message.Event.{Event}
 use Rattle.ipc_ids.specs.declared.entry.Entry.{Entry}
 use Rattle.ipc_ids.specs.Laws.{LivesAreLawful, AnsweredAtMostOnce, KillEndsHeldCalls}
 use Rattle.ipc_ids.specs.AreaLaw.{AreasAreLawful}
+use Rattle.ipc_ids.specs.Replies.{RepliesReachTheirFibril}
+use Rattle.ipc_ids.specs.Exchanges.{ExchangesAreLawful}
 use Rattle.script_reader.specs.Plan.{Plan}
 use Rattle.script_reader.specs.Reading.{script_of, schedule_of}
 use Rattle.io_edge.specs.Edge.{Holds}
-use Rattle.hipc.specs.Replay.{run}
+use Rattle.schedule_replay.specs.Run.{run}
 use Rattle.hipc.specs.Text.{text_of}
 use Rattle.hipc.specs.Due.{Files, files_of}
 
--- these entries keep the laws: of a call's life, of one answer, of a kill, and of shared areas
+-- these entries keep the laws: of a call's life, of one answer, of a kill, of shared areas, of
+-- replies and of exchanges
 pub record KeepsLaws (h : List Entry) : Type 0 where
   pub lives : LivesAreLawful h
   pub answers : AnsweredAtMostOnce h
   pub kills : KillEndsHeldCalls h
   pub areas : AreasAreLawful h
+  pub replies : RepliesReachTheirFibril h
+  pub exchanges : ExchangesAreLawful h
 
 -- the bytes of a script and of a schedule spell a run that keeps the laws, and this is its text
 pub record IsLawfulText (script schedule text : List ℕ) : Type 0 where

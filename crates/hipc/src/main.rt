@@ -3,7 +3,6 @@
 
 mod answer;
 mod due;
-mod raw;
 mod replay;
 mod status;
 #[cfg(test)]

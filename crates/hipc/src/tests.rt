@@ -129,6 +129,91 @@ kill t1\n\
 \x20 call 3 forgotten\n\
 \x20 unarea t1 4096\n";
 
+// A client waits for a service, which the server then is, until it is killed.
+const SERVICE_SCRIPT: &[u8] = b"ns\n\
+task c raw\n\
+call 0 CONNECT_ME_TO 7 0 0 1\n\
+receive\n\
+call 0 CONNECT_ME_TO 7 0 0 1\n\
+receive\n\
+task s raw\n\
+call 0 CONNECT_TO_ME 7\n\
+receive\n\
+receive\n\
+answer r2 EOK\n";
+
+const SERVICE_SCHEDULE: &[u8] = b"step c\n\
+step ns\n\
+step s\n\
+step ns x 3\n\
+step s x 3\n\
+step c\n\
+kill s\n\
+step c\n\
+step ns x 4\n\
+step c\n";
+
+const SERVICE_TEXT: &[u8] = b"t2 call 0 2 7 0 0 1 0\n\
+\x20 call 1 accepted t2.0 method 2 to t1\n\
+\x20 phone t2.1 connecting\n\
+\x20 = call 1\n\
+t1 receive\n\
+\x20 call 1 received t1\n\
+\x20 = received 1 2 7 0 0 1 129 from t2.0\n\
+t3 call 0 1 7 0 0 0 0\n\
+\x20 call 2 accepted t3.0 method 1 to t1\n\
+\x20 = call 2\n\
+t1 receive\n\
+\x20 call 2 received t1\n\
+\x20 phone t1.0 connecting\n\
+\x20 = received 2 1 7 0 0 0 0 from t3.0\n\
+t1 answer 2 EOK 0 0 0 0 0\n\
+\x20 call 2 answered EOK 0 0 0 0 0 by t1\n\
+\x20 phone t1.0 connected t3\n\
+\x20 = EOK\n\
+t1 forward 1 0 plain 2 0 0 0 0 0\n\
+\x20 call 1 forwarded t1 to t3 label t2.0\n\
+\x20 = EOK\n\
+t3 receive\n\
+\x20 call 2 delivered t3\n\
+\x20 = answer 2 EOK 0 0 0 0 0\n\
+t3 receive\n\
+\x20 call 1 received t3\n\
+\x20 = received 1 2 0 0 0 0 129 from t2.0\n\
+t3 answer 1 EOK 0 0 0 0 0\n\
+\x20 call 1 answered EOK 0 0 0 0 0 by t3\n\
+\x20 phone t2.1 connected t3\n\
+\x20 = EOK\n\
+t2 receive\n\
+\x20 call 1 delivered t2\n\
+\x20 = answer 1 EOK 0 0 0 0 1\n\
+kill t3\n\
+\x20 call 3 accepted t3.0 method 0 to t1\n\
+\x20 phone t3.0 hungup\n\
+\x20 phone t1.0 slammed\n\
+\x20 phone t2.1 slammed\n\
+\x20 call 3 forgotten\n\
+t2 call 0 2 7 0 0 1 0\n\
+\x20 call 4 accepted t2.0 method 2 to t1\n\
+\x20 phone t2.2 connecting\n\
+\x20 = call 4\n\
+t1 receive\n\
+\x20 call 3 received t1\n\
+\x20 = received 3 0 0 0 0 0 0 from t3.0\n\
+t1 answer 3 EOK 0 0 0 0 0\n\
+\x20 call 3 vanished\n\
+\x20 = EOK\n\
+t1 receive\n\
+\x20 call 4 received t1\n\
+\x20 = received 4 2 7 0 0 1 130 from t2.0\n\
+t1 forward 4 0 plain 2 0 0 0 0 0\n\
+\x20 call 4 answered EFORWARD 0 0 0 0 0 by kernel\n\
+\x20 = ENOENT\n\
+t2 receive\n\
+\x20 call 4 delivered t2\n\
+\x20 phone t2.2 free\n\
+\x20 = answer 4 EFORWARD 0 0 0 0 0\n";
+
 const USAGE: &[u8] = b"usage: hipc replay SCRIPT SCHEDULE\n";
 
 fn words(alloc: Global, line: &[&str]) -> Result<Vec<String>, AllocError> {
@@ -179,6 +264,17 @@ fn bytes_go_from_task_to_task(rt: HostRuntime) -> Result<(), Fail> {
         Status::Done
     );
     assert_eq!(rt; sink.written(), DATA_TEXT);
+    Ok(())
+}
+
+#[test]
+fn a_client_finds_its_service(rt: HostRuntime) -> Result<(), Fail> {
+    let mut sink = MemSink::new(rt.alloc(), 4000)?;
+    assert_eq!(rt;
+        replay_bytes(rt.alloc(), SERVICE_SCRIPT, SERVICE_SCHEDULE, &mut sink),
+        Status::Done
+    );
+    assert_eq!(rt; sink.written(), SERVICE_TEXT);
     Ok(())
 }
 

@@ -2,7 +2,10 @@
 ghost use Rattle.std.specs.Prelude.{◌≡◌, ◌++◌, IfOk, OnOk, OnErr};
 ghost use Rattle.hipc.specs.Text.{text_of_entry, text_of};
 
-use ipc_ids::{CallNo, Entry, Msg, NoMemory, Outcome, PhoneState, Request, StoreNo, TaskNo};
+use ipc_ids::{
+    CallNo, Entry, ExchangeMode, ExchangeNo, FibrilNo, Msg, NoMemory, Outcome, PhoneState, Request,
+    StoreNo, TaskNo,
+};
 use std::alloc::Global;
 use std::fmt;
 
@@ -262,7 +265,170 @@ impl fmt::Display for Over {
     }
 }
 
-/// What happened to a call; nothing for another entry.
+/// A fibril of a task.
+#[derive(Clone, Copy)]
+struct Fibril(TaskNo, FibrilNo);
+
+#[tactic(auto, unfolding(crate::specs::Text::fibril_text))]
+impl fmt::Display for Fibril {
+    ghost use Rattle.std.specs.Prelude.{Some};
+    ghost use Rattle.hipc.specs.Text.{fibril_text};
+
+    ghost output = { λ fibril. Some (fibril_text fibril.0 fibril.1) };
+
+    fn fmt<W: fmt::Write>(&self, f: &mut fmt::Formatter<W>) -> fmt::Result {
+        let (task, number) = (self.0, self.1.0);
+        write!(f, "{task}/{number}")
+    }
+}
+
+/// The slot that a call was sent from.
+#[derive(Clone, Copy)]
+struct Slot(Option<u32>);
+
+#[tactic(auto, unfolding(crate::specs::Text::slot_text))]
+impl fmt::Display for Slot {
+    ghost use Rattle.std.specs.Prelude.{Some};
+    ghost use Rattle.hipc.specs.Text.{slot_text};
+
+    ghost output = { λ slot. Some (slot_text slot.0) };
+
+    fn fmt<W: fmt::Write>(&self, f: &mut fmt::Formatter<W>) -> fmt::Result {
+        match self.0 {
+            None => f.write_str(" begin"),
+            Some(slot) => write!(f, " slot {slot}"),
+        }
+    }
+}
+
+/// An exchange of a task.
+#[derive(Clone, Copy)]
+struct Exchange(ExchangeNo);
+
+#[tactic(auto, unfolding(crate::specs::Text::exchange_text))]
+impl fmt::Display for Exchange {
+    ghost use Rattle.std.specs.Prelude.{Some};
+    ghost use Rattle.hipc.specs.Text.{exchange_text};
+
+    ghost output = { λ exchange. Some (exchange_text exchange.0) };
+
+    fn fmt<W: fmt::Write>(&self, f: &mut fmt::Formatter<W>) -> fmt::Result {
+        let number = self.0.0;
+        write!(f, " exchange {number}")
+    }
+}
+
+/// How an exchange is begun: its mode, its session and its phone.
+#[derive(Clone, Copy)]
+struct Terms(ExchangeMode, u32, u64);
+
+#[tactic(auto, unfolding(crate::specs::Text::terms_text))]
+impl fmt::Display for Terms {
+    ghost use Rattle.std.specs.Prelude.{Some};
+    ghost use Rattle.hipc.specs.Text.{terms_text};
+
+    ghost output = { λ terms. Some (terms_text terms.0 terms.1 terms.2) };
+
+    fn fmt<W: fmt::Write>(&self, f: &mut fmt::Formatter<W>) -> fmt::Result {
+        let (mode, session, phone) = (self.0, self.1, self.2);
+        write!(f, " {mode} session {session} phone {phone}")
+    }
+}
+
+/// What a program tells of an exchange; nothing for another entry.
+#[derive(Clone, Copy)]
+struct ExchangeEffect<'a>(&'a Entry);
+
+impl<'a> fmt::Display for ExchangeEffect<'a> {
+    ghost use Rattle.std.specs.Prelude.{Some};
+    ghost use Rattle.hipc.specs.Text.{exchange_effect_text};
+
+    ghost output = { λ effect. Some (exchange_effect_text effect.0.now) };
+
+    fn fmt<W: fmt::Write>(&self, f: &mut fmt::Formatter<W>) -> fmt::Result {
+        match self.0 {
+            Entry::Begins {
+                task,
+                fibril,
+                exchange,
+                mode,
+                session,
+                phone,
+            } => {
+                let (fibril, exchange) = (Fibril(*task, *fibril), Exchange(*exchange));
+                let terms = Terms(*mode, *session, *phone);
+                write!(f, "{fibril} begins{exchange}{terms}")
+            }
+            Entry::ExchangeEnds {
+                task,
+                fibril,
+                exchange,
+            } => {
+                let (fibril, exchange) = (Fibril(*task, *fibril), Exchange(*exchange));
+                write!(f, "{fibril} ends{exchange}")
+            }
+            Entry::Drops {
+                task,
+                fibril,
+                exchange,
+            } => {
+                let (fibril, exchange) = (Fibril(*task, *fibril), Exchange(*exchange));
+                write!(f, "{fibril} drops{exchange}")
+            }
+            _ => Ok(()),
+        }
+    }
+}
+
+/// What a program tells of a fibril; nothing for another entry.
+#[derive(Clone, Copy)]
+struct FibrilEffect<'a>(&'a Entry);
+
+impl<'a> fmt::Display for FibrilEffect<'a> {
+    ghost use Rattle.std.specs.Prelude.{Some};
+    ghost use Rattle.hipc.specs.Text.{fibril_effect_text};
+
+    ghost output = { λ effect. Some (fibril_effect_text effect.0.now) };
+
+    fn fmt<W: fmt::Write>(&self, f: &mut fmt::Formatter<W>) -> fmt::Result {
+        match self.0 {
+            Entry::Sent {
+                task,
+                fibril,
+                call: CallNo(call),
+                slot,
+            } => {
+                let (fibril, slot) = (Fibril(*task, *fibril), Slot(*slot));
+                write!(f, "{fibril} sent {call}{slot}")
+            }
+            Entry::Gets {
+                task,
+                fibril,
+                call: CallNo(call),
+                slot,
+                reply,
+            } => {
+                let (fibril, slot) = (Fibril(*task, *fibril), Slot(*slot));
+                write!(f, "{fibril} gets {call}{slot} {reply}")
+            }
+            Entry::Blocks { task, fibril, why } => {
+                write!(f, "{} blocks {why}", Fibril(*task, *fibril))
+            }
+            Entry::Starts {
+                task,
+                fibril,
+                label,
+            } => write!(f, "{} starts {label}", Fibril(*task, *fibril)),
+            Entry::Ends { task, fibril } => write!(f, "{} ends", Fibril(*task, *fibril)),
+            Entry::RefusedOp { task, fibril, code } => {
+                write!(f, "{} refused {code}", Fibril(*task, *fibril))
+            }
+            on_exchange => write!(f, "{}", ExchangeEffect(on_exchange)),
+        }
+    }
+}
+
+/// What happened to a call or to a fibril; nothing for another entry.
 #[derive(Clone, Copy)]
 struct CallEffect<'a>(&'a Entry);
 
@@ -300,7 +466,7 @@ impl<'a> fmt::Display for CallEffect<'a> {
             Entry::Delivered { call, to } => write!(f, "{} delivered {to}", OnCall(*call)),
             Entry::Dropped { call, at } => write!(f, "{} dropped {at}", OnCall(*call)),
             Entry::Forgotten(call) => write!(f, "{} forgotten", OnCall(*call)),
-            _ => Ok(()),
+            of_fibril => write!(f, "{}", FibrilEffect(of_fibril)),
         }
     }
 }
@@ -394,7 +560,7 @@ pub fn entries_text(alloc: Global, entries: &[Entry]) -> Result<Vec<u8>, NoMemor
 #[cfg(test)]
 mod tests {
     use super::*;
-    use ipc_ids::{Code, Label, Mode, PhoneNo, Reply, Short};
+    use ipc_ids::{Code, Label, Mode, PhoneNo, Reply, Short, Why};
     use std::test::Fail;
 
     const MSG: Msg = Msg {
@@ -599,6 +765,87 @@ mod tests {
             phone t1.63 connected t2\n  \
             phone t1.63 hungup\n  \
             phone t1.63 slammed\n";
+        assert!(rt; text.as_slice() == expected.as_bytes());
+        Ok(())
+    }
+
+    #[test]
+    fn fibrils_have_their_task_and_number(rt: HostRuntime) -> Result<(), Fail> {
+        let (task, fibril, call) = (TaskNo(2), FibrilNo(1), CallNo(9));
+        let entries = [
+            Entry::Sent {
+                task,
+                fibril,
+                call,
+                slot: Some(7),
+            },
+            Entry::Gets {
+                task,
+                fibril,
+                call,
+                slot: None,
+                reply: REPLY,
+            },
+            Entry::Blocks {
+                task,
+                fibril,
+                why: Why::Mutex(15),
+            },
+            Entry::Starts {
+                task,
+                fibril,
+                label: LABEL,
+            },
+            Entry::Ends { task, fibril },
+            Entry::Begins {
+                task,
+                fibril,
+                exchange: ExchangeNo(3),
+                mode: ExchangeMode::Serialize,
+                session: 15,
+                phone: 63,
+            },
+            Entry::ExchangeEnds {
+                task,
+                fibril,
+                exchange: ExchangeNo(3),
+            },
+            Entry::Drops {
+                task,
+                fibril,
+                exchange: ExchangeNo(3),
+            },
+            Entry::RefusedOp {
+                task,
+                fibril,
+                code: Code::EBUSY,
+            },
+        ];
+        let text = entries_text(rt.alloc(), &entries)?;
+        let expected = "  t2/1 sent 9 slot 7\n  \
+            t2/1 gets 9 begin EOK 8 0 0 0 0\n  \
+            t2/1 blocks mutex 15\n  \
+            t2/1 starts t1.63\n  \
+            t2/1 ends\n  \
+            t2/1 begins exchange 3 serialize session 15 phone 63\n  \
+            t2/1 ends exchange 3\n  \
+            t2/1 drops exchange 3\n  \
+            t2/1 refused EBUSY\n";
+        assert!(rt; text.as_slice() == expected.as_bytes());
+        Ok(())
+    }
+
+    #[test]
+    fn fibrils_wait_for_something(rt: HostRuntime) -> Result<(), Fail> {
+        let mut text = Vec::new(rt.alloc());
+        for why in [Why::Answer(CallNo(9)), Why::Phone, Why::Message] {
+            let (task, fibril) = (TaskNo(64), FibrilNo(2));
+            let entry = Entry::Blocks { task, fibril, why };
+            entry_text(rt.alloc(), &entry, &mut text)?;
+        }
+        let expected = "  t64/2 blocks answer 9\n  \
+            t64/2 blocks phone\n  \
+            t64/2 blocks message\n";
         assert!(rt; text.as_slice() == expected.as_bytes());
         Ok(())
     }

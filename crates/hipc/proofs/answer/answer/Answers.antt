@@ -1,6 +1,6 @@
 use Rattle.std.proofs.Common.{subst, ap, ◌∙◌}
 use Rattle.script_reader.specs.Sound.{IsSound}
-use Rattle.hipc.specs.Replay.{run}
+use Rattle.schedule_replay.specs.Run.{run}
 use Rattle.hipc.specs.Text.{text_of}
 use Rattle.hipc.proofs.LawfulTexts.{text_is_lawful}
 use Rattle.hipc.proofs.answer.answer.Goals as goal

@@ -8,7 +8,7 @@ loop-event-preserved c = record {
   text =
       rw
       (c.in_ok-add_entries.ensures, c.entries.ensures, c.in_ok-step.ensures.entries, c.in_ok-step.ensures.state, c.clear.ensures.entries)
-      (one_more c.loop-event.replay c.args.events.now c.loop-event.event-index (Step (record { 0 = 0 })) _ _ c.loop-event-test.true c.loop-event.invariant.text);
+      (one_more c.loop-event.replay.state c.args.events.now c.loop-event.event-index (Step (record { 0 = 0 })) _ _ c.loop-event-test.true c.loop-event.invariant.text);
   few = omega (arith, c.in_ok-step.ensures.events, c.loop-event.invariant.few);
 }
 

@@ -1,0 +1,19 @@
+use Rattle.std.proofs.Common.{◌≡◌, true, rules, subst, List}
+use Rattle.std.specs.Prelude.{OnErr}
+use Rattle.ipc_ids.specs.declared.entry.Entry.{Entry}
+use Rattle.cleanup.specs.State.{is_alive}
+use Rattle.schedule_replay.specs.Run.{TellsPart}
+use Rattle.schedule_replay.proofs.Stepping.{kill_told}
+use Rattle.schedule_replay.proofs.Taking.{took_more}
+use Rattle.schedule_replay.proofs.system.System.kill.Goals as goal
+
+pub invariant_of-self : goal.invariant_of-self
+invariant_of-self c = took_more _ _ _ c.kill_task.ensures.rises c.self.invariant
+
+pub returns-clause-part : goal.returns-clause-part
+returns-clause-part c =
+    let alive : is_alive c.self.inside.kernel c.args.task ≡ true = search rules in
+    subst
+    (λ (es : List Entry). OnErr c.kill_task.result (TellsPart c.args.out.now c.kill_task.new.out es))
+    (kill_told (record { kernel = c.self.inside.kernel; programs = c.self.inside.programs.items }) c.args.self.now c.args.task c.self.view_is alive)
+    c.kill_task.ensures.part

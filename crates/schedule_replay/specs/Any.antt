@@ -1,0 +1,39 @@
+-- The programs of all kinds: what each kind asks, becomes and tells, by an equation for each kind.
+use Rattle.std.specs.Prelude.{ℕ, ◌≤◌, ⊤, List, [], ◌∷◌}
+use Rattle.ipc_ids.specs.declared.message.Request.{Request}
+use Rattle.ipc_ids.specs.declared.message.Outcome.{Outcome}
+use Rattle.ipc_ids.specs.declared.entry.Entry.{Entry}
+use Rattle.raw_program.specs.Raw as raw
+use Rattle.naming_service.specs.Naming as naming
+use Rattle.async_task.specs.Program as async_task
+use Rattle.schedule_replay.specs.declared.any.AnyProgram.{AnyProgram}
+use Rattle.schedule_replay.specs.declared.any.AnyProgram.TheVariants as any
+
+-- what it asks next
+abbrev pub wanted : AnyProgram → Request
+wanted (any.Raw p) = raw.wanted p
+wanted (any.Naming p) = naming.wanted p
+wanted (any.Async p) = async_task.wanted p
+
+-- what an outcome makes of it
+abbrev pub after : AnyProgram → Outcome → AnyProgram
+after (any.Raw p) o = any.Raw (raw.after p o)
+after (any.Naming p) o = any.Naming (naming.after p o)
+after (any.Async p) o = any.Async (async_task.after p o)
+
+-- the entries of its own that it makes of an outcome
+abbrev pub entries : AnyProgram → Outcome → List Entry
+entries (any.Raw p) o = raw.entries p o
+entries (any.Naming p) o = naming.entries p o
+entries (any.Async p) o = async_task.entries p o
+
+-- how many outcomes it took
+abbrev pub taken : AnyProgram → ℕ
+taken (any.Raw p) = p.taken
+taken (any.Naming p) = p.taken
+taken (any.Async p) = p.taken
+
+-- each of them took so many outcomes at most
+abbrev pub TookFew : ℕ → List AnyProgram → Type 0
+TookFew most [] = ⊤
+TookFew most (p ∷ ps) = (taken p ≤ most) × TookFew most ps

@@ -1,0 +1,4 @@
+pub mod Any
+pub mod Run
+pub mod RunHistory
+pub mod Wiring

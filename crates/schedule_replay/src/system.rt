@@ -1,0 +1,219 @@
+//! The kernel and the programs of a script's tasks.
+ghost use Rattle.std.specs.Prelude.{◌≡◌, ◌+◌, ◌^◌, ◌<◌, ◌≤◌, true, Some};
+ghost use Rattle.std.specs.Prelude.{IfOk, OnOk, OnErr, option_map};
+ghost use Rattle.std.specs.Option.{option_copied};
+ghost use Rattle.ipc_ids.specs.Program.{fits};
+ghost use Rattle.cleanup.specs.State.{is_alive};
+ghost use Rattle.kernel_core.specs.History.{served_entries, killed_entries, gone_entries};
+ghost use Rattle.kernel_core.specs.Kernel.{serve, kill_event};
+ghost use Rattle.schedule_replay.specs.Any.{wanted};
+ghost use Rattle.schedule_replay.specs.Run.{Tells, TellsPart};
+
+use crate::any::AnyProgram;
+use crate::starting::{add_service_wires, add_tasks, add_wires, programs_of};
+use ipc_ids::{Entry, Event, NoMemory, Outcome, Program, Request, TaskNo, Trace};
+use kernel_core::Kernel;
+use script_reader::Script;
+use std::alloc::Global;
+use std::marker::Model;
+
+/// The kernel, and the program of each task.
+#[derive(Drop)]
+pub struct System {
+    kernel: Kernel,
+    programs: Vec<AnyProgram>,
+}
+
+impl Model for System {
+    ghost use Rattle.kernel_core.specs.contracts.kernel.Kernel as kernels;
+    ghost use Rattle.schedule_replay.specs.contracts.any.AnyProgram as any_program;
+    ghost use Rattle.schedule_replay.specs.Any.{TookFew};
+    ghost use Rattle.schedule_replay.specs.Run.{RunState, run_code};
+
+    ghost Value = { RunState };
+
+    ghost coded = { run_code kernels.the_row.coded any_program.the_row.coded };
+
+    ghost view = { λ a. record { kernel = a.kernel; programs = a.programs.items } };
+
+    ghost invariant = { λ a. TookFew a.kernel.events a.programs.items };
+}
+
+impl System {
+    ghost use Rattle.schedule_replay.specs.Run.{start, program_at, turn, step, kill, hangup};
+
+    /// The tasks of a script before the first event.
+    ///
+    /// # Errors
+    ///
+    /// `NoMemory` where no memory was found.
+    pub fn new(alloc: Global, script: &Script) -> Result<System, NoMemory>
+        ensures state { IfOk result (λ system. system ≡ start script.now) }
+        ensures no_event { IfOk result (λ system. system.kernel.events ≡ 0) }
+    {
+        let mut kernel = Kernel::new(alloc);
+        let tasks = script.tasks.as_slice();
+        add_tasks(&mut kernel, tasks)?;
+        add_service_wires(&mut kernel, tasks);
+        add_wires(&mut kernel, script.wires.as_slice());
+        let programs = programs_of(alloc, tasks)?;
+        Ok(System { kernel, programs })
+    }
+
+    /// One event, whose entries go to the end of `out`.
+    ///
+    /// # Errors
+    ///
+    /// `NoMemory` where no memory was found. The event may be half done then.
+    pub fn turn(&mut self, event: &Event, out: &mut Trace) -> Result<(), NoMemory>
+        requires few_events { self.old.kernel.events < 2 ^ 24 }
+        ensures state { OnOk result (self.new ≡ (turn self.old event.now).state) }
+        ensures entries { OnOk result (Tells out.old out.new (turn self.old event.now).entries) }
+        ensures part { OnErr result (TellsPart out.old out.new (turn self.old event.now).entries) }
+        ensures events { self.new.kernel.events ≤ self.old.kernel.events + 1 }
+    {
+        match event {
+            Event::Step(task) => self.step_task(*task, out),
+            Event::Kill(task) => self.kill(*task, out),
+            Event::Hangup(task, phone) => self.hang_up(*task, *phone, out),
+        }
+    }
+
+    fn step_task(&mut self, task: TaskNo, out: &mut Trace) -> Result<(), NoMemory>
+        requires few_events { self.old.kernel.events < 2 ^ 24 }
+        ensures state { OnOk result (self.new ≡ (step self.old task).state) }
+        ensures entries { OnOk result (Tells out.old out.new (step self.old task).entries) }
+        ensures part { OnErr result (TellsPart out.old out.new (step self.old task).entries) }
+        ensures events { self.new.kernel.events ≤ self.old.kernel.events + 1 }
+    {
+        match self.program(task) {
+            Some(program) => {
+                let (told, request) = (program.next(), program.next());
+                self.step_alive(task, told, &request, out)
+            }
+            None => tell_gone(task, out),
+        }
+    }
+
+    /// The program of a task that has not ended.
+    fn program(&self, task: TaskNo) -> Option<&AnyProgram>
+        ensures { option_copied result ≡ program_at self.now task }
+    {
+        if !self.kernel.alive(task) {
+            return None;
+        }
+        self.programs.get((task.0 as usize).saturating_sub(1))
+    }
+
+    fn step_alive(
+        &mut self,
+        task: TaskNo,
+        told: Request,
+        request: &Request,
+        out: &mut Trace,
+    ) -> Result<(), NoMemory>
+        requires few_events { self.old.kernel.events < 2 ^ 24 }
+        requires request { option_map wanted (program_at self.old task) ≡ Some request.now }
+        requires told { told ≡ request.now }
+        ensures state { OnOk result (self.new ≡ (step self.old task).state) }
+        ensures entries { OnOk result (Tells out.old out.new (step self.old task).entries) }
+        ensures part { OnErr result (TellsPart out.old out.new (step self.old task).entries) }
+        ensures events { self.new.kernel.events ≤ self.old.kernel.events + 1 }
+    {
+        match serve_request(&mut self.kernel, task, told, request, out) {
+            Ok(outcome) => {
+                let program = &mut self.programs[(task.0 as usize).saturating_sub(1)];
+                program.take(&outcome, out)
+            }
+            Err(NoMemory) => Err(NoMemory),
+        }
+    }
+
+    fn kill(&mut self, task: TaskNo, out: &mut Trace) -> Result<(), NoMemory>
+        requires few_events { self.old.kernel.events < 2 ^ 24 }
+        ensures state { OnOk result (self.new ≡ (kill self.old task).state) }
+        ensures entries { OnOk result (Tells out.old out.new (kill self.old task).entries) }
+        ensures part { OnErr result (TellsPart out.old out.new (kill self.old task).entries) }
+        ensures events { self.new.kernel.events ≤ self.old.kernel.events + 1 }
+    {
+        if !self.kernel.alive(task) {
+            return tell_gone(task, out);
+        }
+        kill_task(&mut self.kernel, task, out)
+    }
+
+    fn hang_up(&mut self, task: TaskNo, phone: u64, out: &mut Trace) -> Result<(), NoMemory>
+        requires few_events { self.old.kernel.events < 2 ^ 24 }
+        ensures state { OnOk result (self.new ≡ (hangup self.old task phone).state) }
+        ensures entries { OnOk result (Tells out.old out.new (hangup self.old task phone).entries) }
+        ensures part { OnErr result (TellsPart out.old out.new
+            (hangup self.old task phone).entries) }
+        ensures events { self.new.kernel.events ≤ self.old.kernel.events + 1 }
+    {
+        if !self.kernel.alive(task) {
+            return tell_gone(task, out);
+        }
+        let (told, request) = (Request::Hangup { phone }, Request::Hangup { phone });
+        match serve_request(&mut self.kernel, task, told, &request, out) {
+            Ok(_) => Ok(()),
+            Err(NoMemory) => Err(NoMemory),
+        }
+    }
+}
+
+/// The kernel serves a request, between its head, which tells the request, and its outcome.
+fn serve_request(
+    kernel: &mut Kernel,
+    task: TaskNo,
+    told: Request,
+    request: &Request,
+    out: &mut Trace,
+) -> Result<Outcome, NoMemory>
+    requires told { told ≡ request.now }
+    requires alive { is_alive kernel.old task ≡ true }
+    requires few_events { kernel.old.events < 2 ^ 24 }
+    ensures state { OnOk result (kernel.new ≡ (serve kernel.old task request.now).state) }
+    ensures outcome { IfOk result (λ o. o ≡ (serve kernel.old task request.now).outcome) }
+    ensures fits { IfOk result (λ o. fits request.now o ≡ true) }
+    ensures entries { OnOk result (Tells out.old out.new
+        (served_entries task request.now (serve kernel.old task request.now))) }
+    ensures part { OnErr result (TellsPart out.old out.new
+        (served_entries task request.now (serve kernel.old task request.now))) }
+    ensures counted { OnOk result (kernel.new.events ≡ kernel.old.events + 1) }
+    ensures events { kernel.new.events ≤ kernel.old.events + 1 }
+    ensures rises { kernel.old.events ≤ kernel.new.events }
+{
+    out.reserve(1)?;
+    out.push(Entry::Head(task, told));
+    let outcome = kernel.serve(task, request, out)?;
+    out.reserve(1)?;
+    out.push(Entry::Outcome(outcome.copy()));
+    Ok(outcome)
+}
+
+/// The kernel brings a task to its end, after the head.
+fn kill_task(kernel: &mut Kernel, task: TaskNo, out: &mut Trace) -> Result<(), NoMemory>
+    requires alive { is_alive kernel.old task ≡ true }
+    requires few_events { kernel.old.events < 2 ^ 24 }
+    ensures state { OnOk result (kernel.new ≡ (kill_event kernel.old task).state) }
+    ensures entries { OnOk result (Tells out.old out.new
+        (killed_entries task (kill_event kernel.old task))) }
+    ensures part { OnErr result (TellsPart out.old out.new
+        (killed_entries task (kill_event kernel.old task))) }
+    ensures events { kernel.new.events ≤ kernel.old.events + 1 }
+    ensures rises { kernel.old.events ≤ kernel.new.events }
+{
+    out.reserve(1)?;
+    out.push(Entry::Kill(task));
+    kernel.kill(task, out)
+}
+
+/// The one entry of an event on a task that has ended.
+fn tell_gone(task: TaskNo, out: &mut Trace) -> Result<(), NoMemory>
+    ensures entries { OnOk result (Tells out.old out.new (gone_entries task)) }
+    ensures unchanged { OnErr result (out.new.entries ≡ out.old.entries) }
+{
+    out.reserve(1)?;
+    out.push(Entry::Gone(task));
+    Ok(())
+}
