@@ -9,6 +9,7 @@ signal.signal(signal.SIGPIPE, signal.SIG_DFL)
 NUMBER = r"\d+"
 TASK = r"t[1-9]\d*"
 PHONE = TASK + r"\.\d+"
+FIBRIL = TASK + r"/[1-9]\d*"
 CODE = r"(?:EOK|ENOENT|EPERM|EEXIST|EINVAL|ELIMIT|EHANGUP|EFORWARD|EBUSY|ENOMEM|[1-9]\d+)"
 NAME = re.compile(r"[a-z][a-z0-9_]{0,14}\Z")
 FIVE = NUMBER + f"(?: {NUMBER})" + "{4}"
@@ -57,6 +58,18 @@ OUTCOMES = {
     "empty": "= EMPTY",
     "is read": f"= bytes (?P<bytes>{BYTES})",
 }
+OWN = {
+    "sent": f"(?P<fibril>{FIBRIL}) sent (?P<call>{NUMBER}) (?P<place>slot {NUMBER}|begin)",
+    "gets": f"(?P<fibril>{FIBRIL}) gets (?P<call>{NUMBER}) (?P<place>slot {NUMBER}|begin) (?P<code>{CODE}) (?P<args>{FIVE})",
+    "blocks": f"(?P<fibril>{FIBRIL}) blocks (?P<why>answer {NUMBER}|mutex {NUMBER}|phone|message)",
+    "starts": f"(?P<fibril>{FIBRIL}) starts (?P<label>{PHONE})",
+    "ends": f"(?P<fibril>{FIBRIL}) ends",
+    "begins": f"(?P<fibril>{FIBRIL}) begins exchange (?P<exchange>{NUMBER}) (?P<mode>atomic|serialize|parallel)"
+              f" session (?P<session>{NUMBER}) phone (?P<phone>{NUMBER})",
+    "ends_exchange": f"(?P<fibril>{FIBRIL}) ends exchange (?P<exchange>{NUMBER})",
+    "drops": f"(?P<fibril>{FIBRIL}) drops exchange (?P<exchange>{NUMBER})",
+    "refused": f"(?P<fibril>{FIBRIL}) refused (?P<code>{CODE})",
+}
 
 
 def compiled(forms, before=""):
@@ -66,6 +79,7 @@ def compiled(forms, before=""):
 HEAD_FORMS = compiled(HEADS)
 EFFECT_FORMS = compiled(EFFECTS, "  ")
 OUTCOME_FORMS = compiled(OUTCOMES, "  ")
+OWN_FORMS = compiled(OWN, "  ")
 
 
 class Line:
@@ -79,10 +93,10 @@ class Line:
 
 
 class Event:
-    """A head with its effects and its outcome, which is None where there is none."""
+    """A head with its effects, its outcome, which is None where there is none, and what the task tells of its fibrils."""
 
     def __init__(self, head):
-        self.head, self.effects, self.outcome = head, [], None
+        self.head, self.effects, self.outcome, self.own = head, [], None, []
 
 
 class Unreadable(Exception):
@@ -108,12 +122,16 @@ def events_of(text):
         if head:
             events.append(Event(head))
             continue
-        event = events[-1] if events and events[-1].head.kind != "ended" and not events[-1].outcome else None
+        last = events[-1] if events else None
+        event = last if last and last.head.kind != "ended" and not last.outcome else None
         effect, outcome = read_as(EFFECT_FORMS, line), read_as(OUTCOME_FORMS, line)
+        own = read_as(OWN_FORMS, line)
         if event and effect:
             event.effects.append(effect)
         elif event and outcome and event.head.kind != "kill":
             event.outcome = outcome
+        elif last and last.outcome and own:
+            last.own.append(own)
         else:
             raise Unreadable(number, line)
     return events
@@ -122,7 +140,8 @@ def events_of(text):
 def names_of(script):
     """The names of a script's tasks by their words in a trace, as t1."""
     words = [line.partition("#")[0].split() for line in script.split("\n")]
-    names = [line[1] for line in words if len(line) > 1 and line[0] == "task"]
+    names = [line[-1] if line == ["ns"] else line[1] for line in words
+             if line == ["ns"] or len(line) > 1 and line[0] == "task"]
     return {f"t{number}": name for number, name in enumerate(names, 1) if NAME.match(name)}
 
 

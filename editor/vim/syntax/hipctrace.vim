@@ -5,10 +5,10 @@ endif
 syntax case match
 syntax iskeyword @,48-57,_
 syntax match hipcOutcome /^  =\( call\| received\| answer\| bytes\| EMPTY\)\?/
-syntax keyword hipcEffect accepted received forwarded answered delivered dropped connecting connected free area write
+syntax keyword hipcEffect accepted received forwarded answered delivered dropped connecting connected free area write sent gets blocks starts begins ends drops refused
 syntax keyword hipcEnd vanished forgotten hungup slammed unarea
-syntax keyword hipcWord method to back label by kernel from plain route phone store
-syntax match hipcTask /\<t[0-9]\+\(\.[0-9]\+\)\?\>/
+syntax keyword hipcWord method to back label by kernel from plain route phone store slot begin answer mutex message exchange session atomic serialize parallel
+syntax match hipcTask /\<t[0-9]\+\([./][0-9]\+\)\?\>/
 syntax match hipcNumber /\<[0-9]\{1,20\}\>/
 syntax match hipcBytes /\(^t[0-9]\+ poke [0-9]\+ \|^  = bytes \)\@<=\(\x\+\|-\)$/
 syntax match hipcHead /^t[0-9]\+ \(call\|receive\|answer\|forward\|hangup\|area\|unarea\|poke\|peek\|nothing\)\>/ contains=hipcTask
