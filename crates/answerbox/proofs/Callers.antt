@@ -1,5 +1,5 @@
 -- The calls of a caller, told by what the map has at each number.
-use Rattle.std.proofs.Common.{◌≡◌, ℕ, ◌≤◌, Bool, true, false, cond, ◌&&◌, List, [], ◌∷◌, Option, None, Some, refl, sym, ◌∙◌, arith, T}
+use Rattle.std.proofs.Common.{◌≡◌, ℕ, ◌<◌, ◌≤◌, Bool, true, false, cond, ◌&&◌, List, [], ◌∷◌, Option, None, Some, refl, sym, ap, ◌∙◌, arith, T}
 use Rattle.std.specs.Prelude.{nat_le}
 use Rattle.std.specs.Ordering.{nat_cmp, is_eq}
 use Rattle.std.specs.FinMap.{find, is_sorted, entries, entries_sorted, get-entries}
@@ -60,3 +60,37 @@ calls_of_live q t c is =
 
 pub calls_of_none : (q : CallTable) (t : TaskNo) (k : ℕ) (c : Call) → calls_of q t ≡ None → call_at q k ≡ Some c → is_caller t c.caller ≡ false
 calls_of_none q t k c none is = none_found t 0 (entries q.records) k c none (sym (get-entries q.records k) ∙ is) (omega arith)
+
+at_end : (t : TaskNo) (low : ℕ) (e : ℕ × Call) (x : Option Call) (a b : Bool) → nat_le low e.0 ≡ a → is_caller t e.1.caller ≡ b → (low ≤ e.0 → is_caller t e.1.caller ≡ true → ⊥) → cond (a && b) (Some e.1) x ≡ x
+at_end t low e x true true l m h = absurd (h (grind (arith, nat_tests)) m)
+at_end t low e x true false l m h = refl
+at_end t low e x false b l m h = refl
+
+-- where no call of the task has a number from low on, none is found
+pub first_is_none : (t : TaskNo) (low : ℕ) (es : List (ℕ × Call)) → T (is_sorted nat_cmp es) → ((k : ℕ) (d : Call) → find nat_cmp k es ≡ Some d → low ≤ k → is_caller t d.caller ≡ true → ⊥) → first_from t low es ≡ None
+first_is_none t low [] s h = refl
+first_is_none t low (e ∷ es) s h =
+    at_end t low e (first_from t low es) (nat_le low e.0) (is_caller t e.1.caller) refl refl (h e.0 e.1 (rw (ties e.0) refl))
+    ∙ first_is_none t low es (second _ _ s) (λ k d f. h k d (rw (not_tied k e.0 (greater e.0 es k d (first _ _ s) f)) f))
+
+at_start : (t : TaskNo) (low : ℕ) (e : ℕ × Call) (x : Option Call) (a b : Bool) → nat_le low e.0 ≡ a → is_caller t e.1.caller ≡ b → low ≤ e.0 → is_caller t e.1.caller ≡ true → cond (a && b) (Some e.1) x ≡ Some e.1
+at_start t low e x true true l m h g = refl
+at_start t low e x true false l m h g = absurd (cc (m, g))
+at_start t low e x false b l m h g = absurd (grind (arith, nat_tests))
+
+-- the call with the least number from low on is found
+pub first_is : (t : TaskNo) (low : ℕ) (es : List (ℕ × Call)) (n : ℕ) (c : Call) → T (is_sorted nat_cmp es) → find nat_cmp n es ≡ Some c → is_caller t c.caller ≡ true → low ≤ n
+    → ((k : ℕ) (d : Call) → find nat_cmp k es ≡ Some d → is_caller t d.caller ≡ true → low ≤ k → n ≤ k) → first_from t low es ≡ Some c
+first_is t low [] n c s f made from least = absurd (cc f)
+first_is t low (e ∷ es) n c s f made from least =
+    by (is_eq (nat_cmp n e.0)) refl f (λ g. first_is t low es n c (second _ _ s) g made from (λ k d h. least k d (rw (not_tied k e.0 (greater e.0 es k d (first _ _ s) h)) h)))
+  where
+    by : (b : Bool) → is_eq (nat_cmp n e.0) ≡ b → cond b (Some e.1) (find nat_cmp n es) ≡ Some c → (find nat_cmp n es ≡ Some c → first_from t low es ≡ Some c) → first_from t low (e ∷ es) ≡ Some c
+    by true q g later =
+        let same : e.1 ≡ c = cc in
+        let key : e.0 ≡ n = key_same n e.0 q in
+        at_start t low e (first_from t low es) (nat_le low e.0) (is_caller t e.1.caller) refl refl (omega arith) (rw same made) ∙ ap Some same
+    by false q g later =
+        let after : e.0 < n = greater e.0 es n c (first _ _ s) g in
+        at_end t low e (first_from t low es) (nat_le low e.0) (is_caller t e.1.caller) refl refl (λ l m. let le = least e.0 e.1 (rw (ties e.0) refl) m l in absurd (omega arith))
+        ∙ later g

@@ -1,15 +1,17 @@
 -- How many live calls pass a test, after each change of the calls.
-use Rattle.std.proofs.Common.{◌≡◌, ℕ, suc, ◌≤◌, length, ◌+◌, Bool, true, false, cond, List, [], ◌∷◌, Option, None, Some, refl, ap, sym, ◌∙◌, arith}
+use Rattle.std.proofs.Common.{◌≡◌, ℕ, suc, ◌≤◌, T, length, ◌+◌, Bool, true, false, cond, List, [], ◌∷◌, Option, None, Some, refl, ap, sym, ◌∙◌, arith}
 use Rattle.std.specs.Ordering.{nat_cmp, eq_by_cmp, is_eq}
 use Rattle.std.specs.Cmp.{nat_cmp_total}
 use Rattle.std.specs.declared.cmp.Ordering.{Ordering}
 use Rattle.std.specs.declared.cmp.Ordering.TheVariants.{Less, Equal, Greater}
-use Rattle.std.specs.FinMap.{FinMap, find, put, get, insert, remove, entries, len, len-entries, same_map, nat_cmp-IsAntisymmetric, get-entries, get-insert, get-remove, entries-insert}
+use Rattle.std.specs.FinMap.{FinMap, find, is_sorted, entries_sorted, put, get, insert, remove, entries, len, len-entries, same_map, nat_cmp-IsAntisymmetric, get-entries, get-insert, get-remove, entries-insert}
 use Rattle.std.specs.FinMap.Entries.{by_order}
 use Rattle.std.proofs.lemmas.Bool.Decides.{nat_tests}
 use Rattle.call_slab.specs.declared.call.Call.{Call}
 use Rattle.call_slab.specs.declared.call.Place.{Place}
 use Rattle.ipc_ids.specs.declared.numbers.Label.{Label}
+use Rattle.answerbox.proofs.Fronts.{first, second, greater, not_tied}
+use Rattle.answerbox.proofs.Fronts as fronts
 use Rattle.answerbox.specs.Calls.{CallTable, call_at, enqueue, without_call, with_record, put_at, count_of, is_active_on, active_calls}
 
 placed : (o : Ordering) (n : ℕ) (c : Call) (p : Call → Bool) (e : ℕ × Call) (es rest : List (ℕ × Call)) → is_eq o ≡ false → count_of p rest ≡ cond (p c) 1 0 + count_of p es → count_of p (by_order o ((n, c) ∷ e ∷ es) ((e.0, c) ∷ es) (e ∷ rest)) ≡ cond (p c) 1 0 + count_of p (e ∷ es)
@@ -54,7 +56,7 @@ shadow : (b : Bool) (x y : Option Call) → cond b None (cond b x y) ≡ cond b 
 shadow true x y = refl
 shadow false x y = refl
 
-remove-insert : (m : FinMap nat_cmp Call) (n : ℕ) (d : Call) → remove (insert m n d) n ≡ remove m n
+pub remove-insert : (m : FinMap nat_cmp Call) (n : ℕ) (d : Call) → remove (insert m n d) n ≡ remove m n
 remove-insert m n d =
     same_map nat_cmp_total nat_cmp-IsAntisymmetric _ _ (λ q.
     get-remove nat_cmp_total (insert m n d) n q
@@ -69,6 +71,12 @@ count-replace p m n c d is =
     let back = count-remove p (insert m n d) n d (get-insert nat_cmp_total m n d n ∙ rw (ties n)) in
     let same = ap (λ (x : FinMap nat_cmp Call). count_of p (entries x)) (remove-insert m n d) in
     omega arith
+
+-- a call in the place of another, counted from what is left without either
+pub count-swap : (p : Call → Bool) (m : FinMap nat_cmp Call) (n : ℕ) (d : Call) → count_of p (entries (insert m n d)) ≡ cond (p d) 1 0 + count_of p (entries (remove m n))
+count-swap p m n d =
+    count-remove p (insert m n d) n d (get-insert nat_cmp_total m n d n ∙ rw (ties n))
+    ∙ ap (λ (x : FinMap nat_cmp Call). cond (p d) 1 0 + count_of p (entries x)) (remove-insert m n d)
 
 count-length : (p : Call → Bool) (es : List (ℕ × Call)) → count_of p es ≤ length es
 count-length p [] = omega arith
@@ -135,3 +143,39 @@ active-without_call q n c label is = count-without_call (is_active_on label) q n
 -- no more calls are active than are live
 pub active-len : (q : CallTable) (label : Label) → active_calls q label ≤ len q.records
 active-len q label = count-len (is_active_on label) q.records
+
+-- two tests that agree on all calls
+count_alike_in : (p q : Call → Bool) (es : List (ℕ × Call)) → T (is_sorted nat_cmp es) → ((k : ℕ) (d : Call) → find nat_cmp k es ≡ Some d → p d ≡ q d) → count_of p es ≡ count_of q es
+count_alike_in p q [] s h = refl
+count_alike_in p q (e ∷ es) s h =
+    let here : p e.1 ≡ q e.1 = h e.0 e.1 (rw (fronts.ties e.0) refl) in
+    let rest = count_alike_in p q es (second _ _ s) (λ k d f. h k d (rw (not_tied k e.0 (greater e.0 es k d (first _ _ s) f)) f)) in
+    rw (here, rest) refl
+
+pub count-alike : (p q : Call → Bool) (m : FinMap nat_cmp Call) → ((k : ℕ) (d : Call) → get m k ≡ Some d → p d ≡ q d) → count_of p (entries m) ≡ count_of q (entries m)
+count-alike p q m h = count_alike_in p q (entries m) (entries_sorted m) (λ k d f. h k d (get-entries m k ∙ f))
+
+-- two tests that agree on all calls but one, which only the second passes
+pub count-one_more : (p q : Call → Bool) (m : FinMap nat_cmp Call) (n : ℕ) (c : Call) → get m n ≡ Some c → p c ≡ false → q c ≡ true → ((k : ℕ) (d : Call) → get m k ≡ Some d → (k ≡ n → ⊥) → q d ≡ p d) → count_of q (entries m) ≡ count_of p (entries m) + 1
+count-one_more p q m n c is fails passes h =
+    let before = count-remove p m n c is in
+    let after = count-remove q m n c is in
+    let rest = count-alike q p (remove m n) (λ k d e. by k d (eq_by_cmp nat_cmp k n) refl (sym (get-remove nat_cmp_total m n k) ∙ e)) in
+    more (p c) (q c) _ _ _ _ fails passes before after rest
+  where
+    by : (k : ℕ) (d : Call) (b : Bool) → eq_by_cmp nat_cmp k n ≡ b → cond b None (get m k) ≡ Some d → q d ≡ p d
+    by k d true t e = absurd (cc e)
+    by k d false t e = h k d e (λ same. absurd (cc (t, ap (λ j. eq_by_cmp nat_cmp j n) same ∙ ties n)))
+
+    more : (a b : Bool) (x y u v : ℕ) → a ≡ false → b ≡ true → x ≡ cond a 1 0 + u → y ≡ cond b 1 0 + v → v ≡ u → y ≡ x + 1
+    more true b x y u v f g h j k = absurd (cc f)
+    more false true x y u v f g h j k = omega arith
+    more false false x y u v f g h j k = absurd (cc g)
+
+-- no call passes
+pub count-none : (p : Call → Bool) (m : FinMap nat_cmp Call) → ((k : ℕ) (d : Call) → get m k ≡ Some d → p d ≡ false) → count_of p (entries m) ≡ 0
+count-none p m h = count-alike p (λ d. false) m h ∙ by (entries m)
+  where
+    by : (es : List (ℕ × Call)) → count_of (λ d. false) es ≡ 0
+    by [] = refl
+    by (e ∷ es) = let h = by es in omega arith

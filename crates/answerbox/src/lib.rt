@@ -4,7 +4,9 @@
 #![tactic(auto)]
 
 mod boxes;
-mod search;
+mod chains;
+mod change;
+mod moves;
 #[cfg(test)]
 mod tests;
 

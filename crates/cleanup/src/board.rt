@@ -19,6 +19,7 @@ ghost use Rattle.cleanup.specs.Kill.{width, mark_ended};
 ghost use Rattle.cleanup.specs.KillRoom.{kill_calls as kill_calls_of, kill_entries as kill_entries_of};
 ghost use Rattle.cleanup.specs.Rooms.{KeepsCalls, KeepsRoom};
 
+use crate::counted::{front, leave};
 use crate::counts::{count_out, count_up};
 use crate::kept::{kept_phone, lent_phone, unless_freed};
 use crate::kill_room::{kill_calls, kill_entries};
@@ -233,7 +234,7 @@ impl Switchboard {
         ensures live { IfSome result (λ n. IsSome (call_at self.now.state.calls n.0)) }
         ensures there { IfSome result (λ n. IsAt self.now.state.calls n.0 place) }
     {
-        self.boxes.front(place)
+        front(&self.boxes, place)
     }
 
     /// How many live calls stand at this place.
@@ -326,7 +327,7 @@ impl Switchboard {
             ≡ with_calls self.old.state (without_call self.old.state.calls call.0) }
         ensures room { KeepsRoom self.old self.new 0 }
     {
-        let call = self.boxes.leave(call);
+        let call = leave(&mut self.boxes, call);
         count_out(&mut self.phones, call.caller, call.from);
         call
     }

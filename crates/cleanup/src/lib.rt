@@ -8,6 +8,7 @@
 
 mod areas;
 mod board;
+mod counted;
 mod counts;
 mod data;
 mod ending;

@@ -2,6 +2,7 @@
 ghost use Rattle.std.specs.Prelude.{◌≡◌, IfOk};
 ghost use Rattle.address_space.specs.Memory.{no_memory, with_task, make};
 
+use crate::counted::front;
 use crate::end_task;
 use address_space::Spaces;
 use answerbox::Boxes;
@@ -141,6 +142,6 @@ fn a_held_call_of_another_task_is_answered(rt: HostRuntime) -> Result<(), Fail> 
             }]
         )
     );
-    assert_eq!(rt; boxes.front(Place::Answers(from.task)), Some(CallNo(1)));
+    assert_eq!(rt; front(&boxes, Place::Answers(from.task)), Some(CallNo(1)));
     Ok(())
 }

@@ -12,5 +12,4 @@ pub mod Program
 pub mod Replies
 pub mod Tables
 pub mod Tales
-pub mod Text
 pub mod Trace

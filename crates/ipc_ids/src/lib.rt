@@ -3,7 +3,8 @@
 //! the entries of a trace. The laws of calls stand here too, over a list of entries alone.
 //!
 //! Contracts see every type as the record or enum that it is, but for `Ops`, `Bodies`,
-//! `Buffer` and `Short`, which they see as lists, and `Trace`, a list of entries with room for more.
+//! `Buffer` and `Short`, which they see as lists, `Trace`, a list of entries with room for more, and
+//! `Steps`, a number.
 #![tactic(auto)]
 
 mod buffer;
@@ -15,6 +16,7 @@ mod numbers;
 mod op;
 mod program;
 mod short;
+mod steps;
 #[cfg(test)]
 mod tests;
 mod trace;
@@ -28,4 +30,5 @@ pub use numbers::{CallNo, Code, ExchangeNo, FibrilNo, Label, PhoneNo, StoreNo, T
 pub use op::{Bodies, Body, Op, Ops, Value};
 pub use program::Program;
 pub use short::Short;
+pub use steps::Steps;
 pub use trace::{NoMemory, Trace};

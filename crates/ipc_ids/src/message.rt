@@ -4,7 +4,6 @@ ghost use Rattle.std.specs.Prelude.{◌≡◌, replicate};
 
 use crate::numbers::{CallNo, Code, Label, TaskNo};
 use crate::short::Short;
-use std::fmt;
 
 /// What a call asks: a method, one of `methods` or a user's own, and five arguments.
 #[derive(Clone, Copy, Debug, PartialEq, Eq)]
@@ -180,114 +179,5 @@ impl Reply {
         ensures { result ≡ record { code = code; args = replicate 5 0 } }
     {
         Reply { code, args: [0; 5] }
-    }
-}
-
-/// A number after a space.
-#[derive(Clone, Copy)]
-struct Spaced(u64);
-
-impl fmt::Display for Spaced {
-    ghost use Rattle.std.specs.Prelude.{Some};
-    ghost use Rattle.ipc_ids.specs.Text.{spaced_text};
-
-    ghost output = { λ number. Some (spaced_text number.0) };
-
-    fn fmt<W: fmt::Write>(&self, f: &mut fmt::Formatter<W>) -> fmt::Result {
-        let number = self.0;
-        write!(f, " {number}")
-    }
-}
-
-/// Five numbers, each after a space.
-#[derive(Clone, Copy)]
-struct Args([u64; 5]);
-
-impl fmt::Display for Args {
-    ghost use Rattle.std.specs.Prelude.{Some};
-    ghost use Rattle.ipc_ids.specs.Text.{args_text};
-
-    ghost output = { λ args. Some (args_text args.0) };
-
-    fn fmt<W: fmt::Write>(&self, f: &mut fmt::Formatter<W>) -> fmt::Result {
-        let (a, b, c) = (Spaced(self.0[0]), Spaced(self.0[1]), Spaced(self.0[2]));
-        let (d, e) = (Spaced(self.0[3]), Spaced(self.0[4]));
-        write!(f, "{a}{b}{c}{d}{e}")
-    }
-}
-
-/// The method and the arguments, in decimal.
-impl fmt::Display for Msg {
-    ghost use Rattle.std.specs.Prelude.{Some};
-    ghost use Rattle.ipc_ids.specs.Text.{msg_text};
-
-    ghost output = { λ msg. Some (msg_text msg) };
-
-    fn fmt<W: fmt::Write>(&self, f: &mut fmt::Formatter<W>) -> fmt::Result {
-        let method = self.method;
-        let args = Args(self.args);
-        write!(f, "{method}{args}")
-    }
-}
-
-/// The code and the arguments.
-impl fmt::Display for Reply {
-    ghost use Rattle.std.specs.Prelude.{Some};
-    ghost use Rattle.ipc_ids.specs.Text.{reply_text};
-
-    ghost output = { λ reply. Some (reply_text reply) };
-
-    fn fmt<W: fmt::Write>(&self, f: &mut fmt::Formatter<W>) -> fmt::Result {
-        let code = self.code;
-        let args = Args(self.args);
-        write!(f, "{code}{args}")
-    }
-}
-
-impl fmt::Display for Mode {
-    ghost use Rattle.std.specs.Prelude.{Some};
-    ghost use Rattle.ipc_ids.specs.Text.{mode_text};
-
-    ghost output = { λ mode. Some (mode_text mode) };
-
-    fn fmt<W: fmt::Write>(&self, f: &mut fmt::Formatter<W>) -> fmt::Result {
-        match self {
-            Mode::Plain => f.write_str("plain"),
-            Mode::Route => f.write_str("route"),
-        }
-    }
-}
-
-impl fmt::Display for ExchangeMode {
-    ghost use Rattle.std.specs.Prelude.{Some};
-    ghost use Rattle.ipc_ids.specs.Text.{exchange_mode_text};
-
-    ghost output = { λ mode. Some (exchange_mode_text mode) };
-
-    fn fmt<W: fmt::Write>(&self, f: &mut fmt::Formatter<W>) -> fmt::Result {
-        match self {
-            ExchangeMode::Atomic => f.write_str("atomic"),
-            ExchangeMode::Serialize => f.write_str("serialize"),
-            ExchangeMode::Parallel => f.write_str("parallel"),
-        }
-    }
-}
-
-impl fmt::Display for Why {
-    ghost use Rattle.std.specs.Prelude.{Some};
-    ghost use Rattle.ipc_ids.specs.Text.{why_text};
-
-    ghost output = { λ why. Some (why_text why) };
-
-    fn fmt<W: fmt::Write>(&self, f: &mut fmt::Formatter<W>) -> fmt::Result {
-        match self {
-            Why::Answer(call) => {
-                let number = call.0;
-                write!(f, "answer {number}")
-            }
-            Why::Mutex(session) => write!(f, "mutex {session}"),
-            Why::Phone => f.write_str("phone"),
-            Why::Message => f.write_str("message"),
-        }
     }
 }

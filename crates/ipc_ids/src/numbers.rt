@@ -1,7 +1,5 @@
 //! Numbers of tasks, phones, calls, stores, fibrils and exchanges, and the codes of answers.
 
-use std::fmt;
-
 /// A task, from 1 on in the order in which tasks are added.
 #[derive(Clone, Copy, Debug, PartialEq, Eq)]
 pub struct TaskNo(pub u64);
@@ -59,55 +57,4 @@ impl Code {
     pub const EBUSY: Code = Code(8);
 
     pub const ENOMEM: Code = Code(9);
-}
-
-/// `t` and the number.
-impl fmt::Display for TaskNo {
-    ghost use Rattle.std.specs.Prelude.{Some};
-    ghost use Rattle.ipc_ids.specs.Text.{task_text};
-
-    ghost output = { λ task. Some (task_text task) };
-
-    fn fmt<W: fmt::Write>(&self, f: &mut fmt::Formatter<W>) -> fmt::Result {
-        let number = self.0;
-        write!(f, "t{number}")
-    }
-}
-
-/// The task, a dot and the number of the phone.
-impl fmt::Display for Label {
-    ghost use Rattle.std.specs.Prelude.{Some};
-    ghost use Rattle.ipc_ids.specs.Text.{label_text};
-
-    ghost output = { λ label. Some (label_text label) };
-
-    fn fmt<W: fmt::Write>(&self, f: &mut fmt::Formatter<W>) -> fmt::Result {
-        let task = self.task;
-        let phone = self.phone.0;
-        write!(f, "{task}.{phone}")
-    }
-}
-
-/// The name of a code that has one, and else its number.
-impl fmt::Display for Code {
-    ghost use Rattle.std.specs.Prelude.{Some};
-    ghost use Rattle.ipc_ids.specs.Text.{code_text};
-
-    ghost output = { λ code. Some (code_text code) };
-
-    fn fmt<W: fmt::Write>(&self, f: &mut fmt::Formatter<W>) -> fmt::Result {
-        match self.0 {
-            0 => f.write_str("EOK"),
-            1 => f.write_str("ENOENT"),
-            2 => f.write_str("EPERM"),
-            3 => f.write_str("EEXIST"),
-            4 => f.write_str("EINVAL"),
-            5 => f.write_str("ELIMIT"),
-            6 => f.write_str("EHANGUP"),
-            7 => f.write_str("EFORWARD"),
-            8 => f.write_str("EBUSY"),
-            9 => f.write_str("ENOMEM"),
-            number => write!(f, "{number}"),
-        }
-    }
 }

@@ -1,4 +1,4 @@
-//! The lists grow where there is memory, and the texts of numbers, codes and messages.
+//! The lists grow where there is memory.
 
 use super::*;
 use std::test::Fail;

@@ -23,8 +23,6 @@ const TWO: TaskNo = TaskNo(2);
 
 const THREE: TaskNo = TaskNo(3);
 
-const FOUR: TaskNo = TaskNo(4);
-
 /// What the first task asks.
 const ASKED: Msg = Msg {
     method: 512,

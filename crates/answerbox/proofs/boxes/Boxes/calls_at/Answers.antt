@@ -1,16 +1,15 @@
-use Rattle.std.proofs.Common.{List, ap, ◌∙◌, arith}
-use Rattle.call_slab.specs.declared.call.Call.{Call}
-use Rattle.answerbox.specs.Calls.{BoxesState, same_place, count_of}
-use Rattle.answerbox.specs.Kept.{keyed}
+use Rattle.std.proofs.Common.{◌≡◌, ℕ, List, sym, ap, ◌∙◌}
+use Rattle.std.specs.FinMap.{entries}
+use Rattle.answerbox.specs.declared.chains.Ends.{Ends}
+use Rattle.answerbox.specs.declared.chains.Chain.TheVariants.{Queue}
+use Rattle.answerbox.specs.Chain.{place_index, count_at}
+use Rattle.answerbox.specs.Stored.{stands_in, calls_in}
 use Rattle.answerbox.proofs.Counts.{count-len}
-use Rattle.answerbox.proofs.Rising.{look_count}
+use Rattle.answerbox.proofs.Finding.{count_place}
 use Rattle.answerbox.proofs.boxes.Boxes.calls_at.Goals as goal
 
 pub returns-clause-calls : goal.returns-clause-calls
-returns-clause-calls c =
-    c.count_at.ensures
-    ∙ ap (λ (cs : List Call). count_of (λ d. same_place d.place c.args.place) (keyed cs)) c.deref.ensures.value
-    ∙ look_count (λ d. same_place d.place c.args.place) c.self.inside.records.items c.self.inside.next_number c.args.self.now.calls (ap (λ (r : BoxesState). r.calls.records) c.self.view_is) c.self.invariant
+returns-clause-calls c = rw (← c.self.view_is) (c.count_place.ensures ∙ ap (λ (es : List Ends). count_at es (place_index c.args.place)) c.deref.ensures.value ∙ c.self.invariant.queue_counts (place_index c.args.place) ∙ count_place c.self.inside.calls c.args.place)
 
 pub returns-clause-few : goal.returns-clause-few
-returns-clause-few c = let same = returns-clause-calls c in let few = count-len (λ d. same_place d.place c.args.place) c.args.self.now.calls.records in omega (arith, same, few)
+returns-clause-few c = rw (← c.self.view_is, c.count_place.ensures, c.deref.ensures.value, c.self.invariant.queue_counts (place_index c.args.place)) (count-len (stands_in Queue (place_index c.args.place)) (calls_in c.self.inside.calls))

@@ -1,16 +1,15 @@
-use Rattle.std.proofs.Common.{List, ap, ◌∙◌, arith}
-use Rattle.call_slab.specs.declared.call.Call.{Call}
-use Rattle.answerbox.specs.Calls.{BoxesState, is_caller, count_of}
-use Rattle.answerbox.specs.Kept.{keyed}
+use Rattle.std.proofs.Common.{◌≡◌, ℕ, List, sym, ap, ◌∙◌}
+use Rattle.std.specs.FinMap.{entries}
+use Rattle.answerbox.specs.declared.chains.Ends.{Ends}
+use Rattle.answerbox.specs.declared.chains.Chain.TheVariants.{Own}
+use Rattle.answerbox.specs.Chain.{count_at}
+use Rattle.answerbox.specs.Stored.{stands_in, calls_in}
 use Rattle.answerbox.proofs.Counts.{count-len}
-use Rattle.answerbox.proofs.Rising.{look_count}
+use Rattle.answerbox.proofs.Finding.{count_caller}
 use Rattle.answerbox.proofs.boxes.Boxes.calls_by.Goals as goal
 
 pub returns-clause-calls : goal.returns-clause-calls
-returns-clause-calls c =
-    c.count_by.ensures
-    ∙ ap (λ (cs : List Call). count_of (λ d. is_caller c.args.caller d.caller) (keyed cs)) c.deref.ensures.value
-    ∙ look_count (λ d. is_caller c.args.caller d.caller) c.self.inside.records.items c.self.inside.next_number c.args.self.now.calls (ap (λ (r : BoxesState). r.calls.records) c.self.view_is) c.self.invariant
+returns-clause-calls c = rw (← c.self.view_is) (c.count_in.ensures ∙ ap (λ (es : List Ends). count_at es c.args.caller.0) c.deref.ensures.value ∙ c.self.invariant.own_counts c.args.caller.0 ∙ count_caller c.self.inside.calls c.args.caller)
 
 pub returns-clause-few : goal.returns-clause-few
-returns-clause-few c = let same = returns-clause-calls c in let few = count-len (λ d. is_caller c.args.caller d.caller) c.args.self.now.calls.records in omega (arith, same, few)
+returns-clause-few c = rw (← c.self.view_is, c.count_in.ensures, c.deref.ensures.value, c.self.invariant.own_counts c.args.caller.0) (count-len (stands_in Own c.args.caller.0) (calls_in c.self.inside.calls))

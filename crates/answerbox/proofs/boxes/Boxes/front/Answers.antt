@@ -1,36 +1,32 @@
-use Rattle.std.proofs.Common.{ap, sym, ◌∙◌, Contains}
-use Rattle.answerbox.specs.Calls.{BoxesState, first_at}
+use Rattle.std.proofs.Common.{◌≡◌, ◌≤◌, ◌<◌, ◌+◌, ℕ, List, Some, None, Option, IfSome, IsSome, option_map, length, refl, sym, ap, ◌∙◌, arith}
+use Rattle.answerbox.specs.declared.chains.Ends.{Ends}
+use Rattle.answerbox.specs.Chain.{first_of, place_index}
+use Rattle.answerbox.proofs.Finding.{front_empty, front_found}
 use Rattle.answerbox.proofs.Fronts.{front-is_front, no_front-has_no_calls}
-use Rattle.answerbox.proofs.Rising.{look_front, look_contained}
+use Rattle.answerbox.proofs.Keeping.{table_of}
+use Rattle.answerbox.proofs.Moving.{call_is_core}
 use Rattle.answerbox.proofs.boxes.Boxes.front.Goals as goal
 
 pub returns-in-None-clause-none : goal.returns-in-None-clause-none
-returns-in-None-clause-none c =
-    look_front c.self.inside.records.items c.self.inside.next_number c.args.self.now.calls c.args.place (ap (λ (r : BoxesState). r.calls.records) c.self.view_is) c.self.invariant
-    ∙ ap (first_at c.args.place) (sym c.deref.ensures.value) ∙ sym c.in-None.ensures.first
-
-pub returns-in-Some-clause-live : goal.returns-in-Some-clause-live
-returns-in-Some-clause-live c =
-    let h : Contains c.self.inside.records.items c.in-Some.first.now = rw c.deref.ensures.value at c.in-Some.ensures.within in
-    rw (look_contained c.self.inside.records.items c.self.inside.next_number c.in-Some.first.now c.args.self.now.calls (ap (λ (r : BoxesState). r.calls.records) c.self.view_is) c.self.invariant h)
-
-pub returns-in-Some-clause-some : goal.returns-in-Some-clause-some
-returns-in-Some-clause-some c =
-    let h : Contains c.self.inside.records.items c.in-Some.first.now = rw c.deref.ensures.value at c.in-Some.ensures.within in
-    look_front c.self.inside.records.items c.self.inside.next_number c.args.self.now.calls c.args.place (ap (λ (r : BoxesState). r.calls.records) c.self.view_is) c.self.invariant
-    ∙ ap (first_at c.args.place) (sym c.deref.ensures.value) ∙ sym c.in-Some.ensures.first
-    ∙ sym (look_contained c.self.inside.records.items c.self.inside.next_number c.in-Some.first.now c.args.self.now.calls (ap (λ (r : BoxesState). r.calls.records) c.self.view_is) c.self.invariant h)
-
-pub returns-in-Some-clause-least : goal.returns-in-Some-clause-least
-returns-in-Some-clause-least c =
-    let h : Contains c.self.inside.records.items c.in-Some.first.now = rw c.deref.ensures.value at c.in-Some.ensures.within in
-    let m = ap (λ (r : BoxesState). r.calls.records) c.self.view_is in
-    let found = look_front c.self.inside.records.items c.self.inside.next_number c.args.self.now.calls c.args.place m c.self.invariant in
-    let first = found ∙ ap (first_at c.args.place) (sym c.deref.ensures.value) ∙ sym c.in-Some.ensures.first in
-    front-is_front c.args.self.now.calls c.args.place c.in-Some.first.now.number.0 c.in-Some.first.now first (look_contained c.self.inside.records.items c.self.inside.next_number c.in-Some.first.now c.args.self.now.calls m c.self.invariant h)
+returns-in-None-clause-none g c = rw (← c.self.view_is) (front_empty c.self.inside.calls c.self.inside.queues.items c.self.inside.owns.items c.self.inside.next_number c.self.inside.next_stamp c.args.place c.self.invariant (ap (λ (es : List Ends). first_of es (place_index c.args.place)) (sym c.deref.ensures.value) ∙ sym c.in-None.ensures))
 
 pub returns-in-None-clause-empty : goal.returns-in-None-clause-empty
-returns-in-None-clause-empty c =
-    let m = ap (λ (r : BoxesState). r.calls.records) c.self.view_is in
-    let found = look_front c.self.inside.records.items c.self.inside.next_number c.args.self.now.calls c.args.place m c.self.invariant in
-    no_front-has_no_calls c.args.self.now.calls c.args.place (found ∙ ap (first_at c.args.place) (sym c.deref.ensures.value) ∙ sym c.in-None.ensures.first)
+returns-in-None-clause-empty g c = rw (← c.self.view_is) (no_front-has_no_calls (table_of c.self.inside.calls c.self.inside.next_number c.self.inside.next_stamp) c.args.place (front_empty c.self.inside.calls c.self.inside.queues.items c.self.inside.owns.items c.self.inside.next_number c.self.inside.next_stamp c.args.place c.self.invariant (ap (λ (es : List Ends). first_of es (place_index c.args.place)) (sym c.deref.ensures.value) ∙ sym c.in-None.ensures)))
+
+pub returns-in-Some-clause-live : goal.returns-in-Some-clause-live
+returns-in-Some-clause-live g c =
+    let f = front_found c.self.inside.calls c.self.inside.queues.items c.self.inside.owns.items c.self.inside.next_number c.self.inside.next_stamp c.in-Some.key c.args.place c.self.invariant (ap (λ (es : List Ends). first_of es (place_index c.args.place)) (sym c.deref.ensures.value) ∙ sym c.in-Some.ensures) in
+    let is : c.get.result.now ≡ f.0.call = call_is_core c.self.inside.calls.slots c.in-Some.key f.0 c.get.result.now f.1 c.get.ensures.call in
+    rw (← c.self.view_is, is, f.2) refl
+
+pub returns-in-Some-clause-some : goal.returns-in-Some-clause-some
+returns-in-Some-clause-some g c =
+    let f = front_found c.self.inside.calls c.self.inside.queues.items c.self.inside.owns.items c.self.inside.next_number c.self.inside.next_stamp c.in-Some.key c.args.place c.self.invariant (ap (λ (es : List Ends). first_of es (place_index c.args.place)) (sym c.deref.ensures.value) ∙ sym c.in-Some.ensures) in
+    let is : c.get.result.now ≡ f.0.call = call_is_core c.self.inside.calls.slots c.in-Some.key f.0 c.get.result.now f.1 c.get.ensures.call in
+    rw (← c.self.view_is, is, f.2) f.3
+
+pub returns-in-Some-clause-least : goal.returns-in-Some-clause-least
+returns-in-Some-clause-least g c =
+    let f = front_found c.self.inside.calls c.self.inside.queues.items c.self.inside.owns.items c.self.inside.next_number c.self.inside.next_stamp c.in-Some.key c.args.place c.self.invariant (ap (λ (es : List Ends). first_of es (place_index c.args.place)) (sym c.deref.ensures.value) ∙ sym c.in-Some.ensures) in
+    let is : c.get.result.now ≡ f.0.call = call_is_core c.self.inside.calls.slots c.in-Some.key f.0 c.get.result.now f.1 c.get.ensures.call in
+    rw (← c.self.view_is, is) (front-is_front (table_of c.self.inside.calls c.self.inside.next_number c.self.inside.next_stamp) c.args.place f.0.call.number.0 f.0.call f.3 f.2)

@@ -1,19 +1,20 @@
-use Rattle.std.proofs.Common.{ap, refl}
-use Rattle.answerbox.specs.Calls.{BoxesState}
-use Rattle.answerbox.specs.Kept.{StandsAt}
-use Rattle.answerbox.proofs.Rising.{stands, rises-set, put_at_at}
+use Rattle.std.proofs.Common.{◌≡◌, ◌≤◌, ◌<◌, ◌+◌, ℕ, List, Some, None, Option, IfSome, IsSome, option_map, length, refl, sym, ap, ◌∙◌, arith}
+use Rattle.call_slab.specs.declared.call.Call.{Call}
+use Rattle.answerbox.proofs.Keeping.{few_queues, goes_within, goes_keeps, goes_table, change_nothing}
+use Rattle.answerbox.proofs.Names.{live_key}
 use Rattle.answerbox.proofs.boxes.Boxes.move_to.Goals as goal
 
-pub unwrap-i-requires : goal.unwrap-i-requires
-unwrap-i-requires c =
-    stands c.position_of.result c.self.inside.records.items c.self.inside.next_number c.args.call.0 c.args.self.now.calls (ap (λ (r : BoxesState). r.calls.records) c.self.view_is) c.self.invariant (rw (← c.deref.ensures.value) c.position_of.ensures.none) c.requires.live
+pub unwrap-key-requires : goal.unwrap-key-requires
+unwrap-key-requires g c = rw c.key_of.ensures.key (live_key c.self.inside.calls c.args.call.0 c.self.invariant.named (rw (← c.self.view_is) at c.requires.live))
+
+pub relocate-requires-clause-within : goal.relocate-requires-clause-within
+relocate-requires-clause-within g c = (goes_within c.self.inside.calls c.self.inside.queues.items c.self.inside.owns.items c.self.inside.next_number c.self.inside.next_stamp c.args.call.0 c.unwrap-key.result c.args.place c.self.invariant (sym c.key_of.ensures.key ∙ c.unwrap-key.ensures) (rw (← c.self.view_is) at c.requires.task))
+
+pub relocate-requires-clause-counts : goal.relocate-requires-clause-counts
+relocate-requires-clause-counts g c = few_queues c.self.inside.calls c.self.inside.queues.items c.self.inside.owns.items c.self.inside.next_number c.self.inside.next_stamp c.self.invariant
 
 pub invariant_of-self : goal.invariant_of-self
-invariant_of-self c =
-    let s : StandsAt c.self.inside.records.items c.args.call.0 c.unwrap-i.result = rw (c.unwrap-i.ensures, c.deref.ensures.value) at c.position_of.ensures.found in
-    rw c.put.ensures (rises-set 1 c.self.inside.records.items c.self.inside.next_number c.unwrap-i.result c.index_mut-record.result.now _ c.self.invariant s.in_range c.index_mut-record.ensures.value refl)
+invariant_of-self g c = goes_keeps c.self.inside.calls c.self.inside.calls c.relocate.new.calls c.self.inside.queues.items c.relocate.new.queues.items c.self.inside.owns.items c.self.inside.next_number c.self.inside.next_stamp c.args.call.0 c.unwrap-key.result c.args.place (λ (d : Call). d) (λ d. refl) (λ d. refl) (λ d. refl) (λ d. refl) c.self.invariant (sym c.key_of.ensures.key ∙ c.unwrap-key.ensures) (change_nothing c.self.inside.calls c.unwrap-key.result) c.relocate.ensures.calls c.relocate.ensures.rows (goes_within c.self.inside.calls c.self.inside.queues.items c.self.inside.owns.items c.self.inside.next_number c.self.inside.next_stamp c.args.call.0 c.unwrap-key.result c.args.place c.self.invariant (sym c.key_of.ensures.key ∙ c.unwrap-key.ensures) (rw (← c.self.view_is) at c.requires.task))
 
 pub returns-clause-calls : goal.returns-clause-calls
-returns-clause-calls c =
-    let s : StandsAt c.self.inside.records.items c.args.call.0 c.unwrap-i.result = rw (c.unwrap-i.ensures, c.deref.ensures.value) at c.position_of.ensures.found in
-    rw (← c.self.view_is, c.put.ensures) (put_at_at c.self.inside.records.items c.self.inside.next_number c.self.inside.next_stamp c.args.call.0 c.unwrap-i.result c.index_mut-record.result.now (λ d. d) c.args.place c.self.invariant s c.index_mut-record.ensures.value refl)
+returns-clause-calls g c = rw (← c.self.view_is) (goes_table c.self.inside.calls c.self.inside.calls c.relocate.new.calls c.self.inside.queues.items c.relocate.new.queues.items c.self.inside.owns.items c.self.inside.next_number c.self.inside.next_stamp c.args.call.0 c.unwrap-key.result c.args.place (λ (d : Call). d) (λ d. refl) (λ d. refl) (λ d. refl) (λ d. refl) c.self.invariant (sym c.key_of.ensures.key ∙ c.unwrap-key.ensures) (change_nothing c.self.inside.calls c.unwrap-key.result) c.relocate.ensures.calls c.relocate.ensures.rows (goes_within c.self.inside.calls c.self.inside.queues.items c.self.inside.owns.items c.self.inside.next_number c.self.inside.next_stamp c.args.call.0 c.unwrap-key.result c.args.place c.self.invariant (sym c.key_of.ensures.key ∙ c.unwrap-key.ensures) (rw (← c.self.view_is) at c.requires.task)))

@@ -1,18 +1,9 @@
-use Rattle.std.proofs.Common.{ap, ◌∙◌, sym, arith}
-use Rattle.answerbox.specs.Calls.{BoxesState, call_at}
-use Rattle.answerbox.proofs.Rising.{look_free, few, len-map_of}
+use Rattle.std.proofs.Common.{◌≡◌, ◌≤◌, ◌<◌, ◌+◌, ℕ, List, Some, None, Option, IfSome, IsSome, option_map, length, refl, sym, ap, ◌∙◌, arith}
+use Rattle.answerbox.proofs.Keeping.{next_free, few_calls}
 use Rattle.answerbox.proofs.boxes.Boxes.next_number.Goals as goal
 
 pub returns-clause-free : goal.returns-clause-free
-returns-clause-free c = ap (call_at c.args.self.now.calls) (sym (ap (λ (r : BoxesState). r.calls.next_number) c.self.view_is)) ∙ look_free c.self.inside.records.items c.self.inside.next_number c.args.self.now.calls (ap (λ (r : BoxesState). r.calls.records) c.self.view_is) c.self.invariant
+returns-clause-free c = rw (← c.self.view_is) (next_free c.self.inside.calls c.self.inside.queues.items c.self.inside.owns.items c.self.inside.next_number c.self.inside.next_stamp c.self.invariant)
 
 pub returns-clause-few : goal.returns-clause-few
-returns-clause-few c =
-    let h = few 1 c.self.inside.records.items c.self.inside.next_number c.self.invariant in
-    let n = len-map_of c.self.inside.records.items c.self.inside.next_number c.self.invariant in
-    rw (← c.self.view_is) (omega arith)
-
-pub returns-clause-first : goal.returns-clause-first
-returns-clause-first c =
-    let h = few 1 c.self.inside.records.items c.self.inside.next_number c.self.invariant in
-    omega arith
+returns-clause-few c = rw (← c.self.view_is) (few_calls c.self.inside.calls c.self.inside.queues.items c.self.inside.owns.items c.self.inside.next_number c.self.inside.next_stamp c.self.invariant)

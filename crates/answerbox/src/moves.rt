@@ -1,0 +1,126 @@
+//! How a call comes to its two lists, moves, is forgotten and leaves.
+ghost use Rattle.std.specs.Prelude.{◌≡◌, ◌+◌, ◌*◌, ◌^◌, ◌<◌, ◌≤◌, None, Some, IsSome, IfSome, length};
+ghost use Rattle.std.specs.FinMap.{get, insert, remove};
+ghost use Rattle.call_slab.specs.Calls.{name_of, call_of};
+ghost use Rattle.answerbox.specs.declared.chains.Chain.TheVariants.{Queue, Own};
+ghost use Rattle.answerbox.specs.Calls.{task_of};
+ghost use Rattle.answerbox.specs.Chain.{place_index, row_of, with_slots, Chained, AreLinked, AreFew, appended_rows};
+ghost use Rattle.answerbox.specs.Moving.{out_rows, moved_slots, moved_rows, new_slots, left_slots, forgotten_slots};
+
+use crate::chains::{Chain, Ends, append, index_of, unlink};
+use call_slab::{Call, CallKey, Calls, Place};
+use ipc_ids::Steps;
+use std::sync::ledger::Ledger;
+
+/// Moves a call to the end of the queue of that place, with that stamp.
+pub fn relocate<L: Ledger>(
+    calls: &mut Calls,
+    queues: &mut Vec<Ends>,
+    key: CallKey,
+    place: Place,
+    stamp: u64,
+    steps: &mut Steps<L>,
+)
+    requires queued { Chained Queue calls.old.slots queues.old.items stamp }
+    requires live { IsSome (get calls.old.slots key) }
+    requires within { place_index place < length queues.old.items }
+    requires counts { AreFew queues.old.items }
+    requires few { length queues.old.items < 2 ^ 63 }
+    ensures calls { calls.new ≡ with_slots calls.old
+        (moved_slots calls.old.slots queues.old.items key place stamp) }
+    ensures rows { queues.new.items ≡ moved_rows calls.old.slots queues.old.items key place }
+    ensures steps { steps.new ≤ steps.old + 11 }
+{
+    let row = Chain::Queue.row_of(calls.get(key, steps));
+    let links = calls.links(key, steps);
+    unlink(calls, queues, Chain::Queue, row, &links, steps);
+    calls.set_place(key, place, stamp, steps);
+    append(
+        calls,
+        queues,
+        Chain::Queue,
+        Some(index_of(place)),
+        key,
+        steps,
+    );
+}
+
+/// Puts a new call at the end of its queue and of the list of its caller.
+pub fn admit<L: Ledger>(
+    calls: &mut Calls,
+    queues: &mut Vec<Ends>,
+    owns: &mut Vec<Ends>,
+    call: Call,
+    steps: &mut Steps<L>,
+) -> CallKey
+    requires room { 0 < calls.old.spare }
+    requires queued { Chained Queue calls.old.slots queues.old.items call.stamp }
+    requires listed { Chained Own calls.old.slots owns.old.items call.number.0 }
+    requires within { place_index call.place < length queues.old.items }
+    requires caller { IfSome (row_of Own call) (λ t. t < length owns.old.items) }
+    requires counts { AreFew queues.old.items }
+    requires own_counts { AreFew owns.old.items }
+    requires few { length queues.old.items < 2 ^ 63 }
+    ensures fresh { get calls.old.slots result ≡ None }
+    ensures slots { calls.new.slots ≡
+        new_slots calls.old.slots queues.old.items owns.old.items result call }
+    ensures keys { calls.new.keys ≡ insert calls.old.keys call.number.0 result }
+    ensures spare { calls.old.spare ≤ calls.new.spare + 1 }
+    ensures queues { queues.new.items ≡ appended_rows queues.old.items (row_of Queue call) result }
+    ensures owns { owns.new.items ≡ appended_rows owns.old.items (row_of Own call) result }
+{
+    let row = Chain::Queue.row_of(&call);
+    let own = Chain::Own.row_of(&call);
+    let key = calls.put(call);
+    append(calls, queues, Chain::Queue, row, key, steps);
+    append(calls, owns, Chain::Own, own, key, steps);
+    key
+}
+
+/// Takes a call out of its queue and of the list of its caller, and returns its record.
+pub fn dismiss<L: Ledger>(
+    calls: &mut Calls,
+    queues: &mut Vec<Ends>,
+    owns: &mut Vec<Ends>,
+    key: CallKey,
+    steps: &mut Steps<L>,
+) -> Call
+    requires lists { AreLinked calls.old.slots queues.old.items owns.old.items }
+    requires live { IsSome (get calls.old.slots key) }
+    requires few { length queues.old.items < 2 ^ 63 }
+    ensures call { call_of (get calls.old.slots key) ≡ Some result }
+    ensures slots { calls.new.slots ≡ left_slots calls.old.slots key }
+    ensures keys { calls.new.keys ≡ remove calls.old.keys (name_of (get calls.old.slots key)) }
+    ensures spare { calls.old.spare ≤ calls.new.spare }
+    ensures queues { queues.new.items ≡ out_rows Queue calls.old.slots queues.old.items key }
+    ensures owns { owns.new.items ≡ out_rows Own calls.old.slots owns.old.items key }
+    ensures steps { steps.new ≤ steps.old + 11 }
+{
+    let call = calls.get(key, steps);
+    let row = Chain::Queue.row_of(call);
+    let own = Chain::Own.row_of(call);
+    let links = calls.links(key, steps);
+    unlink(calls, queues, Chain::Queue, row, &links, steps);
+    unlink(calls, owns, Chain::Own, own, &links, steps);
+    calls.take_out(key, steps)
+}
+
+/// Takes a call out of the list of its caller, who has ended.
+pub fn disown<L: Ledger>(
+    calls: &mut Calls,
+    queues: &[Ends],
+    owns: &mut Vec<Ends>,
+    key: CallKey,
+    steps: &mut Steps<L>,
+)
+    requires lists { AreLinked calls.old.slots queues.now owns.old.items }
+    requires live { IsSome (get calls.old.slots key) }
+    requires few { length queues.now < 2 ^ 63 }
+    ensures calls { calls.new ≡ with_slots calls.old (forgotten_slots calls.old.slots key) }
+    ensures owns { owns.new.items ≡ out_rows Own calls.old.slots owns.old.items key }
+{
+    let row = Chain::Own.row_of(calls.get(key, steps));
+    let links = calls.links(key, steps);
+    unlink(calls, owns, Chain::Own, row, &links, steps);
+    calls.clear_caller(key, steps);
+}

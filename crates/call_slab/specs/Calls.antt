@@ -1,0 +1,84 @@
+-- The live calls by key and the keys by number, and what may be done with them.
+use Rattle.std.specs.Prelude.{ℕ, List, Option, None, option_map, refl}
+use Rattle.std.specs.Coded.{Coded, code_by, coded×, coded_ℕ}
+use Rattle.std.specs.Ordering.{nat_cmp}
+use Rattle.std.specs.FinMap.{FinMap, code, get, insert}
+use Rattle.std.specs.Option.{option_map_or}
+use Rattle.ipc_ids.specs.declared.message.Msg.{Msg}
+use Rattle.ipc_ids.specs.declared.message.Reply.{Reply}
+use Rattle.ipc_ids.specs.declared.numbers.Label.{Label}
+use Rattle.call_slab.specs.declared.call.Call.{Call}
+use Rattle.call_slab.specs.declared.call.Place.{Place}
+use Rattle.call_slab.specs.declared.calls.Slot.{Slot}
+use Rattle.call_slab.specs.declared.calls.Links.{Links}
+
+-- the slots by key, the keys by number, and for how many more calls there is room
+pub record CallsState : Type 0 where
+  pub slots : FinMap nat_cmp Slot
+  pub keys : FinMap nat_cmp ℕ
+  pub spare : ℕ
+
+-- no neighbours
+abbrev pub no_links : Links
+no_links = record { before = None; after = None; older = None; newer = None }
+
+-- the call in a slot
+abbrev pub call_of : Option Slot → Option Call
+call_of slot = option_map (λ s. s.call) slot
+
+-- the links in a slot
+abbrev pub links_of : Option Slot → Links
+links_of slot = option_map_or (λ s. s.links) slot no_links
+
+-- the number under which the call of a slot was put
+abbrev pub name_of : Option Slot → ℕ
+name_of slot = option_map_or (λ s. s.name) slot 0
+
+-- the call is put under this key, and the key under its number
+abbrev pub put : CallsState → Call → ℕ → CallsState
+put calls c key =
+    record calls {
+      slots = insert calls.slots key (record { name = c.number.0; call = c; links = no_links });
+      keys = insert calls.keys c.number.0 key;
+    }
+
+-- the slot under this key changes
+abbrev pub at_key : (Slot → Slot) → FinMap nat_cmp Slot → ℕ → FinMap nat_cmp Slot
+at_key change slots key = option_map_or (λ s. insert slots key (change s)) (get slots key) slots
+
+-- the links of the call under this key are these
+abbrev pub set_links : CallsState → ℕ → Links → CallsState
+set_links calls key links = record calls { slots = at_key (λ s. record s { links = links }) calls.slots key }
+
+-- the call under this key changes
+abbrev pub change_call : CallsState → ℕ → (Call → Call) → CallsState
+change_call calls key change = record calls { slots = at_key (λ s. record s { call = change s.call }) calls.slots key }
+
+-- the call under this key has this place and this stamp
+abbrev pub set_place : CallsState → ℕ → Place → ℕ → CallsState
+set_place calls key place stamp = change_call calls key (λ c. record c { place = place; stamp = stamp })
+
+-- the call under this key has this message and reserved phone
+abbrev pub set_receipt : CallsState → ℕ → Msg → Option Label → CallsState
+set_receipt calls key msg reserved = change_call calls key (λ c. record c { msg = msg; reserved = reserved })
+
+-- the call under this key has this reply and reserved phone
+abbrev pub set_reply : CallsState → ℕ → Reply → Option Label → CallsState
+set_reply calls key reply reserved = change_call calls key (λ c. record c { reply = reply; reserved = reserved })
+
+-- the call under this key has this reply and these bytes
+abbrev pub set_reply_bytes : CallsState → ℕ → Reply → List ℕ → CallsState
+set_reply_bytes calls key reply bytes = change_call calls key (λ c. record c { reply = reply; buffer = bytes })
+
+-- the call under this key has this message, label and reserved phone
+abbrev pub set_address : CallsState → ℕ → Msg → Label → Option Label → CallsState
+set_address calls key msg label reserved = change_call calls key (λ c. record c { msg = msg; label = label; reserved = reserved })
+
+-- the call under this key has no caller any more, who has ended
+abbrev pub clear_caller : CallsState → ℕ → CallsState
+clear_caller calls key = change_call calls key (λ c. record c { caller = None })
+
+-- how such a state is told from others, by a code of the slots
+abbrev pub calls_code : Coded Slot → Coded CallsState
+calls_code slot =
+    code_by (FinMap nat_cmp Slot × (FinMap nat_cmp ℕ × ℕ)) (coded× (code coded_ℕ slot) (coded× (code coded_ℕ coded_ℕ) coded_ℕ)) (λ a. (a.slots, (a.keys, a.spare))) (λ p. record { slots = p.0; keys = p.1.0; spare = p.1.1 }) (λ _. refl)

@@ -1,0 +1,299 @@
+//! The live calls under keys that stay the same, with the links of the lists that they stand in.
+ghost use Rattle.std.specs.Prelude.{◌≡◌, ◌+◌, ◌<◌, ◌≤◌, None, Some, IsSome, OnOk};
+ghost use Rattle.std.specs.FinMap.{empty, get, remove};
+ghost use Rattle.call_slab.specs.Calls.{put, set_links, set_place, set_receipt, set_reply, set_reply_bytes, set_address, clear_caller, call_of, links_of, name_of};
+
+use crate::call::{Call, Place};
+use indexmap::IndexMap;
+use ipc_ids::{Buffer, CallNo, Label, Msg, NoMemory, Reply, Steps};
+use slab::Slab;
+use std::alloc::Global;
+use std::marker::Model;
+use std::sync::ledger::Ledger;
+
+/// The key of a live call: it stays the same until the call is taken out, and may then be given to
+/// another call. A contract sees it as the number.
+#[derive(Clone, Copy, Debug, PartialEq, Eq)]
+pub struct CallKey(usize);
+
+impl Model for CallKey {
+    ghost use Rattle.std.specs.Prelude.{ℕ};
+
+    ghost Value = { ℕ };
+
+    ghost view = { λ k. k.0 };
+
+    ghost inverse = { λ n. record { 0 = n } };
+}
+
+/// The neighbours of a call in the queue of its place and in the list of its caller's calls.
+#[derive(Clone, Copy, Debug, PartialEq, Eq)]
+pub struct Links {
+    /// Who came to the place just before it.
+    pub before: Option<CallKey>,
+    /// Who came to the place just after it.
+    pub after: Option<CallKey>,
+    /// The caller's live call with the next lower number.
+    pub older: Option<CallKey>,
+    /// The caller's live call with the next higher number.
+    pub newer: Option<CallKey>,
+}
+
+/// A call, the number under which it was put, and its links.
+#[derive(Drop)]
+pub struct Slot {
+    name: u64,
+    call: Call,
+    links: Links,
+}
+
+/// The live calls, with room for `spare` more.
+#[derive(Drop)]
+pub struct Calls {
+    slots: Slab<Slot>,
+    keys: IndexMap<u64, usize>,
+}
+
+impl Model for Calls {
+    ghost use Rattle.std.specs.Prelude.{◌-◌, min};
+    ghost use Rattle.std.specs.FinMap.{from_entries, from_sorted};
+    ghost use Rattle.slab.specs.Slab.{slab_len, entries};
+    ghost use Rattle.indexmap.specs.IndexMap.{spare};
+    ghost use Rattle.call_slab.specs.Calls.{CallsState, calls_code};
+    ghost use Rattle.call_slab.specs.contracts.calls.Slot as slot;
+
+    ghost Value = { CallsState };
+
+    ghost coded = { calls_code slot.the_row.coded };
+
+    ghost view = { λ a. record {
+      slots = from_sorted (entries a.slots);
+      keys = from_entries a.keys.entries;
+      spare = min (a.slots.capacity - slab_len a.slots) (spare a.keys);
+    } };
+}
+
+impl Calls {
+    ghost use Rattle.std.specs.Prelude.{◌≡◌, ◌+◌, ◌<◌, ◌≤◌, None, Some, IsSome, OnOk};
+    ghost use Rattle.std.specs.Borrow.{sem};
+    ghost use Rattle.std.specs.FinMap.{empty, get, remove};
+    ghost use Rattle.call_slab.specs.Calls.{put, set_links, set_place, set_receipt, set_reply, set_reply_bytes, set_address, clear_caller, call_of, links_of, name_of};
+    ghost use Rattle.call_slab.specs.Lends.{lends_call};
+
+    /// No calls; it takes no memory.
+    pub fn new(alloc: Global) -> Calls
+        ensures slots { result.slots ≡ empty }
+        ensures keys { result.keys ≡ empty }
+    {
+        Calls {
+            slots: Slab::new(alloc),
+            keys: IndexMap::new(alloc),
+        }
+    }
+
+    /// The allocator of the records, which a new call may use for its bytes.
+    pub fn alloc(&self) -> Global {
+        *self.keys.allocator()
+    }
+
+    /// Makes room for `n` more calls. `NoMemory` where memory has run out.
+    pub fn reserve(&mut self, n: usize) -> Result<(), NoMemory>
+        ensures slots { self.new.slots ≡ self.old.slots }
+        ensures keys { self.new.keys ≡ self.old.keys }
+        ensures room { OnOk result (n ≤ self.new.spare) }
+        ensures spare { self.old.spare ≤ self.new.spare }
+    {
+        if self.slots.reserve(n).is_err() {
+            return Err(NoMemory);
+        }
+        if self.keys.reserve(n).is_err() {
+            return Err(NoMemory);
+        }
+        Ok(())
+    }
+
+    /// Puts a call under a key that no live call has, and under its number, with no links.
+    pub fn put(&mut self, call: Call) -> CallKey
+        requires room { 0 < self.old.spare }
+        ensures fresh { get self.old.slots result ≡ None }
+        ensures slots { self.new.slots ≡ (put self.old call result).slots }
+        ensures keys { self.new.keys ≡ (put self.old call result).keys }
+        ensures spare { self.old.spare ≤ self.new.spare + 1 }
+    {
+        let name = call.number.0;
+        let links = Links {
+            before: None,
+            after: None,
+            older: None,
+            newer: None,
+        };
+        let key = self.slots.insert_reserved(Slot { name, call, links });
+        self.keys.insert(name, key).unwrap();
+        CallKey(key)
+    }
+
+    /// The key of the live call that was put under this number; `None` where there is none.
+    pub fn key_of<L: Ledger>(&self, number: CallNo, steps: &mut Steps<L>) -> Option<CallKey>
+        ensures key { result ≡ get self.now.keys number.0 }
+        ensures steps { steps.new ≡ steps.old + 1 }
+    {
+        steps.tick();
+        match self.keys.get(&number.0) {
+            Some(key) => Some(CallKey(*key)),
+            None => None,
+        }
+    }
+
+    /// The call under this key.
+    pub fn get<L: Ledger>(&self, key: CallKey, steps: &mut Steps<L>) -> &Call
+        requires live { IsSome (get self.now.slots key) }
+        ensures call { call_of (get self.now.slots key) ≡ Some result.now }
+        ensures steps { steps.new ≡ steps.old + 1 }
+    {
+        steps.tick();
+        &self.slots[key.0].call
+    }
+
+    /// The call under this key, to be written.
+    pub fn get_mut<L: Ledger>(&mut self, key: CallKey, steps: &mut Steps<L>) -> &mut Call
+        requires live { IsSome (get self.old.slots key) }
+        ensures* writes_back { sem 𝓛 (lends_call self.entry key result) }
+        ensures call { call_of (get self.old.slots key) ≡ Some result.now }
+        ensures steps { steps.new ≡ steps.old + 1 }
+    {
+        steps.tick();
+        let slot = &mut self.slots[key.0];
+        &mut slot.call
+    }
+
+    /// The links of the call under this key.
+    pub fn links<L: Ledger>(&self, key: CallKey, steps: &mut Steps<L>) -> Links
+        requires live { IsSome (get self.now.slots key) }
+        ensures links { result ≡ links_of (get self.now.slots key) }
+        ensures steps { steps.new ≡ steps.old + 1 }
+    {
+        steps.tick();
+        self.slots[key.0].links
+    }
+
+    /// Gives the call under this key these links.
+    pub fn set_links<L: Ledger>(&mut self, key: CallKey, links: Links, steps: &mut Steps<L>)
+        requires live { IsSome (get self.old.slots key) }
+        ensures calls { self.new ≡ set_links self.old key links }
+        ensures steps { steps.new ≡ steps.old + 1 }
+    {
+        steps.tick();
+        self.slots[key.0].links = links;
+    }
+
+    /// Takes the call out, which frees its key.
+    pub fn take_out<L: Ledger>(&mut self, key: CallKey, steps: &mut Steps<L>) -> Call
+        requires live { IsSome (get self.old.slots key) }
+        ensures call { call_of (get self.old.slots key) ≡ Some result }
+        ensures slots { self.new.slots ≡ remove self.old.slots key }
+        ensures keys { self.new.keys ≡ remove self.old.keys (name_of (get self.old.slots key)) }
+        ensures spare { self.old.spare ≤ self.new.spare }
+        ensures steps { steps.new ≡ steps.old + 1 }
+    {
+        steps.tick();
+        let slot = self.slots.remove(key.0);
+        self.keys.swap_remove(&slot.name);
+        slot.call
+    }
+
+    /// Gives the call this place and this stamp.
+    pub fn set_place<L: Ledger>(
+        &mut self,
+        key: CallKey,
+        place: Place,
+        stamp: u64,
+        steps: &mut Steps<L>,
+    )
+        requires live { IsSome (get self.old.slots key) }
+        ensures calls { self.new ≡ set_place self.old key place stamp }
+        ensures steps { steps.new ≡ steps.old + 1 }
+    {
+        let call = self.get_mut(key, steps);
+        call.place = place;
+        call.stamp = stamp;
+    }
+
+    /// Gives the call the message and the reserved phone of its receipt.
+    pub fn set_receipt<L: Ledger>(
+        &mut self,
+        key: CallKey,
+        msg: Msg,
+        reserved: Option<Label>,
+        steps: &mut Steps<L>,
+    )
+        requires live { IsSome (get self.old.slots key) }
+        ensures calls { self.new ≡ set_receipt self.old key msg reserved }
+        ensures steps { steps.new ≡ steps.old + 1 }
+    {
+        let call = self.get_mut(key, steps);
+        call.msg = msg;
+        call.reserved = reserved;
+    }
+
+    /// Gives the call its reply and a reserved phone.
+    pub fn set_reply<L: Ledger>(
+        &mut self,
+        key: CallKey,
+        reply: Reply,
+        reserved: Option<Label>,
+        steps: &mut Steps<L>,
+    )
+        requires live { IsSome (get self.old.slots key) }
+        ensures calls { self.new ≡ set_reply self.old key reply reserved }
+        ensures steps { steps.new ≡ steps.old + 1 }
+    {
+        let call = self.get_mut(key, steps);
+        call.reply = reply;
+        call.reserved = reserved;
+    }
+
+    /// Gives the call its reply and these bytes.
+    pub fn set_reply_bytes<L: Ledger>(
+        &mut self,
+        key: CallKey,
+        reply: Reply,
+        bytes: Buffer,
+        steps: &mut Steps<L>,
+    )
+        requires live { IsSome (get self.old.slots key) }
+        ensures calls { self.new ≡ set_reply_bytes self.old key reply bytes }
+        ensures steps { steps.new ≡ steps.old + 1 }
+    {
+        let call = self.get_mut(key, steps);
+        call.reply = reply;
+        call.buffer = bytes;
+    }
+
+    /// Gives the call another message, label and reserved phone.
+    pub fn set_address<L: Ledger>(
+        &mut self,
+        key: CallKey,
+        msg: Msg,
+        label: Label,
+        reserved: Option<Label>,
+        steps: &mut Steps<L>,
+    )
+        requires live { IsSome (get self.old.slots key) }
+        ensures calls { self.new ≡ set_address self.old key msg label reserved }
+        ensures steps { steps.new ≡ steps.old + 1 }
+    {
+        let call = self.get_mut(key, steps);
+        call.msg = msg;
+        call.label = label;
+        call.reserved = reserved;
+    }
+
+    /// Clears the caller of the call, which has ended.
+    pub fn clear_caller<L: Ledger>(&mut self, key: CallKey, steps: &mut Steps<L>)
+        requires live { IsSome (get self.old.slots key) }
+        ensures calls { self.new ≡ clear_caller self.old key }
+        ensures steps { steps.new ≡ steps.old + 1 }
+    {
+        self.get_mut(key, steps).caller = None;
+    }
+}
