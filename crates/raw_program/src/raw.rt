@@ -1,11 +1,11 @@
 //! The raw program, which does one operation of its body at a time.
-ghost use Rattle.std.specs.Prelude.{◌≡◌, ◌+◌, ◌^◌, ◌<◌, ◌++◌, true, length, IfOk, IfSome, IsOk};
+ghost use Rattle.std.specs.Prelude.{◌≡◌, ◌+◌, ◌^◌, ◌<◌, ◌++◌, if◌then◌else◌, true, length, IfOk, IfSome, IsOk};
 ghost use Rattle.std.specs.Option.{option_copied};
 ghost use Rattle.ipc_ids.specs.Program.{fits};
 ghost use Rattle.raw_program.specs.Raw.{started, operation, value_in, value_of, values_of};
 ghost use Rattle.raw_program.specs.Raw.{msg_of, reply_of, memory_request_of, request_of};
 ghost use Rattle.raw_program.specs.Raw.{with_register, with_five, at_next, at_place};
-ghost use Rattle.raw_program.specs.Raw.{after_outcome, after_operation, after_at};
+ghost use Rattle.raw_program.specs.Raw.{after_outcome, after_at};
 ghost use Rattle.raw_program.specs.Raw.{wanted, after, entries, taken};
 
 use ipc_ids::{Code, Msg, NoMemory, Op, Outcome, Program, Reply, Request, Trace, Value};
@@ -92,10 +92,24 @@ impl RawProgram {
         ensures { self.new ≡ after_at self.old got.now (operation self.old) }
     {
         match self.operation() {
-            Some(op) => {
-                let op = op.copy();
-                self.do_operation(&op, got);
+            Some(Op::Set { register, value }) => {
+                let (register, value) = (*register, self.value(*value));
+                self.set(register, value);
+                self.move_on();
             }
+            Some(Op::Jump(to)) => {
+                let to = *to;
+                self.jump(to);
+            }
+            Some(Op::JumpEqual { left, right, to }) => {
+                let (equal, to) = (self.value(*left) == self.value(*right), *to);
+                self.jump_if(equal, to);
+            }
+            Some(Op::JumpDiffer { left, right, to }) => {
+                let (equal, to) = (self.value(*left) == self.value(*right), *to);
+                self.jump_if(!equal, to);
+            }
+            Some(_) => self.take_outcome(got),
             None => {}
         }
     }
@@ -214,32 +228,15 @@ impl RawProgram {
         }
     }
 
-    fn do_operation(&mut self, op: &Op, got: &Outcome)
+    /// Jumps, or moves on.
+    fn jump_if(&mut self, jumps: bool, to: u32)
         requires { self.old.place < 2 ^ 63 }
-        ensures { self.new ≡ after_operation self.old op.now got.now }
+        ensures { self.new ≡ if jumps then at_place self.old to else at_next self.old }
     {
-        match op {
-            Op::Set { register, value } => {
-                let value = self.value(*value);
-                self.set(*register, value);
-                self.move_on();
-            }
-            Op::Jump(to) => self.jump(*to),
-            Op::JumpEqual { left, right, to } => {
-                if self.value(*left) == self.value(*right) {
-                    self.jump(*to);
-                } else {
-                    self.move_on();
-                }
-            }
-            Op::JumpDiffer { left, right, to } => {
-                if self.value(*left) == self.value(*right) {
-                    self.move_on();
-                } else {
-                    self.jump(*to);
-                }
-            }
-            _ => self.take_outcome(got),
+        if jumps {
+            self.jump(to);
+        } else {
+            self.move_on();
         }
     }
 

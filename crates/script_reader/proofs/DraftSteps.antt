@@ -1,13 +1,13 @@
 -- What each step of a draft makes of it.
 use Rattle.std.proofs.Common.{◌≡◌, ◌≢◌, ℕ, ◌+◌, ◌-◌, ◌<◌, true, false, List, [], ◌∷◌, ◌++◌, length, Option, Some, None, Bool, Result, Ok, Err, refl, sym, ap, subst, ◌∙◌, arith}
 use Rattle.std.specs.Prelude.{is_some, OnOk, IfSome, option_map, ⊤}
-use Rattle.std.specs.Option.{option_and_then}
+use Rattle.std.specs.Option.{option_and_then, option_map_or}
 use Rattle.std.proofs.lemmas.Bool.{ne_eqb}
 use Rattle.std.proofs.lemmas.List.{map_push, length-map}
 use Rattle.ipc_ids.specs.declared.op.Op.{Op}
 use Rattle.ipc_ids.specs.declared.op.Body.{Body}
 use Rattle.script_reader.specs.declared.fault.Reason.{Reason}
-use Rattle.script_reader.specs.declared.fault.Reason.TheVariants.{Fault}
+use Rattle.script_reader.specs.declared.fault.Reason.TheVariants.{OutOfPlace}
 use Rattle.script_reader.specs.declared.fault.LineFault.{LineFault}
 use Rattle.script_reader.specs.declared.fault.LineFault.TheVariants.{Bad, NoMemory}
 use Rattle.script_reader.specs.declared.plan.Kind.TheVariants.{Naming}
@@ -15,7 +15,7 @@ use Rattle.script_reader.specs.declared.plan.TaskPlan.{TaskPlan}
 use Rattle.script_reader.specs.declared.plan.Wire.{Wire}
 use Rattle.script_reader.specs.declared.draft.LastTask.{LastTask}
 use Rattle.script_reader.specs.declared.draft.Draft.{Draft}
-use Rattle.script_reader.specs.Draft.{last_plan, last_plans, plan_of, IsWhole, HasLast, HasLastBody, on_last, last_of, if_any, open_kind, is_async, is_full, present, taken_by, taker, body_with_op, task_with_op, with_op, task_with_body, with_body, service, leads_to_service, HasHeadOf, Follows, limit_at, is_wired}
+use Rattle.script_reader.specs.Draft.{last_plan, last_plans, plan_of, IsWhole, HasLast, HasLastBody, on_last, last_of, if_any, open_kind, is_async, is_full, present, last_is_async, takes_bodies, taken_by, taker, body_with_op, task_with_op, with_op, task_with_body, with_body, service, leads_to_service, HasHeadOf, Follows, limit_at, is_wired}
 use Rattle.script_reader.specs.Operation.{◌>>=◌}
 use Rattle.script_reader.specs.Names.{place_of, task_names}
 use Rattle.script_reader.specs.Plan.{Plan}
@@ -69,7 +69,7 @@ pub none_left : {A B : Type 0} (last : Option A) (done : List B) → last ≡ No
 none_left None done is empty = empty
 none_left (Some x) done is empty = absurd cc
 
-pub no_op_follows : (last : LastTask) (op : Op) → last.body ≡ None → HasLastBody last → task_with_op op (last_plan last) ≡ Err Fault
+pub no_op_follows : (last : LastTask) (op : Op) → last.body ≡ None → HasLastBody last → task_with_op op (last_plan last) ≡ Err OutOfPlace
 no_op_follows last op none whole =
     let empty = none_left last.body last.bodies none whole in
     rw (none, empty) refl
@@ -124,6 +124,13 @@ present_is draft w = go draft.last w.last w.last_body where
   go : (last : Option LastTask) → HasLast last draft.done → IfSome last HasLastBody → option_and_then open_kind (last_of (draft.done ++ last_plans last)) ≡ option_and_then taken_by last
   go None empty whole = rw empty refl
   go (Some last) there whole = ap (option_and_then open_kind) (last_of_push draft.done (last_plan last)) ∙ open_kind_is last whole
+
+pub takes_bodies_is : (draft : Draft) → IsWhole draft → takes_bodies (plan_of draft) ≡ last_is_async draft
+unfolding takes_bodies
+takes_bodies_is draft w = go draft.last w.last where
+  go : (last : Option LastTask) → HasLast last draft.done → option_map_or (λ task. is_async task.kind) (last_of (draft.done ++ last_plans last)) false ≡ option_map_or (λ last. is_async last.kind) last false
+  go None empty = rw empty refl
+  go (Some last) there = ap (λ (o : Option TaskPlan). option_map_or (λ task. is_async task.kind) o false) (last_of_push draft.done (last_plan last))
 
 -- ---- one more task
 

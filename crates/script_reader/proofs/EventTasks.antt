@@ -12,7 +12,7 @@ use Rattle.std.proofs.lemmas.List.Quantifiers.{position-Some}
 use Rattle.ipc_ids.specs.declared.numbers.TaskNo.{TaskNo}
 use Rattle.ipc_ids.specs.declared.message.Event.{Event}
 use Rattle.script_reader.specs.declared.fault.Reason.{Reason}
-use Rattle.script_reader.specs.declared.fault.Reason.TheVariants.{Fault}
+use Rattle.script_reader.specs.declared.fault.Reason.TheVariants.{BadByte, UnknownName, TooManyEvents}
 use Rattle.script_reader.specs.declared.fault.ScheduleFault.{ScheduleFault}
 use Rattle.script_reader.specs.declared.plan.TaskPlan.{TaskPlan}
 use Rattle.script_reader.specs.declared.schedule.EventVerb.{EventVerb}
@@ -38,15 +38,15 @@ then_ok : {A B : Type 0} (r : Result A Reason) (f : A → Result B Reason) (y : 
 then_ok (Ok x) f y e = (x, refl, e)
 then_ok (Err reason) f y e = absurd cc
 
-found_is : {A : Type 0} (o : Option A) (x : A) → ok_or o Fault ≡ Ok x → o ≡ Some x
+found_is : {A : Type 0} (o : Option A) (x : A) → ok_or o UnknownName ≡ Ok x → o ≡ Some x
 found_is (Some z) x e = ap Some (ok_is z x e)
 found_is None x e = absurd cc
 
-chosen_ok : {A : Type 0} (b : Bool) (r : Result A Reason) (y : A) → cond b r (Err Fault) ≡ Ok y → r ≡ Ok y
+chosen_ok : {A : Type 0} (b : Bool) (r : Result A Reason) (y : A) → cond b r (Err BadByte) ≡ Ok y → r ≡ Ok y
 chosen_ok true r y e = e
 chosen_ok false r y e = absurd cc
 
-allowed_ok : {A : Type 0} (b : Bool) (x y : A) → cond b (Err Fault) (Ok x) ≡ Ok y → (b ≡ false) × (x ≡ y)
+allowed_ok : {A : Type 0} (b : Bool) (x y : A) → cond b (Err TooManyEvents) (Ok x) ≡ Ok y → (b ≡ false) × (x ≡ y)
 allowed_ok true x y e = absurd cc
 allowed_ok false x y e = (refl, ok_is x y e)
 
@@ -76,7 +76,7 @@ unfolding step_with
 step_on names name count x e =
     let known = then_ok (needed (name_of name)) _ x e in
     let counted = then_ok (needed count) _ x known.2 in
-    let found = then_ok (ok_or (task_named names known.0) Fault) _ x counted.2 in
+    let found = then_ok (ok_or (task_named names known.0) UnknownName) _ x counted.2 in
     subst (λ (y : Event × ℕ). IsOn (length names) y.0) (ok_is _ x found.2) (named_is_task names known.0 found.0 (found_is _ found.0 found.1))
 
 steps_on : (names words : List (List ℕ)) (x : Event × ℕ) → step_of names words ≡ Ok x → IsOn (length names) x.0
@@ -89,7 +89,7 @@ kill_on : (names words : List (List ℕ)) (x : Event × ℕ) → kill_of names w
 unfolding kill_of
 kill_on names (name ∷ []) x e =
     let known = then_ok (needed (name_of name)) _ x e in
-    let found = then_ok (ok_or (task_named names known.0) Fault) _ x known.2 in
+    let found = then_ok (ok_or (task_named names known.0) UnknownName) _ x known.2 in
     subst (λ (y : Event × ℕ). IsOn (length names) y.0) (ok_is _ x found.2) (named_is_task names known.0 found.0 (found_is _ found.0 found.1))
 kill_on names _ x e = absurd cc
 
@@ -98,7 +98,7 @@ unfolding hangup_of
 hangup_on names (name ∷ phone ∷ []) x e =
     let known = then_ok (needed (name_of name)) _ x e in
     let numbered = then_ok (needed (number phone)) _ x known.2 in
-    let found = then_ok (ok_or (task_named names known.0) Fault) _ x numbered.2 in
+    let found = then_ok (ok_or (task_named names known.0) UnknownName) _ x numbered.2 in
     subst (λ (y : Event × ℕ). IsOn (length names) y.0) (ok_is _ x found.2) (named_is_task names known.0 found.0 (found_is _ found.0 found.1))
 hangup_on names _ x e = absurd cc
 

@@ -1,9 +1,13 @@
 pub mod Arguments
 pub mod DraftSteps
+pub mod EventFaults
 pub mod EventTasks
+pub mod Faults
+pub mod FormFaults
 pub mod Numbers
 pub mod Places
 pub mod ReaderAnswers
 pub mod Readings
 pub mod Soundness
 pub mod TaskKinds
+pub mod Words

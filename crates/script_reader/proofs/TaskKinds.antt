@@ -1,5 +1,5 @@
 -- The kinds that a task line gives.
-use Rattle.std.proofs.Common.{◌≡◌, ◌≢◌, ℕ, Bool, true, false, cond, List, Option, Some, None}
+use Rattle.std.proofs.Common.{◌≢◌, ℕ, Bool, true, false, cond, List, Option, Some, None}
 use Rattle.std.specs.Prelude.{IfSome, option_map, codes}
 use Rattle.std.specs.Str.{bytes_eq}
 use Rattle.script_reader.specs.declared.plan.Kind.{Kind}

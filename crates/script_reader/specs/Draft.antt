@@ -6,7 +6,7 @@ use Rattle.ipc_ids.specs.Tables.{most_tasks, most_phones, most_operations}
 use Rattle.ipc_ids.specs.declared.op.Op.{Op}
 use Rattle.ipc_ids.specs.declared.op.Body.{Body}
 use Rattle.script_reader.specs.declared.fault.Reason.{Reason}
-use Rattle.script_reader.specs.declared.fault.Reason.TheVariants.{Fault}
+use Rattle.script_reader.specs.declared.fault.Reason.TheVariants.{OutOfPlace, UnknownName, NameTaken, BadPhone, TooMany}
 use Rattle.script_reader.specs.declared.fault.LineFault.{LineFault}
 use Rattle.script_reader.specs.declared.fault.LineFault.TheVariants.{Bad, NoMemory}
 use Rattle.script_reader.specs.declared.plan.Kind.{Kind}
@@ -41,10 +41,13 @@ if_any (Some x) = x ∷ []
 abbrev pub service : TaskPlan
 service = record { name = ns_name; kind = Naming; limit = most_phones; bodies = [] }
 
+-- no line made a task yet
+unfoldable pub has_no_task : Plan → Bool
+has_no_task plan = length plan.tasks == 0
+
 -- the naming service, as the first task
-unfoldable pub with_service : Plan → Result Plan Reason
-with_service plan =
-    if length plan.tasks == 0 then Ok (record plan { tasks = plan.tasks ++ service ∷ [] }) else Err Fault
+unfoldable pub with_service : Plan → Plan
+with_service plan = record plan { tasks = plan.tasks ++ service ∷ [] }
 
 -- a body without operations
 abbrev pub empty_body : Bool → Body
@@ -64,8 +67,8 @@ new_task name kind limit =
 -- one more task
 unfoldable pub with_task : Plan → List ℕ → Kind → ℕ → Result Plan Reason
 with_task plan name kind limit =
-    if is_ns name || is_some (place_of (task_names plan.tasks) name) then Err Fault
-    else (if nat_le most_tasks (length plan.tasks) then Err Fault
+    if is_ns name || is_some (place_of (task_names plan.tasks) name) then Err NameTaken
+    else (if nat_le most_tasks (length plan.tasks) then Err TooMany
     else Ok (record plan { tasks = plan.tasks ++ new_task name kind limit ∷ [] }))
 
 -- the wire between the tasks at two places
@@ -76,10 +79,10 @@ wire_between from phone to =
 -- one more wire, between the tasks of two names
 unfoldable pub with_wire : Plan → List ℕ → ℕ → List ℕ → Result Plan Reason
 with_wire plan from phone to = do
-  from ← ok_or (place_of (task_names plan.tasks) from) Fault
-  to ← ok_or (place_of (task_names plan.tasks) to) Fault
+  from ← ok_or (place_of (task_names plan.tasks) from) UnknownName
+  to ← ok_or (place_of (task_names plan.tasks) to) UnknownName
   if nat_le (limit_at plan.tasks from) phone || is_wired plan.wires (from + 1) phone
-      || leads_to_service plan.tasks from phone then Err Fault
+      || leads_to_service plan.tasks from phone then Err BadPhone
       else Ok (record plan { wires = plan.wires ++ wire_between from phone to ∷ [] })
 
 -- the last of a list
@@ -98,13 +101,13 @@ present plan = option_and_then open_kind (last_of plan.tasks)
 
 -- a change of the last of a list
 abbrev pub on_last : {A : Type 0} → (A → Result A Reason) → List A → Result (List A) Reason
-on_last change [] = Err Fault
+on_last change [] = Err OutOfPlace
 on_last change (x ∷ []) = change x >>= λ y. Ok (y ∷ [])
 on_last change (x ∷ next ∷ others) = on_last change (next ∷ others) >>= λ changed. Ok (x ∷ changed)
 
 abbrev pub body_with_op : Op → Body → Result Body Reason
 body_with_op op body =
-    if nat_le most_operations (length body.ops) then Err Fault else Ok (record body { ops = body.ops ++ op ∷ [] })
+    if nat_le most_operations (length body.ops) then Err TooMany else Ok (record body { ops = body.ops ++ op ∷ [] })
 
 abbrev pub task_with_op : Op → TaskPlan → Result TaskPlan Reason
 task_with_op op task =
@@ -115,17 +118,20 @@ is_async Naming = false
 is_async Raw = false
 is_async Async = true
 
+-- the last task takes bodies
+unfoldable pub takes_bodies : Plan → Bool
+takes_bodies plan = option_map_or (λ task. is_async task.kind) (last_of plan.tasks) false
+
 -- there is no room for one more body, of connections or of a fibril
 abbrev pub is_full : Bool → List Body → Bool
 is_full true bodies = nat_le 1 (connections bodies)
 is_full false bodies = nat_le most_fibrils (fibrils bodies)
 
--- an async task with one more body
+-- a task with one more body
 unfoldable pub task_with_body : Bool → TaskPlan → Result TaskPlan Reason
 task_with_body connection task =
-    if not (is_async task.kind) then Err Fault
-    else (if is_full connection task.bodies then Err Fault
-    else Ok (record task { bodies = task.bodies ++ empty_body connection ∷ [] }))
+    if is_full connection task.bodies then Err TooMany
+    else Ok (record task { bodies = task.bodies ++ empty_body connection ∷ [] })
 
 -- one more body of the last task
 unfoldable pub with_body : Plan → Bool → Result Plan Reason
@@ -166,6 +172,10 @@ taken_by last = option_map (λ _. last.kind) last.body
 -- the kind of the last task, if it has a body that takes operations
 abbrev pub taker : Draft → Option Kind
 taker draft = option_and_then taken_by draft.last
+
+-- the last task is an async one
+abbrev pub last_is_async : Draft → Bool
+last_is_async draft = option_map_or (λ last. is_async last.kind) draft.last false
 
 -- what a call made of a draft is the line's step, unless memory ran out
 abbrev pub IsStep : Result ⊤ LineFault → Draft → Draft → (Plan → Result Plan Reason) → Type 0

@@ -6,6 +6,8 @@ pub mod Operation
 pub mod Plan
 pub mod Ranges
 pub mod Reading
+pub mod Reasons
+pub mod Rows
 pub mod Schedule
 pub mod Sound
 pub mod Text

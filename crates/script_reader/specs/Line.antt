@@ -4,7 +4,7 @@ use Rattle.std.specs.List.{list_all}
 use Rattle.std.specs.Option.{option_and_then}
 use Rattle.ipc_ids.specs.Tables.{most_phones}
 use Rattle.script_reader.specs.declared.fault.Reason.{Reason}
-use Rattle.script_reader.specs.declared.fault.Reason.TheVariants.{Fault}
+use Rattle.script_reader.specs.declared.fault.Reason.TheVariants.{BadByte, UnknownOperation, OutOfPlace, WrongCount}
 use Rattle.script_reader.specs.declared.word.Verb.{Verb}
 use Rattle.script_reader.specs.declared.word.Verb.TheVariants.{Ns, Task, Fibril, Connection, Wire, Op}
 use Rattle.script_reader.specs.declared.word.OpVerb.{OpVerb}
@@ -14,7 +14,7 @@ use Rattle.script_reader.specs.Text.{is_allowed, words}
 use Rattle.script_reader.specs.Word.{look_up, verb_of, number, name_of}
 use Rattle.script_reader.specs.Operation.{◌>>=◌, needed, op_in}
 use Rattle.script_reader.specs.Plan.{Plan}
-use Rattle.script_reader.specs.Draft.{with_service, with_task, with_body, with_wire, with_op, present}
+use Rattle.script_reader.specs.Draft.{with_service, with_task, with_body, with_wire, with_op, has_no_task, present, takes_bodies}
 
 abbrev pub kinds : List (List ℕ × Kind)
 kinds = (codes "raw", Raw) ∷ (codes "async", Async) ∷ []
@@ -38,7 +38,7 @@ task_with name kind limit = do
 unfoldable pub task_of : List (List ℕ) → Result (List ℕ × Kind × ℕ) Reason
 task_of (name ∷ kind ∷ []) = task_with name kind (Some most_phones)
 task_of (name ∷ kind ∷ limit ∷ []) = task_with name kind (limit_of limit)
-task_of _ = Err Fault
+task_of _ = Err WrongCount
 
 -- NAME N NAME
 unfoldable pub wire_of : List (List ℕ) → Result (List ℕ × ℕ × List ℕ) Reason
@@ -47,20 +47,24 @@ wire_of (from ∷ phone ∷ to ∷ []) = do
   phone ← needed (number phone)
   to ← needed (name_of to)
   Ok (from, phone, to)
-wire_of _ = Err Fault
+wire_of _ = Err WrongCount
 
--- no words
+-- a line without further words, where it stands in its place
+abbrev pub alone_at : Bool → List (List ℕ) → Result Plan Reason → Result Plan Reason
+alone_at false words made = Err OutOfPlace
+alone_at true [] made = made
+alone_at true (_ ∷ _) made = Err WrongCount
+
+-- only as the first task; no words
 unfoldable pub ns : Plan → List (List ℕ) → Result Plan Reason
-ns plan [] = with_service plan
-ns plan (_ ∷ _) = Err Fault
+ns plan words = alone_at (has_no_task plan) words (Ok (with_service plan))
 
 unfoldable pub task : Plan → List (List ℕ) → Result Plan Reason
 task plan words = task_of words >>= λ (name, kind, limit). with_task plan name kind limit
 
--- a body of connections or of a fibril; no words
+-- a body of connections or of a fibril, only in an async task; no words
 unfoldable pub body : Plan → Bool → List (List ℕ) → Result Plan Reason
-body plan connection [] = with_body plan connection
-body plan connection (_ ∷ _) = Err Fault
+body plan connection words = alone_at (takes_bodies plan) words (with_body plan connection)
 
 unfoldable pub wire : Plan → List (List ℕ) → Result Plan Reason
 wire plan words = wire_of words >>= λ (from, phone, to). with_wire plan from phone to
@@ -69,7 +73,7 @@ unfoldable pub operation : Plan → OpVerb → List (List ℕ) → Result Plan R
 operation plan verb words = op_in (present plan) verb words >>= with_op plan
 
 abbrev pub after_verb : Plan → Option Verb → List (List ℕ) → Result Plan Reason
-after_verb plan None words = Err Fault
+after_verb plan None words = Err UnknownOperation
 after_verb plan (Some Ns) words = ns plan words
 after_verb plan (Some Task) words = task plan words
 after_verb plan (Some Fibril) words = body plan false words
@@ -83,4 +87,4 @@ after_words plan [] = Ok plan
 after_words plan (first ∷ others) = after_verb plan (verb_of first) others
 
 unfoldable pub after_line : Plan → List ℕ → Result Plan Reason
-after_line plan line = if list_all is_allowed line then after_words plan (words line) else Err Fault
+after_line plan line = if list_all is_allowed line then after_words plan (words line) else Err BadByte

@@ -6,7 +6,7 @@ use Rattle.ipc_ids.specs.declared.op.Value.TheVariants.{Number}
 use Rattle.ipc_ids.specs.declared.op.Op.{Op}
 use Rattle.ipc_ids.specs.declared.op.Op.TheVariants as ops
 use Rattle.script_reader.specs.declared.fault.Reason.{Reason}
-use Rattle.script_reader.specs.declared.fault.Reason.TheVariants.{Fault}
+use Rattle.script_reader.specs.declared.fault.Reason.TheVariants.{OutOfPlace, WrongCount, BadWord}
 use Rattle.script_reader.specs.declared.plan.Kind.{Kind}
 use Rattle.script_reader.specs.declared.plan.Kind.TheVariants.{Naming, Raw, Async}
 use Rattle.script_reader.specs.declared.word.OpVerb.{OpVerb}
@@ -21,7 +21,7 @@ abbrev pub ◌>>=◌ : {A B : Type 0} → Result A Reason → (A → Result B Re
 
 -- a word of its kind
 abbrev pub needed : {A : Type 0} → Option A → Result A Reason
-needed word = ok_or word Fault
+needed word = ok_or word BadWord
 
 -- each word is a value
 abbrev pub values : List (List ℕ) → Option (List Value)
@@ -43,9 +43,9 @@ two_and_arguments (first ∷ second ∷ others) =
       second ← needed (value second)
       args ← needed (arguments others)
       Ok (first, second, args))
-    else Err Fault
-two_and_arguments (first ∷ []) = Err Fault
-two_and_arguments [] = Err Fault
+    else Err WrongCount
+two_and_arguments (first ∷ []) = Err WrongCount
+two_and_arguments [] = Err WrongCount
 
 -- phone, method, arguments
 unfoldable pub call_op : List (List ℕ) → Result Op Reason
@@ -58,7 +58,7 @@ answer_op words = two_and_arguments words >>= λ (call, code, args). Ok (ops.Ans
 -- no words
 unfoldable pub receive_op : List (List ℕ) → Result Op Reason
 receive_op [] = Ok ops.Receive
-receive_op (_ ∷ _) = Err Fault
+receive_op (_ ∷ _) = Err WrongCount
 
 -- V V MODE, or V V MODE V [V up to five]
 unfoldable pub forward_op : List (List ℕ) → Result Op Reason
@@ -75,13 +75,13 @@ forward_op (call ∷ phone ∷ mode ∷ method ∷ others) =
       method ← needed (value method)
       args ← needed (arguments others)
       Ok (ops.ForwardWith call phone mode method args))
-    else Err Fault
-forward_op _ = Err Fault
+    else Err WrongCount
+forward_op _ = Err WrongCount
 
 -- V
 unfoldable pub hangup_op : List (List ℕ) → Result Op Reason
 hangup_op (phone ∷ []) = needed (value phone) >>= λ phone. Ok (ops.Hangup phone)
-hangup_op _ = Err Fault
+hangup_op _ = Err WrongCount
 
 -- V V V: base, pages, rights
 unfoldable pub area_op : List (List ℕ) → Result Op Reason
@@ -90,12 +90,12 @@ area_op (base ∷ pages ∷ rights ∷ []) = do
   pages ← needed (value pages)
   rights ← needed (value rights)
   Ok (ops.Area base pages rights)
-area_op _ = Err Fault
+area_op _ = Err WrongCount
 
 -- V
 unfoldable pub unarea_op : List (List ℕ) → Result Op Reason
 unarea_op (base ∷ []) = needed (value base) >>= λ base. Ok (ops.Unarea base)
-unarea_op _ = Err Fault
+unarea_op _ = Err WrongCount
 
 -- V HEX
 unfoldable pub poke_op : List (List ℕ) → Result Op Reason
@@ -103,7 +103,7 @@ poke_op (at ∷ bytes ∷ []) = do
   at ← needed (value at)
   bytes ← needed (bytes_of bytes)
   Ok (ops.Poke at bytes)
-poke_op _ = Err Fault
+poke_op _ = Err WrongCount
 
 -- V V: address, count
 unfoldable pub peek_op : List (List ℕ) → Result Op Reason
@@ -111,7 +111,7 @@ peek_op (at ∷ count ∷ []) = do
   at ← needed (value at)
   count ← needed (value count)
   Ok (ops.Peek at count)
-peek_op _ = Err Fault
+peek_op _ = Err WrongCount
 
 -- R V
 unfoldable pub set_op : List (List ℕ) → Result Op Reason
@@ -119,12 +119,12 @@ set_op (target ∷ source ∷ []) = do
   target ← needed (register target)
   source ← needed (value source)
   Ok (ops.Set target source)
-set_op _ = Err Fault
+set_op _ = Err WrongCount
 
 -- K
 unfoldable pub jump_op : List (List ℕ) → Result Op Reason
 jump_op (to ∷ []) = needed (number_below 65536 to) >>= λ to. Ok (ops.Jump to)
-jump_op _ = Err Fault
+jump_op _ = Err WrongCount
 
 -- V V K
 unfoldable pub two_and_place : List (List ℕ) → Result (Value × Value × ℕ) Reason
@@ -133,7 +133,7 @@ two_and_place (left ∷ right ∷ to ∷ []) = do
   right ← needed (value right)
   to ← needed (number_below 65536 to)
   Ok (left, right, to)
-two_and_place _ = Err Fault
+two_and_place _ = Err WrongCount
 
 unfoldable pub jump_equal_op : List (List ℕ) → Result Op Reason
 jump_equal_op words = two_and_place words >>= λ (left, right, to). Ok (ops.JumpEqual left right to)
@@ -162,8 +162,8 @@ call_slot_op (slot ∷ phone ∷ method ∷ others) =
       method ← needed (value method)
       args ← needed (arguments others)
       Ok (ops.CallSlot slot phone method args))
-    else Err Fault
-call_slot_op _ = Err Fault
+    else Err WrongCount
+call_slot_op _ = Err WrongCount
 
 -- SLOT HANDLE V [V up to five]
 unfoldable pub send_op : List (List ℕ) → Result Op Reason
@@ -174,23 +174,23 @@ send_op (slot ∷ handle ∷ method ∷ others) =
       method ← needed (value method)
       args ← needed (arguments others)
       Ok (ops.Send slot handle method args))
-    else Err Fault
-send_op _ = Err Fault
+    else Err WrongCount
+send_op _ = Err WrongCount
 
 -- SLOT
 unfoldable pub wait_op : List (List ℕ) → Result Op Reason
 wait_op (slot ∷ []) = needed (slot_of slot) >>= λ slot. Ok (ops.Wait slot)
-wait_op _ = Err Fault
+wait_op _ = Err WrongCount
 
 -- no words
 unfoldable pub next_op : List (List ℕ) → Result Op Reason
 next_op [] = Ok ops.Next
-next_op (_ ∷ _) = Err Fault
+next_op (_ ∷ _) = Err WrongCount
 
 -- no words
 unfoldable pub yield_op : List (List ℕ) → Result Op Reason
 yield_op [] = Ok ops.Yield
-yield_op (_ ∷ _) = Err Fault
+yield_op (_ ∷ _) = Err WrongCount
 
 -- SESSION V MODE
 unfoldable pub open_op : List (List ℕ) → Result Op Reason
@@ -199,7 +199,7 @@ open_op (session ∷ phone ∷ mode ∷ []) = do
   phone ← needed (value phone)
   mode ← needed (exchange_mode_of mode)
   Ok (ops.OpenSession session phone mode)
-open_op _ = Err Fault
+open_op _ = Err WrongCount
 
 -- HANDLE SESSION
 unfoldable pub begin_op : List (List ℕ) → Result Op Reason
@@ -207,17 +207,17 @@ begin_op (handle ∷ session ∷ []) = do
   handle ← needed (handle_of handle)
   session ← needed (session_of session)
   Ok (ops.Begin handle session)
-begin_op _ = Err Fault
+begin_op _ = Err WrongCount
 
 -- HANDLE
 unfoldable pub end_op : List (List ℕ) → Result Op Reason
 end_op (handle ∷ []) = needed (handle_of handle) >>= λ handle. Ok (ops.End handle)
-end_op _ = Err Fault
+end_op _ = Err WrongCount
 
 -- SESSION
 unfoldable pub close_op : List (List ℕ) → Result Op Reason
 close_op (session ∷ []) = needed (session_of session) >>= λ session. Ok (ops.Close session)
-close_op _ = Err Fault
+close_op _ = Err WrongCount
 
 -- the form of each first word in a raw task
 abbrev pub raw_op_of : OpVerb → List (List ℕ) → Result Op Reason
@@ -234,22 +234,22 @@ raw_op_of verbs.Set words = set_op words
 raw_op_of verbs.Jump words = jump_op words
 raw_op_of verbs.JumpEqual words = jump_equal_op words
 raw_op_of verbs.JumpDiffer words = jump_differ_op words
-raw_op_of verbs.Wait words = Err Fault
-raw_op_of verbs.Next words = Err Fault
-raw_op_of verbs.Yield words = Err Fault
-raw_op_of verbs.Send words = Err Fault
-raw_op_of verbs.Open words = Err Fault
-raw_op_of verbs.Begin words = Err Fault
-raw_op_of verbs.End words = Err Fault
-raw_op_of verbs.Close words = Err Fault
+raw_op_of verbs.Wait words = Err OutOfPlace
+raw_op_of verbs.Next words = Err OutOfPlace
+raw_op_of verbs.Yield words = Err OutOfPlace
+raw_op_of verbs.Send words = Err OutOfPlace
+raw_op_of verbs.Open words = Err OutOfPlace
+raw_op_of verbs.Begin words = Err OutOfPlace
+raw_op_of verbs.End words = Err OutOfPlace
+raw_op_of verbs.Close words = Err OutOfPlace
 
 -- the form of each first word in an async task
 abbrev pub async_op_of : OpVerb → List (List ℕ) → Result Op Reason
 async_op_of verbs.Call words = call_slot_op words
-async_op_of verbs.Receive words = Err Fault
+async_op_of verbs.Receive words = Err OutOfPlace
 async_op_of verbs.Answer words = answer_op words
 async_op_of verbs.Forward words = forward_op words
-async_op_of verbs.Hangup words = Err Fault
+async_op_of verbs.Hangup words = Err OutOfPlace
 async_op_of verbs.Area words = area_op words
 async_op_of verbs.Unarea words = unarea_op words
 async_op_of verbs.Poke words = poke_op words
@@ -269,7 +269,7 @@ async_op_of verbs.Close words = close_op words
 
 -- the form of each first word in a task of this kind, if one takes operations
 abbrev pub op_in : Option Kind → OpVerb → List (List ℕ) → Result Op Reason
-op_in None verb words = Err Fault
-op_in (Some Naming) verb words = Err Fault
+op_in None verb words = Err OutOfPlace
+op_in (Some Naming) verb words = Err OutOfPlace
 op_in (Some Raw) verb words = raw_op_of verb words
 op_in (Some Async) verb words = async_op_of verb words

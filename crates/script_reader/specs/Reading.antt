@@ -4,7 +4,7 @@ use Rattle.std.specs.Global.{Vec}
 use Rattle.ipc_ids.specs.Tables.{most_bytes}
 use Rattle.ipc_ids.specs.declared.message.Event.{Event}
 use Rattle.script_reader.specs.declared.fault.Reason.{Reason}
-use Rattle.script_reader.specs.declared.fault.Reason.TheVariants.{Fault}
+use Rattle.script_reader.specs.declared.fault.Reason.TheVariants.{TooLong}
 use Rattle.script_reader.specs.declared.fault.ScriptFault.{ScriptFault}
 use Rattle.script_reader.specs.declared.fault.ScriptFault.TheVariants as scripts
 use Rattle.script_reader.specs.declared.fault.ScheduleFault.{ScheduleFault}
@@ -28,7 +28,7 @@ lines_from after n x (line ∷ others) =
 -- what a text spells, or its first fault
 unfoldable pub reading : {A : Type 0} → (A → List ℕ → Result A Reason) → A → List ℕ → Result A (ℕ × Reason)
 reading after nothing text =
-    if nat_lt most_bytes (length text) then Err (0, Fault) else lines_from after 1 nothing (lines text)
+    if nat_lt most_bytes (length text) then Err (0, TooLong) else lines_from after 1 nothing (lines text)
 
 -- the script that bytes spell, or their first fault
 abbrev pub script_of : List ℕ → Result Plan (ℕ × Reason)

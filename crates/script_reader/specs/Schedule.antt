@@ -8,7 +8,7 @@ use Rattle.ipc_ids.specs.declared.numbers.TaskNo.{TaskNo}
 use Rattle.ipc_ids.specs.declared.message.Event.{Event}
 use Rattle.ipc_ids.specs.declared.message.Event.TheVariants as events
 use Rattle.script_reader.specs.declared.fault.Reason.{Reason}
-use Rattle.script_reader.specs.declared.fault.Reason.TheVariants.{Fault}
+use Rattle.script_reader.specs.declared.fault.Reason.TheVariants.{BadByte, UnknownOperation, WrongCount, UnknownName, TooManyEvents}
 use Rattle.script_reader.specs.declared.schedule.EventVerb.{EventVerb}
 use Rattle.script_reader.specs.declared.schedule.EventVerb.TheVariants.{Step, Kill, Hangup}
 use Rattle.script_reader.specs.Text.{is_allowed, words}
@@ -47,40 +47,40 @@ unfoldable pub step_with : List (List ℕ) → List ℕ → Option ℕ → Resul
 step_with names name count = do
   name ← needed (name_of name)
   count ← needed count
-  task ← ok_or (task_named names name) Fault
+  task ← ok_or (task_named names name) UnknownName
   Ok (events.Step task, count)
 
 -- NAME, or NAME x N
 unfoldable pub step_of : List (List ℕ) → List (List ℕ) → Result (Event × ℕ) Reason
 step_of names (name ∷ []) = step_with names name (Some 1)
 step_of names (name ∷ times ∷ count ∷ []) = step_with names name (count_of times count)
-step_of names _ = Err Fault
+step_of names _ = Err WrongCount
 
 -- NAME
 unfoldable pub kill_of : List (List ℕ) → List (List ℕ) → Result (Event × ℕ) Reason
 kill_of names (name ∷ []) = do
   name ← needed (name_of name)
-  task ← ok_or (task_named names name) Fault
+  task ← ok_or (task_named names name) UnknownName
   Ok (events.Kill task, 1)
-kill_of names _ = Err Fault
+kill_of names _ = Err WrongCount
 
 -- NAME N
 unfoldable pub hangup_of : List (List ℕ) → List (List ℕ) → Result (Event × ℕ) Reason
 hangup_of names (name ∷ phone ∷ []) = do
   name ← needed (name_of name)
   phone ← needed (number phone)
-  task ← ok_or (task_named names name) Fault
+  task ← ok_or (task_named names name) UnknownName
   Ok (events.Hangup task phone, 1)
-hangup_of names _ = Err Fault
+hangup_of names _ = Err WrongCount
 
 -- an event so many times more, if there is room for it
 unfoldable pub with_events : List Event → Event → ℕ → Result (List Event) Reason
 with_events before event count =
-    if nat_lt most_events (length before + count) then Err Fault else Ok (before ++ replicate count event)
+    if nat_lt most_events (length before + count) then Err TooManyEvents else Ok (before ++ replicate count event)
 
 -- what a first word gives, and how often
 abbrev pub events_of : List (List ℕ) → Option EventVerb → List (List ℕ) → Result (Event × ℕ) Reason
-events_of names None words = Err Fault
+events_of names None words = Err UnknownOperation
 events_of names (Some Step) words = step_of names words
 events_of names (Some Kill) words = kill_of names words
 events_of names (Some Hangup) words = hangup_of names words
@@ -93,7 +93,7 @@ after_event_words names before (first ∷ others) =
 
 unfoldable pub after_event_line : List (List ℕ) → List Event → List ℕ → Result (List Event) Reason
 after_event_line names before line =
-    if list_all is_allowed line then after_event_words names before (words line) else Err Fault
+    if list_all is_allowed line then after_event_words names before (words line) else Err BadByte
 
 -- the names are those of the script's tasks
 abbrev pub after_event : Plan → List Event → List ℕ → Result (List Event) Reason

@@ -3,7 +3,7 @@ use Rattle.std.specs.Prelude.{ℕ, List, Bool, not, ◌&&◌, ◌||◌, ◌==◌
 use Rattle.std.specs.Borrow.{Bor}
 use Rattle.std.specs.List.{slice_split, before_first}
 use Rattle.script_reader.specs.declared.fault.Reason.{Reason}
-use Rattle.script_reader.specs.declared.fault.Reason.TheVariants.{Fault}
+use Rattle.script_reader.specs.declared.fault.Reason.TheVariants.{TooLong, BadByte, UnknownOperation, OutOfPlace, WrongCount, BadWord, UnknownName, NameTaken, BadPhone, TooMany, TooManyEvents}
 
 -- a tab, or from the space to ~
 abbrev pub is_allowed : ℕ → Bool
@@ -20,6 +20,10 @@ without_comment line = before_first (λ b. b == 35) line
 abbrev pub is_blank : ℕ → Bool
 is_blank b = b == 32 || b == 9
 
+-- a word is over at this byte: a blank, a #, or a byte that may not stand in a line
+abbrev pub ends_word : ℕ → Bool
+ends_word b = is_blank b || (b == 35 || not (is_allowed b))
+
 -- what stands between spaces and tabs, where that is something
 abbrev pub words : List ℕ → List (List ℕ)
 words line = filter (λ word. not (length word == 0)) (slice_split is_blank (without_comment line))
@@ -30,4 +34,14 @@ texts words = map (λ word. word.now) words
 
 -- how a reason is written
 abbrev pub text_of_reason : Reason → List ℕ
-text_of_reason Fault = codes "fault"
+text_of_reason TooLong = codes "too long"
+text_of_reason BadByte = codes "bad byte"
+text_of_reason UnknownOperation = codes "unknown operation"
+text_of_reason OutOfPlace = codes "out of place"
+text_of_reason WrongCount = codes "wrong number of words"
+text_of_reason BadWord = codes "bad word"
+text_of_reason UnknownName = codes "unknown name"
+text_of_reason NameTaken = codes "name taken"
+text_of_reason BadPhone = codes "bad phone"
+text_of_reason TooMany = codes "too many"
+text_of_reason TooManyEvents = codes "too many events"

@@ -1,7 +1,7 @@
 //! A script that is still read: its last task may get more operations.
-ghost use Rattle.std.specs.Prelude.{◌≡◌, ◌≢◌, ◌≤◌, ◌++◌, None, IfOk, IfSome, OnOk};
+ghost use Rattle.std.specs.Prelude.{◌≡◌, ◌≢◌, ◌≤◌, ◌==◌, ◌++◌, length, true, None, Ok, IfOk, IfSome, OnOk};
 ghost use Rattle.script_reader.specs.declared.plan.Kind.TheVariants.{Naming};
-ghost use Rattle.script_reader.specs.Draft.{last_plan, last_plans, plan_of, IsStep, IsWhole, is_wired, limit_at, leads_to_service, if_any, first_body, is_async, is_full, present, taken_by, taker, with_service, with_task, with_body, with_wire, with_op, task_with_body, task_with_op, body_with_op, HasHeadOf, HasLastBody, Follows};
+ghost use Rattle.script_reader.specs.Draft.{last_plan, last_plans, plan_of, IsStep, IsWhole, is_wired, limit_at, leads_to_service, if_any, first_body, is_async, is_full, has_no_task, present, last_is_async, takes_bodies, taken_by, taker, with_service, with_task, with_body, with_wire, with_op, task_with_body, task_with_op, body_with_op, HasHeadOf, HasLastBody, Follows};
 ghost use Rattle.script_reader.specs.Names.{is_ns};
 ghost use Rattle.script_reader.specs.Plan.{nothing};
 ghost use Rattle.script_reader.specs.Ranges.{IsOpOf};
@@ -85,7 +85,7 @@ fn add_op_to(body: &mut Body, op: Op) -> Result<(), LineFault>
     ensures connection { body.new.connection ≡ body.old.connection }
 {
     if body.ops.as_slice().len() >= MOST_OPERATIONS {
-        return Err(LineFault::Bad(Reason::Fault));
+        return Err(LineFault::Bad(Reason::TooMany));
     }
     body.ops.push(op)?;
     Ok(())
@@ -150,6 +150,7 @@ impl LastTask {
     /// Begins a body, of connections or of a fibril.
     #[tactic(auto, unfolding(crate::specs::Draft::task_with_body))]
     fn add_body(&mut self, alloc: Global, connection: bool) -> Result<(), LineFault>
+        requires async_task { is_async self.old.kind ≡ true }
         requires sound { IsSoundTask (last_plan self.old) }
         ensures value { Follows result (last_plan self.new)
             (task_with_body connection (last_plan self.old)) }
@@ -157,12 +158,9 @@ impl LastTask {
         ensures sound { OnOk result
             (IsSoundTask (last_plan self.new) × HasLastBody self.new) }
     {
-        if !is_async(self.kind) {
-            return Err(LineFault::Bad(Reason::Fault));
-        }
         self.end_body()?;
         if is_full(connection, self.bodies.as_slice()) {
-            return Err(LineFault::Bad(Reason::Fault));
+            return Err(LineFault::Bad(Reason::TooMany));
         }
         self.body = Some(Body {
             connection,
@@ -182,7 +180,7 @@ impl LastTask {
             (IsSoundTask (last_plan self.new) × HasLastBody self.new) }
     {
         match &mut self.body {
-            None => Err(LineFault::Bad(Reason::Fault)),
+            None => Err(LineFault::Bad(Reason::OutOfPlace)),
             Some(body) => add_op_to(body, op),
         }
     }
@@ -231,16 +229,24 @@ impl Draft {
         }
     }
 
+    /// Whether there is no task yet.
+    #[tactic(auto, unfolding(crate::specs::Draft::has_no_task))]
+    pub fn is_empty(&self) -> bool
+        requires { IsWhole self.now }
+        ensures names { result ≡ (length self.now.names == 0) }
+        ensures value { result ≡ has_no_task (plan_of self.now) }
+    {
+        self.names.len() == 0
+    }
+
     /// Adds the naming service, as the first task.
     #[tactic(auto, unfolding(crate::specs::Draft::with_service))]
     pub fn add_service(&mut self, alloc: Global) -> Result<(), LineFault>
-        requires { IsWhole self.old }
-        ensures value { IsStep result self.old self.new with_service }
+        requires first { length self.old.names ≡ 0 }
+        requires whole { IsWhole self.old }
+        ensures value { IsStep result self.old self.new (λ plan. Ok (with_service plan)) }
         ensures whole { OnOk result (IsWhole self.new) }
     {
-        if self.names.len() > 0 {
-            return Err(LineFault::Bad(Reason::Fault));
-        }
         let name = Name::ns();
         self.names.push(alloc, name.as_slice())?;
         self.end_task()?;
@@ -269,10 +275,10 @@ impl Draft {
         ensures whole { OnOk result (IsWhole self.new) }
     {
         if is_ns(name.as_slice()) || self.names.place_of(name.as_slice()).is_some() {
-            return Err(LineFault::Bad(Reason::Fault));
+            return Err(LineFault::Bad(Reason::NameTaken));
         }
         if self.names.len() >= MOST_TASKS {
-            return Err(LineFault::Bad(Reason::Fault));
+            return Err(LineFault::Bad(Reason::TooMany));
         }
         self.names.push(alloc, name.as_slice())?;
         self.end_task()?;
@@ -327,13 +333,13 @@ impl Draft {
             (λ plan. with_wire plan from.now phone to.now) }
         ensures whole { OnOk result (IsWhole self.new) }
     {
-        let from = self.names.place_of(from).ok_or(Reason::Fault)?;
-        let to = self.names.place_of(to).ok_or(Reason::Fault)?;
+        let from = self.names.place_of(from).ok_or(Reason::UnknownName)?;
+        let to = self.names.place_of(to).ok_or(Reason::UnknownName)?;
         let limit = self.limit_at(from);
         let number = from as u64 + 1;
         let is_wired = is_wired(self.wires.as_slice(), number, phone);
         if phone >= u64::from(limit) || is_wired || self.leads_to_service(from, phone) {
-            return Err(LineFault::Bad(Reason::Fault));
+            return Err(LineFault::Bad(Reason::BadPhone));
         }
         self.wires.push(Wire {
             from: TaskNo(number),
@@ -361,15 +367,35 @@ impl Draft {
         self.taker()
     }
 
-    /// Gives the last task one more body.
+    /// Whether the last task is an async one.
+    fn last_is_async(&self) -> bool
+        ensures { result ≡ last_is_async self.now }
+    {
+        match &self.last {
+            None => false,
+            Some(last) => is_async(last.kind),
+        }
+    }
+
+    /// Whether the last task takes bodies.
+    pub fn takes_bodies(&self) -> bool
+        requires { IsWhole self.now }
+        ensures async_task { result ≡ last_is_async self.now }
+        ensures value { result ≡ takes_bodies (plan_of self.now) }
+    {
+        self.last_is_async()
+    }
+
+    /// Gives the last task, an async one, one more body.
     #[tactic(auto, unfolding(crate::specs::Draft::with_body))]
     pub fn add_body(&mut self, alloc: Global, connection: bool) -> Result<(), LineFault>
-        requires { IsWhole self.old }
+        requires async_task { last_is_async self.old ≡ true }
+        requires whole { IsWhole self.old }
         ensures value { IsStep result self.old self.new (λ plan. with_body plan connection) }
         ensures whole { OnOk result (IsWhole self.new) }
     {
         match &mut self.last {
-            None => Err(LineFault::Bad(Reason::Fault)),
+            None => Err(LineFault::Bad(Reason::OutOfPlace)),
             Some(last) => last.add_body(alloc, connection),
         }
     }
@@ -383,7 +409,7 @@ impl Draft {
         ensures whole { OnOk result (IsWhole self.new) }
     {
         match &mut self.last {
-            None => Err(LineFault::Bad(Reason::Fault)),
+            None => Err(LineFault::Bad(Reason::OutOfPlace)),
             Some(last) => last.add_op(op),
         }
     }

@@ -8,11 +8,31 @@ use ipc_ids::NoMemory;
 use std::alloc::{AllocError, AllocFailed};
 use std::fmt;
 
-/// What is wrong with a line.
+/// Why a file is not read, as the text after the number of its line says it.
 #[derive(Clone, Copy, Debug, PartialEq, Eq)]
 pub enum Reason {
-    /// The line is outside the grammar.
-    Fault,
+    /// The file has more than 1,048,576 bytes. Its line is 0.
+    TooLong,
+    /// A byte of the line is none that a line may have.
+    BadByte,
+    /// No line begins with this word.
+    UnknownOperation,
+    /// The line does not stand where the task or the body before it takes it.
+    OutOfPlace,
+    /// No form of the line has so many words.
+    WrongCount,
+    /// In each form with so many words some word is not of its kind.
+    BadWord,
+    /// No task on an earlier line has this name; for a schedule, no task of the script.
+    UnknownName,
+    /// An earlier line gives a task this name, or it is `ns`.
+    NameTaken,
+    /// The phone is out of its task's range, or leads somewhere already.
+    BadPhone,
+    /// There are as many tasks, bodies of this kind or operations in the body as there may be.
+    TooMany,
+    /// There is no room for so many events more.
+    TooManyEvents,
 }
 
 impl fmt::Display for Reason {
@@ -23,7 +43,17 @@ impl fmt::Display for Reason {
 
     fn fmt<W: fmt::Write>(&self, f: &mut fmt::Formatter<W>) -> fmt::Result {
         match self {
-            Reason::Fault => f.write_str("fault"),
+            Reason::TooLong => f.write_str("too long"),
+            Reason::BadByte => f.write_str("bad byte"),
+            Reason::UnknownOperation => f.write_str("unknown operation"),
+            Reason::OutOfPlace => f.write_str("out of place"),
+            Reason::WrongCount => f.write_str("wrong number of words"),
+            Reason::BadWord => f.write_str("bad word"),
+            Reason::UnknownName => f.write_str("unknown name"),
+            Reason::NameTaken => f.write_str("name taken"),
+            Reason::BadPhone => f.write_str("bad phone"),
+            Reason::TooMany => f.write_str("too many"),
+            Reason::TooManyEvents => f.write_str("too many events"),
         }
     }
 }

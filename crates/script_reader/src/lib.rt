@@ -22,11 +22,12 @@ mod text;
 mod word;
 
 pub use fault::{Reason, ScheduleFault, ScriptFault};
-pub use laws::readings_are_what_bytes_spell;
+pub use laws::{faults_are_the_first_reasons, readings_are_what_bytes_spell};
 pub use name::Name;
 pub use plan::{Kind, Script, TaskPlan, TaskPlans, Wire, Wires};
 pub use reading::read_script;
 pub use schedule::read_schedule;
+pub use word::number;
 
 #[cfg(test)]
 mod tests;

@@ -12,7 +12,7 @@ use crate::fault::{LineFault, Reason};
 use crate::name::Name;
 use crate::operation::op_in;
 use crate::plan::Kind;
-use crate::text::{all_allowed, words};
+use crate::text::split_words;
 use crate::word::{OpVerb, Verb, look_up, number, verb_of};
 use std::alloc::Global;
 
@@ -48,9 +48,9 @@ fn task_with(name: &[u8], kind: &[u8], limit: Option<u32>) -> Result<(Name, Kind
     ensures not_naming { IfOk result (λ task. task.1 ≢ Naming) }
     ensures within { IfOk result (λ task. IsLimit task.2) }
 {
-    let name = Name::from_slice(name).ok_or(Reason::Fault)?;
-    let kind = kind_of(kind).ok_or(Reason::Fault)?;
-    let limit = limit.ok_or(Reason::Fault)?;
+    let name = Name::from_slice(name).ok_or(Reason::BadWord)?;
+    let kind = kind_of(kind).ok_or(Reason::BadWord)?;
+    let limit = limit.ok_or(Reason::BadWord)?;
     Ok((name, kind, limit))
 }
 
@@ -64,7 +64,7 @@ fn task_of(words: &[&[u8]]) -> Result<(Name, Kind, u32), Reason>
     match words {
         [name, kind] => task_with(*name, *kind, Some(MOST_PHONES)),
         [name, kind, limit] => task_with(*name, *kind, limit_of(*limit)),
-        _ => Err(Reason::Fault),
+        _ => Err(Reason::WrongCount),
     }
 }
 
@@ -75,25 +75,28 @@ fn wire_of(words: &[&[u8]]) -> Result<(Name, u64, Name), Reason>
 {
     match words {
         [from, phone, to] => {
-            let from = Name::from_slice(*from).ok_or(Reason::Fault)?;
-            let phone = number(*phone).ok_or(Reason::Fault)?;
-            let to = Name::from_slice(*to).ok_or(Reason::Fault)?;
+            let from = Name::from_slice(*from).ok_or(Reason::BadWord)?;
+            let phone = number(*phone).ok_or(Reason::BadWord)?;
+            let to = Name::from_slice(*to).ok_or(Reason::BadWord)?;
             Ok((from, phone, to))
         }
-        _ => Err(Reason::Fault),
+        _ => Err(Reason::WrongCount),
     }
 }
 
-/// No words.
+/// Only as the first task; no words.
 #[tactic(auto, unfolding(crate::specs::Line::ns))]
 fn add_service(draft: &mut Draft, alloc: Global, words: &[&[u8]]) -> Result<(), LineFault>
     requires { IsWhole draft.old }
     ensures value { IsStep result draft.old draft.new (λ plan. ns plan (texts words.now)) }
     ensures whole { OnOk result (IsWhole draft.new) }
 {
+    if !draft.is_empty() {
+        return Err(LineFault::Bad(Reason::OutOfPlace));
+    }
     match words {
         [] => draft.add_service(alloc),
-        _ => Err(LineFault::Bad(Reason::Fault)),
+        _ => Err(LineFault::Bad(Reason::WrongCount)),
     }
 }
 
@@ -107,7 +110,7 @@ fn add_task(draft: &mut Draft, alloc: Global, words: &[&[u8]]) -> Result<(), Lin
     draft.add_task(alloc, name, kind, limit)
 }
 
-/// A body of connections or of a fibril; no words.
+/// A body of connections or of a fibril, only in an async task; no words.
 #[tactic(auto, unfolding(crate::specs::Line::body))]
 fn add_body(
     draft: &mut Draft,
@@ -120,9 +123,12 @@ fn add_body(
         (λ plan. body plan connection (texts words.now)) }
     ensures whole { OnOk result (IsWhole draft.new) }
 {
+    if !draft.takes_bodies() {
+        return Err(LineFault::Bad(Reason::OutOfPlace));
+    }
     match words {
         [] => draft.add_body(alloc, connection),
-        _ => Err(LineFault::Bad(Reason::Fault)),
+        _ => Err(LineFault::Bad(Reason::WrongCount)),
     }
 }
 
@@ -156,7 +162,7 @@ fn add_words(draft: &mut Draft, alloc: Global, words: &[&[u8]]) -> Result<(), Li
         return Ok(());
     };
     match verb_of(*first) {
-        None => Err(LineFault::Bad(Reason::Fault)),
+        None => Err(LineFault::Bad(Reason::UnknownOperation)),
         Some(Verb::Ns) => add_service(draft, alloc, others),
         Some(Verb::Task) => add_task(draft, alloc, others),
         Some(Verb::Fibril) => add_body(draft, alloc, false, others),
@@ -168,14 +174,18 @@ fn add_words(draft: &mut Draft, alloc: Global, words: &[&[u8]]) -> Result<(), Li
 
 /// Adds what the line says.
 #[tactic(auto, unfolding(crate::specs::Line::after_line))]
-pub fn add_line(draft: &mut Draft, alloc: Global, line: &[u8]) -> Result<(), LineFault>
+pub fn add_line<'a>(
+    draft: &mut Draft,
+    alloc: Global,
+    words: &mut Vec<&'a [u8]>,
+    line: &'a [u8],
+) -> Result<(), LineFault>
     requires { IsWhole draft.old }
     ensures value { IsStep result draft.old draft.new (λ plan. after_line plan line.now) }
     ensures whole { OnOk result (IsWhole draft.new) }
 {
-    if !all_allowed(line) {
-        return Err(LineFault::Bad(Reason::Fault));
+    if !split_words(line, words)? {
+        return Err(LineFault::Bad(Reason::BadByte));
     }
-    let words = words(alloc, line)?;
     add_words(draft, alloc, words.as_slice())
 }

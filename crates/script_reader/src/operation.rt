@@ -37,12 +37,12 @@ fn two_and_arguments(words: &[&[u8]]) -> Result<(Value, Value, [Value; 5]), Reas
 {
     match words {
         [first, second, args @ ..] if args.len() <= 5 => {
-            let first = value(*first).ok_or(Reason::Fault)?;
-            let second = value(*second).ok_or(Reason::Fault)?;
-            let args = arguments(args).ok_or(Reason::Fault)?;
+            let first = value(*first).ok_or(Reason::BadWord)?;
+            let second = value(*second).ok_or(Reason::BadWord)?;
+            let args = arguments(args).ok_or(Reason::BadWord)?;
             Ok((first, second, args))
         }
-        _ => Err(Reason::Fault),
+        _ => Err(Reason::WrongCount),
     }
 }
 
@@ -76,7 +76,7 @@ fn receive_op(words: &[&[u8]]) -> Result<Op, Reason>
 {
     match words {
         [] => Ok(Op::Receive),
-        _ => Err(Reason::Fault),
+        _ => Err(Reason::WrongCount),
     }
 }
 
@@ -89,17 +89,17 @@ fn forward_op(words: &[&[u8]]) -> Result<Op, Reason>
 {
     match words {
         [call, phone, mode] => {
-            let call = value(*call).ok_or(Reason::Fault)?;
-            let phone = value(*phone).ok_or(Reason::Fault)?;
-            let mode = mode_of(*mode).ok_or(Reason::Fault)?;
+            let call = value(*call).ok_or(Reason::BadWord)?;
+            let phone = value(*phone).ok_or(Reason::BadWord)?;
+            let mode = mode_of(*mode).ok_or(Reason::BadWord)?;
             Ok(Op::Forward { call, phone, mode })
         }
         [call, phone, mode, method, args @ ..] if args.len() <= 5 => {
-            let call = value(*call).ok_or(Reason::Fault)?;
-            let phone = value(*phone).ok_or(Reason::Fault)?;
-            let mode = mode_of(*mode).ok_or(Reason::Fault)?;
-            let method = value(*method).ok_or(Reason::Fault)?;
-            let args = arguments(args).ok_or(Reason::Fault)?;
+            let call = value(*call).ok_or(Reason::BadWord)?;
+            let phone = value(*phone).ok_or(Reason::BadWord)?;
+            let mode = mode_of(*mode).ok_or(Reason::BadWord)?;
+            let method = value(*method).ok_or(Reason::BadWord)?;
+            let args = arguments(args).ok_or(Reason::BadWord)?;
             Ok(Op::ForwardWith {
                 call,
                 phone,
@@ -108,7 +108,7 @@ fn forward_op(words: &[&[u8]]) -> Result<Op, Reason>
                 args,
             })
         }
-        _ => Err(Reason::Fault),
+        _ => Err(Reason::WrongCount),
     }
 }
 
@@ -118,8 +118,8 @@ fn hangup_op(words: &[&[u8]]) -> Result<Op, Reason>
     ensures raw { IfOk result IsRawOp }
 {
     match words {
-        [phone] => Ok(Op::Hangup(value(*phone).ok_or(Reason::Fault)?)),
-        _ => Err(Reason::Fault),
+        [phone] => Ok(Op::Hangup(value(*phone).ok_or(Reason::BadWord)?)),
+        _ => Err(Reason::WrongCount),
     }
 }
 
@@ -131,16 +131,16 @@ fn area_op(words: &[&[u8]]) -> Result<Op, Reason>
 {
     match words {
         [base, pages, rights] => {
-            let base = value(*base).ok_or(Reason::Fault)?;
-            let pages = value(*pages).ok_or(Reason::Fault)?;
-            let rights = value(*rights).ok_or(Reason::Fault)?;
+            let base = value(*base).ok_or(Reason::BadWord)?;
+            let pages = value(*pages).ok_or(Reason::BadWord)?;
+            let rights = value(*rights).ok_or(Reason::BadWord)?;
             Ok(Op::Area {
                 base,
                 pages,
                 rights,
             })
         }
-        _ => Err(Reason::Fault),
+        _ => Err(Reason::WrongCount),
     }
 }
 
@@ -151,8 +151,8 @@ fn unarea_op(words: &[&[u8]]) -> Result<Op, Reason>
     ensures fibrils { IfOk result IsAsyncOp }
 {
     match words {
-        [base] => Ok(Op::Unarea(value(*base).ok_or(Reason::Fault)?)),
-        _ => Err(Reason::Fault),
+        [base] => Ok(Op::Unarea(value(*base).ok_or(Reason::BadWord)?)),
+        _ => Err(Reason::WrongCount),
     }
 }
 
@@ -164,11 +164,11 @@ fn poke_op(words: &[&[u8]]) -> Result<Op, Reason>
 {
     match words {
         [at, bytes] => {
-            let at = value(*at).ok_or(Reason::Fault)?;
-            let bytes = bytes_of(*bytes).ok_or(Reason::Fault)?;
+            let at = value(*at).ok_or(Reason::BadWord)?;
+            let bytes = bytes_of(*bytes).ok_or(Reason::BadWord)?;
             Ok(Op::Poke { at, bytes })
         }
-        _ => Err(Reason::Fault),
+        _ => Err(Reason::WrongCount),
     }
 }
 
@@ -180,11 +180,11 @@ fn peek_op(words: &[&[u8]]) -> Result<Op, Reason>
 {
     match words {
         [at, count] => {
-            let at = value(*at).ok_or(Reason::Fault)?;
-            let count = value(*count).ok_or(Reason::Fault)?;
+            let at = value(*at).ok_or(Reason::BadWord)?;
+            let count = value(*count).ok_or(Reason::BadWord)?;
             Ok(Op::Peek { at, count })
         }
-        _ => Err(Reason::Fault),
+        _ => Err(Reason::WrongCount),
     }
 }
 
@@ -196,14 +196,14 @@ fn set_op(words: &[&[u8]]) -> Result<Op, Reason>
 {
     match words {
         [target, source] => {
-            let target = register(*target).ok_or(Reason::Fault)?;
-            let source = value(*source).ok_or(Reason::Fault)?;
+            let target = register(*target).ok_or(Reason::BadWord)?;
+            let source = value(*source).ok_or(Reason::BadWord)?;
             Ok(Op::Set {
                 register: target,
                 value: source,
             })
         }
-        _ => Err(Reason::Fault),
+        _ => Err(Reason::WrongCount),
     }
 }
 
@@ -214,8 +214,8 @@ fn jump_op(words: &[&[u8]]) -> Result<Op, Reason>
     ensures fibrils { IfOk result IsAsyncOp }
 {
     match words {
-        [to] => Ok(Op::Jump(number_below(65536, *to).ok_or(Reason::Fault)?)),
-        _ => Err(Reason::Fault),
+        [to] => Ok(Op::Jump(number_below(65536, *to).ok_or(Reason::BadWord)?)),
+        _ => Err(Reason::WrongCount),
     }
 }
 
@@ -227,12 +227,12 @@ fn two_and_place(words: &[&[u8]]) -> Result<(Value, Value, u32), Reason>
 {
     match words {
         [left, right, to] => {
-            let left = value(*left).ok_or(Reason::Fault)?;
-            let right = value(*right).ok_or(Reason::Fault)?;
-            let to = number_below(65536, *to).ok_or(Reason::Fault)?;
+            let left = value(*left).ok_or(Reason::BadWord)?;
+            let right = value(*right).ok_or(Reason::BadWord)?;
+            let to = number_below(65536, *to).ok_or(Reason::BadWord)?;
             Ok((left, right, to))
         }
-        _ => Err(Reason::Fault),
+        _ => Err(Reason::WrongCount),
     }
 }
 
@@ -290,10 +290,10 @@ fn call_slot_op(words: &[&[u8]]) -> Result<Op, Reason>
 {
     match words {
         [slot, phone, method, args @ ..] if args.len() <= 5 => {
-            let slot = slot_of(*slot).ok_or(Reason::Fault)?;
-            let phone = value(*phone).ok_or(Reason::Fault)?;
-            let method = value(*method).ok_or(Reason::Fault)?;
-            let args = arguments(args).ok_or(Reason::Fault)?;
+            let slot = slot_of(*slot).ok_or(Reason::BadWord)?;
+            let phone = value(*phone).ok_or(Reason::BadWord)?;
+            let method = value(*method).ok_or(Reason::BadWord)?;
+            let args = arguments(args).ok_or(Reason::BadWord)?;
             Ok(Op::CallSlot {
                 slot,
                 phone,
@@ -301,7 +301,7 @@ fn call_slot_op(words: &[&[u8]]) -> Result<Op, Reason>
                 args,
             })
         }
-        _ => Err(Reason::Fault),
+        _ => Err(Reason::WrongCount),
     }
 }
 
@@ -313,10 +313,10 @@ fn send_op(words: &[&[u8]]) -> Result<Op, Reason>
 {
     match words {
         [slot, handle, method, args @ ..] if args.len() <= 5 => {
-            let slot = slot_of(*slot).ok_or(Reason::Fault)?;
-            let handle = handle_of(*handle).ok_or(Reason::Fault)?;
-            let method = value(*method).ok_or(Reason::Fault)?;
-            let args = arguments(args).ok_or(Reason::Fault)?;
+            let slot = slot_of(*slot).ok_or(Reason::BadWord)?;
+            let handle = handle_of(*handle).ok_or(Reason::BadWord)?;
+            let method = value(*method).ok_or(Reason::BadWord)?;
+            let args = arguments(args).ok_or(Reason::BadWord)?;
             Ok(Op::Send {
                 slot,
                 handle,
@@ -324,7 +324,7 @@ fn send_op(words: &[&[u8]]) -> Result<Op, Reason>
                 args,
             })
         }
-        _ => Err(Reason::Fault),
+        _ => Err(Reason::WrongCount),
     }
 }
 
@@ -334,8 +334,8 @@ fn wait_op(words: &[&[u8]]) -> Result<Op, Reason>
     ensures fibrils { IfOk result IsAsyncOp }
 {
     match words {
-        [slot] => Ok(Op::Wait(slot_of(*slot).ok_or(Reason::Fault)?)),
-        _ => Err(Reason::Fault),
+        [slot] => Ok(Op::Wait(slot_of(*slot).ok_or(Reason::BadWord)?)),
+        _ => Err(Reason::WrongCount),
     }
 }
 
@@ -346,7 +346,7 @@ fn next_op(words: &[&[u8]]) -> Result<Op, Reason>
 {
     match words {
         [] => Ok(Op::Next),
-        _ => Err(Reason::Fault),
+        _ => Err(Reason::WrongCount),
     }
 }
 
@@ -357,7 +357,7 @@ fn yield_op(words: &[&[u8]]) -> Result<Op, Reason>
 {
     match words {
         [] => Ok(Op::Yield),
-        _ => Err(Reason::Fault),
+        _ => Err(Reason::WrongCount),
     }
 }
 
@@ -368,16 +368,16 @@ fn open_op(words: &[&[u8]]) -> Result<Op, Reason>
 {
     match words {
         [session, phone, mode] => {
-            let session = session_of(*session).ok_or(Reason::Fault)?;
-            let phone = value(*phone).ok_or(Reason::Fault)?;
-            let mode = exchange_mode_of(*mode).ok_or(Reason::Fault)?;
+            let session = session_of(*session).ok_or(Reason::BadWord)?;
+            let phone = value(*phone).ok_or(Reason::BadWord)?;
+            let mode = exchange_mode_of(*mode).ok_or(Reason::BadWord)?;
             Ok(Op::OpenSession {
                 session,
                 phone,
                 mode,
             })
         }
-        _ => Err(Reason::Fault),
+        _ => Err(Reason::WrongCount),
     }
 }
 
@@ -388,11 +388,11 @@ fn begin_op(words: &[&[u8]]) -> Result<Op, Reason>
 {
     match words {
         [handle, session] => {
-            let handle = handle_of(*handle).ok_or(Reason::Fault)?;
-            let session = session_of(*session).ok_or(Reason::Fault)?;
+            let handle = handle_of(*handle).ok_or(Reason::BadWord)?;
+            let session = session_of(*session).ok_or(Reason::BadWord)?;
             Ok(Op::Begin { handle, session })
         }
-        _ => Err(Reason::Fault),
+        _ => Err(Reason::WrongCount),
     }
 }
 
@@ -402,8 +402,8 @@ fn end_op(words: &[&[u8]]) -> Result<Op, Reason>
     ensures fibrils { IfOk result IsAsyncOp }
 {
     match words {
-        [handle] => Ok(Op::End(handle_of(*handle).ok_or(Reason::Fault)?)),
-        _ => Err(Reason::Fault),
+        [handle] => Ok(Op::End(handle_of(*handle).ok_or(Reason::BadWord)?)),
+        _ => Err(Reason::WrongCount),
     }
 }
 
@@ -413,8 +413,8 @@ fn close_op(words: &[&[u8]]) -> Result<Op, Reason>
     ensures fibrils { IfOk result IsAsyncOp }
 {
     match words {
-        [session] => Ok(Op::Close(session_of(*session).ok_or(Reason::Fault)?)),
-        _ => Err(Reason::Fault),
+        [session] => Ok(Op::Close(session_of(*session).ok_or(Reason::BadWord)?)),
+        _ => Err(Reason::WrongCount),
     }
 }
 
@@ -437,14 +437,14 @@ fn raw_op_of(verb: OpVerb, words: &[&[u8]]) -> Result<Op, Reason>
         OpVerb::Jump => jump_op(words),
         OpVerb::JumpEqual => jump_equal_op(words),
         OpVerb::JumpDiffer => jump_differ_op(words),
-        OpVerb::Wait => Err(Reason::Fault),
-        OpVerb::Next => Err(Reason::Fault),
-        OpVerb::Yield => Err(Reason::Fault),
-        OpVerb::Send => Err(Reason::Fault),
-        OpVerb::Open => Err(Reason::Fault),
-        OpVerb::Begin => Err(Reason::Fault),
-        OpVerb::End => Err(Reason::Fault),
-        OpVerb::Close => Err(Reason::Fault),
+        OpVerb::Wait => Err(Reason::OutOfPlace),
+        OpVerb::Next => Err(Reason::OutOfPlace),
+        OpVerb::Yield => Err(Reason::OutOfPlace),
+        OpVerb::Send => Err(Reason::OutOfPlace),
+        OpVerb::Open => Err(Reason::OutOfPlace),
+        OpVerb::Begin => Err(Reason::OutOfPlace),
+        OpVerb::End => Err(Reason::OutOfPlace),
+        OpVerb::Close => Err(Reason::OutOfPlace),
     }
 }
 
@@ -455,10 +455,10 @@ fn async_op_of(verb: OpVerb, words: &[&[u8]]) -> Result<Op, Reason>
 {
     match verb {
         OpVerb::Call => call_slot_op(words),
-        OpVerb::Receive => Err(Reason::Fault),
+        OpVerb::Receive => Err(Reason::OutOfPlace),
         OpVerb::Answer => answer_op(words),
         OpVerb::Forward => forward_op(words),
-        OpVerb::Hangup => Err(Reason::Fault),
+        OpVerb::Hangup => Err(Reason::OutOfPlace),
         OpVerb::Area => area_op(words),
         OpVerb::Unarea => unarea_op(words),
         OpVerb::Poke => poke_op(words),
@@ -484,8 +484,8 @@ pub fn op_in(present: Option<Kind>, verb: OpVerb, words: &[&[u8]]) -> Result<Op,
     ensures of_kind { IfOk result (λ op. IfSome present (λ kind. IsOpOf kind op)) }
 {
     match present {
-        None => Err(Reason::Fault),
-        Some(Kind::Naming) => Err(Reason::Fault),
+        None => Err(Reason::OutOfPlace),
+        Some(Kind::Naming) => Err(Reason::OutOfPlace),
         Some(Kind::Raw) => raw_op_of(verb, words),
         Some(Kind::Async) => async_op_of(verb, words),
     }

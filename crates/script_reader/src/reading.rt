@@ -6,6 +6,7 @@ ghost use Rattle.script_reader.specs.Plan.{Plan, nothing};
 ghost use Rattle.script_reader.specs.Line.{after_line};
 ghost use Rattle.script_reader.specs.Draft.{plan_of, IsWhole};
 ghost use Rattle.script_reader.specs.Grammar.{Spells, IsFirstFault};
+ghost use Rattle.script_reader.specs.Reasons.{line_reasons};
 ghost use Rattle.script_reader.specs.Reading.{lines_from, script_of, fault_in_script, Reads, Agrees};
 
 use crate::draft::Draft;
@@ -21,8 +22,9 @@ fn add_lines(draft: &mut Draft, alloc: Global, lines: &[&[u8]]) -> Result<(), Sc
         (lines_from after_line 1 (plan_of draft.old) (texts lines.now)) }
     ensures whole { OnOk result (IsWhole draft.new) }
 {
+    let mut words = Vec::new(alloc);
     for (index, line) in lines.iter().enumerate() {
-        match add_line(draft, alloc, *line) {
+        match add_line(draft, alloc, &mut words, *line) {
             Ok(()) => {}
             Err(LineFault::NoMemory) => return Err(ScriptFault::NoMemory),
             Err(LineFault::Bad(reason)) => {
@@ -43,7 +45,7 @@ fn read(alloc: Global, bytes: &[u8]) -> Result<Script, ScriptFault>
     if bytes.len() > MOST_BYTES {
         return Err(ScriptFault::Bad {
             line: 0,
-            reason: Reason::Fault,
+            reason: Reason::TooLong,
         });
     }
     let lines = lines(alloc, bytes)?;
@@ -66,9 +68,9 @@ pub fn read_script(alloc: Global, bytes: &[u8]) -> Result<Script, ScriptFault>
         → result ≢ Err ScriptFault.NoMemory → result ≡ Ok plan }
     ensures fault { (line : ℕ) (reason : Reason)
         → result ≡ Err (ScriptFault.Bad line reason)
-        → IsFirstFault after_line nothing bytes.now line reason }
+        → IsFirstFault after_line line_reasons nothing bytes.now line reason }
     ensures at_fault { (line : ℕ) (reason : Reason)
-        → IsFirstFault after_line nothing bytes.now line reason
+        → IsFirstFault after_line line_reasons nothing bytes.now line reason
         → result ≢ Err ScriptFault.NoMemory
         → result ≡ Err (ScriptFault.Bad line reason) }
 {

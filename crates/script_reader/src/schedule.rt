@@ -6,13 +6,14 @@ ghost use Rattle.script_reader.specs.Text.{texts};
 ghost use Rattle.script_reader.specs.Draft.{Follows};
 ghost use Rattle.script_reader.specs.Schedule.{IsOnTaskOf, event_verb_of, count_of, with_events, step_with, step_of, kill_of, hangup_of, events_of, after_event_words, after_event_line, after_event};
 ghost use Rattle.script_reader.specs.Grammar.{Spells, IsFirstFault};
+ghost use Rattle.script_reader.specs.Reasons.{event_reasons};
 ghost use Rattle.script_reader.specs.Reading.{lines_from, reading, schedule_of, events_in, fault_in_schedule, Reads, Agrees};
 
 use crate::fault::{LineFault, Reason, ScheduleFault};
-use crate::name::Name;
+use crate::name::is_name;
 use crate::names::{Names, names_of};
 use crate::plan::Script;
-use crate::text::{MOST_BYTES, all_allowed, lines, words};
+use crate::text::{MOST_BYTES, lines, split_words};
 use crate::word::{look_up, number};
 use ipc_ids::Event;
 use std::alloc::Global;
@@ -54,7 +55,7 @@ fn add_events(events: &mut Vec<Event>, event: Event, count: u64) -> Result<(), L
     ensures { Follows result events.new.items (with_events events.old.items event count) }
 {
     if count > MOST_EVENTS || events.len() as u64 > MOST_EVENTS - count {
-        return Err(LineFault::Bad(Reason::Fault));
+        return Err(LineFault::Bad(Reason::TooManyEvents));
     }
     push_times(events, event, count)
 }
@@ -72,13 +73,15 @@ fn count_of(times: &[u8], word: &[u8]) -> Option<u64>
     }
 }
 
-#[tactic(auto, unfolding(crate::specs::Schedule::step_with))]
+#[tactic(auto, unfolding(crate::specs::Schedule::step_with, crate::specs::Word::name_of))]
 fn step_with(names: &Names, name: &[u8], count: Option<u64>) -> Result<(Event, u64), Reason>
     ensures { result ≡ step_with names.now name.now count }
 {
-    let name = Name::from_slice(name).ok_or(Reason::Fault)?;
-    let count = count.ok_or(Reason::Fault)?;
-    let task = names.task_named(name.as_slice()).ok_or(Reason::Fault)?;
+    if !is_name(name) {
+        return Err(Reason::BadWord);
+    }
+    let count = count.ok_or(Reason::BadWord)?;
+    let task = names.task_named(name).ok_or(Reason::UnknownName)?;
     Ok((Event::Step(task), count))
 }
 
@@ -90,38 +93,42 @@ fn step_of(names: &Names, words: &[&[u8]]) -> Result<(Event, u64), Reason>
     match words {
         [name] => step_with(names, *name, Some(1)),
         [name, times, count] => step_with(names, *name, count_of(*times, *count)),
-        _ => Err(Reason::Fault),
+        _ => Err(Reason::WrongCount),
     }
 }
 
 /// `NAME`
-#[tactic(auto, unfolding(crate::specs::Schedule::kill_of))]
+#[tactic(auto, unfolding(crate::specs::Schedule::kill_of, crate::specs::Word::name_of))]
 fn kill_of(names: &Names, words: &[&[u8]]) -> Result<(Event, u64), Reason>
     ensures { result ≡ kill_of names.now (texts words.now) }
 {
     match words {
         [name] => {
-            let name = Name::from_slice(*name).ok_or(Reason::Fault)?;
-            let task = names.task_named(name.as_slice()).ok_or(Reason::Fault)?;
+            if !is_name(*name) {
+                return Err(Reason::BadWord);
+            }
+            let task = names.task_named(*name).ok_or(Reason::UnknownName)?;
             Ok((Event::Kill(task), 1))
         }
-        _ => Err(Reason::Fault),
+        _ => Err(Reason::WrongCount),
     }
 }
 
 /// `NAME N`
-#[tactic(auto, unfolding(crate::specs::Schedule::hangup_of))]
+#[tactic(auto, unfolding(crate::specs::Schedule::hangup_of, crate::specs::Word::name_of))]
 fn hangup_of(names: &Names, words: &[&[u8]]) -> Result<(Event, u64), Reason>
     ensures { result ≡ hangup_of names.now (texts words.now) }
 {
     match words {
         [name, phone] => {
-            let name = Name::from_slice(*name).ok_or(Reason::Fault)?;
-            let phone = number(*phone).ok_or(Reason::Fault)?;
-            let task = names.task_named(name.as_slice()).ok_or(Reason::Fault)?;
+            if !is_name(*name) {
+                return Err(Reason::BadWord);
+            }
+            let phone = number(*phone).ok_or(Reason::BadWord)?;
+            let task = names.task_named(*name).ok_or(Reason::UnknownName)?;
             Ok((Event::Hangup(task, phone), 1))
         }
-        _ => Err(Reason::Fault),
+        _ => Err(Reason::WrongCount),
     }
 }
 
@@ -134,7 +141,7 @@ fn events_of(
     ensures { result ≡ events_of names.now verb (texts words.now) }
 {
     match verb {
-        None => Err(Reason::Fault),
+        None => Err(Reason::UnknownOperation),
         Some(EventVerb::Step) => step_of(names, words),
         Some(EventVerb::Kill) => kill_of(names, words),
         Some(EventVerb::Hangup) => hangup_of(names, words),
@@ -153,19 +160,18 @@ fn add_words(names: &Names, events: &mut Vec<Event>, words: &[&[u8]]) -> Result<
 }
 
 #[tactic(auto, unfolding(crate::specs::Schedule::after_event_line))]
-fn add_line(
+fn add_line<'a>(
     names: &Names,
     events: &mut Vec<Event>,
-    alloc: Global,
-    line: &[u8],
+    words: &mut Vec<&'a [u8]>,
+    line: &'a [u8],
 ) -> Result<(), LineFault>
     ensures { Follows result events.new.items
         (after_event_line names.now events.old.items line.now) }
 {
-    if !all_allowed(line) {
-        return Err(LineFault::Bad(Reason::Fault));
+    if !split_words(line, words)? {
+        return Err(LineFault::Bad(Reason::BadByte));
     }
-    let words = words(alloc, line)?;
     add_words(names, events, words.as_slice())
 }
 
@@ -178,8 +184,9 @@ fn add_lines(
     ensures { Reads fault_in_schedule result events.new.items
         (lines_from (after_event_line names.now) 1 events.old.items (texts lines.now)) }
 {
+    let mut words = Vec::new(alloc);
     for (index, line) in lines.iter().enumerate() {
-        match add_line(names, events, alloc, *line) {
+        match add_line(names, events, &mut words, *line) {
             Ok(()) => {}
             Err(LineFault::NoMemory) => return Err(ScheduleFault::NoMemory),
             Err(LineFault::Bad(reason)) => {
@@ -201,7 +208,7 @@ fn read(alloc: Global, bytes: &[u8], names: &Names) -> Result<Vec<Event>, Schedu
     if bytes.len() > MOST_BYTES {
         return Err(ScheduleFault::Bad {
             line: 0,
-            reason: Reason::Fault,
+            reason: Reason::TooLong,
         });
     }
     let lines = lines(alloc, bytes)?;
@@ -237,9 +244,9 @@ pub fn read_schedule(
         → result ≢ Err ScheduleFault.NoMemory → IsOkAnd result (λ got. got.items ≡ events) }
     ensures fault { (line : ℕ) (reason : Reason)
         → result ≡ Err (ScheduleFault.Bad line reason)
-        → IsFirstFault (after_event script.now) [] bytes.now line reason }
+        → IsFirstFault (after_event script.now) (event_reasons script.now) [] bytes.now line reason }
     ensures at_fault { (line : ℕ) (reason : Reason)
-        → IsFirstFault (after_event script.now) [] bytes.now line reason
+        → IsFirstFault (after_event script.now) (event_reasons script.now) [] bytes.now line reason
         → result ≢ Err ScheduleFault.NoMemory
         → result ≡ Err (ScheduleFault.Bad line reason) }
 {

@@ -1,4 +1,4 @@
-//! Whole files, compared field by field, and what each fault's line is.
+//! Whole files, compared field by field, and for each reason files whose first fault has it.
 ghost use Rattle.std.specs.Prelude.{◌≢◌, ◌<◌, ◌≤◌, length, All, IfSome};
 ghost use Rattle.script_reader.specs.Names.{ns_name};
 ghost use Rattle.script_reader.specs.Ranges.{KeepsRanges};
@@ -226,92 +226,6 @@ fn operations_of_memory_are_read(rt: HostRuntime) {
     assert_eq!(rt; op(&script, 0, 6), None);
 }
 
-#[test]
-fn the_words_of_memory_are_counted_and_of_their_kinds(rt: HostRuntime) {
-    let faults: [&[u8]; 14] = [
-        b"task a raw\narea 4096 1",
-        b"task a raw\narea 4096 1 RW 0",
-        b"task a raw\narea 4096 1 RX",
-        b"task a raw\nunarea",
-        b"task a raw\nunarea 0 0",
-        b"task a raw\npoke 0",
-        b"task a raw\npoke 0 -",
-        b"task a raw\npoke 0 0",
-        b"task a raw\npoke 0 000",
-        b"task a raw\npoke 0 0x00",
-        b"task a raw\npoke 0 0g",
-        b"task a raw\npoke 0 00 00",
-        b"task a raw\npeek 0",
-        b"task a raw\npeek 0 1 2",
-    ];
-    for bytes in faults {
-        assert_eq!(rt; fault_of_script(&rt, bytes), Some(2));
-    }
-}
-
-#[test]
-fn a_poke_has_64_bytes_at_most(rt: HostRuntime) -> Result<(), Fail> {
-    for (digits, fault) in [(128, None), (130, Some(2))] {
-        let mut text = Vec::new(rt.alloc());
-        text.extend_from_slice(b"task a raw\npoke 0 ")?;
-        text.extend_from_slice(vec![in rt.alloc(); b'7'; digits]?.as_slice())?;
-        assert_eq!(rt; fault_of_script(&rt, text.as_slice()), fault);
-    }
-    Ok(())
-}
-
-/// The line of the first fault, or `None` where the bytes spell a script.
-fn fault_of_script(rt: &HostRuntime, bytes: &[u8]) -> Option<u64> {
-    match read_script(rt.alloc(), bytes) {
-        Err(
-            ScriptFault::Bad {
-                line,
-                reason: Reason::Fault,
-            },
-        ) => Some(line),
-        _ => None,
-    }
-}
-
-#[test]
-fn the_first_faulty_line_of_a_script_is_named(rt: HostRuntime) {
-    let faults: [(&[u8], u64); 29] = [
-        (b"task a raw\r\n", 1),
-        (b"task a raw\n# \x7f\n", 2),
-        (b"\n\nfoo\nbar", 3),
-        (b"receive", 1),
-        (b"task a naming", 1),
-        (b"task a", 1),
-        (b"task a raw 1 2", 1),
-        (b"task a raw 0", 1),
-        (b"task a raw 65", 1),
-        (b"task 1a raw", 1),
-        (b"task abcdefghijklmnop raw", 1),
-        (b"task ns raw", 1),
-        (b"task a raw\ntask a raw", 2),
-        (b"task a raw\nwire a 0 b", 2),
-        (b"task a raw 2\nwire a 2 a", 2),
-        (b"task a raw\nwire a 0 a\nwire a 0 a", 3),
-        (b"task a raw\nset r32 0", 2),
-        (b"task a raw\nset r01 0", 2),
-        (b"task a raw\nset 0 r1", 2),
-        (b"task a raw\nhangup 18446744073709551616", 2),
-        (b"task a raw\nhangup 0x10000000000000000", 2),
-        (b"task a raw\nhangup 000000000000000000000", 2),
-        (b"task a raw\nhangup 0x", 2),
-        (b"task a raw\nhangup eok", 2),
-        (b"task a raw\njump 65536", 2),
-        (b"task a raw\njump r1", 2),
-        (b"task a raw\ncall 1", 2),
-        (b"task a raw\ncall 1 2 3 4 5 6 7 8", 2),
-        (b"task a raw\nforward 1 2 3", 2),
-    ];
-    for (bytes, line) in faults {
-        assert_eq!(rt; fault_of_script(&rt, bytes), Some(line), "at {line}");
-    }
-    assert_eq!(rt; fault_of_script(&rt, b""), None);
-}
-
 const SERVICE_SCRIPT: &[u8] =
     b"# the service\n\n ns # first\ntask a raw\nwire ns 0 a\nwire a 1 ns\n";
 
@@ -343,24 +257,6 @@ fn a_schedule_names_the_naming_service(rt: HostRuntime) {
         Event::Kill(TaskNo(1)),
     ];
     assert_eq!(rt; events.as_slice(), wanted.as_slice());
-}
-
-#[test]
-fn the_naming_service_has_its_place(rt: HostRuntime) {
-    let faults: [(&[u8], u64); 9] = [
-        (b"ns 1", 1),
-        (b"ns\nns", 2),
-        (b"task a raw\nns", 2),
-        (b"ns\nreceive", 2),
-        (b"ns\ntask ns raw", 2),
-        (b"ns\ntask a raw\nwire a 0 ns", 3),
-        (b"ns\ntask a raw\nwire a 0 a", 3),
-        (b"ns\ntask a raw\nwire a 1 a\nwire ns 64 a", 4),
-        (b"ns\nwire ns 0 ns\nwire ns 0 ns", 3),
-    ];
-    for (bytes, line) in faults {
-        assert_eq!(rt; fault_of_script(&rt, bytes), Some(line), "at {line}");
-    }
 }
 
 const ASYNC_SCRIPT: &[u8] = b"task s async 3
@@ -485,124 +381,6 @@ fn operations_of_exchanges_are_read(rt: HostRuntime) {
 }
 
 #[test]
-fn the_words_of_exchanges_are_counted_and_of_their_kinds(rt: HostRuntime) {
-    let faults: [&[u8]; 12] = [
-        b"task a async\nfibril\nsend 8 0 512",
-        b"task a async\nfibril\nsend 0 8 512",
-        b"task a async\nfibril\nsend 0 0",
-        b"task a async\nfibril\nsend 0 0 512 1 2 3 4 5 6",
-        b"task a async\nfibril\nopen 16 0 atomic",
-        b"task a async\nfibril\nopen 0 0 route",
-        b"task a async\nfibril\nopen 0 0",
-        b"task a async\nfibril\nbegin 8 0",
-        b"task a async\nfibril\nbegin 0 16",
-        b"task a async\nfibril\nend 8",
-        b"task a async\nfibril\nclose 16",
-        b"task a async\nfibril\nclose r1",
-    ];
-    for bytes in faults {
-        assert_eq!(rt; fault_of_script(&rt, bytes), Some(3));
-    }
-}
-
-#[test]
-fn each_kind_of_task_has_its_operations(rt: HostRuntime) {
-    let faults: [(&[u8], u64); 16] = [
-        (b"task a raw\nfibril", 2),
-        (b"task a raw\nconnection", 2),
-        (b"ns\nfibril", 2),
-        (b"fibril", 1),
-        (b"task a raw\nwait 0", 2),
-        (b"task a raw\nnext", 2),
-        (b"task a raw\nyield", 2),
-        (b"task a raw\nsend 0 0 512", 2),
-        (b"task a raw\nopen 0 0 atomic", 2),
-        (b"task a raw\nbegin 0 0", 2),
-        (b"task a raw\nend 0", 2),
-        (b"task a raw\nclose 0", 2),
-        (b"task a async\nyield", 2),
-        (b"task a async\nfibril\nreceive", 3),
-        (b"task a async\nfibril\nhangup 0", 3),
-        (b"task a async\nfibril\ncall 0 512", 3),
-    ];
-    for (bytes, line) in faults {
-        assert_eq!(rt; fault_of_script(&rt, bytes), Some(line), "at {line}");
-    }
-}
-
-#[test]
-fn the_words_of_fibrils_are_counted_and_of_their_kinds(rt: HostRuntime) {
-    let faults: [&[u8]; 10] = [
-        b"task a async\nfibril\ncall 8 0 512",
-        b"task a async\nfibril\ncall r1 0 512",
-        b"task a async\nfibril\ncall 0 0 512 1 2 3 4 5 6",
-        b"task a async\nfibril\nwait",
-        b"task a async\nfibril\nwait 8",
-        b"task a async\nfibril\nwait 0 0",
-        b"task a async\nfibril\nnext 0",
-        b"task a async\nfibril\nyield 0",
-        b"task a async\nfibril\nfibril 1",
-        b"task a async\nconnection\nconnection",
-    ];
-    for bytes in faults {
-        assert_eq!(rt; fault_of_script(&rt, bytes), Some(3));
-    }
-    assert_eq!(rt; fault_of_script(&rt, b"task a async 65"), Some(1));
-}
-
-#[test]
-fn an_async_task_has_16_fibrils_at_most(rt: HostRuntime) -> Result<(), Fail> {
-    let mut text = Vec::new(rt.alloc());
-    text.extend_from_slice(b"task a async\nconnection\n")?;
-    for _ in 0..16 {
-        text.extend_from_slice(b"fibril\n")?;
-    }
-    assert_eq!(rt; fault_of_script(&rt, text.as_slice()), None);
-    text.extend_from_slice(b"fibril")?;
-    assert_eq!(rt; fault_of_script(&rt, text.as_slice()), Some(19));
-    Ok(())
-}
-
-/// The line of the first fault, or `None` where the bytes spell events.
-fn fault_of_schedule(rt: &HostRuntime, bytes: &[u8], script: &Script) -> Option<u64> {
-    match read_schedule(rt.alloc(), bytes, script) {
-        Err(
-            ScheduleFault::Bad {
-                line,
-                reason: Reason::Fault,
-            },
-        ) => Some(line),
-        _ => None,
-    }
-}
-
-#[test]
-fn the_first_faulty_line_of_a_schedule_is_named(rt: HostRuntime) {
-    let script = read_script(rt.alloc(), b"task a raw").expect(&rt, "a script");
-    let faults: [(&[u8], u64); 11] = [
-        (b"step a\nstep b", 2),
-        (b"kill", 1),
-        (b"step", 1),
-        (b"step a 2", 1),
-        (b"step a y 2", 1),
-        (b"step a x 0", 1),
-        (b"step a x 65537", 1),
-        (b"step a x 65536\n\nstep a", 3),
-        (b"hangup a", 1),
-        (b"hangup a r1", 1),
-        (b"step a # \x80", 1),
-    ];
-    for (bytes, line) in faults {
-        assert_eq!(rt;
-            fault_of_schedule(&rt, bytes, &script),
-            Some(line),
-            "at {line}"
-        );
-    }
-    assert_eq!(rt; fault_of_schedule(&rt, b"step a x 65536", &script), None);
-}
-
-#[test]
 fn events_are_read(rt: HostRuntime) {
     let script = read_script(rt.alloc(), SCRIPT).expect(&rt, "a script");
     let events = read_schedule(rt.alloc(), SCHEDULE, &script).expect(&rt, "a schedule");
@@ -620,6 +398,442 @@ fn events_are_read(rt: HostRuntime) {
     }
 }
 
+/// The first fault, or `None` where the bytes spell a script.
+fn fault_of_script(rt: &HostRuntime, bytes: &[u8]) -> Option<(u64, Reason)> {
+    match read_script(rt.alloc(), bytes) {
+        Err(ScriptFault::Bad { line, reason }) => Some((line, reason)),
+        _ => None,
+    }
+}
+
+/// The first fault, or `None` where the bytes spell events.
+fn fault_of_schedule(rt: &HostRuntime, bytes: &[u8], script: &Script) -> Option<(u64, Reason)> {
+    match read_schedule(rt.alloc(), bytes, script) {
+        Err(ScheduleFault::Bad { line, reason }) => Some((line, reason)),
+        _ => None,
+    }
+}
+
+/// Whether a fault is in this line, with this text.
+fn is_written(
+    rt: &HostRuntime,
+    fault: Option<(u64, Reason)>,
+    line: u64,
+    text: &str,
+) -> Result<bool, Fail> {
+    match fault {
+        Some((at, reason)) => {
+            let written = format!(in rt.alloc(); "{reason}")?;
+            Ok(at == line && written.as_str() == text)
+        }
+        None => Ok(false),
+    }
+}
+
+/// The first of these scripts whose first fault is not in this line, with this text.
+fn other_script(
+    rt: &HostRuntime,
+    text: &str,
+    faults: &[(&[u8], u64)],
+) -> Result<Option<usize>, Fail> {
+    for (index, (bytes, line)) in faults.iter().enumerate() {
+        if !is_written(rt, fault_of_script(rt, *bytes), *line, text)? {
+            return Ok(Some(index));
+        }
+    }
+    Ok(None)
+}
+
+/// The first of these schedules for a task `a` whose first fault is not in this line, with this text.
+fn other_schedule(
+    rt: &HostRuntime,
+    text: &str,
+    faults: &[(&[u8], u64)],
+) -> Result<Option<usize>, Fail> {
+    let script = match read_script(rt.alloc(), b"task a raw") {
+        Ok(script) => script,
+        Err(_) => return Ok(Some(faults.len())),
+    };
+    for (index, (bytes, line)) in faults.iter().enumerate() {
+        if !is_written(rt, fault_of_schedule(rt, *bytes, &script), *line, text)? {
+            return Ok(Some(index));
+        }
+    }
+    Ok(None)
+}
+
+#[test]
+fn a_byte_of_a_script_that_no_line_has(rt: HostRuntime) -> Result<(), Fail> {
+    let faults: [(&[u8], u64); 4] = [
+        (b"task a raw\r\n", 1),
+        (b"task a raw\n# \x7f\n", 2),
+        (b"\x80", 1),
+        (b"foo \x7f", 1),
+    ];
+    assert_eq!(rt; other_script(&rt, "bad byte", &faults)?, None);
+    Ok(())
+}
+
+#[test]
+fn a_first_word_that_begins_no_line(rt: HostRuntime) -> Result<(), Fail> {
+    let faults: [(&[u8], u64); 3] = [(b"\n\nfoo\nbar", 3), (b"step a", 1), (b"TASK a raw", 1)];
+    assert_eq!(rt; other_script(&rt, "unknown operation", &faults)?, None);
+    Ok(())
+}
+
+#[test]
+fn operations_without_a_body_for_them(rt: HostRuntime) -> Result<(), Fail> {
+    let faults: [(&[u8], u64); 5] = [
+        (b"receive", 1),
+        (b"receive 1", 1),
+        (b"ns\nreceive", 2),
+        (b"task a async\nyield", 2),
+        (b"task a async\nset r32", 2),
+    ];
+    assert_eq!(rt; other_script(&rt, "out of place", &faults)?, None);
+    Ok(())
+}
+
+#[test]
+fn operations_of_the_other_kind_of_task(rt: HostRuntime) -> Result<(), Fail> {
+    let faults: [(&[u8], u64); 5] = [
+        (b"task a raw\nwait 0", 2),
+        (b"task a raw\nsend 0 0 512", 2),
+        (b"task a raw\nopen 16 0", 2),
+        (b"task a async\nfibril\nreceive", 3),
+        (b"task a async\nfibril\nhangup 0", 3),
+    ];
+    assert_eq!(rt; other_script(&rt, "out of place", &faults)?, None);
+    Ok(())
+}
+
+#[test]
+fn lines_of_structure_out_of_place(rt: HostRuntime) -> Result<(), Fail> {
+    let faults: [(&[u8], u64); 7] = [
+        (b"task a raw\nns", 2),
+        (b"task a raw\nns 1", 2),
+        (b"ns\nns", 2),
+        (b"fibril", 1),
+        (b"ns\nfibril", 2),
+        (b"task a raw\nfibril 1", 2),
+        (b"task a raw\nconnection", 2),
+    ];
+    assert_eq!(rt; other_script(&rt, "out of place", &faults)?, None);
+    Ok(())
+}
+
+#[test]
+fn lines_of_structure_with_other_counts_of_words(rt: HostRuntime) -> Result<(), Fail> {
+    let faults: [(&[u8], u64); 7] = [
+        (b"ns 1", 1),
+        (b"task a", 1),
+        (b"task a raw 1 2", 1),
+        (b"task a async 1 2", 1),
+        (b"wire a 0", 1),
+        (b"task a async\nfibril 1", 2),
+        (b"task a async\nconnection 1", 2),
+    ];
+    assert_eq!(rt; other_script(&rt, "wrong number of words", &faults)?, None);
+    Ok(())
+}
+
+#[test]
+fn operations_of_raw_tasks_with_other_counts_of_words(rt: HostRuntime) -> Result<(), Fail> {
+    let faults: [(&[u8], u64); 4] = [
+        (b"task a raw\ncall 1", 2),
+        (b"task a raw\ncall 1 2 3 4 5 6 7 8", 2),
+        (b"task a raw\nreceive 1", 2),
+        (b"task a raw\nset r32", 2),
+    ];
+    assert_eq!(rt; other_script(&rt, "wrong number of words", &faults)?, None);
+    Ok(())
+}
+
+#[test]
+fn operations_of_both_kinds_with_other_counts_of_words(rt: HostRuntime) -> Result<(), Fail> {
+    let faults: [(&[u8], u64); 7] = [
+        (b"task a raw\nforward 1 2", 2),
+        (b"task a raw\nforward 1 2 plain 4 5 6 7 8 9 10", 2),
+        (b"task a raw\narea 4096 1", 2),
+        (b"task a raw\nunarea 0 0", 2),
+        (b"task a raw\npoke 0 00 00", 2),
+        (b"task a raw\npeek 0", 2),
+        (b"task a raw\njumpeq 1 2 3 4", 2),
+    ];
+    assert_eq!(rt; other_script(&rt, "wrong number of words", &faults)?, None);
+    Ok(())
+}
+
+#[test]
+fn operations_of_fibrils_with_other_counts_of_words(rt: HostRuntime) -> Result<(), Fail> {
+    let faults: [(&[u8], u64); 6] = [
+        (b"task a async\nfibril\ncall 0 512", 3),
+        (b"task a async\nfibril\ncall 0 0 512 1 2 3 4 5 6", 3),
+        (b"task a async\nfibril\nsend 8 8", 3),
+        (b"task a async\nfibril\nwait", 3),
+        (b"task a async\nfibril\nnext 0", 3),
+        (b"task a async\nfibril\nopen 0 0", 3),
+    ];
+    assert_eq!(rt; other_script(&rt, "wrong number of words", &faults)?, None);
+    Ok(())
+}
+
+#[test]
+fn words_of_a_task_line_of_another_kind(rt: HostRuntime) -> Result<(), Fail> {
+    let faults: [(&[u8], u64); 8] = [
+        (b"task a naming", 1),
+        (b"task a raw 0", 1),
+        (b"task a raw 65", 1),
+        (b"task a async 65", 1),
+        (b"task 1a raw", 1),
+        (b"task abcdefghijklmnop raw", 1),
+        (b"task ns raw 65", 1),
+        (b"task a raw\ntask a raw 65", 2),
+    ];
+    assert_eq!(rt; other_script(&rt, "bad word", &faults)?, None);
+    Ok(())
+}
+
+#[test]
+fn words_of_a_wire_of_another_kind(rt: HostRuntime) -> Result<(), Fail> {
+    let faults: [(&[u8], u64); 3] = [
+        (b"task a raw\nwire a r0 a", 2),
+        (b"task a raw\nwire a x b", 2),
+        (b"wire a 0 B", 1),
+    ];
+    assert_eq!(rt; other_script(&rt, "bad word", &faults)?, None);
+    Ok(())
+}
+
+#[test]
+fn numbers_and_registers_out_of_range(rt: HostRuntime) -> Result<(), Fail> {
+    let faults: [(&[u8], u64); 8] = [
+        (b"task a raw\nset r32 0", 2),
+        (b"task a raw\nset r01 0", 2),
+        (b"task a raw\nset 0 r1", 2),
+        (b"task a raw\nhangup 18446744073709551616", 2),
+        (b"task a raw\nhangup 0x10000000000000000", 2),
+        (b"task a raw\nhangup 000000000000000000000", 2),
+        (b"task a raw\nhangup 0x", 2),
+        (b"task a raw\nhangup eok", 2),
+    ];
+    assert_eq!(rt; other_script(&rt, "bad word", &faults)?, None);
+    Ok(())
+}
+
+#[test]
+fn places_modes_and_bytes_of_another_kind(rt: HostRuntime) -> Result<(), Fail> {
+    let faults: [(&[u8], u64); 8] = [
+        (b"task a raw\njump 65536", 2),
+        (b"task a raw\njump r1", 2),
+        (b"task a raw\nforward 1 2 3", 2),
+        (b"task a raw\narea 4096 1 RX", 2),
+        (b"task a raw\npoke 0 -", 2),
+        (b"task a raw\npoke 0 000", 2),
+        (b"task a raw\npoke 0 0x00", 2),
+        (b"task a raw\npoke 0 0g", 2),
+    ];
+    assert_eq!(rt; other_script(&rt, "bad word", &faults)?, None);
+    Ok(())
+}
+
+#[test]
+fn slots_handles_and_sessions_out_of_range(rt: HostRuntime) -> Result<(), Fail> {
+    let faults: [(&[u8], u64); 8] = [
+        (b"task a async\nfibril\ncall 8 0 512", 3),
+        (b"task a async\nfibril\nwait r1", 3),
+        (b"task a async\nfibril\nsend 0 8 512", 3),
+        (b"task a async\nfibril\nopen 16 0 atomic", 3),
+        (b"task a async\nfibril\nopen 0 0 route", 3),
+        (b"task a async\nfibril\nbegin 8 0", 3),
+        (b"task a async\nfibril\nend 8", 3),
+        (b"task a async\nfibril\nclose 16", 3),
+    ];
+    assert_eq!(rt; other_script(&rt, "bad word", &faults)?, None);
+    Ok(())
+}
+
+#[test]
+fn wires_of_tasks_that_no_line_made(rt: HostRuntime) -> Result<(), Fail> {
+    let faults: [(&[u8], u64); 5] = [
+        (b"wire a 0 a", 1),
+        (b"task a raw\nwire a 0 b", 2),
+        (b"task a raw\nwire a 64 b", 2),
+        (b"task a raw\nwire b 64 a", 2),
+        (b"task a raw\nwire a 0 ns", 2),
+    ];
+    assert_eq!(rt; other_script(&rt, "unknown name", &faults)?, None);
+    Ok(())
+}
+
+#[test]
+fn names_that_a_task_has(rt: HostRuntime) -> Result<(), Fail> {
+    let faults: [(&[u8], u64); 3] = [
+        (b"task ns raw", 1),
+        (b"ns\ntask ns raw", 2),
+        (b"task a raw\ntask a async", 2),
+    ];
+    assert_eq!(rt; other_script(&rt, "name taken", &faults)?, None);
+    Ok(())
+}
+
+#[test]
+fn phones_that_a_wire_cannot_have(rt: HostRuntime) -> Result<(), Fail> {
+    let faults: [(&[u8], u64); 6] = [
+        (b"task a raw 2\nwire a 2 a", 2),
+        (b"task a raw\nwire a 18446744073709551615 a", 2),
+        (b"task a raw\nwire a 0 a\nwire a 0 a", 3),
+        (b"ns\ntask a raw\nwire a 0 ns", 3),
+        (b"ns\ntask a raw\nwire a 1 a\nwire ns 64 a", 4),
+        (b"ns\nwire ns 0 ns\nwire ns 0 ns", 3),
+    ];
+    assert_eq!(rt; other_script(&rt, "bad phone", &faults)?, None);
+    Ok(())
+}
+
+/// So many lines of one kind behind a first line, and then a last one.
+fn repeated(
+    rt: &HostRuntime,
+    first: &[u8],
+    line: &[u8],
+    count: usize,
+    last: &[u8],
+) -> Result<Vec<u8>, Fail> {
+    let mut text = Vec::from_slice(rt.alloc(), first)?;
+    for _ in 0..count {
+        text.extend_from_slice(line)?;
+    }
+    text.extend_from_slice(last)?;
+    Ok(text)
+}
+
+#[test]
+fn a_body_has_4096_operations_at_most(rt: HostRuntime) -> Result<(), Fail> {
+    let full = repeated(&rt, b"task a raw\n", b"receive\n", 4096, b"")?;
+    assert_eq!(rt; fault_of_script(&rt, full.as_slice()), None);
+    for (last, reason) in [
+        (b"receive".as_slice(), Reason::TooMany),
+        (b"set r32 0".as_slice(), Reason::BadWord),
+    ] {
+        let text = repeated(&rt, b"task a raw\n", b"receive\n", 4096, last)?;
+        assert_eq!(rt; fault_of_script(&rt, text.as_slice()), Some((4098, reason)));
+    }
+    Ok(())
+}
+
+#[test]
+fn a_script_has_64_tasks_at_most(rt: HostRuntime) -> Result<(), Fail> {
+    let mut text = Vec::from_slice(rt.alloc(), b"ns\n")?;
+    for number in 2..65u32 {
+        let line = format!(in rt.alloc(); "task t{number} raw\n")?;
+        text.extend_from_slice(line.as_bytes())?;
+    }
+    assert_eq!(rt; fault_of_script(&rt, text.as_slice()), None);
+    for (last, reason) in [
+        (b"task t65 raw".as_slice(), Reason::TooMany),
+        (b"task t64 raw".as_slice(), Reason::NameTaken),
+    ] {
+        let more = repeated(&rt, text.as_slice(), last, 1, b"")?;
+        assert_eq!(rt; fault_of_script(&rt, more.as_slice()), Some((65, reason)));
+    }
+    Ok(())
+}
+
+#[test]
+fn an_async_task_has_16_fibrils_at_most(rt: HostRuntime) -> Result<(), Fail> {
+    let full = repeated(&rt, b"task a async\nconnection\n", b"fibril\n", 16, b"")?;
+    assert_eq!(rt; fault_of_script(&rt, full.as_slice()), None);
+    for (last, reason) in [
+        (b"fibril".as_slice(), Reason::TooMany),
+        (b"connection".as_slice(), Reason::TooMany),
+        (b"fibril 1".as_slice(), Reason::WrongCount),
+    ] {
+        let text = repeated(&rt, full.as_slice(), last, 1, b"")?;
+        assert_eq!(rt; fault_of_script(&rt, text.as_slice()), Some((19, reason)));
+    }
+    Ok(())
+}
+
+#[test]
+fn a_poke_has_64_bytes_at_most(rt: HostRuntime) -> Result<(), Fail> {
+    let full = repeated(&rt, b"task a raw\npoke 0 ", b"77", 64, b"")?;
+    assert_eq!(rt; fault_of_script(&rt, full.as_slice()), None);
+    let text = repeated(&rt, full.as_slice(), b"77", 1, b"")?;
+    let fault = fault_of_script(&rt, text.as_slice());
+    assert_eq!(rt; fault, Some((2, Reason::BadWord)));
+    Ok(())
+}
+
+#[test]
+fn a_byte_of_a_schedule_that_no_line_has(rt: HostRuntime) -> Result<(), Fail> {
+    let faults: [(&[u8], u64); 2] = [(b"step a\nstep a # \x80", 2), (b"fly \x7f", 1)];
+    assert_eq!(rt; other_schedule(&rt, "bad byte", &faults)?, None);
+    Ok(())
+}
+
+#[test]
+fn a_first_word_that_is_no_event(rt: HostRuntime) -> Result<(), Fail> {
+    let faults: [(&[u8], u64); 2] = [(b"fly a", 1), (b"task a raw", 1)];
+    assert_eq!(rt; other_schedule(&rt, "unknown operation", &faults)?, None);
+    Ok(())
+}
+
+#[test]
+fn events_with_other_counts_of_words(rt: HostRuntime) -> Result<(), Fail> {
+    let faults: [(&[u8], u64); 6] = [
+        (b"kill", 1),
+        (b"kill a b", 1),
+        (b"step", 1),
+        (b"step a 2", 1),
+        (b"hangup a", 1),
+        (b"kill 1 2", 1),
+    ];
+    assert_eq!(rt;
+        other_schedule(&rt, "wrong number of words", &faults)?,
+        None
+    );
+    Ok(())
+}
+
+#[test]
+fn words_of_events_of_another_kind(rt: HostRuntime) -> Result<(), Fail> {
+    let faults: [(&[u8], u64); 7] = [
+        (b"step a y 2", 1),
+        (b"step a x 0", 1),
+        (b"step a x 65537", 1),
+        (b"hangup a r1", 1),
+        (b"kill A", 1),
+        (b"step b x 0", 1),
+        (b"hangup b b", 1),
+    ];
+    assert_eq!(rt; other_schedule(&rt, "bad word", &faults)?, None);
+    Ok(())
+}
+
+#[test]
+fn events_of_tasks_that_the_script_lacks(rt: HostRuntime) -> Result<(), Fail> {
+    let faults: [(&[u8], u64); 2] = [(b"step a\nstep b", 2), (b"step a x 65536\nkill b", 2)];
+    assert_eq!(rt; other_schedule(&rt, "unknown name", &faults)?, None);
+    Ok(())
+}
+
+#[test]
+fn events_beyond_the_most(rt: HostRuntime) -> Result<(), Fail> {
+    let faults: [(&[u8], u64); 2] = [
+        (b"step a x 65536\n\nstep a", 3),
+        (b"step a\nstep a x 65536", 2),
+    ];
+    assert_eq!(rt; other_schedule(&rt, "too many events", &faults)?, None);
+    Ok(())
+}
+
+#[test]
+fn as_many_events_as_there_may_be_are_read(rt: HostRuntime) {
+    let script = read_script(rt.alloc(), b"task a raw").expect(&rt, "a script");
+    let schedule = b"step a\nstep a x 65534\nkill a";
+    assert_eq!(rt; fault_of_schedule(&rt, schedule, &script), None);
+}
+
 fn spaces(rt: &HostRuntime, count: usize) -> Result<Vec<u8>, Fail> {
     Ok(vec![in rt.alloc(); b' '; count]?)
 }
@@ -631,8 +845,23 @@ fn the_longest_file_is_read(rt: HostRuntime) -> Result<(), Fail> {
     assert_eq!(rt; script.tasks.as_slice().len(), 0);
     let events = read_schedule(rt.alloc(), longest.as_slice(), &script);
     assert_eq!(rt; events.expect(&rt, "a schedule").len(), 0);
-    let longer = spaces(&rt, 1_048_577)?;
-    assert_eq!(rt; fault_of_script(&rt, longer.as_slice()), Some(0));
-    assert_eq!(rt; fault_of_schedule(&rt, longer.as_slice(), &script), Some(0));
+    Ok(())
+}
+
+#[test]
+fn a_longer_file_is_at_fault_before_its_lines(rt: HostRuntime) -> Result<(), Fail> {
+    let longest = spaces(&rt, 1_048_576)?;
+    let longer = repeated(&rt, b"\x80", longest.as_slice(), 1, b"")?;
+    let faults: [(&[u8], u64); 1] = [(longer.as_slice(), 0)];
+    assert_eq!(rt; other_script(&rt, "too long", &faults)?, None);
+    assert_eq!(rt; other_schedule(&rt, "too long", &faults)?, None);
+    Ok(())
+}
+
+#[test]
+fn a_table_that_is_full_is_written(rt: HostRuntime) -> Result<(), Fail> {
+    let script = b"task a async\nconnection\nconnection";
+    let faults: [(&[u8], u64); 1] = [(script.as_slice(), 3)];
+    assert_eq!(rt; other_script(&rt, "too many", &faults)?, None);
     Ok(())
 }

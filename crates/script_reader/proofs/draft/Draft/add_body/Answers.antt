@@ -10,5 +10,5 @@ returns-in-Some-clause-value c = rw c.in-Some.is (body_follows c.args.self.now.d
 pub returns-in-Some-clause-whole : goal.returns-in-Some-clause-whole
 returns-in-Some-clause-whole c =
     let d = c.args.self.now in
-    let whole = subst (λ (last : Option LastTask). IsWhole (record { done = d.done; last = last; wires = d.wires; names = d.names })) c.in-Some.is c.requires in
+    let whole = subst (λ (last : Option LastTask). IsWhole (record { done = d.done; last = last; wires = d.wires; names = d.names })) c.in-Some.is c.requires.whole in
     last_whole d.done d.wires d.names c.in-Some.last c.add_body.new.self c.add_body.result whole c.add_body.ensures.head c.add_body.ensures.sound
