@@ -7,14 +7,15 @@ use Rattle.std.specs.Option.{option_map}
 use Rattle.ipc_ids.specs.Tables.{most_bytes}
 use Rattle.io_edge.specs.Edge.{Gives, Holds, file_of}
 use Rattle.script_reader.specs.declared.fault.Reason.{Reason}
-use Rattle.script_reader.specs.declared.fault.Reason.TheVariants.{Fault}
+use Rattle.script_reader.specs.declared.fault.Reason.TheVariants.{TooLong}
 use Rattle.script_reader.specs.Text.{lines}
 use Rattle.script_reader.specs.Plan.{Plan}
 use Rattle.script_reader.specs.Reading.{reading, lines_from, script_of, schedule_of}
 use Rattle.hipc.specs.Answer.{answer_of, answer_for_script, answer_for_events}
-use Rattle.hipc.specs.Due.{Files, Names, Answers, files_of, usage_line, cannot_line, Due, DueForBytes, DueForNames, DueForWords, DueForFiles, Whole, Part}
+use Rattle.hipc.specs.Command.{Command, command_of}
+use Rattle.hipc.specs.Due.{Files, Names, Answers, cannot_line, Due, DueForBytes, DueForNames, DueForCommand, Whole, Part}
 use Rattle.hipc.specs.declared.status.Status.{Status}
-use Rattle.hipc.specs.declared.status.Status.TheVariants.{Usage, CannotRead}
+use Rattle.hipc.specs.declared.status.Status.TheVariants.{CannotRead}
 
 -- the script was lost
 pub first_lost : (files : Files) (a b : List ℕ) (x y : Bool) (s : Status)
@@ -33,11 +34,11 @@ second_lost files a b false false s e same h = cc
 
 -- a text that is too long is at fault before its first line
 too_long : {A : Type 0} (after : A → List ℕ → Result A Reason) (nothing : A) (bytes : List ℕ)
-    → most_bytes < length bytes → reading after nothing bytes ≡ Err (0, Fault)
+    → most_bytes < length bytes → reading after nothing bytes ≡ Err (0, TooLong)
 unfolding reading
 too_long after nothing bytes h =
     let read = lines_from after 1 nothing (lines bytes) in
-    ap (λ b. cond b (Err (0, Fault)) read) (lt-ltb most_bytes (length bytes) h)
+    ap (λ b. cond b (Err (0, TooLong)) read) (lt-ltb most_bytes (length bytes) h)
 
 -- a text that is too long is so too when it is cut
 cut_at : {A : Type 0} (after : A → List ℕ → Result A Reason) (nothing : A) (all : List ℕ) (b : Bool)
@@ -123,15 +124,9 @@ loaded files later script schedule a b x y p q same lent lent2 g h e f s t d =
     ap (λ v. answer_of v b) (sym lent) ∙ ap (λ v. answer_of x v) (sym lent2) ∙ d in
     named files script schedule a b p q e f g h2 s t d2
 
--- words that name two files
-pub words_some : (words : List (List ℕ)) (files : Files) (before after : Names) (script schedule : List ℕ)
-    → Some (script, schedule) ≡ files_of words
-    → (s : Status) (t : List ℕ) → DueForFiles files before after script schedule s t → Due words files before after s t
-words_some words files before after script schedule e s t d =
-    subst (λ (v : Option (List ℕ × List ℕ)). DueForWords files before after v s t) e d
-
--- words that are no command
-pub words_none : (words : List (List ℕ)) (files : Files) (before after : Names)
-    → None ≡ files_of words → Due words files before after Usage usage_line
-words_none words files before after e =
-    subst (λ (v : Option (List ℕ × List ℕ)). DueForWords files before after v Usage usage_line) e (refl, refl)
+-- due for the command that the words are, or for words that are none
+pub due_for : (words : List (List ℕ)) (files : Files) (before after : Names) (command : Option Command)
+    → command ≡ command_of words
+    → (s : Status) (t : List ℕ) → DueForCommand files before after command s t → Due words files before after s t
+due_for words files before after command e s t d =
+    subst (λ (v : Option Command). DueForCommand files before after v s t) e d

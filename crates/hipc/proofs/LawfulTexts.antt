@@ -1,14 +1,21 @@
 -- The texts of runs that keep the laws, from the bytes of two files to the words of a command line.
-use Rattle.std.proofs.Common.{◌≡◌, ℕ, List, sym, subst, ◌∙◌, Option, Some, Ok}
+use Rattle.std.proofs.Common.{◌≡◌, ◌≢◌, ℕ, List, sym, subst, ◌∙◌, Option, Some, Ok}
 use Rattle.ipc_ids.specs.declared.message.Event.{Event}
 use Rattle.io_edge.specs.Edge.{Gives}
 use Rattle.script_reader.specs.Plan.{Plan}
 use Rattle.script_reader.specs.Sound.{IsSound}
 use Rattle.script_reader.specs.Reading.{script_of, schedule_of}
 use Rattle.schedule_replay.specs.Run.{run}
-use Rattle.hipc.specs.Text.{text_of}
-use Rattle.hipc.specs.Due.{Files, files_of}
-use Rattle.hipc.specs.LawfulRun.{IsLawfulText, WritesLawfulRun, WritesLawfulRunOfFiles, WritesLawfulRunOf}
+use Rattle.std.specs.Io.KnownBytes.{Appends}
+use Rattle.trace_print.specs.Text.{text_of}
+use Rattle.schedule_replay.specs.Generator.{generated_plan, generated_events}
+use Rattle.schedule_replay.proofs.GeneratedScript.{generated_is_sound}
+use Rattle.hipc.specs.Command.{Command, command_of}
+use Rattle.hipc.specs.Due.{Files}
+use Rattle.hipc.specs.Summary.{summary_line}
+use Rattle.hipc.specs.declared.status.Status.{Status}
+use Rattle.hipc.specs.declared.status.Status.TheVariants.{Done, WriteFailed, NoMemory}
+use Rattle.hipc.specs.LawfulRun.{IsLawfulText, WritesLawfulRun, WritesLawfulRunOfFiles, WritesLawfulSummary, WritesLawfulRunFor, WritesLawfulRunOf}
 use Rattle.hipc.proofs.Dues.{SpellTheSame, held}
 use Rattle.hipc.proofs.LawfulRuns.{run_keeps_laws}
 
@@ -49,8 +56,22 @@ lawful_of_files files later script schedule a b x y old new same lent lent2 g h 
     let lawful = lawful_alike a b first.0 second.0 told.0 first.2 second.2 told.1 in
     (first.0, second.0, first.1, second.1, (told.0, lawful, told.2))
 
--- words that name two files
-pub lawful_of_words : (words : List (List ℕ)) (files : Files) (script schedule : List ℕ) (old new : Option (List ℕ))
-    → Some (script, schedule) ≡ files_of words
-    → WritesLawfulRunOfFiles files script schedule old new → WritesLawfulRunOf words files old new
-lawful_of_words words files script schedule old new e is = (script, schedule, sym e, is)
+-- a run that was done was written, and memory was found
+pub done_is_no_fault : (s : Status) → s ≡ Done → s ≢ WriteFailed
+done_is_no_fault s e h = cc
+
+pub done_is_no_want : (s : Status) → s ≡ Done → s ≢ NoMemory
+done_is_no_want s e h = cc
+
+-- the run of generated input keeps the laws, and this line sums it up
+pub summary_is_lawful : (seed events : ℕ) (old new : Option (List ℕ))
+    → Appends old new (summary_line seed events) → WritesLawfulSummary seed events old new
+summary_is_lawful seed events old new h =
+    (run_keeps_laws generated_plan (generated_events seed events) generated_is_sound, h)
+
+-- the command that the words are
+pub lawful_for : (words : List (List ℕ)) (files : Files) (command : Option Command) (old new : Option (List ℕ))
+    → command ≡ command_of words
+    → WritesLawfulRunFor command files old new → WritesLawfulRunOf words files old new
+lawful_for words files command old new e is =
+    subst (λ (v : Option Command). WritesLawfulRunFor v files old new) e is

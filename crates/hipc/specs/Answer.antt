@@ -6,7 +6,7 @@ use Rattle.script_reader.specs.Text.{text_of_reason}
 use Rattle.script_reader.specs.Plan.{Plan}
 use Rattle.script_reader.specs.Reading.{script_of, schedule_of}
 use Rattle.schedule_replay.specs.Run.{run}
-use Rattle.hipc.specs.Text.{text_of}
+use Rattle.trace_print.specs.Text.{text_of}
 use Rattle.hipc.specs.declared.status.Status.{Status}
 use Rattle.hipc.specs.declared.status.Status.TheVariants.{Done, BadScript, BadSchedule}
 

@@ -1,13 +1,13 @@
 -- Which status with which text is due for a command line, and how much of the text was written.
-use Rattle.std.specs.Prelude.{◌≡◌, ◌≢◌, ◌⊎◌, ◌++◌, ℕ, List, [], ◌∷◌, Bool, true, false, None, Some, codes, nat_lt, map, String, string_bytes, if◌then◌else◌}
+use Rattle.std.specs.Prelude.{◌≡◌, ◌≢◌, ◌⊎◌, ◌++◌, ℕ, List, [], ◌∷◌, Bool, true, false, None, Some, codes, nat_lt}
 use Rattle.std.specs.declared.option.Option.{Option}
-use Rattle.std.specs.declared.alloc.Global.{Global}
-use Rattle.std.specs.Str.{bytes_eq}
 use Rattle.std.specs.Io.KnownBytes.{Appends}
 use Rattle.io_edge.specs.Edge.{times, Holds, AppendsStart}
 use Rattle.hipc.specs.declared.status.Status.{Status}
-use Rattle.hipc.specs.declared.status.Status.TheVariants.{Usage, CannotRead, WriteFailed, NoMemory}
+use Rattle.hipc.specs.declared.status.Status.TheVariants.{Done, Usage, CannotRead, WriteFailed, NoMemory}
 use Rattle.hipc.specs.Answer.{answer_of}
+use Rattle.hipc.specs.Command.{Command, Replay, Generate, command_of}
+use Rattle.hipc.specs.Summary.{summary_line}
 
 -- files, each a name and its bytes, where a shelf tells them
 abbrev pub Files : Type 0
@@ -21,15 +21,15 @@ Names = List (List ℕ)
 abbrev pub Answers : Type 1
 Answers = Status → List ℕ → Type 0
 
--- words as bytes
-abbrev pub texts : List (String Global) → List (List ℕ)
-texts words = map string_bytes words
+-- the names of the two files that a command loads, if it loads any
+abbrev pub names_of : Option Command → Option (List ℕ × List ℕ)
+names_of None = None
+names_of (Some (Replay script schedule)) = Some (script, schedule)
+names_of (Some (Generate seed events)) = None
 
--- the names of the script and the schedule, where the words are `replay SCRIPT SCHEDULE`
+-- likewise of the words of a command line
 abbrev pub files_of : List (List ℕ) → Option (List ℕ × List ℕ)
-files_of (command ∷ script ∷ schedule ∷ []) =
-    if bytes_eq command (codes "replay") then Some (script, schedule) else None
-files_of words = None
+files_of words = names_of (command_of words)
 
 -- the line for words that are no command
 abbrev pub usage_line : List ℕ
@@ -64,15 +64,20 @@ abbrev pub DueForFiles : Files → Names → Names → List ℕ → List ℕ →
 DueForFiles files before after script schedule =
     DueForNames files script schedule (lost before after script) (lost before after schedule)
 
--- due for the names that the words give, if they give any
-abbrev pub DueForWords : Files → Names → Names → Option (List ℕ × List ℕ) → Answers
-DueForWords files before after None status text = (status ≡ Usage) × (text ≡ usage_line)
-DueForWords files before after (Some names) status text =
-    DueForFiles files before after names.0 names.1 status text
+-- due for the run that a seed and a number of events generate: the line that sums it up
+abbrev pub DueForNumbers : ℕ → ℕ → Answers
+DueForNumbers seed events status text = (status ≡ Done) × (text ≡ summary_line seed events)
+
+-- due for the command that the words are, or for words that are none
+abbrev pub DueForCommand : Files → Names → Names → Option Command → Answers
+DueForCommand files before after None status text = (status ≡ Usage) × (text ≡ usage_line)
+DueForCommand files before after (Some (Replay script schedule)) status text =
+    DueForFiles files before after script schedule status text
+DueForCommand files before after (Some (Generate seed events)) status text = DueForNumbers seed events status text
 
 -- due for the words, by the files and the names whose load failed before and after the call
 abbrev pub Due : List (List ℕ) → Files → Names → Names → Answers
-Due words files before after = DueForWords files before after (files_of words)
+Due words files before after = DueForCommand files before after (command_of words)
 
 -- the status is due with a text that was written whole, unless a put failed or memory was wanted
 abbrev pub Whole : Answers → Option (List ℕ) → Option (List ℕ) → Status → Type 0

@@ -1,6 +1,6 @@
 -- A run that keeps the laws of calls, of shared areas, of replies and of exchanges, and when the
 -- program writes one.
-use Rattle.std.specs.Prelude.{ℕ, ◌≡◌, List, Option, Some, Ok}
+use Rattle.std.specs.Prelude.{ℕ, ◌≡◌, List, Option, None, Some, Ok}
 use Rattle.std.specs.Io.KnownBytes.{Appends}
 use Rattle.ipc_ids.specs.declared.message.Event.{Event}
 use Rattle.ipc_ids.specs.declared.entry.Entry.{Entry}
@@ -12,8 +12,10 @@ use Rattle.script_reader.specs.Plan.{Plan}
 use Rattle.script_reader.specs.Reading.{script_of, schedule_of}
 use Rattle.io_edge.specs.Edge.{Holds}
 use Rattle.schedule_replay.specs.Run.{run}
-use Rattle.hipc.specs.Text.{text_of}
-use Rattle.hipc.specs.Due.{Files, files_of}
+use Rattle.trace_print.specs.Text.{text_of}
+use Rattle.hipc.specs.Command.{Command, Replay, Generate, command_of}
+use Rattle.hipc.specs.Due.{Files}
+use Rattle.hipc.specs.Summary.{generated_run, summary_line}
 
 -- these entries keep the laws: of a call's life, of one answer, of a kill, of shared areas, of
 -- replies and of exchanges
@@ -45,8 +47,19 @@ WritesLawfulRunOfFiles files script schedule old new =
     (first : List ℕ) × (second : List ℕ)
     × Holds files script first × Holds files schedule second × WritesLawfulRun first second old new
 
--- the same of the two files that the words name
+-- the run that a seed and a number of events generate keeps the laws, and what was written is the
+-- whole line that sums it up
+abbrev pub WritesLawfulSummary : ℕ → ℕ → Option (List ℕ) → Option (List ℕ) → Type 0
+WritesLawfulSummary seed events old new =
+    KeepsLaws (generated_run seed events) × Appends old new (summary_line seed events)
+
+-- what a command writes in the end: the text of a run that keeps the laws, or the line that sums one
+-- up; words that are no command have no run
+abbrev pub WritesLawfulRunFor : Option Command → Files → Option (List ℕ) → Option (List ℕ) → Type 0
+WritesLawfulRunFor None files old new = ⊥
+WritesLawfulRunFor (Some (Replay script schedule)) files old new = WritesLawfulRunOfFiles files script schedule old new
+WritesLawfulRunFor (Some (Generate seed events)) files old new = WritesLawfulSummary seed events old new
+
+-- the same of the command that the words are
 abbrev pub WritesLawfulRunOf : List (List ℕ) → Files → Option (List ℕ) → Option (List ℕ) → Type 0
-WritesLawfulRunOf words files old new =
-    (script : List ℕ) × (schedule : List ℕ)
-    × (files_of words ≡ Some (script, schedule)) × WritesLawfulRunOfFiles files script schedule old new
+WritesLawfulRunOf words files old new = WritesLawfulRunFor (command_of words) files old new

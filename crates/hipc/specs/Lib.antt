@@ -1,5 +1,6 @@
 pub mod Answer
+pub mod Command
 pub mod Due
 pub mod LawfulRun
 pub mod Status
-pub mod Text
+pub mod Summary

@@ -1,17 +1,19 @@
 //! What is answered for the bytes of a script and a schedule.
-ghost use Rattle.std.specs.Prelude.{◌≡◌, ◌≢◌, ◌≤◌, ◌<◌, ◌⊎◌, IfOk};
+ghost use Rattle.std.specs.Prelude.{◌≡◌, ◌≢◌, ◌≤◌, ◌<◌, ◌⊎◌, length, IfOk};
 ghost use Rattle.std.specs.Io.KnownBytes.{Appends, Keeps};
 ghost use Rattle.io_edge.specs.Edge.{AppendsStart, Rose};
-ghost use Rattle.hipc.specs.Answer.{answer_of, fault_line};
+ghost use Rattle.trace_print.specs.Text.{text_of};
+ghost use Rattle.schedule_replay.specs.Run.{run};
+ghost use Rattle.hipc.specs.Answer.{fault_line};
 ghost use Rattle.hipc.specs.Due.{DueForBytes, Whole, Part};
-ghost use Rattle.hipc.specs.LawfulRun.{IsLawfulText, WritesLawfulRun};
+ghost use Rattle.hipc.specs.LawfulRun.{WritesLawfulRun};
 ghost use Rattle.hipc.specs.declared.status.Status.TheVariants.{Done, WriteFailed, NoMemory as Memory};
 
 use crate::Status;
-use crate::replay::run_text;
 use io_edge::{PutFailed, Sink};
-use ipc_ids::NoMemory;
-use script_reader::{Reason, ScheduleFault, ScriptFault, read_schedule, read_script};
+use ipc_ids::{Event, NoMemory};
+use schedule_replay::{ReplayFault, SliceFeed, replay};
+use script_reader::{Reason, ScheduleFault, Script, ScriptFault, read_schedule, read_script};
 use std::alloc::Global;
 
 /// Writes a text, and answers the status; or `WriteFailed` if the text was not written whole.
@@ -39,33 +41,50 @@ fn fault_text(alloc: Global, file: &str, line: u64, reason: Reason) -> Result<Ve
     Ok(text.into_bytes())
 }
 
-// The status and the text for the bytes of the two files.
-fn answer(alloc: Global, script: &[u8], schedule: &[u8]) -> Result<(Status, Vec<u8>), NoMemory>
-    ensures value { IfOk result (λ answer.
-        answer_of script.now schedule.now ≡ (answer.0, answer.1.items)) }
-    ensures no_write { IfOk result (λ answer. answer.0 ≢ WriteFailed) }
-    ensures memory { IfOk result (λ answer. answer.0 ≢ Memory) }
-    ensures laws { IfOk result (λ answer.
-        answer.0 ≡ Done → IsLawfulText script.now schedule.now answer.1.items) }
+// Writes the line of the first fault of a file.
+fn tell_fault<K: Sink>(
+    alloc: Global,
+    status: Status,
+    file: &str,
+    line: u64,
+    reason: Reason,
+    sink: &mut K,
+) -> Status
+    requires { status ≢ WriteFailed }
+    ensures ok { result ≢ WriteFailed → result ≢ Memory → (result ≡ status)
+        × Appends (K.written sink.old) (K.written sink.new) (fault_line file.now (line, reason)) }
+    ensures part { result ≡ WriteFailed →
+        AppendsStart (K.written sink.old) (K.written sink.new) (fault_line file.now (line, reason)) }
+    ensures memory { result ≡ Memory → status ≢ Memory →
+        Keeps (K.written sink.old) (K.written sink.new) }
+    ensures cause { result ≡ WriteFailed → Rose (K.faults sink.old) (K.faults sink.new) }
+    ensures risen { K.faults sink.old < K.faults sink.new → result ≡ WriteFailed }
+    ensures later { K.faults sink.old ≤ K.faults sink.new }
 {
-    let script = match read_script(alloc, script) {
-        Ok(script) => script,
-        Err(ScriptFault::Bad { line, reason }) => {
-            let text = fault_text(alloc, "script", line, reason)?;
-            return Ok((Status::BadScript, text));
-        }
-        Err(ScriptFault::NoMemory) => return Err(NoMemory),
-    };
-    match read_schedule(alloc, schedule, &script) {
-        Ok(events) => {
-            let text = run_text(alloc, &script, &events)?;
-            Ok((Status::Done, text))
-        }
-        Err(ScheduleFault::Bad { line, reason }) => {
-            let text = fault_text(alloc, "schedule", line, reason)?;
-            Ok((Status::BadSchedule, text))
-        }
-        Err(ScheduleFault::NoMemory) => Err(NoMemory),
+    match fault_text(alloc, file, line, reason) {
+        Ok(text) => tell(status, &text, sink),
+        Err(NoMemory) => Status::NoMemory,
+    }
+}
+
+// Runs the events of a schedule over a script, and writes the text of the run.
+fn replay_events<K: Sink>(alloc: Global, script: &Script, events: &[Event], sink: &mut K) -> Status
+    requires few { length events.now ≤ 65536 }
+    ensures ok { result ≢ WriteFailed → result ≢ Memory → (result ≡ Done)
+        × Appends (K.written sink.old) (K.written sink.new) (text_of (run script.now events.now)) }
+    ensures part { (result ≡ WriteFailed) ⊎ (result ≡ Memory) →
+        AppendsStart (K.written sink.old) (K.written sink.new)
+        (text_of (run script.now events.now)) }
+    ensures cause { result ≡ WriteFailed → Rose (K.faults sink.old) (K.faults sink.new) }
+    ensures risen { K.faults sink.old < K.faults sink.new →
+        (result ≡ WriteFailed) ⊎ (result ≡ Memory) }
+    ensures later { K.faults sink.old ≤ K.faults sink.new }
+{
+    let mut feed = SliceFeed::new(events);
+    match replay(alloc, script, &mut feed, sink) {
+        Ok(()) => Status::Done,
+        Err(ReplayFault::Sink) => Status::WriteFailed,
+        Err(ReplayFault::NoMemory) => Status::NoMemory,
     }
 }
 
@@ -86,12 +105,22 @@ pub fn replay_bytes<K: Sink>(alloc: Global, script: &[u8], schedule: &[u8], sink
     ensures risen { K.faults sink.old < K.faults sink.new →
         (result ≡ WriteFailed) ⊎ (result ≡ Memory) }
     ensures later { K.faults sink.old ≤ K.faults sink.new }
-    // With Done, what was written is the text of a run that keeps the laws of calls and areas.
+    // With Done, what was written is the text of a run that keeps the six laws.
     ensures laws { result ≡ Done → WritesLawfulRun script.now schedule.now
         (K.written sink.old) (K.written sink.new) }
 {
-    match answer(alloc, script, schedule) {
-        Ok((status, text)) => tell(status, &text, sink),
-        Err(NoMemory) => Status::NoMemory,
+    let script = match read_script(alloc, script) {
+        Ok(script) => script,
+        Err(ScriptFault::Bad { line, reason }) => {
+            return tell_fault(alloc, Status::BadScript, "script", line, reason, sink);
+        }
+        Err(ScriptFault::NoMemory) => return Status::NoMemory,
+    };
+    match read_schedule(alloc, schedule, &script) {
+        Ok(events) => replay_events(alloc, &script, &events, sink),
+        Err(ScheduleFault::Bad { line, reason }) => {
+            tell_fault(alloc, Status::BadSchedule, "schedule", line, reason, sink)
+        }
+        Err(ScheduleFault::NoMemory) => Status::NoMemory,
     }
 }

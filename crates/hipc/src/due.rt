@@ -1,14 +1,16 @@
 //! Does what is due for a command line: words, files, and the sink that takes the text.
-ghost use Rattle.std.specs.Prelude.{◌≡◌, ◌≢◌, ◌≤◌, ◌<◌, ◌++◌, ◌⊎◌, ◌∷◌, [], IfOk, Some, map, string_bytes};
-ghost use Rattle.std.specs.Option.{option_map};
+ghost use Rattle.std.specs.Prelude.{◌≡◌, ◌≢◌, ◌≤◌, ◌<◌, ◌++◌, ◌⊎◌, ◌∷◌, [], IfOk, Some};
 ghost use Rattle.std.specs.Io.KnownBytes.{Appends, Keeps};
 ghost use Rattle.io_edge.specs.Edge.{AppendsStart, Rose};
-ghost use Rattle.hipc.specs.Due.{texts, files_of, cannot_line, Due, DueForFiles, Whole, Part, LosesOneAtMost};
+ghost use Rattle.hipc.specs.Command.{texts};
+ghost use Rattle.hipc.specs.Due.{files_of, cannot_line, Due, DueForFiles, Whole, Part, LosesOneAtMost};
 ghost use Rattle.hipc.specs.LawfulRun.{WritesLawfulRunOf, WritesLawfulRunOfFiles};
 ghost use Rattle.hipc.specs.declared.status.Status.TheVariants.{Done, CannotRead, WriteFailed, NoMemory as Memory};
 
 use crate::Status;
 use crate::answer::{replay_bytes, tell};
+use crate::command::{Command, command_of};
+use crate::summary::tell_summary;
 use io_edge::{LoadFault, Shelf, Sink};
 use ipc_ids::NoMemory;
 use std::alloc::Global;
@@ -17,18 +19,6 @@ use std::alloc::Global;
 const MOST: usize = 1_048_577;
 
 const USAGE: &[u8] = b"usage: hipc replay SCRIPT SCHEDULE\n";
-
-// The names of the two files, if the words are a command.
-fn file_words(words: &[String]) -> Option<(&str, &str)>
-    ensures { option_map (λ names. (names.0.now, names.1.now)) result ≡ files_of (texts words.now) }
-{
-    match words {
-        [command, script, schedule] if command.as_str() == "replay" => {
-            Some((script.as_str(), schedule.as_str()))
-        }
-        _ => None,
-    }
-}
 
 // The line that names a file that could not be loaded.
 fn cannot_text(alloc: Global, name: &str) -> Result<Vec<u8>, NoMemory>
@@ -99,7 +89,8 @@ fn replay_files<S: Shelf, K: Sink>(
 }
 
 /// Does what the words of a command line ask: `replay SCRIPT SCHEDULE` loads the two files from the
-/// shelf and writes the text of their run, or the line of what is wrong.
+/// shelf and writes the text of their run, or the line of what is wrong; `gen SEED EVENTS` runs
+/// generated input and writes the line that sums it up.
 pub fn run<S: Shelf, K: Sink>(
     alloc: Global,
     words: &[String],
@@ -123,16 +114,20 @@ pub fn run<S: Shelf, K: Sink>(
     ensures risen { K.faults sink.old < K.faults sink.new →
         (result ≡ WriteFailed) ⊎ (result ≡ Memory) }
     ensures later { K.faults sink.old ≤ K.faults sink.new }
-    // The shelf keeps its files, and no name but one of the two words comes to those that failed.
+    // The shelf keeps its files, and no name but that of a file of the command comes to those that
+    // failed.
     ensures files { S.files shelf.new ≡ S.files shelf.old }
     ensures failed { LosesOneAtMost (files_of (texts words.now))
         (S.failed shelf.old) (S.failed shelf.new) }
-    // With Done, what was written is the text of a run that keeps the laws of calls and areas.
+    // With Done, what was written is the text of a run that keeps the six laws, or sums one up.
     ensures laws { result ≡ Done → WritesLawfulRunOf (texts words.now) (S.files shelf.old)
         (K.written sink.old) (K.written sink.new) }
 {
-    match file_words(words) {
-        Some((script, schedule)) => replay_files(alloc, script, schedule, shelf, sink),
+    match command_of(words) {
+        Some(Command::Replay(script, schedule)) => {
+            replay_files(alloc, script, schedule, shelf, sink)
+        }
+        Some(Command::Generate(seed, events)) => tell_summary(alloc, seed, events, sink),
         None => tell(Status::Usage, USAGE, sink),
     }
 }

@@ -1,13 +1,20 @@
-//! Replays a schedule over a script of tasks that call each other, and writes what happened.
+//! Replays a schedule over a script of tasks that call each other, and writes what happened; or runs
+//! generated input, and sums it up.
 #![tactic(auto)]
 
 mod answer;
+mod command;
 mod due;
-mod replay;
+#[cfg(test)]
+mod edge_tests;
+#[cfg(test)]
+mod limit_tests;
+#[cfg(test)]
+mod malformed_tests;
 mod status;
+mod summary;
 #[cfg(test)]
 mod tests;
-mod text;
 
 pub use answer::replay_bytes;
 pub use due::run;

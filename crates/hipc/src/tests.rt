@@ -4,7 +4,7 @@ use io_edge::{MemShelf, MemSink};
 use std::alloc::{AllocError, Global};
 use std::test::Fail;
 
-const SCRIPT: &[u8] = b"task a raw\n\
+pub(crate) const SCRIPT: &[u8] = b"task a raw\n\
 call 0 512 7\n\
 receive\n\
 task b raw\n\
@@ -12,7 +12,7 @@ receive\n\
 answer r2 EOK 8\n\
 wire a 0 b\n";
 
-const SCHEDULE: &[u8] = b"step a\nstep b x 2\nstep a\n";
+pub(crate) const SCHEDULE: &[u8] = b"step a\nstep b x 2\nstep a\n";
 
 const TEXT: &[u8] = b"t1 call 0 512 7 0 0 0 0\n\
 \x20 call 1 accepted t1.0 method 512 to t2\n\
@@ -216,7 +216,8 @@ t2 receive\n\
 
 const USAGE: &[u8] = b"usage: hipc replay SCRIPT SCHEDULE\n";
 
-fn words(alloc: Global, line: &[&str]) -> Result<Vec<String>, AllocError> {
+/// The words of a command line.
+pub(crate) fn words(alloc: Global, line: &[&str]) -> Result<Vec<String>, AllocError> {
     let mut words = Vec::new(alloc);
     for word in line {
         words.push(String::from_str(alloc, *word)?)?;
@@ -230,6 +231,26 @@ fn shelf(alloc: Global) -> Result<MemShelf, Fail> {
     shelf.add("b", SCHEDULE)?;
     shelf.add("bad", b"x\n")?;
     Ok(shelf)
+}
+
+/// The files `script` and `schedule`.
+pub(crate) fn files(alloc: Global, script: &[u8], schedule: &[u8]) -> Result<MemShelf, Fail> {
+    let mut shelf = MemShelf::new(alloc);
+    shelf.add("script", script)?;
+    shelf.add("schedule", schedule)?;
+    Ok(shelf)
+}
+
+/// What a run of two files answers.
+pub(crate) fn answer(
+    alloc: Global,
+    script: &[u8],
+    schedule: &[u8],
+    sink: &mut MemSink,
+) -> Result<Status, Fail> {
+    let words = words(alloc, &["replay", "script", "schedule"])?;
+    let mut shelf = files(alloc, script, schedule)?;
+    Ok(run(alloc, &words, &mut shelf, sink))
 }
 
 #[test]
@@ -299,12 +320,12 @@ fn each_fault_has_its_status_and_text(rt: HostRuntime) -> Result<(), Fail> {
         (
             &["replay", "bad", "bad"],
             Status::BadScript,
-            b"script line 1: fault\n",
+            b"script line 1: unknown operation\n",
         ),
         (
             &["replay", "a", "bad"],
             Status::BadSchedule,
-            b"schedule line 1: fault\n",
+            b"schedule line 1: unknown operation\n",
         ),
     ];
     for (line, status, text) in rows {
@@ -317,40 +338,80 @@ fn each_fault_has_its_status_and_text(rt: HostRuntime) -> Result<(), Fail> {
 }
 
 #[test]
-fn a_load_fails(rt: HostRuntime) -> Result<(), Fail> {
+fn generated_input_is_summed_up(rt: HostRuntime) -> Result<(), Fail> {
     let alloc = rt.alloc();
-    let words = words(alloc, &["replay", "a", "b"])?;
-    for (nth, text) in [(1, b"cannot read a\n"), (2, b"cannot read b\n")] {
-        let mut shelf = shelf(alloc)?;
-        shelf.fail_at(nth)?;
+    let nothing = b"events 0 calls 0 answered 0 vanished 0 delivered 0 bytes 0\n".as_slice();
+    let one_call = b"events 1 calls 1 answered 0 vanished 0 delivered 0 bytes 75\n".as_slice();
+    let rows: [(&[&str], Status, &[u8]); 8] = [
+        (&["gen", "0", "0"], Status::Done, nothing),
+        (&["gen", "0", "1"], Status::Done, one_call),
+        (&["gen", "0x0", "01"], Status::Done, one_call),
+        (&["gen", "0", "65537"], Status::Usage, USAGE),
+        (&["gen", "0"], Status::Usage, USAGE),
+        (&["gen", "0", "1", "1"], Status::Usage, USAGE),
+        (&["gen", "a", "b"], Status::Usage, USAGE),
+        (&["gen", "18446744073709551616", "1"], Status::Usage, USAGE),
+    ];
+    for (line, status, text) in rows {
         let mut sink = MemSink::new(alloc, 1000)?;
-        assert_eq!(rt;
-            run(alloc, &words, &mut shelf, &mut sink),
-            Status::CannotRead
-        );
-        assert_eq!(rt; sink.written(), text.as_slice());
+        let words = words(alloc, line)?;
+        assert_eq!(rt; run(alloc, &words, &mut shelf(alloc)?, &mut sink), status);
+        assert_eq!(rt; sink.written(), text);
     }
     Ok(())
 }
 
 #[test]
-fn a_put_fails(rt: HostRuntime) -> Result<(), Fail> {
+fn the_longest_generated_run_is_the_same_twice(rt: HostRuntime) -> Result<(), Fail> {
     let alloc = rt.alloc();
-    for kept in [0, 5] {
-        let mut sink = MemSink::new(alloc, 1000)?;
-        sink.fail_at(1, kept)?;
-        let words = words(alloc, &["replay", "a", "b"])?;
-        assert_eq!(rt;
-            run(alloc, &words, &mut shelf(alloc)?, &mut sink),
-            Status::WriteFailed
-        );
-        assert_eq!(rt; sink.written(), &TEXT[..kept]);
-    }
-    let mut small = MemSink::new(alloc, 3)?;
+    let words = words(alloc, &["gen", "1", "65536"])?;
+    let mut first = MemSink::new(alloc, 1000)?;
+    let mut second = MemSink::new(alloc, 1000)?;
     assert_eq!(rt;
-        replay_bytes(alloc, b"x\n", SCHEDULE, &mut small),
-        Status::WriteFailed
+        run(alloc, &words, &mut shelf(alloc)?, &mut first),
+        Status::Done
     );
-    assert_eq!(rt; small.written(), b"scr".as_slice());
+    assert_eq!(rt;
+        run(alloc, &words, &mut shelf(alloc)?, &mut second),
+        Status::Done
+    );
+    assert!(rt; first.written().starts_with(b"events 65536 calls "));
+    assert_eq!(rt; first.written(), second.written());
+    Ok(())
+}
+
+// Task a calls until its phone takes no more calls; b answers one of them.
+const LIMIT_SCRIPT: &[u8] = b"task a raw\n\
+call 0 512\n\
+jumpeq r0 0 0\n\
+receive\n\
+jump 0\n\
+task b raw\n\
+receive\n\
+answer r2 EOK\n\
+wire a 0 b\n";
+
+const LIMIT_SCHEDULE: &[u8] = b"step a x 129\nstep b x 2\nstep a x 4\n";
+
+#[test]
+fn what_was_put_before_a_fault_stands(rt: HostRuntime) -> Result<(), Fail> {
+    let alloc = rt.alloc();
+    let mut whole = MemSink::new(alloc, 10_000)?;
+    assert_eq!(rt;
+        replay_bytes(alloc, LIMIT_SCRIPT, LIMIT_SCHEDULE, &mut whole),
+        Status::Done
+    );
+    for nth in [1, 2, 3] {
+        let mut sink = MemSink::new(alloc, 10_000)?;
+        sink.fail_at(nth, 100)?;
+        let status = replay_bytes(alloc, LIMIT_SCRIPT, LIMIT_SCHEDULE, &mut sink);
+        if nth == 3 {
+            assert_eq!(rt; status, Status::Done);
+        } else {
+            assert_eq!(rt; status, Status::WriteFailed);
+        }
+        assert!(rt; whole.written().starts_with(sink.written()));
+        assert_eq!(rt; sink.written().len() < whole.written().len(), nth < 3);
+    }
     Ok(())
 }

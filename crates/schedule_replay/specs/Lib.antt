@@ -1,4 +1,6 @@
 pub mod Any
+pub mod Generator
 pub mod Run
 pub mod RunHistory
+pub mod Streaming
 pub mod Wiring

@@ -156,6 +156,11 @@ abbrev pub run_from : RunState → List Event → List Entry
 run_from now [] = []
 run_from now (e ∷ events) = (turn now e).entries ++ run_from (turn now e).state events
 
+-- the state that events leave
+abbrev pub state_after : RunState → List Event → RunState
+state_after now [] = now
+state_after now (e ∷ events) = state_after (turn now e).state events
+
 -- the run of a script under a schedule
 abbrev pub run : Plan → List Event → List Entry
 run plan events = run_from (start plan) events

@@ -88,8 +88,8 @@ impl System {
     {
         match self.program(task) {
             Some(program) => {
-                let (told, request) = (program.next(), program.next());
-                self.step_alive(task, told, &request, out)
+                let request = program.next();
+                self.step_alive(task, &request, out)
             }
             None => tell_gone(task, out),
         }
@@ -108,19 +108,17 @@ impl System {
     fn step_alive(
         &mut self,
         task: TaskNo,
-        told: Request,
         request: &Request,
         out: &mut Trace,
     ) -> Result<(), NoMemory>
         requires few_events { self.old.kernel.events < 2 ^ 24 }
         requires request { option_map wanted (program_at self.old task) ≡ Some request.now }
-        requires told { told ≡ request.now }
         ensures state { OnOk result (self.new ≡ (step self.old task).state) }
         ensures entries { OnOk result (Tells out.old out.new (step self.old task).entries) }
         ensures part { OnErr result (TellsPart out.old out.new (step self.old task).entries) }
         ensures events { self.new.kernel.events ≤ self.old.kernel.events + 1 }
     {
-        match serve_request(&mut self.kernel, task, told, request, out) {
+        match serve_request(&mut self.kernel, task, request, out) {
             Ok(outcome) => {
                 let program = &mut self.programs[(task.0 as usize).saturating_sub(1)];
                 program.take(&outcome, out)
@@ -153,11 +151,58 @@ impl System {
         if !self.kernel.alive(task) {
             return tell_gone(task, out);
         }
-        let (told, request) = (Request::Hangup { phone }, Request::Hangup { phone });
-        match serve_request(&mut self.kernel, task, told, &request, out) {
+        match serve_request(&mut self.kernel, task, &Request::Hangup { phone }, out) {
             Ok(_) => Ok(()),
             Err(NoMemory) => Err(NoMemory),
         }
+    }
+}
+
+/// The same request once more.
+fn copy_of(request: &Request) -> Request
+    ensures { result ≡ request.now }
+{
+    match request {
+        Request::Call { phone, msg } => Request::Call {
+            phone: *phone,
+            msg: *msg,
+        },
+        Request::Receive => Request::Receive,
+        Request::Answer { call, reply } => Request::Answer {
+            call: *call,
+            reply: *reply,
+        },
+        Request::Forward {
+            call,
+            phone,
+            mode,
+            change,
+        } => Request::Forward {
+            call: *call,
+            phone: *phone,
+            mode: *mode,
+            change: *change,
+        },
+        Request::Hangup { phone } => Request::Hangup { phone: *phone },
+        Request::AreaMake {
+            base,
+            pages,
+            rights,
+        } => Request::AreaMake {
+            base: *base,
+            pages: *pages,
+            rights: *rights,
+        },
+        Request::AreaDrop { base } => Request::AreaDrop { base: *base },
+        Request::Poke { at, bytes } => Request::Poke {
+            at: *at,
+            bytes: bytes.copy(),
+        },
+        Request::Peek { at, count } => Request::Peek {
+            at: *at,
+            count: *count,
+        },
+        Request::Nothing => Request::Nothing,
     }
 }
 
@@ -165,11 +210,9 @@ impl System {
 fn serve_request(
     kernel: &mut Kernel,
     task: TaskNo,
-    told: Request,
     request: &Request,
     out: &mut Trace,
 ) -> Result<Outcome, NoMemory>
-    requires told { told ≡ request.now }
     requires alive { is_alive kernel.old task ≡ true }
     requires few_events { kernel.old.events < 2 ^ 24 }
     ensures state { OnOk result (kernel.new ≡ (serve kernel.old task request.now).state) }
@@ -184,7 +227,7 @@ fn serve_request(
     ensures rises { kernel.old.events ≤ kernel.new.events }
 {
     out.reserve(1)?;
-    out.push(Entry::Head(task, told));
+    out.push(Entry::Head(task, copy_of(request)));
     let outcome = kernel.serve(task, request, out)?;
     out.reserve(1)?;
     out.push(Entry::Outcome(outcome.copy()));

@@ -1,0 +1,106 @@
+//! Loads and puts that fail, each with what is answered and what was written by then.
+use crate::tests::{SCHEDULE, SCRIPT, files, words};
+use crate::{Status, run};
+use io_edge::MemSink;
+use schedule_replay::{ReplayFault, SliceFeed, replay};
+use script_reader::{read_schedule, read_script};
+use std::alloc::Global;
+use std::test::Fail;
+
+// A word of the seventh line begins no line of a script.
+const FAULTY_SCRIPT: &[u8] = b"task a raw\n\
+call 0 512 7\n\
+receive\n\
+receive\n\
+receive\n\
+receive\n\
+frob 1\n\
+receive\n\
+frob 2\n";
+
+/// A run whose files or output fail.
+#[derive(Clone, Copy)]
+struct FaultRow {
+    shows: &'static str,
+    script: &'static [u8],
+    /// The load that fails, or 0 where none does.
+    load: u64,
+    /// The put that fails, or 0, and how many of its bytes are kept.
+    put: (u64, usize),
+    status: Status,
+    text: &'static [u8],
+}
+
+const FAULTS: [FaultRow; 5] = [
+    FaultRow {
+        shows: "the script is loaded first, and its load fails",
+        script: SCRIPT,
+        load: 1,
+        put: (0, 0),
+        status: Status::CannotRead,
+        text: b"cannot read script\n",
+    },
+    FaultRow {
+        shows: "the schedule is loaded next, and its load fails",
+        script: SCRIPT,
+        load: 2,
+        put: (0, 0),
+        status: Status::CannotRead,
+        text: b"cannot read schedule\n",
+    },
+    FaultRow {
+        shows: "the first put fails, and keeps nothing",
+        script: SCRIPT,
+        load: 0,
+        put: (1, 0),
+        status: Status::WriteFailed,
+        text: b"",
+    },
+    FaultRow {
+        shows: "the first put fails, and keeps the start of its text",
+        script: SCRIPT,
+        load: 0,
+        put: (1, 5),
+        status: Status::WriteFailed,
+        text: b"t1 ca",
+    },
+    FaultRow {
+        shows: "the line of a fault is put, and fails",
+        script: FAULTY_SCRIPT,
+        load: 0,
+        put: (1, 5),
+        status: Status::WriteFailed,
+        text: b"scrip",
+    },
+];
+
+/// What a replay of the first lesson answers over a sink.
+fn replay_into(alloc: Global, sink: &mut MemSink) -> Result<Option<ReplayFault>, Fail> {
+    let script = read_script(alloc, SCRIPT)?;
+    let events = read_schedule(alloc, SCHEDULE, &script)?;
+    Ok(replay(alloc, &script, &mut SliceFeed::new(&events), sink).err())
+}
+
+#[test]
+fn each_file_that_fails_has_its_status(rt: HostRuntime) -> Result<(), Fail> {
+    let alloc = rt.alloc();
+    let words = words(alloc, &["replay", "script", "schedule"])?;
+    for row in FAULTS {
+        let shows = row.shows;
+        let mut shelf = files(alloc, row.script, SCHEDULE)?;
+        shelf.fail_at(row.load)?;
+        let mut sink = MemSink::new(alloc, 1000)?;
+        sink.fail_at(row.put.0, row.put.1)?;
+        assert_eq!(rt;
+            run(alloc, &words, &mut shelf, &mut sink),
+            row.status,
+            "{shows}"
+        );
+        assert_eq!(rt; sink.written(), row.text, "{shows}");
+    }
+    let mut sink = MemSink::new(alloc, 1000)?;
+    sink.fail_at(1, 5)?;
+    assert_eq!(rt; replay_into(alloc, &mut sink)?, Some(ReplayFault::Sink));
+    assert_eq!(rt; sink.written(), b"t1 ca".as_slice());
+    Ok(())
+}

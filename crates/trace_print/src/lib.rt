@@ -1,0 +1,17 @@
+//! The text of a trace: each entry is one line, written straight to the end of the bytes that the
+//! caller gives, which take no memory but their own.
+#![tactic(auto)]
+
+mod bytes;
+mod count;
+mod effect;
+mod fibril;
+mod head;
+mod line;
+mod number;
+mod part;
+mod pen;
+#[cfg(test)]
+mod tests;
+
+pub use line::{entry_length, entry_text};

@@ -1,0 +1,75 @@
+//! The line of an entry.
+ghost use Rattle.std.specs.Prelude.{◌≡◌, ◌+◌, ◌≤◌, ◌++◌, length, map, OnOk, OnErr, IsOk, vec_len, vec_capacity};
+ghost use Rattle.trace_print.specs.Text.{text_of_entry};
+
+use crate::count::Count;
+use crate::effect::push_effect;
+use crate::head::{push_outcome, push_request};
+use crate::part::push_task;
+use crate::pen::Pen;
+use ipc_ids::{Entry, NoMemory};
+
+#[tactic(auto, using(crate::proofs::Marks::map_append))]
+fn push_line<P: Pen>(pen: &mut P, entry: &Entry)
+    requires room { P.count pen.old + 256 ≤ P.capacity pen.old }
+    ensures text { P.seen pen.new ≡ P.seen pen.old ++ map P.mark (text_of_entry entry.now) }
+    ensures len { P.count pen.new ≤ P.count pen.old + 256 }
+    ensures capacity { P.capacity pen.old ≤ P.capacity pen.new }
+{
+    match entry {
+        Entry::Head(task, request) => {
+            push_task(pen, *task);
+            pen.byte(b' ');
+            push_request(pen, request);
+            pen.byte(b'\n');
+        }
+        Entry::Kill(task) => {
+            pen.word(b"kill ");
+            push_task(pen, *task);
+            pen.byte(b'\n');
+        }
+        Entry::Gone(task) => {
+            push_task(pen, *task);
+            pen.word(b" ended\n");
+        }
+        Entry::Outcome(outcome) => {
+            pen.word(b"  = ");
+            push_outcome(pen, outcome);
+            pen.byte(b'\n');
+        }
+        effect => {
+            pen.word(b"  ");
+            push_effect(pen, effect);
+            pen.byte(b'\n');
+        }
+    }
+}
+
+/// Adds the line of an entry, of at most 256 bytes, and takes no memory but for `into` itself.
+///
+/// # Errors
+///
+/// `NoMemory` where `into` found no memory for the line; never where it has room for 256 bytes
+/// more.
+#[tactic(auto, using(crate::proofs::Marks::map_same))]
+pub fn entry_text(entry: &Entry, into: &mut Vec<u8>) -> Result<(), NoMemory>
+    ensures ok { OnOk result (into.new.items ≡ into.old.items ++ text_of_entry entry.now) }
+    ensures err { OnErr result (into.new.items ≡ into.old.items) }
+    ensures short { OnOk result (length (text_of_entry entry.now) ≤ 256) }
+    ensures room { vec_len into.old + 256 ≤ vec_capacity into.old → IsOk result }
+    ensures capacity { vec_capacity into.old ≤ vec_capacity into.new }
+{
+    into.reserve(256)?;
+    push_line(into, entry);
+    Ok(())
+}
+
+/// How long the line of an entry is, in bytes, without the line.
+#[tactic(auto, using(crate::proofs::Counts::count_is))]
+pub fn entry_length(entry: &Entry) -> u64
+    ensures { result ≡ length (text_of_entry entry.now) }
+{
+    let mut count = Count { length: 0 };
+    push_line(&mut count, entry);
+    count.length
+}

@@ -1,0 +1,112 @@
+//! The parts that the lines of entries share.
+ghost use Rattle.std.specs.Prelude.{◌≡◌, ◌+◌, ◌≤◌, ◌++◌, length, decimal, map};
+ghost use Rattle.trace_print.specs.Text.{task_text, label_text, code_text, spaced_text, args_text, msg_text, reply_text};
+
+use crate::pen::Pen;
+use ipc_ids::{Code, Label, Msg, Reply, TaskNo};
+
+#[tactic(auto, using(crate::proofs::Marks::map_append))]
+#[inline(always)]
+pub fn push_numbered<P: Pen>(pen: &mut P, word: &[u8], number: u64)
+    requires room { P.count pen.old + length word.now + 20 ≤ P.capacity pen.old }
+    ensures text { P.seen pen.new ≡ P.seen pen.old ++ map P.mark (word.now ++ decimal number) }
+    ensures len { P.count pen.new ≤ P.count pen.old + length word.now + 20 }
+    ensures capacity { P.capacity pen.old ≤ P.capacity pen.new }
+{
+    pen.word(word);
+    pen.number(number);
+}
+
+#[tactic(auto, using(crate::proofs::Marks::map_append))]
+#[inline(always)]
+pub fn push_task<P: Pen>(pen: &mut P, task: TaskNo)
+    requires room { P.count pen.old + 21 ≤ P.capacity pen.old }
+    ensures text { P.seen pen.new ≡ P.seen pen.old ++ map P.mark (task_text task) }
+    ensures len { P.count pen.new ≤ P.count pen.old + 21 }
+    ensures capacity { P.capacity pen.old ≤ P.capacity pen.new }
+{
+    pen.byte(b't');
+    pen.number(task.0);
+}
+
+#[tactic(auto, using(crate::proofs::Marks::map_append))]
+pub fn push_label<P: Pen>(pen: &mut P, label: Label)
+    requires room { P.count pen.old + 42 ≤ P.capacity pen.old }
+    ensures text { P.seen pen.new ≡ P.seen pen.old ++ map P.mark (label_text label) }
+    ensures len { P.count pen.new ≤ P.count pen.old + 42 }
+    ensures capacity { P.capacity pen.old ≤ P.capacity pen.new }
+{
+    push_task(pen, label.task);
+    pen.byte(b'.');
+    pen.number(label.phone.0 as u64);
+}
+
+#[tactic(auto, using(crate::proofs::Marks::map_append))]
+pub fn push_code<P: Pen>(pen: &mut P, code: Code)
+    requires room { P.count pen.old + 20 ≤ P.capacity pen.old }
+    ensures text { P.seen pen.new ≡ P.seen pen.old ++ map P.mark (code_text code) }
+    ensures len { P.count pen.new ≤ P.count pen.old + 20 }
+    ensures capacity { P.capacity pen.old ≤ P.capacity pen.new }
+{
+    match code.0 {
+        0 => pen.word(b"EOK"),
+        1 => pen.word(b"ENOENT"),
+        2 => pen.word(b"EPERM"),
+        3 => pen.word(b"EEXIST"),
+        4 => pen.word(b"EINVAL"),
+        5 => pen.word(b"ELIMIT"),
+        6 => pen.word(b"EHANGUP"),
+        7 => pen.word(b"EFORWARD"),
+        8 => pen.word(b"EBUSY"),
+        9 => pen.word(b"ENOMEM"),
+        number => pen.number(number),
+    }
+}
+
+#[tactic(auto, using(crate::proofs::Marks::map_append))]
+#[inline(always)]
+pub fn push_spaced<P: Pen>(pen: &mut P, number: u64)
+    requires room { P.count pen.old + 21 ≤ P.capacity pen.old }
+    ensures text { P.seen pen.new ≡ P.seen pen.old ++ map P.mark (spaced_text number) }
+    ensures len { P.count pen.new ≤ P.count pen.old + 21 }
+    ensures capacity { P.capacity pen.old ≤ P.capacity pen.new }
+{
+    pen.byte(b' ');
+    pen.number(number);
+}
+
+#[tactic(auto, using(crate::proofs::Marks::map_append))]
+fn push_args<P: Pen>(pen: &mut P, args: &[u64; 5])
+    requires room { P.count pen.old + 105 ≤ P.capacity pen.old }
+    ensures text { P.seen pen.new ≡ P.seen pen.old ++ map P.mark (args_text args.now) }
+    ensures len { P.count pen.new ≤ P.count pen.old + 105 }
+    ensures capacity { P.capacity pen.old ≤ P.capacity pen.new }
+{
+    push_spaced(pen, args[0]);
+    push_spaced(pen, args[1]);
+    push_spaced(pen, args[2]);
+    push_spaced(pen, args[3]);
+    push_spaced(pen, args[4]);
+}
+
+#[tactic(auto, using(crate::proofs::Marks::map_append))]
+pub fn push_msg<P: Pen>(pen: &mut P, msg: &Msg)
+    requires room { P.count pen.old + 125 ≤ P.capacity pen.old }
+    ensures text { P.seen pen.new ≡ P.seen pen.old ++ map P.mark (msg_text msg.now) }
+    ensures len { P.count pen.new ≤ P.count pen.old + 125 }
+    ensures capacity { P.capacity pen.old ≤ P.capacity pen.new }
+{
+    pen.number(msg.method);
+    push_args(pen, &msg.args);
+}
+
+#[tactic(auto, using(crate::proofs::Marks::map_append))]
+pub fn push_reply<P: Pen>(pen: &mut P, reply: &Reply)
+    requires room { P.count pen.old + 125 ≤ P.capacity pen.old }
+    ensures text { P.seen pen.new ≡ P.seen pen.old ++ map P.mark (reply_text reply.now) }
+    ensures len { P.count pen.new ≤ P.count pen.old + 125 }
+    ensures capacity { P.capacity pen.old ≤ P.capacity pen.new }
+{
+    push_code(pen, reply.code);
+    push_args(pen, &reply.args);
+}

@@ -1,0 +1,76 @@
+//! What the text of an entry is written with.
+ghost use Rattle.std.specs.Prelude.{◌≡◌, ◌+◌, ◌≤◌, ◌++◌, ℕ, List, [], ◌∷◌, length, decimal, map, vec_len, vec_capacity};
+ghost use Rattle.trace_print.specs.Text.{bytes_text};
+
+use crate::bytes::push_bytes;
+use crate::number::push_number;
+
+/// What the text of an entry is written with: bytes that have room for it, or a count that only
+/// needs to know how long it is.
+pub trait Pen {
+    /// What was written, as far as the pen keeps it.
+    ghost seen: { Self → List ℕ };
+
+    /// How many bytes were written.
+    ghost count: { Self → ℕ };
+
+    /// How many bytes can be written in all.
+    ghost capacity: { Self → ℕ };
+
+    /// What the pen keeps of a byte.
+    ghost mark: { ℕ → ℕ };
+
+    fn byte(&mut self, byte: u8)
+        requires room { count self.old + 1 ≤ capacity self.old }
+        ensures text { seen self.new ≡ seen self.old ++ mark byte ∷ [] }
+        ensures len { count self.new ≤ count self.old + 1 }
+        ensures capacity { capacity self.old ≤ capacity self.new };
+
+    fn word(&mut self, word: &[u8])
+        requires room { count self.old + length word.now ≤ capacity self.old }
+        ensures text { seen self.new ≡ seen self.old ++ map mark word.now }
+        ensures len { count self.new ≤ count self.old + length word.now }
+        ensures capacity { capacity self.old ≤ capacity self.new };
+
+    /// A number in decimal, of at most 20 digits.
+    fn number(&mut self, number: u64)
+        requires room { count self.old + 20 ≤ capacity self.old }
+        ensures text { seen self.new ≡ seen self.old ++ map mark (decimal number) }
+        ensures len { count self.new ≤ count self.old + 20 }
+        ensures capacity { capacity self.old ≤ capacity self.new };
+
+    /// Bytes as digits in lower case, two for each, or `-` for none.
+    fn bytes(&mut self, bytes: &[u8])
+        requires few { length bytes.now ≤ 64 }
+        requires room { count self.old + 128 ≤ capacity self.old }
+        ensures text { seen self.new ≡ seen self.old ++ map mark (bytes_text bytes.now) }
+        ensures len { count self.new ≤ count self.old + 128 }
+        ensures capacity { capacity self.old ≤ capacity self.new };
+}
+
+#[tactic(auto, using(crate::proofs::Marks::map_same))]
+impl Pen for Vec<u8> {
+    ghost seen = { λ bytes. bytes.items };
+
+    ghost count = { λ bytes. vec_len bytes };
+
+    ghost capacity = { λ bytes. vec_capacity bytes };
+
+    ghost mark = { λ byte. byte };
+
+    fn byte(&mut self, byte: u8) {
+        self.push_reserved(byte);
+    }
+
+    fn word(&mut self, word: &[u8]) {
+        self.extend_from_slice(word).unwrap();
+    }
+
+    fn number(&mut self, number: u64) {
+        push_number(self, number);
+    }
+
+    fn bytes(&mut self, bytes: &[u8]) {
+        push_bytes(self, bytes);
+    }
+}
