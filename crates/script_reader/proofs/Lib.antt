@@ -4,6 +4,7 @@ pub mod EventFaults
 pub mod EventTasks
 pub mod Faults
 pub mod FormFaults
+pub mod Lines
 pub mod Numbers
 pub mod Places
 pub mod ReaderAnswers

@@ -58,7 +58,7 @@ blank_is_allowed x h = elim (or_cases (x == 32) (x == 9) h) [
 
 -- ---- a byte at the front
 
-take_more : (n x : ℕ) (xs : List ℕ) → take (1 + n) (x ∷ xs) ≡ x ∷ take n xs
+pub take_more : (n x : ℕ) (xs : List ℕ) → take (1 + n) (x ∷ xs) ≡ x ∷ take n xs
 take_more n x xs = let e : 1 + n ≡ suc n = omega arith in rw e refl
 
 no_comment_after : (x : ℕ) (xs : List ℕ) → (x == 35) ≡ true → without_comment (x ∷ xs) ≡ []
@@ -78,10 +78,10 @@ pieces_more x xs goes =
     let parts = in_word (is_blank x) (x == 35) (is_allowed x) goes in
     ap (slice_split is_blank) (no_comment_at x xs parts.1) ∙ slice_split-cons_no is_blank x (without_comment xs) parts.0
 
-len_end : (x : ℕ) (xs : List ℕ) → ends_word x ≡ true → len (x ∷ xs) ≡ 0
+pub len_end : (x : ℕ) (xs : List ℕ) → ends_word x ≡ true → len (x ∷ xs) ≡ 0
 len_end x xs e = rw e refl
 
-len_more : (x : ℕ) (xs : List ℕ) → ends_word x ≡ false → len (x ∷ xs) ≡ suc (len xs)
+pub len_more : (x : ℕ) (xs : List ℕ) → ends_word x ≡ false → len (x ∷ xs) ≡ suc (len xs)
 len_more x xs e = rw e (omega arith)
 
 -- ---- a word at the front
@@ -135,12 +135,14 @@ pub record IsLeft (told : List (Bor (List ℕ))) (left line : List ℕ) : Type 0
   pub allowed : list_all is_allowed left ≡ list_all is_allowed line
   pub words_told : list_all is_allowed left ≡ true → texts told ++ words left ≡ words line
 
--- where no byte belongs to a word, the first one does not
-pub len_zero : (x : ℕ) (xs : List ℕ) → len (x ∷ xs) ≡ 0 → ends_word x ≡ true
-len_zero x xs e = elim (cases_Bool (ends_word x)) [
-  | inl ends ↦ ends
-  | inr goes ↦ let more = len_more x xs goes in absurd (omega (arith, more, e))
-]
+-- a blank at the front is passed over
+pub blank_left : (told : List (Bor (List ℕ))) (x : ℕ) (xs line : List ℕ) → is_blank x ≡ true → IsLeft told (x ∷ xs) line → IsLeft told xs line
+blank_left told x xs line blank left =
+    let same : list_all is_allowed (x ∷ xs) ≡ list_all is_allowed xs = rw (blank_is_allowed x blank) refl in
+    record {
+      allowed = sym same ∙ left.allowed;
+      words_told = λ good. ap (λ ps. texts told ++ kept ps) (sym (pieces_blank x xs blank)) ∙ left.words_told (same ∙ good);
+    }
 
 word_told : (told : List (Bor (List ℕ))) (word : Bor (List ℕ)) (x : ℕ) (xs line : List ℕ) → ends_word x ≡ false
     → word.now ≡ x ∷ take (len xs) xs → IsLeft told (x ∷ xs) line → IsLeft (told ++ word ∷ []) (drop (len xs) xs) line

@@ -149,7 +149,7 @@ unfoldable pub with_op : Plan → Op → Result Plan Reason
 with_op plan op = on_last (task_with_op op) plan.tasks >>= λ tasks. Ok (record plan { tasks = tasks })
 
 -- what a call made of a value is what the line says, unless memory ran out
-abbrev pub Follows : {A : Type 0} → Result ⊤ LineFault → A → Result A Reason → Type 0
+abbrev pub Follows : {A B : Type 0} → Result B LineFault → A → Result A Reason → Type 0
 Follows (Ok _) new said = said ≡ Ok new
 Follows (Err (Bad reason)) new said = said ≡ Err reason
 Follows (Err NoMemory) new said = ⊤
@@ -178,7 +178,7 @@ abbrev pub last_is_async : Draft → Bool
 last_is_async draft = option_map_or (λ last. is_async last.kind) draft.last false
 
 -- what a call made of a draft is the line's step, unless memory ran out
-abbrev pub IsStep : Result ⊤ LineFault → Draft → Draft → (Plan → Result Plan Reason) → Type 0
+abbrev pub IsStep : {B : Type 0} → Result B LineFault → Draft → Draft → (Plan → Result Plan Reason) → Type 0
 IsStep result old new step = Follows result (plan_of new) (step (plan_of old))
 
 -- without a last one there is none

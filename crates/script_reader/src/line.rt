@@ -1,8 +1,8 @@
 //! What one line adds to a script.
 ghost use Rattle.std.specs.Prelude.{◌≡◌, ◌≢◌, IfSome, IfOk, OnOk};
-ghost use Rattle.std.specs.Option.{ForSome};
+ghost use Rattle.std.specs.Option.{ForSome, option_map};
 ghost use Rattle.script_reader.specs.declared.plan.Kind.TheVariants.{Naming};
-ghost use Rattle.script_reader.specs.Text.{texts};
+ghost use Rattle.script_reader.specs.Text.{texts, first_line, behind};
 ghost use Rattle.script_reader.specs.Line.{kind_of, limit_of, task_with, task_of, wire_of, ns, task, body, wire, operation, after_words, after_line};
 ghost use Rattle.script_reader.specs.Draft.{IsStep, IsWhole};
 ghost use Rattle.script_reader.specs.Sound.{IsLimit};
@@ -12,7 +12,7 @@ use crate::fault::{LineFault, Reason};
 use crate::name::Name;
 use crate::operation::op_in;
 use crate::plan::Kind;
-use crate::text::split_words;
+use crate::text::split_line;
 use crate::word::{OpVerb, Verb, look_up, number, verb_of};
 use std::alloc::Global;
 
@@ -172,20 +172,25 @@ fn add_words(draft: &mut Draft, alloc: Global, words: &[&[u8]]) -> Result<(), Li
     }
 }
 
-/// Adds what the line says.
+/// Adds what the first line of a text says, and returns what stands behind it; `None` where it is
+/// the last.
 #[tactic(auto, unfolding(crate::specs::Line::after_line))]
 pub fn add_line<'a>(
     draft: &mut Draft,
     alloc: Global,
     words: &mut Vec<&'a [u8]>,
-    line: &'a [u8],
-) -> Result<(), LineFault>
+    text: &'a [u8],
+) -> Result<Option<&'a [u8]>, LineFault>
     requires { IsWhole draft.old }
-    ensures value { IsStep result draft.old draft.new (λ plan. after_line plan line.now) }
+    ensures value { IsStep result draft.old draft.new
+        (λ plan. after_line plan (first_line text.now)) }
     ensures whole { OnOk result (IsWhole draft.new) }
+    ensures behind { IfOk result (λ others. option_map (λ t. t.now) others ≡ behind text.now) }
 {
-    if !split_words(line, words)? {
+    let (allowed, others) = split_line(text, words)?;
+    if !allowed {
         return Err(LineFault::Bad(Reason::BadByte));
     }
-    add_words(draft, alloc, words.as_slice())
+    add_words(draft, alloc, words.as_slice())?;
+    Ok(others)
 }

@@ -1,7 +1,7 @@
 //! Reads a script, line by line.
 ghost use Rattle.std.specs.Prelude.{◌≡◌, ◌≢◌, ℕ, Ok, Err, OnOk};
 ghost use Rattle.script_reader.specs.declared.fault.Reason.{Reason};
-ghost use Rattle.script_reader.specs.Text.{texts};
+ghost use Rattle.script_reader.specs.Text.{lines};
 ghost use Rattle.script_reader.specs.Plan.{Plan, nothing};
 ghost use Rattle.script_reader.specs.Line.{after_line};
 ghost use Rattle.script_reader.specs.Draft.{plan_of, IsWhole};
@@ -13,26 +13,24 @@ use crate::draft::Draft;
 use crate::fault::{LineFault, Reason, ScriptFault};
 use crate::line::add_line;
 use crate::plan::Script;
-use crate::text::{MOST_BYTES, lines};
+use crate::text::MOST_BYTES;
 use std::alloc::Global;
 
-fn add_lines(draft: &mut Draft, alloc: Global, lines: &[&[u8]]) -> Result<(), ScriptFault>
+fn add_lines(draft: &mut Draft, alloc: Global, text: &[u8]) -> Result<(), ScriptFault>
     requires { IsWhole draft.old }
     ensures value { Reads fault_in_script result (plan_of draft.new)
-        (lines_from after_line 1 (plan_of draft.old) (texts lines.now)) }
+        (lines_from after_line 1 (plan_of draft.old) (lines text.now)) }
     ensures whole { OnOk result (IsWhole draft.new) }
 {
     let mut words = Vec::new(alloc);
-    for (index, line) in lines.iter().enumerate() {
-        match add_line(draft, alloc, &mut words, *line) {
-            Ok(()) => {}
+    let mut left = Some(text);
+    let mut line = 0;
+    while let Some(text) = left {
+        line += 1;
+        match add_line(draft, alloc, &mut words, text) {
+            Ok(others) => left = others,
             Err(LineFault::NoMemory) => return Err(ScriptFault::NoMemory),
-            Err(LineFault::Bad(reason)) => {
-                return Err(ScriptFault::Bad {
-                    line: index as u64 + 1,
-                    reason,
-                });
-            }
+            Err(LineFault::Bad(reason)) => return Err(ScriptFault::Bad { line, reason }),
         }
     }
     Ok(())
@@ -48,9 +46,8 @@ fn read(alloc: Global, bytes: &[u8]) -> Result<Script, ScriptFault>
             reason: Reason::TooLong,
         });
     }
-    let lines = lines(alloc, bytes)?;
     let mut draft = Draft::new(alloc);
-    add_lines(&mut draft, alloc, lines.as_slice())?;
+    add_lines(&mut draft, alloc, bytes)?;
     let script = draft.into_script()?;
     Ok(script)
 }

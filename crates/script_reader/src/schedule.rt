@@ -1,8 +1,9 @@
 //! Reads a schedule, line by line.
 ghost use Rattle.std.specs.Prelude.{◌≡◌, ◌≢◌, ◌≤◌, ℕ, List, [], ◌++◌, length, replicate, Ok, Err, All, IfOk, IsOkAnd};
+ghost use Rattle.std.specs.Option.{option_map};
 ghost use Rattle.ipc_ids.specs.declared.message.Event.{Event};
 ghost use Rattle.script_reader.specs.declared.fault.Reason.{Reason};
-ghost use Rattle.script_reader.specs.Text.{texts};
+ghost use Rattle.script_reader.specs.Text.{texts, lines, first_line, behind};
 ghost use Rattle.script_reader.specs.Draft.{Follows};
 ghost use Rattle.script_reader.specs.Schedule.{IsOnTaskOf, event_verb_of, count_of, with_events, step_with, step_of, kill_of, hangup_of, events_of, after_event_words, after_event_line, after_event};
 ghost use Rattle.script_reader.specs.Grammar.{Spells, IsFirstFault};
@@ -13,8 +14,8 @@ use crate::fault::{LineFault, Reason, ScheduleFault};
 use crate::name::is_name;
 use crate::names::{Names, names_of};
 use crate::plan::Script;
-use crate::text::{MOST_BYTES, lines, split_words};
-use crate::word::{look_up, number};
+use crate::text::{MOST_BYTES, split_line};
+use crate::word::number;
 use ipc_ids::Event;
 use std::alloc::Global;
 
@@ -28,16 +29,16 @@ pub enum EventVerb {
     Hangup,
 }
 
-const VERBS: [(&[u8], EventVerb); 3] = [
-    (b"step", EventVerb::Step),
-    (b"kill", EventVerb::Kill),
-    (b"hangup", EventVerb::Hangup),
-];
-
+#[tactic(auto, unfolding(crate::specs::Schedule::event_verb_of))]
 fn event_verb_of(word: &[u8]) -> Option<EventVerb>
     ensures { result ≡ event_verb_of word.now }
 {
-    look_up(&VERBS, word)
+    match word {
+        [b's', b't', b'e', b'p'] => Some(EventVerb::Step),
+        [b'k', b'i', b'l', b'l'] => Some(EventVerb::Kill),
+        [b'h', b'a', b'n', b'g', b'u', b'p'] => Some(EventVerb::Hangup),
+        _ => None,
+    }
 }
 
 fn push_times(events: &mut Vec<Event>, event: Event, count: u64) -> Result<(), LineFault>
@@ -66,10 +67,9 @@ fn count_of(times: &[u8], word: &[u8]) -> Option<u64>
     ensures { result ≡ count_of times.now word.now }
 {
     let count = number(word)?;
-    if times == b"x".as_slice() && 1 <= count && count <= MOST_EVENTS {
-        Some(count)
-    } else {
-        None
+    match times {
+        [b'x'] if 1 <= count && count <= MOST_EVENTS => Some(count),
+        _ => None,
     }
 }
 
@@ -159,42 +159,45 @@ fn add_words(names: &Names, events: &mut Vec<Event>, words: &[&[u8]]) -> Result<
     add_events(events, event, count)
 }
 
+/// Adds what the first line of a text says, and returns what stands behind it; `None` where it is
+/// the last.
 #[tactic(auto, unfolding(crate::specs::Schedule::after_event_line))]
 fn add_line<'a>(
     names: &Names,
     events: &mut Vec<Event>,
     words: &mut Vec<&'a [u8]>,
-    line: &'a [u8],
-) -> Result<(), LineFault>
-    ensures { Follows result events.new.items
-        (after_event_line names.now events.old.items line.now) }
+    text: &'a [u8],
+) -> Result<Option<&'a [u8]>, LineFault>
+    ensures value { Follows result events.new.items
+        (after_event_line names.now events.old.items (first_line text.now)) }
+    ensures behind { IfOk result (λ others. option_map (λ t. t.now) others ≡ behind text.now) }
 {
-    if !split_words(line, words)? {
+    let (allowed, others) = split_line(text, words)?;
+    if !allowed {
         return Err(LineFault::Bad(Reason::BadByte));
     }
-    add_words(names, events, words.as_slice())
+    add_words(names, events, words.as_slice())?;
+    Ok(others)
 }
 
 fn add_lines(
     names: &Names,
     events: &mut Vec<Event>,
     alloc: Global,
-    lines: &[&[u8]],
+    text: &[u8],
 ) -> Result<(), ScheduleFault>
     ensures { Reads fault_in_schedule result events.new.items
-        (lines_from (after_event_line names.now) 1 events.old.items (texts lines.now)) }
+        (lines_from (after_event_line names.now) 1 events.old.items (lines text.now)) }
 {
     let mut words = Vec::new(alloc);
-    for (index, line) in lines.iter().enumerate() {
-        match add_line(names, events, &mut words, *line) {
-            Ok(()) => {}
+    let mut left = Some(text);
+    let mut line = 0;
+    while let Some(text) = left {
+        line += 1;
+        match add_line(names, events, &mut words, text) {
+            Ok(others) => left = others,
             Err(LineFault::NoMemory) => return Err(ScheduleFault::NoMemory),
-            Err(LineFault::Bad(reason)) => {
-                return Err(ScheduleFault::Bad {
-                    line: index as u64 + 1,
-                    reason,
-                });
-            }
+            Err(LineFault::Bad(reason)) => return Err(ScheduleFault::Bad { line, reason }),
         }
     }
     Ok(())
@@ -211,9 +214,8 @@ fn read(alloc: Global, bytes: &[u8], names: &Names) -> Result<Vec<Event>, Schedu
             reason: Reason::TooLong,
         });
     }
-    let lines = lines(alloc, bytes)?;
     let mut events = Vec::new(alloc);
-    add_lines(names, &mut events, alloc, lines.as_slice())?;
+    add_lines(names, &mut events, alloc, bytes)?;
     Ok(events)
 }
 
