@@ -190,10 +190,14 @@ impl Switchboard {
     }
 
     /// Makes room for so many more calls.
+    #[inline(always)]
     pub fn reserve(&mut self, calls: usize) -> Result<(), NoMemory>
         ensures state { self.new.state ≡ self.old.state }
         ensures room { OnOk result (calls ≤ self.new.spare) }
     {
+        if calls == 0 {
+            return Ok(());
+        }
         self.boxes.reserve(calls)
     }
 

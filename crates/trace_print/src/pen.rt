@@ -66,6 +66,7 @@ impl Pen for Vec<u8> {
         self.extend_from_slice(word).unwrap();
     }
 
+    #[inline(always)]
     fn number(&mut self, number: u64) {
         push_number(self, number);
     }

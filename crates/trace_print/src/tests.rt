@@ -43,6 +43,26 @@ fn heads_stand_without_indent(rt: HostRuntime) -> Result<(), Fail> {
                 reply: REPLY,
             },
         ),
+        Entry::Head(TaskNo(64), Request::Hangup { phone: 9 }),
+        Entry::Head(TaskNo(1), Request::Nothing),
+        Entry::Kill(TaskNo(2)),
+        Entry::Gone(TaskNo(3)),
+    ];
+    let text = text_of(rt.alloc(), &entries)?;
+    let expected = "t1 call 0 512 7 0 0 0 18446744073709551615\n\
+        t2 receive\n\
+        t2 answer 1 EOK 8 0 0 0 0\n\
+        t64 hangup 9\n\
+        t1 nothing\n\
+        kill t2\n\
+        t3 ended\n";
+    assert!(rt; text.as_slice() == expected.as_bytes());
+    Ok(())
+}
+
+#[test]
+fn a_forward_has_its_mode_and_its_change(rt: HostRuntime) -> Result<(), Fail> {
+    let entries = [
         Entry::Head(
             TaskNo(2),
             Request::Forward {
@@ -61,21 +81,10 @@ fn heads_stand_without_indent(rt: HostRuntime) -> Result<(), Fail> {
                 change: Some(MSG),
             },
         ),
-        Entry::Head(TaskNo(64), Request::Hangup { phone: 9 }),
-        Entry::Head(TaskNo(1), Request::Nothing),
-        Entry::Kill(TaskNo(2)),
-        Entry::Gone(TaskNo(3)),
     ];
     let text = text_of(rt.alloc(), &entries)?;
-    let expected = "t1 call 0 512 7 0 0 0 18446744073709551615\n\
-        t2 receive\n\
-        t2 answer 1 EOK 8 0 0 0 0\n\
-        t2 forward 1 3 plain\n\
-        t2 forward 1 0 route 512 7 0 0 0 18446744073709551615\n\
-        t64 hangup 9\n\
-        t1 nothing\n\
-        kill t2\n\
-        t3 ended\n";
+    let expected = "t2 forward 1 3 plain\n\
+        t2 forward 1 0 route 512 7 0 0 0 18446744073709551615\n";
     assert!(rt; text.as_slice() == expected.as_bytes());
     Ok(())
 }
@@ -160,6 +169,20 @@ fn effects_stand_after_two_spaces(rt: HostRuntime) -> Result<(), Fail> {
             to: TaskNo(3),
             label: LABEL,
         },
+    ];
+    let text = text_of(rt.alloc(), &entries)?;
+    let expected = "  call 1 accepted t1.63 method 512 to t2\n  \
+        call 1 accepted t1.63 method 2 back\n  \
+        call 1 received t2\n  \
+        call 1 forwarded t2 to t3 label t1.63\n";
+    assert!(rt; text.as_slice() == expected.as_bytes());
+    Ok(())
+}
+
+#[test]
+fn the_end_of_a_call_is_told(rt: HostRuntime) -> Result<(), Fail> {
+    let call = CallNo(1);
+    let entries = [
         Entry::Answered {
             call,
             reply: REPLY,
@@ -182,11 +205,7 @@ fn effects_stand_after_two_spaces(rt: HostRuntime) -> Result<(), Fail> {
         Entry::Forgotten(call),
     ];
     let text = text_of(rt.alloc(), &entries)?;
-    let expected = "  call 1 accepted t1.63 method 512 to t2\n  \
-        call 1 accepted t1.63 method 2 back\n  \
-        call 1 received t2\n  \
-        call 1 forwarded t2 to t3 label t1.63\n  \
-        call 1 answered EOK 8 0 0 0 0 by t2\n  \
+    let expected = "  call 1 answered EOK 8 0 0 0 0 by t2\n  \
         call 1 answered ELIMIT 0 0 0 0 0 by kernel\n  \
         call 1 delivered t1\n  \
         call 1 dropped t1\n  \
@@ -250,6 +269,27 @@ fn fibrils_have_their_task_and_number(rt: HostRuntime) -> Result<(), Fail> {
             label: LABEL,
         },
         Entry::Ends { task, fibril },
+        Entry::RefusedOp {
+            task,
+            fibril,
+            code: Code::EBUSY,
+        },
+    ];
+    let text = text_of(rt.alloc(), &entries)?;
+    let expected = "  t2/1 sent 9 slot 7\n  \
+        t2/1 gets 9 begin EOK 8 0 0 0 0\n  \
+        t2/1 blocks mutex 15\n  \
+        t2/1 starts t1.63\n  \
+        t2/1 ends\n  \
+        t2/1 refused EBUSY\n";
+    assert!(rt; text.as_slice() == expected.as_bytes());
+    Ok(())
+}
+
+#[test]
+fn exchanges_have_their_task_and_fibril(rt: HostRuntime) -> Result<(), Fail> {
+    let (task, fibril) = (TaskNo(2), FibrilNo(1));
+    let entries = [
         Entry::Begins {
             task,
             fibril,
@@ -268,22 +308,11 @@ fn fibrils_have_their_task_and_number(rt: HostRuntime) -> Result<(), Fail> {
             fibril,
             exchange: ExchangeNo(3),
         },
-        Entry::RefusedOp {
-            task,
-            fibril,
-            code: Code::EBUSY,
-        },
     ];
     let text = text_of(rt.alloc(), &entries)?;
-    let expected = "  t2/1 sent 9 slot 7\n  \
-        t2/1 gets 9 begin EOK 8 0 0 0 0\n  \
-        t2/1 blocks mutex 15\n  \
-        t2/1 starts t1.63\n  \
-        t2/1 ends\n  \
-        t2/1 begins exchange 3 serialize session 15 phone 63\n  \
+    let expected = "  t2/1 begins exchange 3 serialize session 15 phone 63\n  \
         t2/1 ends exchange 3\n  \
-        t2/1 drops exchange 3\n  \
-        t2/1 refused EBUSY\n";
+        t2/1 drops exchange 3\n";
     assert!(rt; text.as_slice() == expected.as_bytes());
     Ok(())
 }
@@ -349,5 +378,25 @@ fn a_length_is_that_of_the_text(rt: HostRuntime) -> Result<(), Fail> {
     let mut text = Vec::new(rt.alloc());
     entry_text(&entry, &mut text)?;
     assert!(rt; entry_length(&entry) == text.len() as u64);
+    Ok(())
+}
+
+#[test]
+fn a_number_has_each_of_its_digits(rt: HostRuntime) -> Result<(), Fail> {
+    let mut text = Vec::new(rt.alloc());
+    for number in [0, 9, 10, 90, 100, 987, 1000, 9870, 10_000, 98_765] {
+        entry_text(&Entry::Vanished(CallNo(number)), &mut text)?;
+    }
+    let expected = "  call 0 vanished\n  \
+        call 9 vanished\n  \
+        call 10 vanished\n  \
+        call 90 vanished\n  \
+        call 100 vanished\n  \
+        call 987 vanished\n  \
+        call 1000 vanished\n  \
+        call 9870 vanished\n  \
+        call 10000 vanished\n  \
+        call 98765 vanished\n";
+    assert!(rt; text.as_slice() == expected.as_bytes());
     Ok(())
 }
