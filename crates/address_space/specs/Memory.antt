@@ -139,6 +139,11 @@ read_at m count (Some s) = Ok (bytes_at m s count)
 abbrev pub read : Memory → TaskNo → ℕ → ℕ → Result (List ℕ) Code
 read m t at count = if count == 0 then Ok [] else read_at m count (spot_of m t at count Read)
 
+-- whether they may be read
+abbrev pub tested : Result (List ℕ) Code → Result Unit Code
+tested (Ok bytes) = Ok tt
+tested (Err code) = Err code
+
 -- likewise up to 64 bytes
 abbrev pub peek : Memory → TaskNo → ℕ → ℕ → Result (List ℕ) Code
 peek m t at count = if nat_lt 64 count then Err einval else read m t at count

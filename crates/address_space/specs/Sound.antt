@@ -1,10 +1,10 @@
 -- What the memory keeps at all times.
-use Rattle.std.specs.Prelude.{◌≡◌, ℕ, ◌≤◌, ◌<◌, ◌*◌, false, List, length, Some, All, option_map}
+use Rattle.std.specs.Prelude.{◌≡◌, ℕ, ◌≤◌, ◌<◌, ◌*◌, true, false, List, length, Some, IsSome, All, option_map}
 use Rattle.std.specs.List.{AllPairs}
 use Rattle.std.specs.Ordering.{nat_cmp}
 use Rattle.std.specs.FinMap.{FinMap, get}
 use Rattle.address_space.specs.Areas.{Area, IsInRange, end_of, overlaps}
-use Rattle.address_space.specs.Memory.{Memory}
+use Rattle.address_space.specs.Memory.{Memory, is_used}
 
 -- no byte of a task lies in both areas
 abbrev pub AreApart : Area → Area → Type 0
@@ -20,6 +20,11 @@ pub record AreLawful (areas : List Area) : Type 0 where
 pub record IsOver (stores : FinMap nat_cmp (List ℕ)) (next : ℕ) (a : Area) : Type 0 where
   pub bytes : option_map length (get stores a.store) ≡ Some (a.pages * 4096)
   pub old : a.store < next
+
+-- each store is no new one, and an area stands over it; this holds between two requests
+pub record AreHeld (m : Memory) : Type 0 where
+  pub old : (n : ℕ) → IsSome (get m.stores n) → n < m.next_store
+  pub used : (n : ℕ) → IsSome (get m.stores n) → is_used n m.areas ≡ true
 
 -- the areas of each task are lawful, and each stands over its store
 pub record IsSound (m : Memory) : Type 0 where

@@ -3,9 +3,9 @@ ghost use Rattle.std.specs.Prelude.{◌≡◌, ◌+◌, ◌*◌, ◌≤◌, List
 ghost use Rattle.std.specs.FinMap.{get};
 ghost use Rattle.ipc_ids.specs.declared.numbers.TaskNo.{TaskNo};
 ghost use Rattle.address_space.specs.declared.facts.Area.{Area};
-ghost use Rattle.address_space.specs.Memory.{Memory, with_task, make, drop_area, share, area, is_used, read, write};
+ghost use Rattle.address_space.specs.Memory.{Memory, IsAdded, no_memory, with_task, make, drop_area, share, area, is_used, read, write};
 ghost use Rattle.ipc_ids.specs.declared.numbers.StoreNo.{StoreNo};
-ghost use Rattle.address_space.specs.Sound.{IsSound};
+ghost use Rattle.address_space.specs.Sound.{IsSound, AreHeld};
 
 /// A memory that is sound is so after each request, of any task.
 pub fn requests_keep_memory_sound()
@@ -19,6 +19,22 @@ pub fn requests_keep_memory_sound()
     ensures share { (m : Memory) (from : TaskNo) (base : ℕ) (to : TaskNo)
         (target pages rights : ℕ) → IsSound m
         → IsSound (share m from base to target pages rights).memory }
+{}
+
+/// Where each store is below the next number and under an area, it is so after each request, of any
+/// task.
+pub fn requests_leave_no_store_alone()
+    ensures first { AreHeld no_memory }
+    ensures task { (m : Memory) → AreHeld m → AreHeld (with_task m) }
+    ensures make { (m : Memory) (t : TaskNo) (base pages rights : ℕ) → IsAdded m t → AreHeld m
+        → AreHeld (make m t base pages rights).memory }
+    ensures drop_area { (m : Memory) (t : TaskNo) (base : ℕ) → AreHeld m
+        → AreHeld (drop_area m t base).memory }
+    ensures write { (m : Memory) (t : TaskNo) (at : ℕ) (bytes : List ℕ) → AreHeld m
+        → AreHeld (write m t at bytes).memory }
+    ensures share { (m : Memory) (from : TaskNo) (base : ℕ) (to : TaskNo)
+        (target pages rights : ℕ) → AreHeld m
+        → AreHeld (share m from base to target pages rights).memory }
 {}
 
 /// What a task writes into bytes that it may read, it reads there.

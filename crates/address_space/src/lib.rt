@@ -12,12 +12,11 @@ mod facts;
 mod laws;
 mod spaces;
 mod stores;
-#[cfg(test)]
-mod tests;
 
 pub use area::is_subset;
 pub use facts::Area;
 pub use laws::{
-    requests_keep_memory_sound, shared_bytes_are_seen, stores_stay_while_used, writes_are_read_back,
+    requests_keep_memory_sound, requests_leave_no_store_alone, shared_bytes_are_seen,
+    stores_stay_while_used, writes_are_read_back,
 };
 pub use spaces::{SpaceFault, Spaces};

@@ -5,7 +5,7 @@ ghost use Rattle.std.specs.Option.{option_copied};
 ghost use Rattle.address_space.specs.Areas.{IsInRange, is_taken};
 ghost use Rattle.address_space.specs.Stores.{HasBytes};
 ghost use Rattle.address_space.specs.Sound.{IsOver};
-ghost use Rattle.address_space.specs.Memory.{Did, Tells, IsAdded, no_memory, with_task, without_last, areas_of, count_areas, spot_of, bytes_at, with_areas, with_store, is_used, release, make, drop_area, read, peek, write, first_area, area_at, area, share};
+ghost use Rattle.address_space.specs.Memory.{tested, Did, Tells, IsAdded, no_memory, with_task, without_last, areas_of, count_areas, spot_of, bytes_at, with_areas, with_store, is_used, release, make, drop_area, read, peek, write, first_area, area_at, area, share};
 
 use crate::area::{HeldArea, PAGE, Right, is_subset};
 use crate::areas::TaskAreas;
@@ -147,6 +147,7 @@ impl Spaces {
         requires added { IsAdded self.now t }
         ensures told { Tells result (read self.now t at count) }
         ensures empty { count ≡ 0 → IsOk result }
+        ensures counted { IfOk result (λ buffer. length buffer ≡ count) }
     {
         if count == 0 {
             return Ok(Buffer::new(alloc));
@@ -157,6 +158,24 @@ impl Spaces {
                 Err(_) => Err(SpaceFault::NoMemory),
             },
             None => Err(SpaceFault::Refused(Code::EPERM)),
+        }
+    }
+
+    /// Whether a task may read its bytes from `at` on; it takes no memory.
+    ///
+    /// # Errors
+    ///
+    /// `EPERM` where no area with the right to read holds them all.
+    pub fn may_read(&self, t: TaskNo, at: u64, count: u64) -> Result<(), Code>
+        requires added { IsAdded self.now t }
+        ensures { result ≡ tested (read self.now t at count) }
+    {
+        if count == 0 {
+            return Ok(());
+        }
+        match self.spot(t, at, count, Right::Read) {
+            Some(_) => Ok(()),
+            None => Err(Code::EPERM),
         }
     }
 

@@ -1,22 +1,21 @@
 -- What each change of links does to what the links say, and to the ends.
-use Rattle.std.proofs.Common.{◌≡◌, ℕ, ◌+◌, ◌*◌, ◌<◌, ◌≤◌, ◌⊎◌, Bool, true, false, cond, ◌==◌, List, length, get_or, Option, None, Some, IsSome, option_map, refl, sym, ap, ◌∙◌, arith, ⊎_elim, inl, inr}
+use Rattle.std.proofs.Common.{◌≡◌, ℕ, ◌<◌, ◌≤◌, Bool, true, false, cond, ◌==◌, List, length, Option, None, Some, IsSome, option_map, refl, sym, ap, ◌∙◌, arith, ⊎_elim}
 use Rattle.std.specs.Prelude.{slice_index_or, slice_set}
 use Rattle.std.specs.Ordering.{nat_cmp, eq_by_cmp}
 use Rattle.std.specs.Cmp.{nat_cmp_total}
-use Rattle.std.specs.FinMap.{FinMap, get, insert, get-insert}
+use Rattle.std.specs.FinMap.{get, insert, get-insert}
 use Rattle.std.specs.Option.{option_map_or}
 use Rattle.std.proofs.lemmas.Bool.{cases_eq, cases_lt}
 use Rattle.std.proofs.lemmas.Bool.Decides.{nat_tests}
 use Rattle.std.proofs.lemmas.List.{get_or-set_same, get_or-set_other, get_or_past, length-set}
-use Rattle.call_slab.specs.declared.call.Call.{Call}
 use Rattle.call_slab.specs.declared.calls.Slot.{Slot}
 use Rattle.call_slab.specs.declared.calls.Links.{Links}
-use Rattle.call_slab.specs.Calls.{at_key, links_of, no_links}
+use Rattle.call_slab.specs.Calls.{at_key, links_of}
 use Rattle.answerbox.specs.declared.chains.Ends.{Ends}
 use Rattle.answerbox.specs.declared.chains.Chain.{Chain}
 use Rattle.answerbox.specs.declared.chains.Chain.TheVariants.{Queue, Own}
-use Rattle.answerbox.specs.Order.{Spot, Least, IsLeast, Linked}
-use Rattle.answerbox.specs.Chain.{Slots, Core, core, cores, next_link, previous_link, with_next, with_previous, next_in, previous_in, no_ends, ends_at, first_of, last_of, next_set, previous_set, next_put, previous_put, first_put, last_put, passed_slots, passed_ends, joined_slots, joined_ends, at_row, unlinked_slots, unlinked_rows, appended_slots, appended_rows}
+use Rattle.answerbox.specs.Order.{Spot, IsLeast, Linked}
+use Rattle.answerbox.specs.Chain.{Slots, core, cores, next_link, previous_link, with_next, with_previous, next_in, previous_in, no_ends, ends_at, first_of, last_of, next_put, previous_put, first_put, last_put, passed_slots, passed_ends, joined_slots, joined_ends, at_row, unlinked_slots, unlinked_rows, appended_slots, appended_rows}
 use Rattle.answerbox.proofs.Order.{some_same, is_key, is_key_true, is_key_false, group_same}
 
 pub same_key : (q k : ℕ) → q ≡ k → eq_by_cmp nat_cmp q k ≡ true

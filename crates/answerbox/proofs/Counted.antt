@@ -1,7 +1,7 @@
 -- How many calls stand in each list, after each change of the calls and of the ends.
-use Rattle.std.proofs.Common.{◌≡◌, ℕ, ◌+◌, ◌-◌, ◌^◌, ◌<◌, ◌≤◌, Bool, true, false, cond, List, length, Option, None, Some, IfSome, option_map, option_and_then, refl, ap, sym, ◌∙◌, ⊎_elim, arith, slice_set, get_or-set_other, get_or-set_same}
+use Rattle.std.proofs.Common.{◌≡◌, ℕ, ◌+◌, ◌-◌, ◌^◌, ◌<◌, ◌≤◌, cond, List, length, Option, None, Some, IfSome, option_map, option_and_then, refl, ap, sym, ◌∙◌, ⊎_elim, arith, slice_set, get_or-set_other, get_or-set_same}
 use Rattle.std.specs.Ordering.{nat_cmp}
-use Rattle.std.specs.FinMap.{FinMap, entries, get, insert, remove, len}
+use Rattle.std.specs.FinMap.{FinMap, entries, get, len}
 use Rattle.std.proofs.lemmas.Bool.{cases_eq}
 use Rattle.call_slab.specs.declared.call.Call.{Call}
 use Rattle.call_slab.specs.declared.calls.Slot.{Slot}

@@ -1,8 +1,6 @@
 -- What the ends and the links of a list say of the live calls by number.
-use Rattle.std.proofs.Common.{◌≡◌, ℕ, ◌+◌, ◌*◌, ◌<◌, ◌≤◌, ◌⊎◌, Bool, true, false, cond, ◌==◌, List, length, Option, None, Some, IsSome, IfSome, option_map, refl, sym, ap, ◌∙◌, arith, ⊎_elim}
-use Rattle.std.specs.FinMap.{FinMap, get, entries, entries_sorted, get-entries}
-use Rattle.std.specs.Ordering.{nat_cmp}
-use Rattle.std.proofs.lemmas.Bool.{cases_eq, cases_lt}
+use Rattle.std.proofs.Common.{◌≡◌, ℕ, ◌+◌, ◌<◌, ◌≤◌, Bool, true, false, ◌==◌, List, Option, None, Some, IsSome, IfSome, option_map, refl, sym, ap, ◌∙◌, arith}
+use Rattle.std.specs.FinMap.{get, entries, entries_sorted, get-entries}
 use Rattle.std.proofs.lemmas.Bool.Decides.{nat_tests}
 use Rattle.ipc_ids.specs.declared.numbers.TaskNo.{TaskNo}
 use Rattle.call_slab.specs.declared.call.Call.{Call}
@@ -12,17 +10,16 @@ use Rattle.call_slab.specs.Calls.{CallsState}
 use Rattle.answerbox.specs.declared.chains.Ends.{Ends}
 use Rattle.answerbox.specs.declared.chains.Chain.{Chain}
 use Rattle.answerbox.specs.declared.chains.Chain.TheVariants.{Queue, Own}
-use Rattle.answerbox.specs.Order.{Spot, Least, IsLeast, Linked}
-use Rattle.answerbox.proofs.Counts.{count-alike, count-none}
+use Rattle.answerbox.specs.Order.{Spot, Least, IsLeast}
+use Rattle.answerbox.proofs.Counts.{count-alike}
 use Rattle.answerbox.proofs.Passing.{live_spot}
-use Rattle.answerbox.specs.Calls.{count_of, next_of, CallTable, call_at, same_place, is_caller, front, first_from}
-use Rattle.answerbox.specs.Chain.{Slots, Core, cores, place_index, row_of, rank_of, spot_of, spot_at, spots, next_in, previous_in, first_of, last_of, Chained}
-use Rattle.answerbox.specs.Places.{HasNoCalls}
+use Rattle.answerbox.specs.Calls.{count_of, next_of, same_place, is_caller, front, first_from}
+use Rattle.answerbox.specs.Chain.{Slots, Core, cores, place_index, row_of, rank_of, spot_of, spot_at, spots, next_in, first_of, Chained}
 use Rattle.answerbox.specs.Stored.{is_row, stands_in, calls_in, Named, Stored}
 use Rattle.answerbox.proofs.Callers.{first_is, first_is_none}
 use Rattle.answerbox.proofs.Fronts.{front_live, front-is_front, no_front-has_no_calls}
 use Rattle.answerbox.proofs.Order.{some_same, group_same}
-use Rattle.answerbox.proofs.Chain.{key_is, within_ends}
+use Rattle.answerbox.proofs.Chain.{key_is}
 use Rattle.answerbox.proofs.Names.{under, look}
 use Rattle.answerbox.proofs.Keeping.{table_of}
 

@@ -1,12 +1,10 @@
 -- What each call of the boxes keeps, and what it does to the live calls.
-use Rattle.std.proofs.Common.{◌≡◌, ℕ, zero, suc, ◌+◌, ◌*◌, ◌<◌, ◌≤◌, ◌⊎◌, ◌^◌, Bool, true, false, cond, ◌&&◌, List, length, [], ◌∷◌, ◌++◌, Option, None, Some, IsSome, IfSome, option_map, refl, sym, ap, ◌∙◌, arith, ⊎_elim, inl, inr, T}
-use Rattle.std.specs.Ordering.{nat_cmp, eq_by_cmp, is_eq}
+use Rattle.std.proofs.Common.{◌≡◌, ℕ, zero, suc, ◌+◌, ◌*◌, ◌<◌, ◌≤◌, ◌^◌, cond, List, length, [], ◌∷◌, Option, None, Some, IsSome, IfSome, option_map, refl, sym, ap, ◌∙◌, arith, ⊎_elim, T}
+use Rattle.std.specs.Ordering.{nat_cmp}
 use Rattle.std.specs.Cmp.{nat_cmp_total}
-use Rattle.std.specs.Option.{option_map_or}
 use Rattle.std.specs.Prelude.{Result, Ok, Err, OnOk, OnErr}
 use Rattle.std.specs.FinMap.{FinMap, find, get, insert, remove, entries, entries_sorted, is_sorted, len, len-entries, get-entries, get-insert, get-remove, get-empty, empty, same_map, nat_cmp-IsAntisymmetric}
-use Rattle.std.proofs.lemmas.Bool.Decides.{nat_tests}
-use Rattle.std.proofs.lemmas.Bool.{cases_lt, cases_eq}
+use Rattle.std.proofs.lemmas.Bool.{cases_eq}
 use Rattle.call_slab.specs.declared.call.Call.{Call}
 use Rattle.call_slab.specs.declared.call.Place.{Place}
 use Rattle.call_slab.specs.declared.calls.Slot.{Slot}
@@ -15,12 +13,13 @@ use Rattle.answerbox.specs.declared.chains.Ends.{Ends}
 use Rattle.answerbox.specs.declared.chains.Chain.{Chain}
 use Rattle.answerbox.specs.declared.chains.Chain.TheVariants.{Queue, Own}
 use Rattle.answerbox.specs.Order.{Spot, Linked}
-use Rattle.answerbox.specs.Calls.{task_of, count_of, CallTable, call_at, put_at, enqueue, without_call, with_change, with_record}
-use Rattle.answerbox.specs.declared.change.Change.{Change}
-use Rattle.answerbox.specs.declared.change.Change.TheVariants.{Receipt, Answer, AnswerWith, Address}
-use Rattle.answerbox.specs.Change.{changed, gone}
-use Rattle.answerbox.specs.Chain.{Slots, Core, core, cores, place_index, row_of, rank_of, spot_at, spots, Chained, AreLinked, no_ends, first_of, last_of, count_at, AreFew, with_slots, appended_rows, unlinked_rows, more_queues, more_owns, IsGrown}
-use Rattle.answerbox.specs.Moving.{row_at, with_call, placed, out_rows, moved_slots, moved_rows, new_slot, new_slots, left_slots, no_caller, forgotten_slots}
+use Rattle.answerbox.specs.Calls.{task_of, count_of, CallTable, without_call, with_change}
+use Rattle.call_slab.specs.declared.change.Change.{Change}
+use Rattle.call_slab.specs.declared.change.Change.TheVariants.{Receipt, Answer, AnswerWith, Address, Message, Request, Reply, Reserved, Bytes}
+use Rattle.call_slab.specs.Change.{changed}
+use Rattle.answerbox.specs.Change.{gone}
+use Rattle.answerbox.specs.Chain.{Slots, Core, core, cores, place_index, row_of, spot_at, spots, Chained, no_ends, first_of, last_of, count_at, AreFew, with_slots, appended_rows, unlinked_rows, more_queues, more_owns, IsGrown}
+use Rattle.answerbox.specs.Moving.{row_at, with_call, placed, out_rows, moved_slots, moved_rows, new_slots, left_slots, no_caller, forgotten_slots}
 use Rattle.answerbox.specs.Stored.{calls_in, Named, NumbersBelow, Stored, tasks_of, room_of, is_row, stands_in, Counted}
 use Rattle.answerbox.proofs.Counts.{count-insert, count-remove, count-swap, count-none}
 use Rattle.answerbox.proofs.Counted.{counted_out, counted_in, counted_kept, counted_as, few_counts, row_at_core, row_within, within_as}
@@ -97,6 +96,48 @@ module _ (a x : CallsState) (queues owns : List Ends) (number stamp n k : ℕ) (
   pub given_live : IsSome (get x.slots k)
   given_live = let own = q.named.names n k at in let s = core_is (get x.slots k) _ (given_here own.0 own.1) in rw s.1 refl
 
+  given_keys : x.keys ≡ a.keys
+  given_keys = ap (λ (y : CallsState). y.keys) given
+
+  giver : (c : Core) × (cores a.slots k ≡ Some c) × (c.call.number.0 ≡ n)
+  giver = q.named.names n k at
+
+  given_at : get (calls_in a) n ≡ Some giver.0.call
+  unfolding own giver
+  given_at = change_at a x n k f number_kept q.named at given_here given_there given_keys
+
+  given_is : calls_in x ≡ insert (calls_in a) n (f giver.0.call)
+  unfolding own giver
+  given_is = change_is a x n k f number_kept q.named at given_here given_there given_keys
+
+  given_counts : (ch : Chain) (es : List Ends) → ((c : Call) → row_of ch (f c) ≡ row_of ch c) → Counted ch es (calls_in a) → Counted ch es (calls_in x)
+  given_counts ch es kept counted =
+      let m = calls_in a in
+      let d = giver.0.call in
+      counted_as ch es es _ (calls_in x) refl given_is
+      (counted_kept ch es m (insert m n (f d)) counted (λ j.
+      count-swap (stands_in ch j) m n (f d)
+      ∙ ap (λ (r : Option ℕ). cond (is_row r j) 1 0 + count_of (stands_in ch j) (entries (remove m n))) (kept d)
+      ∙ sym (count-remove (stands_in ch j) m n d given_at)))
+
+  pub given_keeps : Stored x queues owns number stamp
+  given_keeps =
+      record {
+        named = change_named a x n k f number_kept q.named at given_here given_there given_keys;
+        numbers = change_numbers a x n k f number_kept q.named at given_here given_there given_keys number q.numbers;
+        first = q.first;
+        queued = given_queue;
+        listed = given_own;
+        rows = q.rows;
+        few = q.few;
+        last = rw (ap (λ (y : CallsState). y.last) given) q.last;
+        queue_counts = given_counts Queue queues queue_kept q.queue_counts;
+        own_counts = given_counts Own owns (λ c. ap (option_map (λ t. t.0)) (caller_kept c)) q.own_counts;
+      }
+
+  pub given_table : table_of x number stamp ≡ with_change (table_of a number stamp) n f
+  given_table = change_table a x n k f number_kept q.named at given_here given_there given_keys number stamp
+
 -- a call that is given something and goes to another place: x has it before it goes
 module _ (a x b : CallsState) (queues qs owns : List Ends) (number stamp n k : ℕ) (place : Place) (f : Call → Call)
     (number_kept : (c : Call) → (f c).number ≡ c.number) (queue_kept : (c : Call) → row_of Queue (f c) ≡ row_of Queue c) (stamp_kept : (c : Call) → (f c).stamp ≡ c.stamp) (caller_kept : (c : Call) → (f c).caller ≡ c.caller)
@@ -167,6 +208,7 @@ module _ (a x b : CallsState) (queues qs owns : List Ends) (number stamp n k : �
         listed = rw goes_slots (moved_own x.slots queues stamp k c place (given_queue a x queues owns number stamp n k f number_kept queue_kept stamp_kept caller_kept q at given) e owns number (given_own a x queues owns number stamp n k f number_kept queue_kept stamp_kept caller_kept q at given));
         rows = rw rows (length-appended (out_rows Queue x.slots queues k) (Some (place_index place)) k ∙ length-unlinked Queue queues _ _) ∙ q.rows;
         few = q.few;
+        last = rw (ap (λ (y : CallsState). y.last) goes ∙ ap (λ (y : CallsState). y.last) given) q.last;
         queue_counts = goes_queues;
         own_counts = goes_owns;
       }
@@ -241,6 +283,7 @@ module _ (a b : CallsState) (queues owns os : List Ends) (number stamp n k : ℕ
         listed = rw (forgot_slots, rows) (forgotten_own a.slots queues owns stamp number k own.0 q.queued q.listed own.1);
         rows = q.rows ∙ ap (λ (m : ℕ). 3 * m) (sym (ap length rows ∙ length-unlinked Own owns _ _));
         few = q.few;
+        last = rw (ap (λ (y : CallsState). y.last) goes) q.last;
         queue_counts = forgot_queues;
         own_counts = forgot_owns;
       }
@@ -290,8 +333,8 @@ module _ (a b : CallsState) (queues qs owns os : List Ends) (number stamp n k : 
       counted_out ch es m (remove m n) counted row (links_of (get a.slots k)) (within_as row (row_of ch d) (length es) same (row_within ch a.slots es top k leaver.0 chained leaver.1))
       (λ j. count-remove (stands_in ch j) m n d leave_at ∙ ap (λ (r : Option ℕ). cond (is_row r j) 1 0 + count_of (stands_in ch j) (entries (remove m n))) (sym same))
 
-  pub leave_keeps : Stored b qs os number stamp
-  leave_keeps =
+  pub leave_keeps : b.last ≡ a.last → Stored b qs os number stamp
+  leave_keeps last =
       record {
         named = leave_named;
         numbers = λ j d e. ⊎_elim (λ (t : j ≡ k). absurd (cc (ap (cores b.slots) t ∙ leave_here, e))) (λ (t : j ≡ k → ⊥). q.numbers j d (sym (leave_there j t) ∙ e)) (cases_eq j k);
@@ -300,6 +343,7 @@ module _ (a b : CallsState) (queues qs owns os : List Ends) (number stamp n k : 
         listed = rw (slots, orows) (left_own a.slots queues owns stamp number k leaver.0 q.queued q.listed leaver.1);
         rows = (ap length qrows ∙ length-unlinked Queue queues _ _) ∙ q.rows ∙ ap (λ (m : ℕ). 3 * m) (sym (ap length orows ∙ length-unlinked Own owns _ _));
         few = q.few;
+        last = rw last q.last;
         queue_counts = counted_as Queue _ qs _ (calls_in b) qrows leave_is (left_counts Queue queues stamp q.queue_counts q.queued);
         own_counts = counted_as Own _ os _ (calls_in b) orows leave_is (left_counts Own owns number q.own_counts q.listed);
       }
@@ -370,8 +414,8 @@ module _ (a b : CallsState) (queues qs owns os : List Ends) (number stamp k : �
   pub comes_calls : calls_in b ≡ insert (calls_in a) call.number.0 call
   comes_calls = calls_put a b call.number.0 k (record { name = call.number.0; call = call }) q.named comes_named old_keys comes_there new_key comes_here not_there
 
-  pub comes_keeps : Stored b qs os (number + 1) (stamp + 1)
-  comes_keeps =
+  pub comes_keeps : b.last ≡ call.number.0 → Stored b qs os (number + 1) (stamp + 1)
+  comes_keeps top =
       let m = calls_in a in
       let free = ap (get m) next ∙ next_free a queues owns number stamp q in
       record {
@@ -382,6 +426,7 @@ module _ (a b : CallsState) (queues qs owns os : List Ends) (number stamp k : �
         listed = rw (slots, orows) (new_own a.slots queues owns stamp number k call q.queued q.listed fresh last next within caller);
         rows = (ap length qrows ∙ length-appended queues (row_of Queue call) k) ∙ q.rows ∙ ap (λ (m : ℕ). 3 * m) (sym (ap length orows ∙ length-appended owns (row_of Own call) k));
         few = omega arith;
+        last = omega (arith, top, next);
         queue_counts = counted_as Queue _ qs _ (calls_in b) qrows comes_calls (counted_in Queue queues m (insert m call.number.0 call) q.queue_counts (row_of Queue call) k within (λ j. count-insert (stands_in Queue j) m call.number.0 call free));
         own_counts = counted_as Own _ os _ (calls_in b) orows comes_calls (counted_in Own owns m (insert m call.number.0 call) q.own_counts (row_of Own call) k caller (λ j. count-insert (stands_in Own j) m call.number.0 call free));
       }
@@ -492,8 +537,8 @@ new_counts : (ch : Chain) (a : CallsState) (es : List Ends) → a.slots ≡ empt
 new_counts ch a es s k e =
     counted_as ch [] es empty (calls_in a) e (new_calls a s k) (λ i. sym (count-none (stands_in ch i) empty (λ n d f. absurd (cc (get-empty nat_cmp n, f)))))
 
-pub new_keeps : (a : CallsState) (qs os : List Ends) → a.slots ≡ empty → a.keys ≡ empty → qs ≡ [] → os ≡ [] → Stored a qs os 1 1
-new_keeps a qs os s k e f =
+pub new_keeps : (a : CallsState) (qs os : List Ends) → a.slots ≡ empty → a.keys ≡ empty → a.last ≡ 0 → qs ≡ [] → os ≡ [] → Stored a qs os 1 1
+new_keeps a qs os s k last e f =
     record {
       named = new_named a s k;
       numbers = λ j c g. absurd (cc (no_slot a s j, g));
@@ -502,6 +547,7 @@ new_keeps a qs os s k e f =
       listed = linked_none (spots Own a.slots) _ _ _ _ 1 (λ j. ap (spot_at Own) (no_slot a s j)) (λ g. ap (λ xs. first_of xs g) f) (λ g. ap (λ xs. last_of xs g) f);
       rows = rw (e, f) refl;
       few = omega arith;
+      last = omega (arith, last);
       queue_counts = new_counts Queue a qs s k e;
       own_counts = new_counts Own a os s k f;
     }
@@ -602,6 +648,7 @@ task_keeps a queues qs owns os number stamp q e f =
       };
       rows = let h = more_length queues in let l = row_length owns in let p = q.rows in rw (e, f) (omega (arith, h, l, p));
       few = q.few;
+      last = q.last;
       queue_counts = λ i. ap (λ xs. count_at xs i) e ∙ more_count queues i ∙ q.queue_counts i;
       own_counts = λ i. ap (λ xs. count_at xs i) f ∙ row_count owns i ∙ q.own_counts i;
     }
@@ -638,24 +685,44 @@ change_number (Receipt m r) c = refl
 change_number (Answer m r) c = refl
 change_number (AnswerWith m b) c = refl
 change_number (Address m l r) c = refl
+change_number (Message m l) c = refl
+change_number (Request m) c = refl
+change_number (Reply m) c = refl
+change_number (Reserved r) c = refl
+change_number (Bytes b) c = refl
 
 pub change_row : (x : Change) (c : Call) → row_of Queue (changed x c) ≡ row_of Queue c
 change_row (Receipt m r) c = refl
 change_row (Answer m r) c = refl
 change_row (AnswerWith m b) c = refl
 change_row (Address m l r) c = refl
+change_row (Message m l) c = refl
+change_row (Request m) c = refl
+change_row (Reply m) c = refl
+change_row (Reserved r) c = refl
+change_row (Bytes b) c = refl
 
 pub change_stamp : (x : Change) (c : Call) → (changed x c).stamp ≡ c.stamp
 change_stamp (Receipt m r) c = refl
 change_stamp (Answer m r) c = refl
 change_stamp (AnswerWith m b) c = refl
 change_stamp (Address m l r) c = refl
+change_stamp (Message m l) c = refl
+change_stamp (Request m) c = refl
+change_stamp (Reply m) c = refl
+change_stamp (Reserved r) c = refl
+change_stamp (Bytes b) c = refl
 
 pub change_caller : (x : Change) (c : Call) → (changed x c).caller ≡ c.caller
 change_caller (Receipt m r) c = refl
 change_caller (Answer m r) c = refl
 change_caller (AnswerWith m b) c = refl
 change_caller (Address m l r) c = refl
+change_caller (Message m l) c = refl
+change_caller (Request m) c = refl
+change_caller (Reply m) c = refl
+change_caller (Reserved r) c = refl
+change_caller (Bytes b) c = refl
 
 -- one more task, or none where memory has run out
 pub pushed_keeps : {A B : Type 0} (r : Result A B) (a : CallsState) (queues qs owns os : List Ends) (number stamp : ℕ) → Stored a queues owns number stamp → OnOk r (qs ≡ more_queues queues) → OnOk r (os ≡ more_owns owns) → OnErr r (qs ≡ queues) → OnErr r (os ≡ owns) → Stored a qs os number stamp
@@ -663,8 +730,8 @@ pushed_keeps (Ok x) a queues qs owns os number stamp q e f g h = task_keeps a qu
 pushed_keeps (Err x) a queues qs owns os number stamp q e f g h = rw (g, h) q
 
 -- more room for the same calls
-pub room_keeps : (a b : CallsState) (queues owns : List Ends) (number stamp : ℕ) → Stored a queues owns number stamp → b.slots ≡ a.slots → b.keys ≡ a.keys → Stored b queues owns number stamp
-room_keeps a b queues owns number stamp q e f =
+pub room_keeps : (a b : CallsState) (queues owns : List Ends) (number stamp : ℕ) → Stored a queues owns number stamp → b.slots ≡ a.slots → b.keys ≡ a.keys → b.last ≡ a.last → Stored b queues owns number stamp
+room_keeps a b queues owns number stamp q e f last =
     record {
       named = rw (e, f) q.named;
       numbers = rw e q.numbers;
@@ -673,6 +740,7 @@ room_keeps a b queues owns number stamp q e f =
       listed = rw e q.listed;
       rows = q.rows;
       few = q.few;
+      last = rw last q.last;
       queue_counts = rw (e, f) q.queue_counts;
       own_counts = rw (e, f) q.own_counts;
     }

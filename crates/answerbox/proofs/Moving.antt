@@ -1,10 +1,9 @@
 -- Both lists of a call stay linked where it comes, moves, is forgotten or leaves.
-use Rattle.std.proofs.Common.{◌≡◌, ℕ, ◌+◌, ◌*◌, ◌<◌, ◌≤◌, ◌⊎◌, ◌^◌, Bool, true, false, cond, ◌==◌, List, length, Option, None, Some, IsSome, IfSome, option_map, refl, sym, ap, ◌∙◌, arith, ⊎_elim, inl, inr}
+use Rattle.std.proofs.Common.{◌≡◌, ℕ, ◌+◌, ◌*◌, ◌<◌, ◌≤◌, ◌^◌, cond, ◌==◌, List, length, Option, None, Some, IsSome, IfSome, option_map, refl, sym, ap, ◌∙◌, arith, ⊎_elim}
 use Rattle.std.specs.Prelude.{option_and_then}
-use Rattle.std.specs.Ordering.{nat_cmp, eq_by_cmp}
 use Rattle.std.specs.Cmp.{nat_cmp_total}
-use Rattle.std.specs.FinMap.{FinMap, get, insert, remove, get-insert, get-remove}
-use Rattle.std.proofs.lemmas.Bool.{cases_eq, cases_lt}
+use Rattle.std.specs.FinMap.{get, insert, get-insert, get-remove}
+use Rattle.std.proofs.lemmas.Bool.{cases_eq}
 use Rattle.call_slab.specs.declared.call.Call.{Call}
 use Rattle.call_slab.specs.declared.call.Place.{Place}
 use Rattle.call_slab.specs.declared.call.Place.TheVariants.{Incoming, Dispatched, Answers}
@@ -16,11 +15,11 @@ use Rattle.answerbox.specs.declared.chains.Chain.{Chain}
 use Rattle.answerbox.specs.declared.chains.Chain.TheVariants.{Queue, Own}
 use Rattle.answerbox.specs.Calls.{task_of}
 use Rattle.answerbox.specs.Order.{Spot, Linked}
-use Rattle.answerbox.specs.Chain.{Slots, Core, core, cores, next_link, previous_link, next_in, previous_in, place_index, row_of, rank_of, spot_of, spot_at, spots, first_of, last_of, Chained, unlinked_slots, unlinked_rows, appended_slots, appended_rows, IsBetween, IsBehind}
+use Rattle.answerbox.specs.Chain.{Slots, Core, core, cores, next_link, previous_link, next_in, previous_in, place_index, row_of, rank_of, spot_at, spots, first_of, last_of, Chained, unlinked_slots, unlinked_rows, appended_slots, appended_rows, IsBetween, IsBehind}
 use Rattle.answerbox.specs.Moving.{row_at, with_call, placed, out_slots, out_rows, moved_slots, moved_rows, new_slot, new_slots, left_slots, no_caller, forgotten_slots}
 use Rattle.answerbox.proofs.Order.{some_same, Without}
 use Rattle.answerbox.proofs.Chain.{same_key, other_key, get_here, get_there, live_cores, cores-unlinked, cores-appended, other-unlinked, other-appended, key_is, key_not, length-unlinked, within_ends}
-use Rattle.answerbox.proofs.Passing.{live_spot, chain_kept, chain_passed, chain_left, chain_joined, core_spot, between, behind}
+use Rattle.answerbox.proofs.Passing.{live_spot, chain_kept, chain_passed, chain_left, chain_joined, between, behind}
 
 -- what a slot has, and what it is
 pub core_is : (o : Option Slot) (c : Core) → option_map core o ≡ Some c → (s : Slot) × (o ≡ Some s) × (core s ≡ c)

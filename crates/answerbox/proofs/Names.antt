@@ -1,16 +1,16 @@
 -- The calls by number, through the keys.
-use Rattle.std.proofs.Common.{◌≡◌, ◌≢◌, ℕ, ◌+◌, ◌<◌, ◌≤◌, ◌⊎◌, Bool, true, false, cond, ◌&&◌, List, [], ◌∷◌, Option, None, Some, IsSome, option_map, refl, sym, ap, ◌∙◌, arith, ⊎_elim, T}
+use Rattle.std.proofs.Common.{◌≡◌, ℕ, ◌<◌, true, false, cond, List, [], ◌∷◌, Option, None, Some, IsSome, option_map, refl, sym, ap, ◌∙◌, arith, ⊎_elim, T}
 use Rattle.std.specs.Ordering.{nat_cmp, eq_by_cmp, is_eq, is_lt}
 use Rattle.std.specs.Cmp.{nat_cmp_total}
 use Rattle.std.specs.Option.{option_map_or}
-use Rattle.std.specs.FinMap.{FinMap, find, get, insert, remove, entries, entries_sorted, is_sorted, get-insert, get-remove, get-from_entries, get-entries, same_map, nat_cmp-IsAntisymmetric}
+use Rattle.std.specs.FinMap.{find, get, insert, remove, entries, entries_sorted, is_sorted, get-insert, get-remove, get-from_entries, get-entries, same_map, nat_cmp-IsAntisymmetric}
 use Rattle.std.specs.FinMap.Entries.{below_all}
 use Rattle.std.proofs.lemmas.Bool.{cases_eq}
 use Rattle.std.proofs.lemmas.Bool.Decides.{nat_tests}
 use Rattle.call_slab.specs.declared.call.Call.{Call}
 use Rattle.call_slab.specs.declared.calls.Slot.{Slot}
 use Rattle.call_slab.specs.Calls.{CallsState}
-use Rattle.answerbox.specs.Chain.{Slots, Core, core, cores}
+use Rattle.answerbox.specs.Chain.{Slots, Core, cores}
 use Rattle.answerbox.specs.Stored.{named, calls_in, Named}
 use Rattle.answerbox.proofs.Chain.{same_key, other_key}
 use Rattle.answerbox.proofs.Fronts.{first, second, key_same, ties, not_tied}

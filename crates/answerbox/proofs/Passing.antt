@@ -1,17 +1,16 @@
 -- A list stays linked where a call is passed over, and where one comes last.
-use Rattle.std.proofs.Common.{◌≡◌, ℕ, ◌+◌, ◌*◌, ◌<◌, ◌≤◌, ◌⊎◌, Bool, true, false, cond, ◌==◌, List, length, Option, None, Some, IsSome, IfSome, option_map, refl, sym, ap, ◌∙◌, arith, ⊎_elim, inl, inr}
-use Rattle.std.specs.FinMap.{FinMap, get}
-use Rattle.std.proofs.lemmas.Bool.{cases_eq, cases_lt}
-use Rattle.call_slab.specs.declared.call.Call.{Call}
+use Rattle.std.proofs.Common.{◌≡◌, ℕ, ◌+◌, ◌<◌, ◌≤◌, true, false, cond, ◌==◌, List, length, Option, None, Some, IsSome, IfSome, option_map, refl, sym, ap, ◌∙◌, arith, ⊎_elim}
+use Rattle.std.specs.FinMap.{get}
+use Rattle.std.proofs.lemmas.Bool.{cases_eq}
 use Rattle.call_slab.specs.declared.calls.Slot.{Slot}
 use Rattle.call_slab.specs.declared.calls.Links.{Links}
-use Rattle.call_slab.specs.Calls.{at_key, links_of, no_links}
+use Rattle.call_slab.specs.Calls.{links_of}
 use Rattle.answerbox.specs.declared.chains.Ends.{Ends}
 use Rattle.answerbox.specs.declared.chains.Chain.{Chain}
-use Rattle.answerbox.specs.Order.{Spot, Least, Greatest, IsLeast, IsGreatest, Apart, Linked}
-use Rattle.answerbox.specs.Chain.{Slots, Core, core, cores, next_link, previous_link, with_next, with_previous, next_in, previous_in, row_of, rank_of, spot_of, spot_at, spots, first_of, last_of, next_put, passed_slots, passed_ends, joined_slots, joined_ends, at_row, Chained, unlinked_slots, unlinked_rows, appended_slots, appended_rows, IsBetween, IsBehind}
-use Rattle.answerbox.proofs.Order.{some_same, raised, Without, With, is_key, is_key_true, is_key_false, or_key, unlinked, joined, group_same, group_other, before_after, after_before, first_before, before_first, last_after, after_last}
-use Rattle.answerbox.proofs.Chain.{live_cores, cores-next_put, cores-passed, cores-joined, next-with_next, previous-with_next, previous-with_previous, next-previous_put, previous-next_put, next-next_put, previous-previous_put, first-passed, last-passed, first-joined, last-joined, or_none, same_test, within_ends, link_here, link_there, key_is, key_not}
+use Rattle.answerbox.specs.Order.{Spot, Greatest, IsLeast, IsGreatest, Linked}
+use Rattle.answerbox.specs.Chain.{Slots, Core, core, cores, next_link, previous_link, with_next, with_previous, next_in, previous_in, row_of, rank_of, spot_at, spots, first_of, last_of, next_put, passed_slots, passed_ends, joined_slots, joined_ends, at_row, Chained, unlinked_slots, unlinked_rows, appended_slots, appended_rows, IsBetween, IsBehind}
+use Rattle.answerbox.proofs.Order.{some_same, raised, Without, is_key, is_key_true, is_key_false, or_key, unlinked, joined, group_same, group_other, before_after, after_before, first_before, before_first, last_after, after_last}
+use Rattle.answerbox.proofs.Chain.{live_cores, cores-next_put, cores-joined, next-with_next, previous-with_next, previous-with_previous, next-previous_put, previous-next_put, next-next_put, previous-previous_put, first-passed, last-passed, first-joined, last-joined, or_none, same_test, within_ends, link_here, link_there, key_is}
 
 pub live_spot : (ch : Chain) (m : Slots) (q : ℕ) (y : Spot) → spots ch m q ≡ Some y → IsSome (get m q)
 live_spot ch m q y e = by (get m q) e

@@ -1,16 +1,14 @@
 -- What becomes of the slots and of the ends where a call comes, moves, is forgotten or leaves.
-use Rattle.std.specs.Prelude.{ℕ, List, Option, None, Some, option_and_then}
-use Rattle.std.specs.Ordering.{nat_cmp}
-use Rattle.std.specs.FinMap.{FinMap, get, insert, remove}
+use Rattle.std.specs.Prelude.{ℕ, ◌<◌, List, length, Option, None, Some, IfSome, option_and_then}
+use Rattle.std.specs.FinMap.{get, insert, remove}
 use Rattle.call_slab.specs.declared.call.Call.{Call}
 use Rattle.call_slab.specs.declared.call.Place.{Place}
 use Rattle.call_slab.specs.declared.calls.Slot.{Slot}
-use Rattle.call_slab.specs.declared.calls.Links.{Links}
-use Rattle.call_slab.specs.Calls.{at_key, call_of, links_of, no_links}
+use Rattle.call_slab.specs.Calls.{CallsState, at_key, call_of, links_of, no_links}
 use Rattle.answerbox.specs.declared.chains.Ends.{Ends}
 use Rattle.answerbox.specs.declared.chains.Chain.{Chain}
 use Rattle.answerbox.specs.declared.chains.Chain.TheVariants.{Queue, Own}
-use Rattle.answerbox.specs.Chain.{Slots, place_index, row_of, unlinked_slots, unlinked_rows, appended_slots, appended_rows}
+use Rattle.answerbox.specs.Chain.{Slots, place_index, row_of, Chained, AreFew, unlinked_slots, unlinked_rows, appended_slots, appended_rows}
 
 -- the number of the list in which the key stands
 abbrev pub row_at : Chain → Slots → ℕ → Option ℕ
@@ -47,6 +45,18 @@ new_slot c = record { name = c.number.0; call = c; links = no_links }
 -- a new call comes last in its queue and in the list of its caller
 abbrev pub new_slots : Slots → List Ends → List Ends → ℕ → Call → Slots
 new_slots m queues owns k c = appended_slots Own (appended_slots Queue (insert m k (new_slot c)) queues (row_of Queue c) k) owns (row_of Own c) k
+
+-- a call may come: there is room for it, its number and its stamp are above all before, and its lists
+-- are there
+pub record MayCome (a : CallsState) (queues owns : List Ends) (c : Call) : Type 0 where
+  pub room : 0 < a.spare
+  pub above : a.last < c.number.0
+  pub queued : Chained Queue a.slots queues c.stamp
+  pub listed : Chained Own a.slots owns c.number.0
+  pub within : place_index c.place < length queues
+  pub caller : IfSome (row_of Own c) (λ t. t < length owns)
+  pub counts : AreFew queues
+  pub own_counts : AreFew owns
 
 -- the key leaves both lists and is free
 abbrev pub left_slots : Slots → ℕ → Slots

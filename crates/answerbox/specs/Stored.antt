@@ -48,6 +48,7 @@ pub record Stored (a : CallsState) (queues owns : List Ends) (number stamp : ℕ
   pub numbers : NumbersBelow (cores a.slots) number
   pub first : 0 < number
   pub few : number ≤ 2 ^ 63
+  pub last : a.last < number
   pub queued : Chained Queue a.slots queues stamp
   pub listed : Chained Own a.slots owns number
   pub rows : length queues ≡ 3 * length owns

@@ -5,7 +5,6 @@
 
 mod boxes;
 mod chains;
-mod change;
 mod moves;
 #[cfg(test)]
 mod tests;

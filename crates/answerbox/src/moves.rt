@@ -5,12 +5,12 @@ ghost use Rattle.call_slab.specs.Calls.{name_of, call_of};
 ghost use Rattle.answerbox.specs.declared.chains.Chain.TheVariants.{Queue, Own};
 ghost use Rattle.answerbox.specs.Calls.{task_of};
 ghost use Rattle.answerbox.specs.Chain.{place_index, row_of, with_slots, Chained, AreLinked, AreFew, appended_rows};
-ghost use Rattle.answerbox.specs.Moving.{out_rows, moved_slots, moved_rows, new_slots, left_slots, forgotten_slots};
+ghost use Rattle.answerbox.specs.Moving.{out_rows, moved_slots, moved_rows, new_slots, MayCome, left_slots, forgotten_slots};
 
 use crate::chains::{Chain, Ends, append, index_of, unlink};
 use call_slab::{Call, CallKey, Calls, Place};
 use ipc_ids::Steps;
-use std::sync::ledger::Ledger;
+use std::sync::ledger::{Blank, Ledger};
 
 /// Moves a call to the end of the queue of that place, with that stamp.
 pub fn relocate<L: Ledger>(
@@ -51,29 +51,26 @@ pub fn admit<L: Ledger>(
     queues: &mut Vec<Ends>,
     owns: &mut Vec<Ends>,
     call: Call,
-    steps: &mut Steps<L>,
+    blank: Blank,
 ) -> CallKey
-    requires room { 0 < calls.old.spare }
-    requires queued { Chained Queue calls.old.slots queues.old.items call.stamp }
-    requires listed { Chained Own calls.old.slots owns.old.items call.number.0 }
-    requires within { place_index call.place < length queues.old.items }
-    requires caller { IfSome (row_of Own call) (λ t. t < length owns.old.items) }
-    requires counts { AreFew queues.old.items }
-    requires own_counts { AreFew owns.old.items }
+    requires blank { (blank.name ≡ L.name) × (blank.parts ≡ L.parts) × (0 < blank.parts) }
+    requires may { MayCome calls.old queues.old.items owns.old.items call }
     requires few { length queues.old.items < 2 ^ 63 }
     ensures fresh { get calls.old.slots result ≡ None }
     ensures slots { calls.new.slots ≡
         new_slots calls.old.slots queues.old.items owns.old.items result call }
     ensures keys { calls.new.keys ≡ insert calls.old.keys call.number.0 result }
+    ensures last { calls.new.last ≡ call.number.0 }
     ensures spare { calls.old.spare ≤ calls.new.spare + 1 }
     ensures queues { queues.new.items ≡ appended_rows queues.old.items (row_of Queue call) result }
     ensures owns { owns.new.items ≡ appended_rows owns.old.items (row_of Own call) result }
 {
+    let mut steps = Steps::<L>::new(blank);
     let row = Chain::Queue.row_of(&call);
     let own = Chain::Own.row_of(&call);
     let key = calls.put(call);
-    append(calls, queues, Chain::Queue, row, key, steps);
-    append(calls, owns, Chain::Own, own, key, steps);
+    append(calls, queues, Chain::Queue, row, key, &mut steps);
+    append(calls, owns, Chain::Own, own, key, &mut steps);
     key
 }
 
@@ -91,9 +88,10 @@ pub fn dismiss<L: Ledger>(
     ensures call { call_of (get calls.old.slots key) ≡ Some result }
     ensures slots { calls.new.slots ≡ left_slots calls.old.slots key }
     ensures keys { calls.new.keys ≡ remove calls.old.keys (name_of (get calls.old.slots key)) }
+    ensures last { calls.new.last ≡ calls.old.last }
     ensures spare { calls.old.spare ≤ calls.new.spare }
-    ensures queues { queues.new.items ≡ out_rows Queue calls.old.slots queues.old.items key }
-    ensures owns { owns.new.items ≡ out_rows Own calls.old.slots owns.old.items key }
+    ensures rows { (queues.new.items ≡ out_rows Queue calls.old.slots queues.old.items key)
+        × (owns.new.items ≡ out_rows Own calls.old.slots owns.old.items key) }
     ensures steps { steps.new ≤ steps.old + 11 }
 {
     let call = calls.get(key, steps);

@@ -1,21 +1,52 @@
-//! A call goes from place to place, and leaves.
-ghost use Rattle.std.specs.Prelude.{◌≡◌, ◌<◌, ◌≤◌, Option, Some};
-ghost use Rattle.answerbox.specs.Calls.{task_of};
+//! A call goes from place to place, and leaves: steps of plain data, done by small functions that
+//! test what a call of the boxes wants.
+ghost use Rattle.std.specs.Prelude.{◌≡◌, ◌<◌, ◌≤◌, ◌^◌, Option, Some, IsSome, IfOk, [], length, ◌+◌};
+ghost use Rattle.answerbox.specs.Calls.{call_at, task_of, used};
 
 use super::*;
 use call_slab::{Call, Place};
 use ipc_ids::{Buffer, CallNo, Code, Label, Msg, PhoneNo, Reply, Steps, TaskNo};
 use std::alloc::Global;
 use std::marker::Brand;
-use std::process::Abort;
 use std::sync::ledger::{Blank, Ledger};
 use std::test::Fail;
+
+/// What numbers and stamps stay below here.
+const FAR: u64 = 1 << 40;
+
+const ONE: TaskNo = TaskNo(1);
+
+const TWO: TaskNo = TaskNo(2);
+
+const THREE: TaskNo = TaskNo(3);
+
+const FROM_ONE: Label = Label {
+    task: ONE,
+    phone: PhoneNo(0),
+};
+
+const LABEL: Label = Label {
+    task: TWO,
+    phone: PhoneNo(4),
+};
+
+/// What a call asks at first.
+const FIRST: Msg = Msg {
+    method: 512,
+    args: [0; 5],
+};
+
+const OTHER: Msg = Msg {
+    method: 700,
+    args: [0; 5],
+};
 
 /// A call of that caller that stands at that place.
 fn call_from(alloc: Global, number: CallNo, caller: TaskNo, place: Place) -> Call
     ensures number { result.number ≡ number }
     ensures caller { result.caller ≡ Some caller }
     ensures place { result.place ≡ place }
+    ensures buffer { result.buffer ≡ [] }
 {
     let phone = PhoneNo(0);
     let from = Label {
@@ -39,137 +70,203 @@ fn call_from(alloc: Global, number: CallNo, caller: TaskNo, place: Place) -> Cal
     }
 }
 
-#[test]
-fn calls_go_from_place_to_place(rt: HostRuntime) -> Result<(), Fail> {
-    calls_go_from_place_to_place_counted::<Brand>(&rt, rt.alloc(), Blank::new(1))
+/// What is done with the calls of three tasks.
+#[derive(Clone, Copy)]
+enum Does<'a> {
+    /// A call of the task comes to the place, and gets the number.
+    Send(TaskNo, Place, u64),
+    Move(u64, Place),
+    Receive(u64, Msg, Option<Label>, Place),
+    Answer(u64, Code, Place),
+    AnswerWith(u64, &'a [u8], Place),
+    Readdress(u64, Msg, Label, Option<Label>, Place),
+    SetMsg(u64, Msg, Label),
+    SetRequest(u64, Msg),
+    SetReply(u64, Code),
+    SetReserved(u64, Option<Label>),
+    SetBuffer(u64, &'a [u8]),
+    /// The call leaves, with this reply and these bytes.
+    Leave(u64, Code, &'a [u8]),
+    Forget(u64),
+    /// The front of the place is this call, or none where it is 0.
+    Front(Place, u64),
+    /// The first call of the caller is this one, or none where it is 0.
+    First(TaskNo, u64),
+    /// The next call of the same caller is this one, or none where it is 0.
+    Next(u64, u64),
+    /// The call has this message, label, reserved phone and stamp.
+    Shows(u64, Msg, Label, Option<Label>, u64),
+    /// The call has this request.
+    Asks(u64, Msg),
+    Gone(u64),
+    Stamp(u64),
+    /// So many bytes are carried.
+    Carried(u64),
 }
 
-fn calls_go_from_place_to_place_counted<L: Ledger>(
-    rt: &impl Abort,
-    alloc: Global,
-    blank: Blank,
-) -> Result<(), Fail>
-    requires name { blank.name ≡ L.name }
-    requires parts { blank.parts ≡ L.parts }
-    requires some { 0 < blank.parts }
+fn number_of(call: Option<CallNo>) -> u64 {
+    match call {
+        Some(call) => call.0,
+        None => 0,
+    }
+}
+
+/// The place, where its task is one of three.
+fn within(place: Place) -> Result<Place, Fail>
+    ensures { IfOk result (λ p. task_of p ≤ 3) }
 {
-    let mut steps = Steps::<L>::new(blank);
-    let mut boxes = Boxes::new(alloc);
-    boxes.add_task()?;
-    boxes.add_task()?;
-    boxes.reserve(2)?;
-    let (caller, receiver) = (TaskNo(1), TaskNo(2));
-    let incoming = Place::Incoming(receiver);
-    let dispatched = Place::Dispatched(receiver);
-    let answers = Place::Answers(caller);
-    let one = boxes.next_number();
-    boxes.enqueue(call_from(alloc, one, caller, incoming));
-    let two = boxes.next_number();
-    boxes.enqueue(call_from(alloc, two, caller, incoming));
-    assert_eq!(rt; boxes.next_stamp(), 3);
-    assert_eq!(rt; boxes.calls_of(caller), Some(CallNo(1)));
-    assert_eq!(rt; boxes.calls_of(receiver), None);
-    assert_eq!(rt; boxes.front(dispatched, &mut steps), None);
-    let Some(first) = boxes.front(incoming, &mut steps) else {
-        return Err(Fail::new("the place has no front"));
-    };
-    assert_eq!(rt; first, one);
-    boxes.move_to(first, dispatched, &mut steps);
-    assert_eq!(rt; boxes.front(incoming, &mut steps), Some(two));
-    assert_eq!(rt; boxes.front(dispatched, &mut steps), Some(one));
-    if let Some(first) = boxes.front(dispatched, &mut steps) {
-        boxes.answer(first, Reply::bare(Code::ENOENT), None, answers);
+    match place {
+        Place::Incoming(t) if t.0 <= 3 => Ok(place),
+        Place::Dispatched(t) if t.0 <= 3 => Ok(place),
+        Place::Answers(t) if t.0 <= 3 => Ok(place),
+        _ => Err(Fail::new("no such task")),
     }
-    assert_eq!(rt; boxes.front(dispatched, &mut steps), None);
-    if let Some(first) = boxes.front(answers, &mut steps) {
-        let gone = boxes.leave(first, &mut steps);
-        assert_eq!(rt; gone.number, one);
-        assert_eq!(rt; gone.reply, Reply::bare(Code::ENOENT));
-    }
-    assert!(rt; boxes.get(one).is_none());
-    assert!(rt; boxes.get(two).is_some());
-    assert_eq!(rt; boxes.calls_of(caller), Some(two));
-    assert_eq!(rt; boxes.next_stamp(), 5);
-    let bytes = Buffer::from_slice(alloc, b"ab")?;
-    if let Some(second) = boxes.front(incoming, &mut steps) {
-        boxes.answer_with(second, Reply::bare(Code::EOK), bytes, answers);
-    }
-    if let Some(second) = boxes.front(answers, &mut steps) {
-        let gone = boxes.leave(second, &mut steps);
-        assert_eq!(rt; gone.number, two);
-        assert_eq!(rt; gone.buffer.as_slice(), b"ab".as_slice());
-    }
-    Ok(())
 }
 
-#[test]
-fn a_received_call_has_its_message_and_its_phone(rt: HostRuntime) -> Result<(), Fail> {
-    a_received_call_has_its_message_and_its_phone_counted::<Brand>(&rt, rt.alloc(), Blank::new(1))
-}
-
-fn a_received_call_has_its_message_and_its_phone_counted<L: Ledger>(
-    rt: &impl Abort,
-    alloc: Global,
-    blank: Blank,
-) -> Result<(), Fail>
-    requires name { blank.name ≡ L.name }
-    requires parts { blank.parts ≡ L.parts }
-    requires some { 0 < blank.parts }
+fn send(boxes: &mut Boxes, caller: TaskNo, place: Place) -> Result<u64, Fail>
+    requires tasks { boxes.old.tasks ≡ 3 }
+    ensures tasks { boxes.new.tasks ≡ 3 }
 {
-    let mut steps = Steps::<L>::new(blank);
-    let mut boxes = Boxes::new(alloc);
-    boxes.add_task()?;
-    boxes.add_task()?;
+    let place = within(place)?;
+    if caller.0 > 3 {
+        return Err(Fail::new("no such task"));
+    }
     boxes.reserve(1)?;
-    let (caller, receiver) = (TaskNo(1), TaskNo(2));
-    let one = boxes.next_number();
-    boxes.enqueue(call_from(alloc, one, caller, Place::Incoming(receiver)));
-    let reserved = Some(Label {
-        task: receiver,
-        phone: PhoneNo(3),
-    });
-    if let Some(first) = boxes.front(Place::Incoming(receiver), &mut steps) {
-        boxes.receive(first, Msg::bare(700), reserved, Place::Dispatched(receiver));
+    let number = boxes.next_number();
+    if number.0 >= FAR || boxes.next_stamp() >= FAR {
+        return Err(Fail::new("too many calls"));
     }
-    assert_eq!(rt; boxes.front(Place::Incoming(receiver), &mut steps), None);
-    assert_eq!(rt;
-        boxes.front(Place::Dispatched(receiver), &mut steps),
-        Some(one)
-    );
-    let Some(call) = boxes.get(one) else {
+    let _used = boxes.used();
+    let call = call_from(boxes.alloc(), number, caller, place);
+    boxes.enqueue(call);
+    Ok(number.0)
+}
+
+/// Bytes that the call may carry.
+fn bytes_of(boxes: &Boxes, bytes: &[u8]) -> Result<Buffer, Fail>
+    ensures few { IfOk result (λ buffer. used boxes.now.calls + length buffer < 2 ^ 63) }
+{
+    if boxes.used() >= FAR || bytes.len() >= 64 {
+        return Err(Fail::new("too many bytes"));
+    }
+    match Buffer::from_slice(boxes.alloc(), bytes) {
+        Ok(buffer) => Ok(buffer),
+        Err(_) => Err(Fail::new("no memory")),
+    }
+}
+
+/// Changes a call that is live, where it stands.
+fn set(boxes: &mut Boxes, number: u64, does: Does) -> Result<(), Fail>
+    requires tasks { boxes.old.tasks ≡ 3 }
+    ensures tasks { boxes.new.tasks ≡ 3 }
+{
+    let call = CallNo(number);
+    if boxes.get(call).is_none() {
         return Err(Fail::new("the call is gone"));
-    };
-    assert_eq!(rt; call.msg, Msg::bare(700));
-    assert_eq!(rt; call.request, Msg::bare(512));
-    assert_eq!(rt; call.reserved, reserved);
-    assert_eq!(rt; call.stamp, 2);
+    }
+    match does {
+        Does::SetMsg(_, msg, label) => boxes.set_msg(call, msg, label),
+        Does::SetRequest(_, request) => boxes.set_request(call, request),
+        Does::SetReply(_, code) => boxes.set_reply(call, Reply::bare(code)),
+        Does::SetReserved(_, phone) => boxes.set_reserved(call, phone),
+        Does::SetBuffer(_, bytes) => {
+            let bytes = bytes_of(boxes, bytes)?;
+            boxes.set_buffer(call, bytes);
+        }
+        _ => boxes.forget(call),
+    }
     Ok(())
 }
 
-#[test]
-fn a_caller_has_its_calls_by_rising_number(rt: HostRuntime) -> Result<(), Fail> {
-    let mut boxes = Boxes::new(rt.alloc());
-    boxes.add_task()?;
-    boxes.add_task()?;
-    boxes.reserve(3)?;
-    let (caller, other) = (TaskNo(1), TaskNo(2));
-    let incoming = Place::Incoming(other);
-    let one = boxes.next_number();
-    boxes.enqueue(call_from(rt.alloc(), one, caller, incoming));
-    let two = boxes.next_number();
-    boxes.enqueue(call_from(rt.alloc(), two, other, incoming));
-    let three = boxes.next_number();
-    boxes.enqueue(call_from(rt.alloc(), three, caller, incoming));
-    assert_eq!(rt; boxes.calls_of(caller), Some(one));
-    assert_eq!(rt; next_of_same_caller(&boxes, one), Some(three));
-    assert_eq!(rt; next_of_same_caller(&boxes, two), None);
-    assert_eq!(rt; next_of_same_caller(&boxes, three), None);
-    if let Some(first) = boxes.calls_of(caller) {
-        boxes.forget(first);
+/// Moves a call that is live to the place.
+fn go(boxes: &mut Boxes, number: u64, does: Does, place: Place) -> Result<(), Fail>
+    requires tasks { boxes.old.tasks ≡ 3 }
+    ensures tasks { boxes.new.tasks ≡ 3 }
+{
+    let place = within(place)?;
+    if boxes.get(CallNo(number)).is_none() || boxes.next_stamp() >= FAR {
+        return Err(Fail::new("the call is gone"));
     }
-    assert_eq!(rt; boxes.calls_of(caller), Some(three));
-    assert_eq!(rt; next_of_same_caller(&boxes, one), None);
+    go_counted::<Brand>(boxes, CallNo(number), does, place, Blank::new(1))
+}
+
+fn go_counted<L: Ledger>(
+    boxes: &mut Boxes,
+    call: CallNo,
+    does: Does,
+    place: Place,
+    blank: Blank,
+) -> Result<(), Fail>
+    requires blank { (blank.name ≡ L.name) × (blank.parts ≡ L.parts) × (0 < blank.parts) }
+    requires live { IsSome (call_at boxes.old.calls call.0) }
+    requires task { task_of place ≤ boxes.old.tasks }
+    requires few_stamps { boxes.old.calls.next_stamp < 2 ^ 63 }
+    ensures tasks { boxes.new.tasks ≡ boxes.old.tasks }
+{
+    let mut steps = Steps::<L>::new(blank);
+    match does {
+        Does::Receive(_, msg, phone, _) => boxes.receive(call, msg, phone, place, &mut steps),
+        Does::Answer(_, code, _) => {
+            boxes.answer(call, Reply::bare(code), None, place, &mut steps);
+        }
+        Does::AnswerWith(_, bytes, _) => {
+            let bytes = bytes_of(boxes, bytes)?;
+            boxes.answer_with(call, Reply::bare(Code::EOK), bytes, place, &mut steps);
+        }
+        Does::Readdress(_, msg, label, phone, _) => {
+            boxes.readdress(call, msg, label, phone, place, &mut steps);
+        }
+        _ => boxes.move_to(call, place, &mut steps),
+    }
     Ok(())
+}
+
+/// Whether the call, which is live, leaves with this reply and these bytes.
+fn leaves(boxes: &mut Boxes, number: u64, code: Code, bytes: &[u8]) -> Result<bool, Fail>
+    requires tasks { boxes.old.tasks ≡ 3 }
+    ensures tasks { boxes.new.tasks ≡ 3 }
+{
+    let call = CallNo(number);
+    if boxes.get(call).is_none() {
+        return Err(Fail::new("the call is gone"));
+    }
+    let gone = leave_counted::<Brand>(boxes, call, Blank::new(1));
+    Ok(gone.number == call && gone.reply == Reply::bare(code) && gone.buffer.as_slice() == bytes)
+}
+
+fn leave_counted<L: Ledger>(boxes: &mut Boxes, call: CallNo, blank: Blank) -> Call
+    requires blank { (blank.name ≡ L.name) × (blank.parts ≡ L.parts) × (0 < blank.parts) }
+    requires live { IsSome (call_at boxes.old.calls call.0) }
+    ensures tasks { boxes.new.tasks ≡ boxes.old.tasks }
+{
+    let mut steps = Steps::<L>::new(blank);
+    boxes.leave(call, &mut steps)
+}
+
+/// The number of the call at the front, or 0.
+fn front(boxes: &Boxes, place: Place) -> Result<u64, Fail>
+    requires tasks { boxes.now.tasks ≡ 3 }
+{
+    let place = within(place)?;
+    Ok(number_of(front_counted::<Brand>(boxes, place, Blank::new(1))))
+}
+
+fn front_counted<L: Ledger>(boxes: &Boxes, place: Place, blank: Blank) -> Option<CallNo>
+    requires blank { (blank.name ≡ L.name) × (blank.parts ≡ L.parts) × (0 < blank.parts) }
+    requires task { task_of place ≤ boxes.now.tasks }
+{
+    let mut steps = Steps::<L>::new(blank);
+    boxes.front(place, &mut steps)
+}
+
+/// The number of the first call of the caller, or 0.
+fn first(boxes: &Boxes, caller: TaskNo) -> Result<u64, Fail>
+    requires tasks { boxes.now.tasks ≡ 3 }
+{
+    if caller.0 > 3 {
+        return Err(Fail::new("no such task"));
+    }
+    Ok(number_of(boxes.calls_of(caller)))
 }
 
 /// The next call of the same caller, where the call is live and its caller has not ended.
@@ -180,152 +277,293 @@ fn next_of_same_caller(boxes: &Boxes, number: CallNo) -> Option<CallNo> {
     }
 }
 
-#[test]
-fn a_readdressed_call_comes_last_to_its_next_place(rt: HostRuntime) -> Result<(), Fail> {
-    a_readdressed_call_comes_last_to_its_next_place_counted::<Brand>(&rt, rt.alloc(), Blank::new(1))
+fn shows(boxes: &Boxes, number: u64, msg: Msg, label: Label, phone: Option<Label>) -> bool {
+    match boxes.get(CallNo(number)) {
+        Some(call) => call.msg == msg && call.label == label && call.reserved == phone,
+        None => false,
+    }
 }
 
-fn a_readdressed_call_comes_last_to_its_next_place_counted<L: Ledger>(
-    rt: &impl Abort,
-    alloc: Global,
-    blank: Blank,
-) -> Result<(), Fail>
-    requires name { blank.name ≡ L.name }
-    requires parts { blank.parts ≡ L.parts }
-    requires some { 0 < blank.parts }
+/// The request and the stamp of the call.
+fn seen(boxes: &Boxes, number: u64) -> (Msg, u64) {
+    match boxes.get(CallNo(number)) {
+        Some(call) => (call.request, call.stamp),
+        None => (FIRST, 0),
+    }
+}
+
+/// Whether what is read of the calls is as it is said.
+fn reads(boxes: &Boxes, does: Does) -> Result<bool, Fail>
+    requires tasks { boxes.now.tasks ≡ 3 }
 {
-    let mut steps = Steps::<L>::new(blank);
+    match does {
+        Does::Front(place, number) => Ok(front(boxes, place)? == number),
+        Does::First(caller, number) => Ok(first(boxes, caller)? == number),
+        Does::Next(call, number) => {
+            Ok(number_of(next_of_same_caller(boxes, CallNo(call))) == number)
+        }
+        Does::Shows(call, msg, label, phone, stamp) => {
+            Ok(shows(boxes, call, msg, label, phone) && seen(boxes, call).1 == stamp)
+        }
+        Does::Asks(call, msg) => Ok(seen(boxes, call).0 == msg),
+        Does::Carried(count) => Ok(boxes.used() == count),
+        Does::Gone(call) => Ok(boxes.get(CallNo(call)).is_none()),
+        Does::Stamp(stamp) => Ok(boxes.next_stamp() == stamp),
+        _ => Ok(false),
+    }
+}
+
+/// Whether the step is done, or is as it is said.
+fn is_so(boxes: &mut Boxes, does: Does) -> Result<bool, Fail>
+    requires tasks { boxes.old.tasks ≡ 3 }
+    ensures tasks { boxes.new.tasks ≡ 3 }
+{
+    match does {
+        Does::Send(caller, place, number) => Ok(send(boxes, caller, place)? == number),
+        Does::Leave(call, code, bytes) => leaves(boxes, call, code, bytes),
+        Does::Move(call, place)
+        | Does::Receive(call, _, _, place)
+        | Does::Answer(call, _, place)
+        | Does::AnswerWith(call, _, place)
+        | Does::Readdress(call, _, _, _, place) => {
+            go(boxes, call, does, place)?;
+            Ok(true)
+        }
+        Does::SetMsg(call, ..)
+        | Does::SetRequest(call, ..)
+        | Does::SetReply(call, ..)
+        | Does::SetReserved(call, ..)
+        | Does::SetBuffer(call, ..)
+        | Does::Forget(call) => {
+            set(boxes, call, does)?;
+            Ok(true)
+        }
+        _ => reads(boxes, does),
+    }
+}
+
+/// The number of the first step that is not so, or 0.
+fn first_wrong(boxes: &mut Boxes, steps: &[Does]) -> Result<usize, Fail>
+    requires tasks { boxes.old.tasks ≡ 3 }
+{
+    let mut at = 0usize;
+    for does in steps {
+        at = at.saturating_add(1);
+        if !is_so(boxes, *does)? {
+            return Ok(at);
+        }
+    }
+    Ok(0)
+}
+
+fn three_tasks(alloc: Global) -> Result<Boxes, Fail>
+    ensures { IfOk result (λ boxes. boxes.tasks ≡ 3) }
+{
     let mut boxes = Boxes::new(alloc);
     boxes.add_task()?;
     boxes.add_task()?;
     boxes.add_task()?;
-    boxes.reserve(2)?;
-    let (caller, receiver, third) = (TaskNo(1), TaskNo(2), TaskNo(3));
-    let one = boxes.next_number();
-    boxes.enqueue(call_from(alloc, one, caller, Place::Incoming(receiver)));
-    let two = boxes.next_number();
-    boxes.enqueue(call_from(alloc, two, caller, Place::Incoming(third)));
-    let label = Label {
-        task: receiver,
-        phone: PhoneNo(4),
-    };
-    if let Some(first) = boxes.front(Place::Incoming(receiver), &mut steps) {
-        boxes.readdress(
-            first,
-            Msg::bare(700),
-            label,
-            Some(label),
-            Place::Incoming(third),
-        );
-    }
-    assert_eq!(rt; boxes.front(Place::Incoming(receiver), &mut steps), None);
-    assert_eq!(rt; boxes.front(Place::Incoming(third), &mut steps), Some(two));
-    let Some(call) = boxes.get(one) else {
-        return Err(Fail::new("the call is gone"));
-    };
-    assert_eq!(rt; call.msg, Msg::bare(700));
-    assert_eq!(rt; call.request, Msg::bare(512));
-    assert_eq!(rt; call.label, label);
-    assert_eq!(rt; call.reserved, Some(label));
-    assert_eq!(rt; call.stamp, 3);
-    Ok(())
+    Ok(boxes)
 }
 
-/// What numbers and stamps stay below here.
-const FAR: u64 = 1 << 40;
+fn run(alloc: Global, steps: &[Does]) -> Result<usize, Fail> {
+    let mut boxes = three_tasks(alloc)?;
+    first_wrong(&mut boxes, steps)
+}
 
-/// Sends that many calls of the caller to the place.
-fn send(
-    boxes: &mut Boxes,
-    alloc: Global,
-    caller: TaskNo,
-    place: Place,
-    count: usize,
-) -> Result<(), Fail>
-    requires task { task_of place ≤ boxes.old.tasks }
-    requires caller { caller.0 ≤ boxes.old.tasks }
-    ensures tasks { boxes.new.tasks ≡ boxes.old.tasks }
+const INCOMING: Place = Place::Incoming(TWO);
+
+const DISPATCHED: Place = Place::Dispatched(TWO);
+
+const ANSWERS: Place = Place::Answers(ONE);
+
+const FROM_PLACE_TO_PLACE: [Does<'static>; 25] = [
+    Does::Send(ONE, INCOMING, 1),
+    Does::Send(ONE, INCOMING, 2),
+    Does::Stamp(3),
+    Does::First(ONE, 1),
+    Does::First(TWO, 0),
+    Does::Front(DISPATCHED, 0),
+    Does::Front(INCOMING, 1),
+    Does::Move(1, DISPATCHED),
+    Does::Front(INCOMING, 2),
+    Does::Front(DISPATCHED, 1),
+    Does::Answer(1, Code::ENOENT, ANSWERS),
+    Does::Front(DISPATCHED, 0),
+    Does::Front(ANSWERS, 1),
+    Does::Leave(1, Code::ENOENT, b""),
+    Does::Gone(1),
+    Does::First(ONE, 2),
+    Does::Stamp(5),
+    Does::Front(INCOMING, 2),
+    Does::Carried(0),
+    Does::AnswerWith(2, b"ab", ANSWERS),
+    Does::Front(ANSWERS, 2),
+    Does::Carried(2),
+    Does::Leave(2, Code::EOK, b"ab"),
+    Does::Gone(2),
+    Does::Carried(0),
+];
+
+const RECEIVED: [Does<'static>; 7] = [
+    Does::Send(ONE, INCOMING, 1),
+    Does::Front(INCOMING, 1),
+    Does::Receive(1, OTHER, Some(LABEL), DISPATCHED),
+    Does::Front(INCOMING, 0),
+    Does::Front(DISPATCHED, 1),
+    Does::Shows(1, OTHER, FROM_ONE, Some(LABEL), 2),
+    Does::Asks(1, FIRST),
+];
+
+const BY_RISING_NUMBER: [Does<'static>; 10] = [
+    Does::Send(ONE, INCOMING, 1),
+    Does::Send(TWO, INCOMING, 2),
+    Does::Send(ONE, INCOMING, 3),
+    Does::First(ONE, 1),
+    Does::Next(1, 3),
+    Does::Next(2, 0),
+    Does::Next(3, 0),
+    Does::Forget(1),
+    Does::First(ONE, 3),
+    Does::Next(1, 0),
+];
+
+const READDRESSED: [Does<'static>; 7] = [
+    Does::Send(ONE, INCOMING, 1),
+    Does::Send(ONE, Place::Incoming(THREE), 2),
+    Does::Readdress(1, OTHER, LABEL, Some(LABEL), Place::Incoming(THREE)),
+    Does::Front(INCOMING, 0),
+    Does::Front(Place::Incoming(THREE), 2),
+    Does::Shows(1, OTHER, LABEL, Some(LABEL), 3),
+    Does::Asks(1, FIRST),
+];
+
+const SET: [Does<'static>; 13] = [
+    Does::Send(ONE, INCOMING, 1),
+    Does::SetMsg(1, OTHER, LABEL),
+    Does::Shows(1, OTHER, LABEL, None, 1),
+    Does::Asks(1, FIRST),
+    Does::SetRequest(1, OTHER),
+    Does::Asks(1, OTHER),
+    Does::SetReserved(1, Some(LABEL)),
+    Does::Shows(1, OTHER, LABEL, Some(LABEL), 1),
+    Does::SetReply(1, Code::EPERM),
+    Does::SetBuffer(1, b"abc"),
+    Does::Carried(3),
+    Does::Front(INCOMING, 1),
+    Does::Leave(1, Code::EPERM, b"abc"),
+];
+
+/// That many calls of the first task come to the place.
+fn sends(boxes: &mut Boxes, place: Place, count: usize) -> Result<(), Fail>
+    requires tasks { boxes.old.tasks ≡ 3 }
+    ensures tasks { boxes.new.tasks ≡ 3 }
 {
     boxes.reserve(count)?;
     for _ in 0..count {
-        let number = boxes.next_number();
-        if number.0 >= FAR || boxes.next_stamp() >= FAR {
-            return Err(Fail::new("too many calls"));
-        }
-        boxes.enqueue(call_from(alloc, number, caller, place));
+        send(boxes, ONE, place)?;
     }
     Ok(())
 }
 
-/// Takes the call out, which is live.
-fn take<L: Ledger>(boxes: &mut Boxes, number: CallNo, steps: &mut Steps<L>) -> Result<(), Fail>
-    ensures tasks { boxes.new.tasks ≡ boxes.old.tasks }
+/// Whether so many calls leave from the front, whose numbers rise by `step` from `number` on.
+fn come_to_the_front(
+    boxes: &mut Boxes,
+    place: Place,
+    number: u64,
+    step: u64,
+    count: u64,
+) -> Result<bool, Fail>
+    requires tasks { boxes.old.tasks ≡ 3 }
+    ensures tasks { boxes.new.tasks ≡ 3 }
 {
-    if boxes.get(number).is_none() {
-        return Err(Fail::new("the call is gone"));
+    for i in 0..count {
+        let next = number.saturating_add(step.saturating_mul(i));
+        if !is_so(boxes, Does::Front(place, next))?
+            || !is_so(boxes, Does::Leave(next, Code::EOK, b""))?
+        {
+            return Ok(false);
+        }
     }
-    boxes.leave(number, steps);
-    Ok(())
+    Ok(true)
 }
+
+/// Whether the calls with even numbers up to twice the count leave, the highest first where they
+/// fall.
+fn even_leave(boxes: &mut Boxes, count: u64, falls: bool) -> Result<bool, Fail>
+    requires tasks { boxes.old.tasks ≡ 3 }
+    ensures tasks { boxes.new.tasks ≡ 3 }
+{
+    for i in 0..count {
+        let half = if falls { count - i } else { i + 1 };
+        if !is_so(boxes, Does::Leave(half.saturating_mul(2), Code::EOK, b""))? {
+            return Ok(false);
+        }
+    }
+    Ok(true)
+}
+
+/// Whether 1,000 calls come, every second one leaves, 500 more come, and all leave in order.
+fn arrive(boxes: &mut Boxes) -> Result<bool, Fail>
+    requires tasks { boxes.old.tasks ≡ 3 }
+    ensures tasks { boxes.new.tasks ≡ 3 }
+{
+    sends(boxes, INCOMING, 1000)?;
+    let left = even_leave(boxes, 500, false)?;
+    sends(boxes, INCOMING, 500)?;
+    let are_held = boxes.calls_at(INCOMING) == 1000 && boxes.calls_by(ONE) == 1000;
+    let odd = come_to_the_front(boxes, INCOMING, 1, 2, 500)?;
+    Ok(left && are_held && odd && come_to_the_front(boxes, INCOMING, 1001, 1, 500)?)
+}
+
+/// Whether 400,000 calls come, those with even numbers leave by falling number, and all leave in
+/// order.
+fn are_many(boxes: &mut Boxes) -> Result<bool, Fail>
+    requires tasks { boxes.old.tasks ≡ 3 }
+    ensures tasks { boxes.new.tasks ≡ 3 }
+{
+    sends(boxes, INCOMING, 400000)?;
+    let left = even_leave(boxes, 200000, true)?;
+    Ok(left && come_to_the_front(boxes, INCOMING, 1, 2, 200000)?)
+}
+
+fn run_many(alloc: Global) -> Result<bool, Fail> {
+    let mut boxes = three_tasks(alloc)?;
+    let arrived = arrive(&mut boxes)?;
+    Ok(arrived && first_wrong(&mut boxes, &EMPTY)? == 0)
+}
+
+fn run_most(alloc: Global) -> Result<bool, Fail> {
+    let mut boxes = three_tasks(alloc)?;
+    let were_many = are_many(&mut boxes)?;
+    Ok(were_many && first_wrong(&mut boxes, &EMPTY)? == 0)
+}
+
+const EMPTY: [Does<'static>; 2] = [Does::Front(INCOMING, 0), Does::First(ONE, 0)];
 
 #[test]
 fn calls_leave_in_the_order_of_arrival(rt: HostRuntime) -> Result<(), Fail> {
-    arrival_counted::<Brand>(&rt, rt.alloc(), Blank::new(1))
-}
-
-/// 1,000 calls come, every second one leaves, 500 more come; then all leave from the front.
-fn arrival_counted<L: Ledger>(rt: &impl Abort, alloc: Global, blank: Blank) -> Result<(), Fail>
-    requires name { blank.name ≡ L.name }
-    requires parts { blank.parts ≡ L.parts }
-    requires some { 0 < blank.parts }
-{
-    let mut steps = Steps::<L>::new(blank);
-    let mut boxes = Boxes::new(alloc);
-    boxes.add_task()?;
-    boxes.add_task()?;
-    let (caller, place) = (TaskNo(1), Place::Incoming(TaskNo(2)));
-    send(&mut boxes, alloc, caller, place, 1000)?;
-    for half in 1..501 {
-        take(&mut boxes, CallNo(2 * half), &mut steps)?;
-    }
-    send(&mut boxes, alloc, caller, place, 500)?;
-    assert_eq!(rt; boxes.calls_at(place), 1000);
-    assert_eq!(rt; boxes.calls_by(caller), 1000);
-    for i in 0..1000 {
-        let next = if i < 500 { 2 * i + 1 } else { i + 501 };
-        assert_eq!(rt; boxes.front(place, &mut steps), Some(CallNo(next)));
-        take(&mut boxes, CallNo(next), &mut steps)?;
-    }
-    assert_eq!(rt; boxes.front(place, &mut steps), None);
-    assert_eq!(rt; boxes.calls_of(caller), None);
+    assert!(rt; run_many(rt.alloc())?);
     Ok(())
 }
 
 #[test]
 fn many_calls_leave_one_queue(rt: HostRuntime) -> Result<(), Fail> {
-    many_counted::<Brand>(&rt, rt.alloc(), Blank::new(1))
+    assert!(rt; run_most(rt.alloc())?);
+    Ok(())
 }
 
-/// 400,000 calls come, those with even numbers leave by falling number; then all leave from the
-/// front.
-fn many_counted<L: Ledger>(rt: &impl Abort, alloc: Global, blank: Blank) -> Result<(), Fail>
-    requires name { blank.name ≡ L.name }
-    requires parts { blank.parts ≡ L.parts }
-    requires some { 0 < blank.parts }
-{
-    let mut steps = Steps::<L>::new(blank);
-    let mut boxes = Boxes::new(alloc);
-    boxes.add_task()?;
-    let (caller, place) = (TaskNo(1), Place::Incoming(TaskNo(1)));
-    send(&mut boxes, alloc, caller, place, 400000)?;
-    for back in 0..200000 {
-        take(&mut boxes, CallNo(400000 - 2 * back), &mut steps)?;
+#[test]
+fn each_step_is_so(rt: HostRuntime) -> Result<(), Fail> {
+    let rows: [(&str, &[Does]); 5] = [
+        ("from place to place", &FROM_PLACE_TO_PLACE),
+        ("received", &RECEIVED),
+        ("by rising number", &BY_RISING_NUMBER),
+        ("readdressed", &READDRESSED),
+        ("set", &SET),
+    ];
+    for (name, steps) in rows {
+        assert_eq!(rt; run(rt.alloc(), steps)?, 0, "{name}");
     }
-    for i in 0..200000 {
-        let next = CallNo(2 * i + 1);
-        assert_eq!(rt; boxes.front(place, &mut steps), Some(next));
-        take(&mut boxes, next, &mut steps)?;
-    }
-    assert_eq!(rt; boxes.front(place, &mut steps), None);
     Ok(())
 }

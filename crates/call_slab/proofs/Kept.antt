@@ -25,7 +25,7 @@ no_tie q k h = grind (arith, nat_tests)
 past_tie : (q k : ℕ) → k < q → is_eq (nat_cmp q k) ≡ false
 past_tie q k h = grind (arith, nat_tests)
 
-apart_tie : (q k : ℕ) → (q ≡ k → ⊥) → is_eq (nat_cmp q k) ≡ false
+pub apart_tie : (q k : ℕ) → (q ≡ k → ⊥) → is_eq (nat_cmp q k) ≡ false
 apart_tie q k h = grind (arith, nat_tests)
 
 lt_cmp : (q k : ℕ) → q < k → is_lt (nat_cmp q k) ≡ true
@@ -128,5 +128,5 @@ pub set_at : (s : Slab Slot) (k : ℕ) (x : Slot) (f : Slot → Slot) → slab.g
 set_at s k x f e = slots_set s k (f x) (rw e refl) ∙ rw (get_slots s k, e) refl
 
 -- a slot is written
-pub set_calls : (s : Slab Slot) (k : ℕ) (x : Slot) (f : Slot → Slot) (keys : FinMap nat_cmp ℕ) (room : ℕ) → slab.get s k ≡ Some x → ◌≡◌ {A = CallsState} (record { slots = from_sorted {R = nat_cmp} (entries (with_value s k (f x))); keys = keys; spare = min (s.capacity - slab_len (with_value s k (f x))) room }) (record { slots = at_key f (from_sorted (entries s)) k; keys = keys; spare = min (s.capacity - slab_len s) room })
-set_calls s k x f keys room e = rw (set_at s k x f e, counted s.slots k x (f x) e) refl
+pub set_calls : (s : Slab Slot) (k : ℕ) (x : Slot) (f : Slot → Slot) (keys : FinMap nat_cmp ℕ) (last room : ℕ) → slab.get s k ≡ Some x → ◌≡◌ {A = CallsState} (record { slots = from_sorted {R = nat_cmp} (entries (with_value s k (f x))); keys = keys; last = last; spare = min (s.capacity - slab_len (with_value s k (f x))) room }) (record { slots = at_key f (from_sorted (entries s)) k; keys = keys; last = last; spare = min (s.capacity - slab_len s) room })
+set_calls s k x f keys last room e = rw (set_at s k x f e, counted s.slots k x (f x) e) refl

@@ -1,2 +1,2 @@
+mod Keyed
 mod Kept
-mod Live

@@ -1,22 +1,44 @@
 -- The live calls by key and the keys by number, and what may be done with them.
-use Rattle.std.specs.Prelude.{ℕ, List, Option, None, option_map, refl}
+use Rattle.std.specs.Prelude.{◌≡◌, ℕ, ◌≤◌, Option, None, Some, option_map, refl}
 use Rattle.std.specs.Coded.{Coded, code_by, coded×, coded_ℕ}
 use Rattle.std.specs.Ordering.{nat_cmp}
 use Rattle.std.specs.FinMap.{FinMap, code, get, insert}
 use Rattle.std.specs.Option.{option_map_or}
-use Rattle.ipc_ids.specs.declared.message.Msg.{Msg}
-use Rattle.ipc_ids.specs.declared.message.Reply.{Reply}
-use Rattle.ipc_ids.specs.declared.numbers.Label.{Label}
 use Rattle.call_slab.specs.declared.call.Call.{Call}
 use Rattle.call_slab.specs.declared.call.Place.{Place}
 use Rattle.call_slab.specs.declared.calls.Slot.{Slot}
 use Rattle.call_slab.specs.declared.calls.Links.{Links}
 
--- the slots by key, the keys by number, and for how many more calls there is room
+-- the slots by key, the keys by number, the greatest number so far, 0 at first, and for how many more
+-- calls there is room
 pub record CallsState : Type 0 where
   pub slots : FinMap nat_cmp Slot
   pub keys : FinMap nat_cmp ℕ
+  pub last : ℕ
   pub spare : ℕ
+
+-- the number under which the call with this key was put
+abbrev pub name_at : FinMap nat_cmp Slot → ℕ → Option ℕ
+name_at slots key = option_map (λ s. s.name) (get slots key)
+
+-- names by key and keys by number: each number leads to the one key that has it as its name, and none
+-- is above the last one
+pub record Keyed (names keys : ℕ → Option ℕ) (last : ℕ) : Type 0 where
+  pub leads : (n key : ℕ) → keys n ≡ Some key → names key ≡ Some n
+  pub known : (n key : ℕ) → names key ≡ Some n → keys n ≡ Some key
+  pub low : (n key : ℕ) → names key ≡ Some n → n ≤ last
+
+-- so do the numbers of these slots
+abbrev pub IsKeyed : FinMap nat_cmp Slot → FinMap nat_cmp ℕ → ℕ → Type 0
+IsKeyed slots keys last = Keyed (name_at slots) (get keys) last
+
+-- the call with this key was put under this number
+abbrev pub IsUnder : CallsState → ℕ → ℕ → Type 0
+IsUnder calls n key = name_at calls.slots key ≡ Some n
+
+-- no live call was put under this number
+abbrev pub HasNoCall : CallsState → ℕ → Type 0
+HasNoCall calls n = (key : ℕ) → IsUnder calls n key → ⊥
 
 -- no neighbours
 abbrev pub no_links : Links
@@ -58,22 +80,6 @@ change_call calls key change = record calls { slots = at_key (λ s. record s { c
 abbrev pub set_place : CallsState → ℕ → Place → ℕ → CallsState
 set_place calls key place stamp = change_call calls key (λ c. record c { place = place; stamp = stamp })
 
--- the call under this key has this message and reserved phone
-abbrev pub set_receipt : CallsState → ℕ → Msg → Option Label → CallsState
-set_receipt calls key msg reserved = change_call calls key (λ c. record c { msg = msg; reserved = reserved })
-
--- the call under this key has this reply and reserved phone
-abbrev pub set_reply : CallsState → ℕ → Reply → Option Label → CallsState
-set_reply calls key reply reserved = change_call calls key (λ c. record c { reply = reply; reserved = reserved })
-
--- the call under this key has this reply and these bytes
-abbrev pub set_reply_bytes : CallsState → ℕ → Reply → List ℕ → CallsState
-set_reply_bytes calls key reply bytes = change_call calls key (λ c. record c { reply = reply; buffer = bytes })
-
--- the call under this key has this message, label and reserved phone
-abbrev pub set_address : CallsState → ℕ → Msg → Label → Option Label → CallsState
-set_address calls key msg label reserved = change_call calls key (λ c. record c { msg = msg; label = label; reserved = reserved })
-
 -- the call under this key has no caller any more, who has ended
 abbrev pub clear_caller : CallsState → ℕ → CallsState
 clear_caller calls key = change_call calls key (λ c. record c { caller = None })
@@ -81,4 +87,4 @@ clear_caller calls key = change_call calls key (λ c. record c { caller = None }
 -- how such a state is told from others, by a code of the slots
 abbrev pub calls_code : Coded Slot → Coded CallsState
 calls_code slot =
-    code_by (FinMap nat_cmp Slot × (FinMap nat_cmp ℕ × ℕ)) (coded× (code coded_ℕ slot) (coded× (code coded_ℕ coded_ℕ) coded_ℕ)) (λ a. (a.slots, (a.keys, a.spare))) (λ p. record { slots = p.0; keys = p.1.0; spare = p.1.1 }) (λ _. refl)
+    code_by (FinMap nat_cmp Slot × (FinMap nat_cmp ℕ × (ℕ × ℕ))) (coded× (code coded_ℕ slot) (coded× (code coded_ℕ coded_ℕ) (coded× coded_ℕ coded_ℕ))) (λ a. (a.slots, (a.keys, (a.last, a.spare)))) (λ p. record { slots = p.0; keys = p.1.0; last = p.1.1.0; spare = p.1.1.1 }) (λ _. refl)

@@ -1,11 +1,13 @@
 //! The live calls under keys that stay the same, with the links of the lists that they stand in.
-ghost use Rattle.std.specs.Prelude.{◌≡◌, ◌+◌, ◌<◌, ◌≤◌, None, Some, IsSome, OnOk};
+ghost use Rattle.std.specs.Prelude.{◌≡◌, ◌+◌, ◌<◌, ◌≤◌, None, Some, IsSome, IfSome, IfNone, OnOk};
 ghost use Rattle.std.specs.FinMap.{empty, get, remove};
-ghost use Rattle.call_slab.specs.Calls.{put, set_links, set_place, set_receipt, set_reply, set_reply_bytes, set_address, clear_caller, call_of, links_of, name_of};
+ghost use Rattle.call_slab.specs.Calls.{put, set_links, set_place, change_call, clear_caller, call_of, links_of, name_of, HasNoCall, IsUnder};
+ghost use Rattle.call_slab.specs.Change.{changed};
 
 use crate::call::{Call, Place};
+use crate::change::{Change, give};
 use indexmap::IndexMap;
-use ipc_ids::{Buffer, CallNo, Label, Msg, NoMemory, Reply, Steps};
+use ipc_ids::{CallNo, NoMemory, Steps};
 use slab::Slab;
 use std::alloc::Global;
 use std::marker::Model;
@@ -52,6 +54,8 @@ pub struct Slot {
 pub struct Calls {
     slots: Slab<Slot>,
     keys: IndexMap<u64, usize>,
+    // The greatest number under which a call was put.
+    last: u64,
 }
 
 impl Model for Calls {
@@ -59,7 +63,7 @@ impl Model for Calls {
     ghost use Rattle.std.specs.FinMap.{from_entries, from_sorted};
     ghost use Rattle.slab.specs.Slab.{slab_len, entries};
     ghost use Rattle.indexmap.specs.IndexMap.{spare};
-    ghost use Rattle.call_slab.specs.Calls.{CallsState, calls_code};
+    ghost use Rattle.call_slab.specs.Calls.{CallsState, calls_code, IsKeyed};
     ghost use Rattle.call_slab.specs.contracts.calls.Slot as slot;
 
     ghost Value = { CallsState };
@@ -69,25 +73,31 @@ impl Model for Calls {
     ghost view = { λ a. record {
       slots = from_sorted (entries a.slots);
       keys = from_entries a.keys.entries;
+      last = a.last;
       spare = min (a.slots.capacity - slab_len a.slots) (spare a.keys);
     } };
+
+    ghost invariant = { λ a. IsKeyed (from_sorted (entries a.slots)) (from_entries a.keys.entries) a.last };
 }
 
 impl Calls {
-    ghost use Rattle.std.specs.Prelude.{◌≡◌, ◌+◌, ◌<◌, ◌≤◌, None, Some, IsSome, OnOk};
+    ghost use Rattle.std.specs.Prelude.{◌≡◌, ◌+◌, ◌<◌, ◌≤◌, None, Some, IsSome, IfSome, IfNone, OnOk};
     ghost use Rattle.std.specs.Borrow.{sem};
     ghost use Rattle.std.specs.FinMap.{empty, get, remove};
-    ghost use Rattle.call_slab.specs.Calls.{put, set_links, set_place, set_receipt, set_reply, set_reply_bytes, set_address, clear_caller, call_of, links_of, name_of};
+    ghost use Rattle.call_slab.specs.Calls.{put, set_links, set_place, change_call, clear_caller, call_of, links_of, name_of, HasNoCall, IsUnder};
+    ghost use Rattle.call_slab.specs.Change.{changed};
     ghost use Rattle.call_slab.specs.Lends.{lends_call};
 
     /// No calls; it takes no memory.
     pub fn new(alloc: Global) -> Calls
         ensures slots { result.slots ≡ empty }
         ensures keys { result.keys ≡ empty }
+        ensures last { result.last ≡ 0 }
     {
         Calls {
             slots: Slab::new(alloc),
             keys: IndexMap::new(alloc),
+            last: 0,
         }
     }
 
@@ -96,10 +106,15 @@ impl Calls {
         *self.keys.allocator()
     }
 
-    /// Makes room for `n` more calls. `NoMemory` where memory has run out.
+    /// Makes room for `n` more calls.
+    ///
+    /// # Errors
+    ///
+    /// `NoMemory` where memory has run out. The calls stay, and no room is lost.
     pub fn reserve(&mut self, n: usize) -> Result<(), NoMemory>
         ensures slots { self.new.slots ≡ self.old.slots }
         ensures keys { self.new.keys ≡ self.old.keys }
+        ensures last { self.new.last ≡ self.old.last }
         ensures room { OnOk result (n ≤ self.new.spare) }
         ensures spare { self.old.spare ≤ self.new.spare }
     {
@@ -112,12 +127,15 @@ impl Calls {
         Ok(())
     }
 
-    /// Puts a call under a key that no live call has, and under its number, with no links.
+    /// Puts a call under a key that no live call has, and under its number, with no links. Its
+    /// number is above those of all that were put before.
     pub fn put(&mut self, call: Call) -> CallKey
         requires room { 0 < self.old.spare }
+        requires above { self.old.last < call.number.0 }
         ensures fresh { get self.old.slots result ≡ None }
         ensures slots { self.new.slots ≡ (put self.old call result).slots }
         ensures keys { self.new.keys ≡ (put self.old call result).keys }
+        ensures last { self.new.last ≡ call.number.0 }
         ensures spare { self.old.spare ≤ self.new.spare + 1 }
     {
         let name = call.number.0;
@@ -129,12 +147,16 @@ impl Calls {
         };
         let key = self.slots.insert_reserved(Slot { name, call, links });
         self.keys.insert(name, key).unwrap();
+        self.last = name;
         CallKey(key)
     }
 
-    /// The key of the live call that was put under this number; `None` where there is none.
+    /// The key of the live call that was put under this number; `None` exactly where no live call
+    /// was.
     pub fn key_of<L: Ledger>(&self, number: CallNo, steps: &mut Steps<L>) -> Option<CallKey>
         ensures key { result ≡ get self.now.keys number.0 }
+        ensures some { IfSome result (λ key. IsUnder self.now number.0 key) }
+        ensures none { IfNone result (HasNoCall self.now number.0) }
         ensures steps { steps.new ≡ steps.old + 1 }
     {
         steps.tick();
@@ -192,6 +214,7 @@ impl Calls {
         ensures call { call_of (get self.old.slots key) ≡ Some result }
         ensures slots { self.new.slots ≡ remove self.old.slots key }
         ensures keys { self.new.keys ≡ remove self.old.keys (name_of (get self.old.slots key)) }
+        ensures last { self.new.last ≡ self.old.last }
         ensures spare { self.old.spare ≤ self.new.spare }
         ensures steps { steps.new ≡ steps.old + 1 }
     {
@@ -218,74 +241,13 @@ impl Calls {
         call.stamp = stamp;
     }
 
-    /// Gives the call the message and the reserved phone of its receipt.
-    pub fn set_receipt<L: Ledger>(
-        &mut self,
-        key: CallKey,
-        msg: Msg,
-        reserved: Option<Label>,
-        steps: &mut Steps<L>,
-    )
+    /// Gives the call what is in `change`.
+    pub fn change<L: Ledger>(&mut self, key: CallKey, change: Change, steps: &mut Steps<L>)
         requires live { IsSome (get self.old.slots key) }
-        ensures calls { self.new ≡ set_receipt self.old key msg reserved }
+        ensures calls { self.new ≡ change_call self.old key (changed change) }
         ensures steps { steps.new ≡ steps.old + 1 }
     {
-        let call = self.get_mut(key, steps);
-        call.msg = msg;
-        call.reserved = reserved;
-    }
-
-    /// Gives the call its reply and a reserved phone.
-    pub fn set_reply<L: Ledger>(
-        &mut self,
-        key: CallKey,
-        reply: Reply,
-        reserved: Option<Label>,
-        steps: &mut Steps<L>,
-    )
-        requires live { IsSome (get self.old.slots key) }
-        ensures calls { self.new ≡ set_reply self.old key reply reserved }
-        ensures steps { steps.new ≡ steps.old + 1 }
-    {
-        let call = self.get_mut(key, steps);
-        call.reply = reply;
-        call.reserved = reserved;
-    }
-
-    /// Gives the call its reply and these bytes.
-    pub fn set_reply_bytes<L: Ledger>(
-        &mut self,
-        key: CallKey,
-        reply: Reply,
-        bytes: Buffer,
-        steps: &mut Steps<L>,
-    )
-        requires live { IsSome (get self.old.slots key) }
-        ensures calls { self.new ≡ set_reply_bytes self.old key reply bytes }
-        ensures steps { steps.new ≡ steps.old + 1 }
-    {
-        let call = self.get_mut(key, steps);
-        call.reply = reply;
-        call.buffer = bytes;
-    }
-
-    /// Gives the call another message, label and reserved phone.
-    pub fn set_address<L: Ledger>(
-        &mut self,
-        key: CallKey,
-        msg: Msg,
-        label: Label,
-        reserved: Option<Label>,
-        steps: &mut Steps<L>,
-    )
-        requires live { IsSome (get self.old.slots key) }
-        ensures calls { self.new ≡ set_address self.old key msg label reserved }
-        ensures steps { steps.new ≡ steps.old + 1 }
-    {
-        let call = self.get_mut(key, steps);
-        call.msg = msg;
-        call.label = label;
-        call.reserved = reserved;
+        give(self.get_mut(key, steps), change);
     }
 
     /// Clears the caller of the call, which has ended.

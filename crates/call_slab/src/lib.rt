@@ -6,8 +6,8 @@
 
 mod call;
 mod calls;
-#[cfg(test)]
-mod tests;
+mod change;
 
 pub use call::{Call, Place};
 pub use calls::{CallKey, Calls, Links};
+pub use change::Change;

@@ -6,7 +6,8 @@ use Rattle.std.specs.FinMap.{len}
 use Rattle.ipc_ids.specs.declared.numbers.Label.{Label}
 use Rattle.call_slab.specs.declared.call.Call.{Call}
 use Rattle.call_slab.specs.declared.call.Place.{Place}
-use Rattle.answerbox.specs.Calls.{CallTable, call_at, enqueue, put_at, without_call, no_calls, is_active_on, same_label, is_caller, active_calls}
+use Rattle.answerbox.specs.Calls.{CallTable, call_at, enqueue, put_at, without_call, no_calls, is_active_on, is_caller, active_calls}
+use Rattle.ipc_ids.specs.Labels.{same_label}
 use Rattle.answerbox.proofs.Counts.{active-enqueue, active-without_call, active-put_at, active-len, count-positive}
 use Rattle.phone_table.specs.Phones.{count_at}
 use Rattle.cleanup.specs.Counts.{label_at, recount, counts_without, IsCounted}
@@ -23,7 +24,7 @@ apart_label a b t p ne = elim (cases_eq a t) [
 ]
 
 -- and at no other
-elsewhere : (c : Call) (t p : ℕ) → ((t ≡ c.from.task.0) × (p ≡ c.from.phone.0) → ⊥) → is_active_on (label_at t p) c ≡ false
+pub elsewhere : (c : Call) (t p : ℕ) → ((t ≡ c.from.task.0) × (p ≡ c.from.phone.0) → ⊥) → is_active_on (label_at t p) c ≡ false
 elsewhere c t p ne = let h : same_label c.from (label_at t p) ≡ false = apart_label c.from.task.0 c.from.phone.0 t p ne in rw h
 
 its_caller : (c : Call) → c.caller ≡ Some c.from.task → is_caller c.from.task c.caller ≡ true
@@ -97,7 +98,7 @@ row_last [] (suc i) r w h = absurd (cc h)
 row_last (x ∷ xs) zero r w h = inl h
 row_last (x ∷ xs) (suc i) r w h = row_last xs i r w h
 
-zeros : (k p n : ℕ) → slice_get (replicate k 0) p ≡ Some n → n ≡ 0
+pub zeros : (k p n : ℕ) → slice_get (replicate k 0) p ≡ Some n → n ≡ 0
 zeros zero p n h = absurd (cc h)
 zeros (suc k) zero n h = cc
 zeros (suc k) (suc p) n h = zeros k p n h

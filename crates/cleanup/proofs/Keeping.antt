@@ -1,5 +1,5 @@
 -- Each step keeps what the counts of calls need.
-use Rattle.std.proofs.Common.{◌≡◌, ℕ, ◌+◌, ◌-◌, ◌<◌, Bool, true, false, cond, ◌&&◌, inl, inr, Option, None, Some, List, refl, ap, sym, subst, ◌∙◌, arith, set, Result, Ok, Err}
+use Rattle.std.proofs.Common.{◌≡◌, ℕ, ◌+◌, ◌-◌, ◌<◌, Bool, true, false, cond, ◌&&◌, inl, inr, Option, None, Some, List, refl, ap, sym, subst, ◌∙◌, arith, set, Result, Ok, Err, length, ◌≤◌}
 use Rattle.std.specs.Prelude.{IsSome, slice_get, option_and_then, ◌==◌, if◌then◌else◌}
 use Rattle.std.specs.Option.{option_map_or, IsSomeAnd}
 use Rattle.std.specs.Cmp.{nat_cmp_total}
@@ -10,7 +10,10 @@ use Rattle.ipc_ids.specs.declared.numbers.Code.{Code}
 use Rattle.ipc_ids.specs.declared.message.PhoneState.{PhoneState}
 use Rattle.call_slab.specs.declared.call.Call.{Call}
 use Rattle.call_slab.specs.declared.call.Place.{Place}
-use Rattle.answerbox.specs.Calls.{CallTable, call_at, enqueue, put_at, with_record, without_call, without_caller, is_caller, is_active_on, same_label, active_calls}
+use Rattle.answerbox.specs.Calls.{CallTable, call_at, enqueue, put_at, with_record, without_call, without_caller, is_caller, is_active_on, active_calls, used}
+use Rattle.ipc_ids.specs.Labels.{same_label}
+use Rattle.answerbox.proofs.Used.{few_enqueue, few_put, few_record, same_room, used-less}
+use Rattle.ipc_ids.specs.Tables.{most_buffered}
 use Rattle.answerbox.proofs.Counts.{insert-remove, ties, active-without_call, count-with_record}
 use Rattle.phone_table.specs.Phones.{Row, row_at, state_at, count_at, after_hangup}
 use Rattle.phone_table.specs.declared.hung.Hung.{Hung}
@@ -121,13 +124,14 @@ counted_forgotten counts q n c s is own t p m h =
 
 -- the steps
 
-pub counts_enqueue : (phones : List (List PhoneState)) (counts : List (List ℕ)) (q : CallTable) (c : Call) → HasCounts phones counts q → call_at q c.number.0 ≡ None → c.caller ≡ Some c.from.task → IsSome (state_at phones c.from.task.0 c.from.phone.0) → HasCounts phones (recount (λ n. n + 1) counts c.from.task.0 c.from.phone.0) (enqueue q c)
-counts_enqueue phones counts q c s free caller there = record {
+pub counts_enqueue : (phones : List (List PhoneState)) (counts : List (List ℕ)) (q : CallTable) (c : Call) → HasCounts phones counts q → call_at q c.number.0 ≡ None → c.caller ≡ Some c.from.task → IsSome (state_at phones c.from.task.0 c.from.phone.0) → used q + length c.buffer ≤ most_buffered → HasCounts phones (recount (λ n. n + 1) counts c.from.task.0 c.from.phone.0) (enqueue q c)
+counts_enqueue phones counts q c s free caller there room = record {
   numbered = each_with (λ m d. d.number.0 ≡ m) q (enqueue q c) c.number.0 (record c { stamp = q.next_stamp }) s.numbered (λ m. at_insert q.records c.number.0 m (record c { stamp = q.next_stamp })) refl;
   over_phone = each_with (λ m d. IsSome (state_at phones d.from.task.0 d.from.phone.0)) q (enqueue q c) c.number.0 (record c { stamp = q.next_stamp }) s.over_phone (λ m. at_insert q.records c.number.0 m (record c { stamp = q.next_stamp })) there;
   shaped = λ t p h. shaped_recount (λ n. n + 1) counts c.from.task.0 c.from.phone.0 t p (s.shaped t p h);
   counted = counted_enqueue counts q c s.counted free caller;
   few = let l = len_enqueue q c free in let f = s.few in omega arith;
+  bytes = few_enqueue q c most_buffered free room;
 }
 
 pub counts_leave : (phones : List (List PhoneState)) (counts : List (List ℕ)) (q : CallTable) (n : ℕ) (c : Call) → HasCounts phones counts q → call_at q n ≡ Some c → HasCounts phones (counts_without counts c.caller c.from) (without_call q n)
@@ -137,6 +141,7 @@ counts_leave phones counts q n c s is = record {
   shaped = λ t p h. shaped_without counts c.caller c.from t p (s.shaped t p h);
   counted = counted_without counts q n c s.counted is;
   few = let l = len_without q n c is in let f = s.few in omega arith;
+  bytes = let l = used-less q n in let b = s.bytes in omega arith;
 }
 
 pub counts_forget : (phones : List (List PhoneState)) (counts : List (List ℕ)) (q : CallTable) (n : ℕ) (c : Call) → HasCounts phones counts q → call_at q n ≡ Some c → HasCounts phones (counts_without counts c.caller c.from) (without_caller q n)
@@ -150,10 +155,11 @@ counts_forget phones counts q n c s is =
       shaped = λ t p h. shaped_without counts c.caller c.from t p (s.shaped t p h);
       counted = counted_forgotten counts q n c s.counted is own;
       few = let l = len_record q c d live in let f = s.few in omega arith;
+      bytes = few_record q c d most_buffered live (same_room q c d most_buffered s.bytes refl);
     })
 
-pub counts_put : (phones : List (List PhoneState)) (counts : List (List ℕ)) (q : CallTable) (n : ℕ) (c d : Call) (place : Place) → HasCounts phones counts q → call_at q n ≡ Some c → d.number ≡ c.number → d.caller ≡ c.caller → d.from ≡ c.from → HasCounts phones counts (put_at q d place)
-counts_put phones counts q n c d place s is number caller from =
+pub counts_put : (phones : List (List PhoneState)) (counts : List (List ℕ)) (q : CallTable) (n : ℕ) (c d : Call) (place : Place) → HasCounts phones counts q → call_at q n ≡ Some c → d.number ≡ c.number → d.caller ≡ c.caller → d.from ≡ c.from → length d.buffer + used q ≤ length c.buffer + most_buffered → HasCounts phones counts (put_at q d place)
+counts_put phones counts q n c d place s is number caller from room =
     let own : d.number.0 ≡ n = ap (λ (x : Rattle.ipc_ids.specs.declared.numbers.CallNo.CallNo). x.0) number ∙ s.numbered n c is in
     let live : call_at q d.number.0 ≡ Some c = ap (call_at q) own ∙ is in
     let e : Call = record d { place = place; stamp = q.next_stamp } in
@@ -163,6 +169,7 @@ counts_put phones counts q n c d place s is number caller from =
       shaped = s.shaped;
       counted = counted_put counts q c d place s.counted live (λ l. rw (from, caller) refl);
       few = let l = len_put q c d place live in let f = s.few in omega arith;
+      bytes = few_put q c d place most_buffered live room;
     }
 
 -- a phone that is there gets another state
@@ -173,6 +180,7 @@ counts_phone phones counts q a b state s there = record {
   shaped = λ t p h. s.shaped t p (phone_was phones a b t p state there h);
   counted = s.counted;
   few = s.few;
+  bytes = s.bytes;
 }
 
 -- a live call was counted

@@ -194,6 +194,7 @@ module _ (marks : List Bool) (t : TaskNo) (alive : alive_in marks t.0 ≡ true) 
         carries = was.carries;
       };
       stamps_differ = before.calls.stamps_differ;
+      bytes = before.calls.bytes;
     };
     tasks = record {
       paired = before.tasks.paired ∙ sym (length-set marks (t.0 - 1) false);

@@ -13,7 +13,8 @@ use Rattle.ipc_ids.specs.Codes.{ehangup}
 use Rattle.call_slab.specs.declared.call.Call.{Call}
 use Rattle.call_slab.specs.declared.call.Place.{Place}
 use Rattle.call_slab.specs.declared.call.Place.TheVariants.{Answers}
-use Rattle.answerbox.specs.Calls.{is_hangup, CallTable, no_calls, call_at, enqueue, put_at, without_call, with_record, count_of, is_caller, same_label, is_active_on, active_calls}
+use Rattle.answerbox.specs.Calls.{is_hangup, CallTable, no_calls, call_at, enqueue, put_at, without_call, with_record, count_of, is_caller, is_active_on, active_calls}
+use Rattle.ipc_ids.specs.Labels.{same_label}
 use Rattle.answerbox.proofs.Counts.{count-len, count-enqueue, count-without_call, count-with_record, count-put_at}
 use Rattle.phone_table.specs.Phones.{Row, state_at, is_usable, first_usable, first_usable_from}
 use Rattle.cleanup.specs.State.{KernelState, Transition, start, is_alive, phone_at, label_of, with_state_at, with_phone, with_calls, with_task}

@@ -14,6 +14,8 @@ use Rattle.call_slab.specs.declared.call.Call.{Call}
 use Rattle.call_slab.specs.declared.call.Place.{Place}
 use Rattle.call_slab.specs.declared.call.Place.TheVariants.{Incoming, Dispatched, Answers}
 use Rattle.answerbox.specs.Calls.{CallTable, call_at, front, calls_of, same_place, is_caller, put_at, without_call, with_record, count_of, calls_at, calls_by}
+use Rattle.answerbox.proofs.Used.{few_record, same_room}
+use Rattle.ipc_ids.specs.Tables.{most_buffered}
 use Rattle.answerbox.proofs.Counts.{insert-remove, ties, count-without_call, count-replace}
 use Rattle.answerbox.proofs.Fronts.{front_live, no_front-has_no_calls}
 use Rattle.answerbox.proofs.Steps.{with_change-record}
@@ -50,8 +52,9 @@ as_many_calls q n c d is = rw (len-insert nat_cmp_total q.records n d, is) (omeg
 -- soundness
 
 -- a record changes where it stands
-pub sound_record : (tasks : Tasks) (q : CallTable) (n : ℕ) (c d : Call) → AreSoundCalls tasks q → call_at q n ≡ Some c → d.number.0 ≡ n → d.stamp ≡ c.stamp → IsSoundCall tasks q.next_number q.next_stamp n d → AreSoundCalls tasks (with_record q d)
-sound_record tasks q n c d s is number stamp sound = record {
+pub sound_record : (tasks : Tasks) (q : CallTable) (n : ℕ) (c d : Call) → AreSoundCalls tasks q → call_at q n ≡ Some c → d.number.0 ≡ n → d.stamp ≡ c.stamp → d.buffer ≡ c.buffer → IsSoundCall tasks q.next_number q.next_stamp n d → AreSoundCalls tasks (with_record q d)
+sound_record tasks q n c d s is number stamp bytes sound = record {
+  bytes = few_record q c d most_buffered (ap (call_at q) number ∙ is) (same_room q c d most_buffered s.bytes bytes);
   each = λ m x has. elim (look m x has) [
     | inl e ↦ subst (λ (y : Call). IsSoundCall tasks q.next_number q.next_stamp m y) e.1 (subst (λ (i : ℕ). IsSoundCall tasks q.next_number q.next_stamp i d) e.0 sound)
     | inr e ↦ s.each m x e.1
@@ -169,7 +172,7 @@ forget_alone marks t k c h is made none =
     } in
     subst (IsAlone marks t) (sym (forget_step k c is))
     (alone_with marks t k (with_record k.calls (forgotten c)) h
-    (kept_calls (with_marks marks k) (with_record k.calls (forgotten c)) e.sound (sound_record (with_marks marks k).tasks k.calls c.number.0 c (forgotten c) e.sound.calls is refl refl here) (forgotten_keeps k c is)))
+    (kept_calls (with_marks marks k) (with_record k.calls (forgotten c)) e.sound (sound_record (with_marks marks k).tasks k.calls c.number.0 c (forgotten c) e.sound.calls is refl refl refl here) (forgotten_keeps k c is)))
 
 -- one call fewer passes
 

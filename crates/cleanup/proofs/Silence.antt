@@ -41,7 +41,7 @@ sound_hang_up k t p (Some HungUp) is s alive = s
 sound_hang_up k t p (Some Slammed) is s alive = kept_hung_up k t p s (λ e. other_state (phone_at k t p) Slammed is e (λ d. cc d))
 sound_hang_up k t p (Some (Connected u)) is s alive =
     kept_hung_up (with_calls k (enqueue k.calls (hangup_call k t p u))) t p
-    (sound_enqueued k (hangup_call k t p u) s refl (s.tasks.leads t.0 p u is) (refl, alive) (is_some (phone_at k t p) (Connected u) is) refl (no_phone k.tasks.phones (hangup_call k t p u) refl (λ e. e)) (λ e. refl) refl)
+    (sound_enqueued k (hangup_call k t p u) s refl (s.tasks.leads t.0 p u is) (refl, alive) (is_some (phone_at k t p) (Connected u) is) refl (no_phone k.tasks.phones (hangup_call k t p u) refl (λ e. e)) (λ e. refl) refl (let b = s.calls.bytes in omega arith))
     (λ e. other_state (phone_at k t p) (Connected u) is e (λ d. cc d))
 
 pub hang_up_ends : (marks : List Bool) (t : TaskNo) (k : KernelState) (p : ℕ) → alive_in marks t.0 ≡ true → IsEnding marks k → IsEnding marks (hang_up_at t k p).state

@@ -122,6 +122,7 @@ module _ (alive : List Bool) (who : TaskNo) (phones : List (List PhoneState)) (c
       shaped = shaped;
       counted = counted;
       few = few;
+      bytes = sound.calls.bytes;
     };
     kept = sound.kept;
   }

@@ -1,12 +1,15 @@
 -- A sound state stays sound as a data method is accepted and delivered.
-use Rattle.std.proofs.Common.{◌≡◌, Option, None, Some, subst}
+use Rattle.std.proofs.Common.{◌≡◌, ◌≤◌, ◌+◌, ℕ, List, length, arith, refl, Result, Ok, Err, Option, None, Some, subst}
 use Rattle.ipc_ids.specs.declared.numbers.TaskNo.{TaskNo}
 use Rattle.ipc_ids.specs.declared.message.Reply.{Reply}
 use Rattle.ipc_ids.specs.declared.methods.MethodKind.TheVariants.{DataWrite, DataRead}
 use Rattle.ipc_ids.specs.Methods.{kind_of}
 use Rattle.call_slab.specs.declared.call.Call.{Call}
-use Rattle.call_slab.specs.declared.call.Place.TheVariants.{Answers}
-use Rattle.answerbox.specs.Calls.{call_at, put_at, without_call}
+use Rattle.answerbox.specs.Calls.{call_at, without_call, used}
+use Rattle.answerbox.proofs.Used.{same_room}
+use Rattle.data_hooks.proofs.Lengths.{read_length}
+use Rattle.ipc_ids.specs.Tables.{most_buffered}
+use Rattle.ipc_ids.specs.declared.numbers.Code.{Code}
 use Rattle.address_space.specs.Memory.{Memory}
 use Rattle.data_hooks.specs.DataMoments.{write_accept, read_accept, read_deliver}
 use Rattle.data_hooks.proofs.Keeping.{IsOverwritten, write_accept_keeps, read_deliver_keeps}
@@ -34,8 +37,12 @@ sound_accepted_write k c reply t by u s live kind pending from =
 -- a DATA_READ is accepted by task t
 pub sound_accepted_read : (k : KernelState) (c : Call) (reply : Reply) (t : TaskNo) (by : Option TaskNo) (u : TaskNo) → IsSound k → call_at k.calls c.number.0 ≡ Some c → kind_of c.request.method ≡ DataRead → IsPendingAt c.place → c.caller ≡ Some u → IsSound (answer_to (accepted_read k c reply t) by u).state
 sound_accepted_read k c reply t by u s live kind pending from =
-    let told = read_accept k.memory t c.request.args reply in
-    sound_finished_with k c (reply_told reply told) (bytes_told told c.buffer) by u s live (rw kind tt) pending from
+    let told = read_accept k.memory t c.request.args reply (used k.calls) in
+    sound_finished_with k c (reply_told reply told) (bytes_told told c.buffer) by u s live (rw kind tt) pending from (told_room told refl)
+  where
+    told_room : (told : Result (List ℕ) Code) → read_accept k.memory t c.request.args reply (used k.calls) ≡ told → length (bytes_told told c.buffer) + used k.calls ≤ length c.buffer + most_buffered
+    told_room (Ok bytes) is = let room = (read_length k.memory t c.request.args bytes reply (used k.calls) s.memory.spaces is).room in omega (arith, room)
+    told_room (Err code) is = same_room k.calls c c most_buffered s.calls.bytes refl
 
 -- the answer of a DATA_READ is delivered to task t
 pub sound_delivered_read : (k : KernelState) (c : Call) (t : TaskNo) → IsSound k → call_at k.calls c.number.0 ≡ Some c → kind_of c.request.method ≡ DataRead → IsSound (delivery t (delivered_read k c t)).state

@@ -1,5 +1,5 @@
 -- A sound state stays sound with each join of a call for which a phone is reserved.
-use Rattle.std.proofs.Common.{◌≡◌, ℕ, Bool, true, false, ◌⊎◌, inl, inr, Option, None, Some, List, refl, ap, sym, subst, ◌∙◌}
+use Rattle.std.proofs.Common.{◌≡◌, ℕ, Bool, true, false, ◌⊎◌, inl, inr, Option, None, Some, List, refl, ap, sym, subst, ◌∙◌, length, ◌+◌, ◌≤◌}
 use Rattle.std.specs.Prelude.{◌==◌, ⊤, if◌then◌else◌, IsSome, slice_index}
 use Rattle.std.proofs.lemmas.Bool.{eq-eqb, eqb-true, false≢true}
 use Rattle.ipc_ids.specs.declared.numbers.TaskNo.{TaskNo}
@@ -15,7 +15,9 @@ use Rattle.ipc_ids.specs.Methods.{kind_of}
 use Rattle.call_slab.specs.declared.call.Call.{Call}
 use Rattle.call_slab.specs.declared.call.Place.{Place}
 use Rattle.call_slab.specs.declared.call.Place.TheVariants.{Incoming, Dispatched, Answers}
-use Rattle.answerbox.specs.Calls.{CallTable, call_at, enqueue, put_at, without_call, same_place, active_calls}
+use Rattle.answerbox.specs.Calls.{CallTable, call_at, enqueue, put_at, without_call, same_place, active_calls, used}
+use Rattle.answerbox.proofs.Used.{same_room}
+use Rattle.ipc_ids.specs.Tables.{most_buffered}
 use Rattle.phone_table.specs.Phones.{state_at, is_usable}
 use Rattle.cleanup.specs.declared.kept.Keeper.{Keeper}
 use Rattle.cleanup.specs.declared.kept.Keeper.TheVariants.{Nobody, Receiver, Caller}
@@ -127,7 +129,7 @@ module _ (k : KernelState) (c : Call) (s : IsSound k) (live : call_at k.calls c.
   put_others = kept_other k.calls table c.number.0 (Some (record d { place = place; stamp = k.calls.next_stamp })) at
 
   put_sound : IsPlaced k.tasks c.caller place → HasSoundPhone k.tasks.phones (record d { place = place }) → Carries (kind_of c.request.method) place c.buffer (slice_index c.request.args 1) → AreSoundCalls k.tasks table
-  put_sound placed phone carries = sound_put k.tasks k.calls c.number.0 c d place s.calls live refl refl refl refl refl placed phone carries
+  put_sound placed phone carries = sound_put k.tasks k.calls c.number.0 c d place s.calls live refl refl refl refl refl placed phone carries (same_room k.calls c d most_buffered s.calls.bytes refl)
 
   -- it keeps no phone there
   put_without : (x : PhoneState) → IsPlaced k.tasks c.caller place → HasSoundPhone k.tasks.phones (record d { place = place }) → Carries (kind_of c.request.method) place c.buffer (slice_index c.request.args 1) → kept_phone (record d { place = place }) ≡ None → AreSoundTasks (with_kept k (kept_phone c) x).tasks → (x ≡ Connecting → ⊥) → IsSound (with_calls (with_kept k (kept_phone c) x) table)
@@ -137,7 +139,7 @@ module _ (k : KernelState) (c : Call) (s : IsSound k) (live : call_at k.calls c.
   -- it keeps there what it kept
   put_alike : IsPlaced k.tasks c.caller place → HasSoundPhone k.tasks.phones (record d { place = place }) → Carries (kind_of c.request.method) place c.buffer (slice_index c.request.args 1) → kept_phone (record d { place = place }) ≡ kept_phone c → IsSound (with_calls (with_kept k None Free) table)
   put_alike placed phone carries same =
-      let m = sound_moved k c d place s live refl refl refl refl refl placed phone carries same in
+      let m = sound_moved k c d place s live refl refl refl refl refl placed phone carries same (same_room k.calls c d most_buffered s.calls.bytes refl) in
       record { calls = calls_with k table None Free m.calls; tasks = quieted k None Free tt m.tasks; kept = m.kept; keepers = m.keepers; memory = m.memory }
 
 -- a call that its holder lets go
@@ -290,15 +292,15 @@ plain_keeps ConnectMeTo from place code reserved plain = absurd plain
 plain_keeps _ from place code reserved plain = refl
 
 -- another call is answered, with these bytes
-pub sound_finished_with : (k : KernelState) (c : Call) (reply : Reply) (bytes : List ℕ) (by : Option TaskNo) (u : TaskNo) → IsSound k → call_at k.calls c.number.0 ≡ Some c → IsPlain (kind_of c.request.method) → IsPendingAt c.place → c.caller ≡ Some u → IsSound (answer_to (as_it_is k (record c { reply = reply; buffer = bytes })) by u).state
-sound_finished_with k c reply bytes by u s live plain pending from =
+pub sound_finished_with : (k : KernelState) (c : Call) (reply : Reply) (bytes : List ℕ) (by : Option TaskNo) (u : TaskNo) → IsSound k → call_at k.calls c.number.0 ≡ Some c → IsPlain (kind_of c.request.method) → IsPendingAt c.place → c.caller ≡ Some u → length bytes + used k.calls ≤ length c.buffer + most_buffered → IsSound (answer_to (as_it_is k (record c { reply = reply; buffer = bytes })) by u).state
+sound_finished_with k c reply bytes by u s live plain pending from room =
     let phone = answered_sound k.tasks.phones c reply u pending (s.calls.each c.number.0 c live).reserved in
     sound_moved k c (record c { reply = reply; buffer = bytes }) (Answers u) s live refl refl refl refl refl from (record { there = phone.there; owner = phone.owner; needed = phone.needed }) (answer_carries (kind_of c.request.method) u bytes (slice_index c.request.args 1))
-    (plain_keeps (kind_of c.request.method) c.from.task (Answers u) reply.code c.reserved plain ∙ sym (plain_keeps (kind_of c.request.method) c.from.task c.place c.reply.code c.reserved plain))
+    (plain_keeps (kind_of c.request.method) c.from.task (Answers u) reply.code c.reserved plain ∙ sym (plain_keeps (kind_of c.request.method) c.from.task c.place c.reply.code c.reserved plain)) room
 
 -- or with those that it had
 pub sound_finished : (k : KernelState) (c : Call) (reply : Reply) (by : Option TaskNo) (u : TaskNo) → IsSound k → call_at k.calls c.number.0 ≡ Some c → IsPlain (kind_of c.request.method) → IsPendingAt c.place → c.caller ≡ Some u → IsSound (answer_to (as_it_is k (record c { reply = reply })) by u).state
-sound_finished k c reply by u s live plain pending from = sound_finished_with k c reply c.buffer by u s live plain pending from
+sound_finished k c reply by u s live plain pending from = sound_finished_with k c reply c.buffer by u s live plain pending from (same_room k.calls c c most_buffered s.calls.bytes refl)
 
 -- a call that takes a phone
 
@@ -383,12 +385,12 @@ sound_received k c t s live not pending alive =
       owner = λ l is. received_owner (kind_of c.request.method) c.from.task c.place t l not (was.owner l is);
       needed = λ needs. was.needed (pending_needs (who_keeps c) c.place (Dispatched t) c.reply.code c.reply.code pending needs);
     } in
-    sound_moved k c c (Dispatched t) s live refl refl refl refl refl alive phone (carried (kind_of c.request.method) c.place (Dispatched t) c.buffer (slice_index c.request.args 1) pending (s.calls.each c.number.0 c live).carries) (received_keeps (kind_of c.request.method) c.from.task c.place c.reply.code c.reserved t not pending)
+    sound_moved k c c (Dispatched t) s live refl refl refl refl refl alive phone (carried (kind_of c.request.method) c.place (Dispatched t) c.buffer (slice_index c.request.args 1) pending (s.calls.each c.number.0 c live).carries) (received_keeps (kind_of c.request.method) c.from.task c.place c.reply.code c.reserved t not pending) (same_room k.calls c c most_buffered s.calls.bytes refl)
 
 -- a new CONNECT_ME_TO is sent, for which its caller keeps this phone
-pub sound_sent : (k : KernelState) (c : Call) (l : Label) → IsSound k → IsUsable k c.from.task l → c.number.0 ≡ k.calls.next_number → IsPlaced k.tasks c.caller c.place → IsCaller k.tasks c.from c.caller → IsSome (state_at k.tasks.phones c.from.task.0 c.from.phone.0) → c.discard ≡ (c.request.method == 0) → kind_of c.request.method ≡ ConnectMeTo → IsPendingAt c.place → c.reserved ≡ Some l
+pub sound_sent : (k : KernelState) (c : Call) (l : Label) → IsSound k → IsUsable k c.from.task l → c.number.0 ≡ k.calls.next_number → IsPlaced k.tasks c.caller c.place → IsCaller k.tasks c.from c.caller → IsSome (state_at k.tasks.phones c.from.task.0 c.from.phone.0) → c.discard ≡ (c.request.method == 0) → kind_of c.request.method ≡ ConnectMeTo → IsPendingAt c.place → c.reserved ≡ Some l → used k.calls + length c.buffer ≤ most_buffered
     → IsSound (with_calls (with_kept k (Some l) Connecting) (enqueue k.calls c))
-sound_sent k c l s takes number placed caller phone discard kind pending is =
+sound_sent k c l s takes number placed caller phone discard kind pending is room =
     let d : Call = record c { stamp = k.calls.next_stamp } in
     let at : (m : ℕ) → call_at (enqueue k.calls c) m ≡ (if c.number.0 == m then Some d else call_at k.calls m) = λ m. at_insert k.calls.records c.number.0 m d in
     let free : call_at k.calls c.number.0 ≡ None = ap (call_at k.calls) number ∙ next_free k.tasks k.calls s.calls in
@@ -396,4 +398,4 @@ sound_sent k c l s takes number placed caller phone discard kind pending is =
     let keeps : kept_phone c ≡ Some l = rw (kind, pending_unaccepted c.place c.reply.code pending, is) (own_phone c.from.task l takes.own) in
     let after : kept_by (enqueue k.calls c) c.number.0 ≡ Some l = kept_here k.calls (enqueue k.calls c) c.number.0 (Some d) at ∙ keeps in
     taken k (enqueue k.calls c) c.number.0 c.from.task l s takes before after (kept_other k.calls (enqueue k.calls c) c.number.0 (Some d) at)
-    (sound_enqueue k.tasks k.calls c s.calls number placed caller phone discard (with_phone_sound k c.from.task l c takes is (rw kind takes.own)) (carries_none (kind_of c.request.method) c.place c.buffer (slice_index c.request.args 1) (λ e. let g : ConnectMeTo ≡ DataWrite = sym kind ∙ e in cc g)))
+    (sound_enqueue k.tasks k.calls c s.calls number placed caller phone discard (with_phone_sound k c.from.task l c takes is (rw kind takes.own)) (carries_none (kind_of c.request.method) c.place c.buffer (slice_index c.request.args 1) (λ e. let g : ConnectMeTo ≡ DataWrite = sym kind ∙ e in cc g)) room)

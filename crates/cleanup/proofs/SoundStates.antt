@@ -1,9 +1,9 @@
 -- A sound state stays sound with a new task, a wire or a call, and where a phone changes that no call keeps.
-use Rattle.std.proofs.Common.{◌≡◌, ℕ, Bool, true, false, inl, inr, Option, None, Some, List, [], ◌∷◌, ◌++◌, replicate, refl, ap, sym, ◌∙◌}
+use Rattle.std.proofs.Common.{◌+◌, ◌≤◌, length, arith, ◌≡◌, ℕ, Bool, true, false, inl, inr, Option, None, Some, List, [], ◌∷◌, ◌++◌, replicate, refl, ap, sym, ◌∙◌}
 use Rattle.std.specs.Prelude.{◌==◌, IsSome, slice_get, slice_index, if◌then◌else◌}
 use Rattle.std.proofs.lemmas.Bool.{cases_eq, eq-eqb, ne_eqb}
 use Rattle.std.specs.Ordering.{nat_cmp}
-use Rattle.std.specs.FinMap.{get-empty}
+use Rattle.std.specs.FinMap.{get-empty, len-empty}
 use Rattle.ipc_ids.specs.declared.numbers.TaskNo.{TaskNo}
 use Rattle.ipc_ids.specs.declared.numbers.Label.{Label}
 use Rattle.ipc_ids.specs.declared.message.PhoneState.{PhoneState}
@@ -12,7 +12,9 @@ use Rattle.ipc_ids.specs.Methods.{kind_of}
 use Rattle.call_slab.specs.declared.call.Call.{Call}
 use Rattle.call_slab.specs.declared.call.Place.{Place}
 use Rattle.call_slab.specs.declared.call.Place.TheVariants.{Incoming, Dispatched, Answers}
-use Rattle.answerbox.specs.Calls.{CallTable, call_at, enqueue, put_at}
+use Rattle.answerbox.specs.Calls.{CallTable, call_at, enqueue, put_at, no_calls, used, bytes_in}
+use Rattle.answerbox.proofs.Used.{sum-none}
+use Rattle.ipc_ids.specs.Tables.{most_buffered}
 use Rattle.phone_table.specs.Phones.{row_at, state_at}
 use Rattle.cleanup.specs.declared.kept.Keeper.{Keeper}
 use Rattle.cleanup.specs.declared.kept.Keeper.TheVariants.{Nobody, Receiver, Caller}
@@ -59,19 +61,19 @@ no_phone phones c none needless = record {
   not_both o l a b = cc
 
 -- a new call, which keeps no phone
-pub sound_enqueued : (k : KernelState) (c : Call) → IsSound k → c.number.0 ≡ k.calls.next_number → IsPlaced k.tasks c.caller c.place → IsCaller k.tasks c.from c.caller → IsSome (state_at k.tasks.phones c.from.task.0 c.from.phone.0) → c.discard ≡ (c.request.method == 0) → HasSoundPhone k.tasks.phones c → Carries (kind_of c.request.method) c.place c.buffer (slice_index c.request.args 1) → kept_phone c ≡ None → IsSound (with_calls k (enqueue k.calls c))
-sound_enqueued k c s number place caller phone discard reserved carries none =
+pub sound_enqueued : (k : KernelState) (c : Call) → IsSound k → c.number.0 ≡ k.calls.next_number → IsPlaced k.tasks c.caller c.place → IsCaller k.tasks c.from c.caller → IsSome (state_at k.tasks.phones c.from.task.0 c.from.phone.0) → c.discard ≡ (c.request.method == 0) → HasSoundPhone k.tasks.phones c → Carries (kind_of c.request.method) c.place c.buffer (slice_index c.request.args 1) → kept_phone c ≡ None → used k.calls + length c.buffer ≤ most_buffered → IsSound (with_calls k (enqueue k.calls c))
+sound_enqueued k c s number place caller phone discard reserved carries none room =
     let d : Call = record c { stamp = k.calls.next_stamp } in
     let at : (m : ℕ) → call_at (enqueue k.calls c) m ≡ (if c.number.0 == m then Some d else call_at k.calls m) = λ m. at_insert k.calls.records c.number.0 m d in
     let free : call_at k.calls c.number.0 ≡ None = ap (call_at k.calls) number ∙ next_free k.tasks k.calls s.calls in
     let before : kept_by k.calls c.number.0 ≡ None = rw free refl in
     let after : kept_by (enqueue k.calls c) c.number.0 ≡ None = kept_here k.calls (enqueue k.calls c) c.number.0 (Some d) at ∙ none in
-    kept_calls k (enqueue k.calls c) s (sound_enqueue k.tasks k.calls c s.calls number place caller phone discard reserved carries)
+    kept_calls k (enqueue k.calls c) s (sound_enqueue k.tasks k.calls c s.calls number place caller phone discard reserved carries room)
     (same_of_all k.calls (enqueue k.calls c) c.number.0 (after ∙ sym before) (kept_other k.calls (enqueue k.calls c) c.number.0 (Some d) at))
 
 -- a live call goes to a place, and keeps what it kept
-pub sound_moved : (k : KernelState) (c d : Call) (place : Place) → IsSound k → call_at k.calls c.number.0 ≡ Some c → d.number ≡ c.number → d.caller ≡ c.caller → d.from ≡ c.from → d.request ≡ c.request → d.discard ≡ c.discard → IsPlaced k.tasks d.caller place → HasSoundPhone k.tasks.phones (record d { place = place }) → Carries (kind_of d.request.method) place d.buffer (slice_index d.request.args 1) → kept_phone (record d { place = place }) ≡ kept_phone c → IsSound (with_calls k (put_at k.calls d place))
-sound_moved k c d place s live number caller from request discard placed reserved carries same = by_number number where
+pub sound_moved : (k : KernelState) (c d : Call) (place : Place) → IsSound k → call_at k.calls c.number.0 ≡ Some c → d.number ≡ c.number → d.caller ≡ c.caller → d.from ≡ c.from → d.request ≡ c.request → d.discard ≡ c.discard → IsPlaced k.tasks d.caller place → HasSoundPhone k.tasks.phones (record d { place = place }) → Carries (kind_of d.request.method) place d.buffer (slice_index d.request.args 1) → kept_phone (record d { place = place }) ≡ kept_phone c → length d.buffer + used k.calls ≤ length c.buffer + most_buffered → IsSound (with_calls k (put_at k.calls d place))
+sound_moved k c d place s live number caller from request discard placed reserved carries same room = by_number number where
   after : Call
   after = record d { place = place; stamp = k.calls.next_stamp }
 
@@ -81,7 +83,7 @@ sound_moved k c d place s live number caller from request discard placed reserve
       let was : call_at k.calls d.number.0 ≡ Some c = ap (λ (n : Rattle.ipc_ids.specs.declared.numbers.CallNo.CallNo). call_at k.calls n.0) e ∙ live in
       let here : kept_by (put_at k.calls d place) d.number.0 ≡ kept_by k.calls d.number.0 =
       kept_here k.calls (put_at k.calls d place) d.number.0 (Some after) at ∙ same ∙ sym (kept_of_call k.calls d.number.0 c was) in
-      kept_calls k (put_at k.calls d place) s (sound_put k.tasks k.calls c.number.0 c d place s.calls live number caller from request discard placed reserved carries)
+      kept_calls k (put_at k.calls d place) s (sound_put k.tasks k.calls c.number.0 c d place s.calls live number caller from request discard placed reserved carries room)
       (same_of_all k.calls (put_at k.calls d place) d.number.0 here (kept_other k.calls (put_at k.calls d place) d.number.0 (Some after) at))
 
 -- phones
@@ -135,6 +137,7 @@ pub sound_start : IsSound start
 sound_start = record {
   calls = record {
     each = λ n c is. absurd (let g = rw (get-empty nat_cmp n) at is in cc);
+    bytes = let none = sum-none bytes_in no_calls.records (len-empty nat_cmp Call) in omega (arith, none);
     stamps_differ = λ m n c d is has same. absurd (let g = rw (get-empty nat_cmp m) at is in cc);
   };
   tasks = record {

@@ -11,7 +11,9 @@ use Rattle.ipc_ids.specs.declared.message.PhoneState.TheVariants.{Free, Connecte
 use Rattle.call_slab.specs.declared.call.Call.{Call}
 use Rattle.call_slab.specs.declared.call.Place.{Place}
 use Rattle.call_slab.specs.declared.call.Place.TheVariants.{Incoming, Dispatched, Answers}
-use Rattle.answerbox.specs.Calls.{CallTable, call_at, enqueue, put_at, without_call}
+use Rattle.answerbox.specs.Calls.{CallTable, call_at, enqueue, put_at, without_call, used}
+use Rattle.answerbox.proofs.Used.{few_enqueue, few_put, used-less}
+use Rattle.ipc_ids.specs.Tables.{most_buffered}
 use Rattle.phone_table.specs.Phones.{row_at, state_at}
 use Rattle.cleanup.specs.State.{Tasks, alive_in, with_state_at}
 use Rattle.ipc_ids.specs.declared.methods.MethodKind.{MethodKind}
@@ -60,8 +62,9 @@ pub answer_carries : (kind : MethodKind) (t : TaskNo) (bytes : List ℕ) (n : �
 answer_carries kind t bytes n is = tt
 
 -- one call came, or changed, and went behind all others
-pub sound_with : (tasks : Tasks) (q r : CallTable) (n : ℕ) (d : Call) → AreSoundCalls tasks q → ((m : ℕ) → call_at r m ≡ (if n == m then Some d else call_at q m)) → q.next_number ≤ r.next_number → r.next_stamp ≡ q.next_stamp + 1 → d.stamp ≡ q.next_stamp → IsSoundCall tasks r.next_number r.next_stamp n d → AreSoundCalls tasks r
-sound_with tasks q r n d s at more stamps behind sound = record {
+pub sound_with : (tasks : Tasks) (q r : CallTable) (n : ℕ) (d : Call) → AreSoundCalls tasks q → ((m : ℕ) → call_at r m ≡ (if n == m then Some d else call_at q m)) → q.next_number ≤ r.next_number → r.next_stamp ≡ q.next_stamp + 1 → d.stamp ≡ q.next_stamp → used r ≤ most_buffered → IsSoundCall tasks r.next_number r.next_stamp n d → AreSoundCalls tasks r
+sound_with tasks q r n d s at more stamps behind few sound = record {
+  bytes = few;
   each = λ m c is.
       elim (chosen n m (Some d) (call_at q m) (Some c) (sym (at m) ∙ is)) [
         | inl e ↦ subst (λ (x : Call). IsSoundCall tasks r.next_number r.next_stamp m x) (same_call d c e.1) (subst (λ (i : ℕ). IsSoundCall tasks r.next_number r.next_stamp i d) e.0 sound)
@@ -83,6 +86,7 @@ sound_with tasks q r n d s at more stamps behind sound = record {
 -- a call is over
 pub sound_without : (tasks : Tasks) (q : CallTable) (n : ℕ) → AreSoundCalls tasks q → AreSoundCalls tasks (without_call q n)
 sound_without tasks q n s = record {
+  bytes = let l = used-less q n in let b = s.bytes in omega arith;
   each = λ m c is.
       elim (chosen n m None (call_at q m) (Some c) (sym (at_remove q.records n m) ∙ is)) [
         | inl e ↦ absurd (cc e.1)
@@ -105,9 +109,9 @@ next_free tasks q s = by_call (call_at q q.next_number) refl where
   by_call None is = refl
   by_call (Some c) is = absurd (let l = (s.each q.next_number c is).below in omega arith)
 
-pub sound_enqueue : (tasks : Tasks) (q : CallTable) (c : Call) → AreSoundCalls tasks q → c.number.0 ≡ q.next_number → IsPlaced tasks c.caller c.place → IsCaller tasks c.from c.caller → IsSome (state_at tasks.phones c.from.task.0 c.from.phone.0) → c.discard ≡ (c.request.method == 0) → HasSoundPhone tasks.phones c → Carries (kind_of c.request.method) c.place c.buffer (slice_index c.request.args 1) → AreSoundCalls tasks (enqueue q c)
-sound_enqueue tasks q c s number place caller phone discard reserved carries =
-    sound_with tasks q (enqueue q c) c.number.0 (record c { stamp = q.next_stamp }) s (λ m. at_insert q.records c.number.0 m (record c { stamp = q.next_stamp })) (omega arith) refl refl
+pub sound_enqueue : (tasks : Tasks) (q : CallTable) (c : Call) → AreSoundCalls tasks q → c.number.0 ≡ q.next_number → IsPlaced tasks c.caller c.place → IsCaller tasks c.from c.caller → IsSome (state_at tasks.phones c.from.task.0 c.from.phone.0) → c.discard ≡ (c.request.method == 0) → HasSoundPhone tasks.phones c → Carries (kind_of c.request.method) c.place c.buffer (slice_index c.request.args 1) → used q + length c.buffer ≤ most_buffered → AreSoundCalls tasks (enqueue q c)
+sound_enqueue tasks q c s number place caller phone discard reserved carries room =
+    sound_with tasks q (enqueue q c) c.number.0 (record c { stamp = q.next_stamp }) s (λ m. at_insert q.records c.number.0 m (record c { stamp = q.next_stamp })) (omega arith) refl refl (few_enqueue q c most_buffered (ap (call_at q) number ∙ next_free tasks q s) room)
     (record {
       number = refl;
       below = omega arith;
@@ -121,11 +125,11 @@ sound_enqueue tasks q c s number place caller phone discard reserved carries =
     })
 
 -- a live call goes to a place, changed in its message, its label, its reply or the phone that is reserved for it
-pub sound_put : (tasks : Tasks) (q : CallTable) (n : ℕ) (c d : Call) (place : Place) → AreSoundCalls tasks q → call_at q n ≡ Some c → d.number ≡ c.number → d.caller ≡ c.caller → d.from ≡ c.from → d.request ≡ c.request → d.discard ≡ c.discard → IsPlaced tasks d.caller place → HasSoundPhone tasks.phones (record d { place = place }) → Carries (kind_of d.request.method) place d.buffer (slice_index d.request.args 1) → AreSoundCalls tasks (put_at q d place)
-sound_put tasks q n c d place s is number caller from request discard placed reserved carries =
+pub sound_put : (tasks : Tasks) (q : CallTable) (n : ℕ) (c d : Call) (place : Place) → AreSoundCalls tasks q → call_at q n ≡ Some c → d.number ≡ c.number → d.caller ≡ c.caller → d.from ≡ c.from → d.request ≡ c.request → d.discard ≡ c.discard → IsPlaced tasks d.caller place → HasSoundPhone tasks.phones (record d { place = place }) → Carries (kind_of d.request.method) place d.buffer (slice_index d.request.args 1) → length d.buffer + used q ≤ length c.buffer + most_buffered → AreSoundCalls tasks (put_at q d place)
+sound_put tasks q n c d place s is number caller from request discard placed reserved carries room =
     let was = s.each n c is in
     let number_is : d.number.0 ≡ n = ap (λ (x : Rattle.ipc_ids.specs.declared.numbers.CallNo.CallNo). x.0) number ∙ was.number in
-    sound_with tasks q (put_at q d place) d.number.0 (record d { place = place; stamp = q.next_stamp }) s (λ m. at_insert q.records d.number.0 m (record d { place = place; stamp = q.next_stamp })) (omega arith) refl refl
+    sound_with tasks q (put_at q d place) d.number.0 (record d { place = place; stamp = q.next_stamp }) s (λ m. at_insert q.records d.number.0 m (record d { place = place; stamp = q.next_stamp })) (omega arith) refl refl (few_put q c d place most_buffered (ap (call_at q) number_is ∙ is) room)
     (record {
       number = refl;
       below = let l = was.below in omega arith;
@@ -141,6 +145,7 @@ sound_put tasks q n c d place s is number caller from request discard placed res
 -- the calls stay sound where tasks and phones that were there are still there
 pub sound_under : (old new : Tasks) (q : CallTable) → AreSoundCalls old q → ((t : ℕ) → alive_in old.alive t ≡ true → alive_in new.alive t ≡ true) → ((t p : ℕ) → IsSome (state_at old.phones t p) → IsSome (state_at new.phones t p)) → AreSoundCalls new q
 sound_under old new q s alive phones = record {
+  bytes = s.bytes;
   each = λ n c is. let was = s.each n c is in record {
     number = was.number;
     below = was.below;

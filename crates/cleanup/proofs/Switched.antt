@@ -8,8 +8,11 @@ use Rattle.ipc_ids.specs.declared.message.PhoneState.{PhoneState}
 use Rattle.ipc_ids.specs.declared.message.PhoneState.TheVariants.{Free, Connecting, Connected, HungUp, Slammed}
 use Rattle.call_slab.specs.declared.call.Place.{Place}
 use Rattle.call_slab.specs.declared.call.Call.{Call}
-use Rattle.answerbox.specs.Calls.{CallTable, call_at, put_at, no_calls, active_calls, same_label}
-use Rattle.answerbox.proofs.Counts.{active-enqueue}
+use Rattle.answerbox.specs.Calls.{CallTable, call_at, put_at, no_calls, is_active_on, active_calls, used, bytes_in}
+use Rattle.ipc_ids.specs.Labels.{same_label}
+use Rattle.answerbox.proofs.Used.{same_room, sum-none}
+use Rattle.ipc_ids.specs.Tables.{most_buffered}
+use Rattle.answerbox.proofs.Counts.{active-enqueue, count-none}
 use Rattle.cleanup.specs.Joins.{hang_up, hangup_call}
 use Rattle.answerbox.proofs.Steps.{call_at-no_calls}
 use Rattle.std.proofs.lemmas.Bool.{cases_eq, eq-eqb, ne_eqb}
@@ -23,12 +26,12 @@ use Rattle.phone_table.specs.declared.hung.Hung.TheVariants.{Sent, Silent}
 use Rattle.cleanup.specs.Board.{hung_rows, IsSwitched, TellsAdded, LeadsToAdded}
 use Rattle.cleanup.specs.State.{KernelState, label_of, with_state_at}
 use Rattle.cleanup.proofs.Soundness.{phone_kept, value_of, get_last, row_append, row_before}
-use Rattle.cleanup.specs.Counts.{HasCounts}
+use Rattle.cleanup.specs.Counts.{label_at, IsCounted, HasCounts}
 use Rattle.cleanup.specs.Kept.{AreKept, kept_by, kept_phone, kept_rows}
 use Rattle.cleanup.proofs.Keepers.{IsUnkept, AreUnkept, IsThere, kept_phone_changed, not_waiting}
 use Rattle.cleanup.proofs.Rows.{state_changed_at, some_of}
 use Rattle.cleanup.proofs.Recounting.{some_and}
-use Rattle.cleanup.proofs.Counting.{counted_none, counted_task}
+use Rattle.cleanup.proofs.Counting.{counted_none, elsewhere, zeros}
 use Rattle.cleanup.proofs.Keeping.{counts_put, counts_phone}
 use Rattle.cleanup.proofs.Endings.{length_rows, sent_to}
 
@@ -47,8 +50,12 @@ switched_phone {alive} {phones} {counts} {calls} a b state s there quiet unkept 
 }
 
 -- the record of a live call changes, but for its number and its caller, and goes to a place
-pub switched_put : {alive : List Bool} {phones : List (List PhoneState)} {counts : List (List ℕ)} {calls : CallTable} {tasks : ℕ} (n : ℕ) (c d : Call) (place : Place) → IsSwitched alive phones counts calls tasks → call_at calls n ≡ Some c → d.number ≡ c.number → d.caller ≡ c.caller → d.from ≡ c.from → AreKept phones (put_at calls d place) → IsSwitched alive phones counts (put_at calls d place) tasks
-switched_put {alive} {phones} {counts} {calls} n c d place s is number caller from kept = switched_calls counts (put_at calls d place) s (counts_put phones counts calls n c d place s.has_counts is number caller from) kept
+pub switched_put : {alive : List Bool} {phones : List (List PhoneState)} {counts : List (List ℕ)} {calls : CallTable} {tasks : ℕ} (n : ℕ) (c d : Call) (place : Place) → IsSwitched alive phones counts calls tasks → call_at calls n ≡ Some c → d.number ≡ c.number → d.caller ≡ c.caller → d.from ≡ c.from → d.buffer ≡ c.buffer → AreKept phones (put_at calls d place) → IsSwitched alive phones counts (put_at calls d place) tasks
+switched_put {alive} {phones} {counts} {calls} n c d place s is number caller from bytes kept = switched_calls counts (put_at calls d place) s (counts_put phones counts calls n c d place s.has_counts is number caller from (same_room calls c d most_buffered s.has_counts.bytes bytes)) kept
+
+-- likewise, with bytes for which there is room
+pub switched_bytes : {alive : List Bool} {phones : List (List PhoneState)} {counts : List (List ℕ)} {calls : CallTable} {tasks : ℕ} (n : ℕ) (c d : Call) (place : Place) → IsSwitched alive phones counts calls tasks → call_at calls n ≡ Some c → d.number ≡ c.number → d.caller ≡ c.caller → d.from ≡ c.from → used calls + length d.buffer ≤ most_buffered → AreKept phones (put_at calls d place) → IsSwitched alive phones counts (put_at calls d place) tasks
+switched_bytes {alive} {phones} {counts} {calls} n c d place s is number caller from room kept = switched_calls counts (put_at calls d place) s (counts_put phones counts calls n c d place s.has_counts is number caller from (omega (arith, room))) kept
 
 -- there is room to count one call more
 pub may_count : (phones : List (List PhoneState)) (counts : List (List ℕ)) (calls : CallTable) (from : Label) → HasCounts phones counts calls → IsSome (state_at phones from.task.0 from.phone.0) → active_calls calls from < 2 ^ 31 → IsSomeAnd (count_at counts from.task.0 from.phone.0) (λ n. n < 2 ^ 31)
@@ -162,6 +169,7 @@ switched_start = record {
     shaped = λ t p h. let f = value_of (state_at [] t p) h in absurd (nowhere t p f.0 f.1);
     counted = counted_none;
     few = rw (len-empty nat_cmp) (omega arith);
+    bytes = let none = sum-none bytes_in no_calls.records (len-empty nat_cmp Call) in omega (arith, none);
   };
   kept = record {
     waits = λ n l is. absurd (let g : kept_by no_calls n ≡ None = ap (option_and_then kept_phone) (call_at-no_calls n) in let h : ◌≡◌ {A = Option Label} None (Some l) = sym g ∙ is in cc h);
@@ -169,7 +177,7 @@ switched_start = record {
   };
 }
 
--- one task more, before the first call
+-- one task more
 get_all : {A B : Type 0} (k p : ℕ) (x : A) (y : B) → IsSome (slice_get (replicate k x) p) → slice_get (replicate k y) p ≡ Some y
 get_all zero p x y h = absurd (cc h)
 get_all (suc k) zero x y h = refl
@@ -209,8 +217,41 @@ same_before rows row t p x h =
     let r = some_of (row_at rows t) (λ y. slice_get y p) x h in
     rw (row_before rows row t r.0 r.1) r.2
 
-pub switched_task : {alive : List Bool} {phones : List (List PhoneState)} {counts : List (List ℕ)} {calls : CallTable} {tasks : ℕ} (limit tasks' : ℕ) → IsSwitched alive phones counts calls tasks → length counts ≡ length phones → length alive + 1 ≤ tasks' → calls.next_number ≤ 1 → IsSwitched (alive ++ true ∷ []) (phones ++ replicate limit Free ∷ []) (counts ++ replicate limit 0 ∷ []) calls tasks'
-switched_task {alive} {phones} {counts} {calls} limit tasks' s paired enough first = record {
+-- a row that is there has a number up to their count
+get_few : {A : Type 0} (xs : List A) (i : ℕ) (x : A) → slice_get xs i ≡ Some x → i < length xs
+get_few [] i x h = absurd (cc h)
+get_few (y ∷ xs) zero x h = omega arith
+get_few (y ∷ xs) (suc i) x h = let f = get_few xs i x h in omega arith
+
+row_few : {A : Type 0} (rows : List A) (t : ℕ) (row : A) → row_at rows t ≡ Some row → t ≤ length rows
+row_few rows t row h = elim (cases_eq t 0) [
+  | inl e ↦ omega arith
+  | inr ne ↦ let f = get_few rows (t - 1) row (rw (ne_eqb t 0 ne) at h) in omega arith
+]
+
+-- no live call goes over a phone of a task that is not there yet
+none_over_new : (phones : List (List PhoneState)) (counts : List (List ℕ)) (calls : CallTable) → HasCounts phones counts calls → length counts ≡ length phones → (p : ℕ) → active_calls calls (label_at (length counts + 1) p) ≡ 0
+none_over_new phones counts calls s paired p = count-none (is_active_on (label_at (length counts + 1) p)) calls.records (λ n c is. elsewhere c (length counts + 1) p (λ same.
+    let there = value_of (state_at phones c.from.task.0 c.from.phone.0) (s.over_phone n c is) in
+    let row = some_of (row_at phones c.from.task.0) (λ r. slice_get r c.from.phone.0) there.0 there.1 in
+    let few = row_few phones c.from.task.0 row.0 row.1 in
+    let task = same.0 in
+    omega arith))
+
+-- so the counts of its phones are 0
+counted_more : (counts : List (List ℕ)) (q : CallTable) (limit : ℕ) → IsCounted counts q → ((p : ℕ) → active_calls q (label_at (length counts + 1) p) ≡ 0) → IsCounted (counts ++ replicate limit 0 ∷ []) q
+counted_more counts q limit s unused t p n h =
+    let found = some_of (row_at (counts ++ replicate limit 0 ∷ []) t) (λ r. slice_get r p) n h in
+    elim (row_append counts (replicate limit 0) t found.0 found.1) [
+      | inl e ↦ s t p n (rw e found.2)
+      | inr e ↦
+          let zero_there : n ≡ 0 = zeros limit p n (rw (e.1) found.2) in
+          let none : active_calls q (label_at t p) ≡ 0 = rw (e.0) (unused p) in
+          zero_there ∙ sym none
+    ]
+
+pub switched_task : {alive : List Bool} {phones : List (List PhoneState)} {counts : List (List ℕ)} {calls : CallTable} {tasks : ℕ} (limit tasks' : ℕ) → IsSwitched alive phones counts calls tasks → length counts ≡ length phones → length alive + 1 ≤ tasks' → IsSwitched (alive ++ true ∷ []) (phones ++ replicate limit Free ∷ []) (counts ++ replicate limit 0 ∷ []) calls tasks'
+switched_task {alive} {phones} {counts} {calls} limit tasks' s paired enough = record {
   paired = rw (length-append, length-append) (let e = s.paired in omega arith);
   places = rw length-append (omega (arith, enough));
   leads = λ t p u is.
@@ -223,8 +264,9 @@ switched_task {alive} {phones} {counts} {calls} limit tasks' s paired enough fir
     numbered = s.has_counts.numbered;
     over_phone = λ n c is. there_before phones (replicate limit Free) c.from.task.0 c.from.phone.0 (s.has_counts.over_phone n c is);
     shaped = λ t p h. shaped_task phones counts limit t p paired s.has_counts.shaped h;
-    counted = counted_task counts calls limit s.has_counts.counted (let f = s.has_counts.few in omega arith);
+    counted = counted_more counts calls limit s.has_counts.counted (none_over_new phones counts calls s.has_counts paired);
     few = s.has_counts.few;
+    bytes = s.has_counts.bytes;
   };
   kept = record {
     waits = λ n l is. same_before phones (replicate limit Free) l.task.0 l.phone.0 Connecting (s.kept.waits n l is);

@@ -1,12 +1,13 @@
 -- The counts of active calls at the phones, and what the calls and the counts keep.
-use Rattle.std.specs.Prelude.{◌≡◌, ℕ, ◌-◌, ◌<◌, List, Option, Some, IsSome, slice_get, slice_set, if◌then◌else◌}
+use Rattle.std.specs.Prelude.{◌≡◌, ℕ, ◌-◌, ◌<◌, ◌≤◌, List, Option, Some, IsSome, slice_get, slice_set, if◌then◌else◌}
 use Rattle.std.specs.Option.{option_map_or}
 use Rattle.std.specs.FinMap.{len}
 use Rattle.ipc_ids.specs.declared.numbers.TaskNo.{TaskNo}
 use Rattle.ipc_ids.specs.declared.numbers.Label.{Label}
 use Rattle.ipc_ids.specs.declared.message.PhoneState.{PhoneState}
 use Rattle.call_slab.specs.declared.call.Call.{Call}
-use Rattle.answerbox.specs.Calls.{CallTable, call_at, active_calls, is_caller}
+use Rattle.answerbox.specs.Calls.{CallTable, call_at, active_calls, is_caller, used}
+use Rattle.ipc_ids.specs.Tables.{most_buffered}
 use Rattle.phone_table.specs.Phones.{row_at, state_at, count_at}
 
 abbrev pub label_at : ℕ → ℕ → Label
@@ -31,10 +32,12 @@ IsCounted counts calls = (t p n : ℕ) → count_at counts t p ≡ Some n → n 
 abbrev pub AreNumbered : CallTable → Type 0
 AreNumbered calls = (n : ℕ) (c : Call) → call_at calls n ≡ Some c → c.number.0 ≡ n
 
--- each call has its number and a phone, each phone has a right count, and there are fewer calls than numbers given
+-- each call has its number and a phone, each phone has a right count, there are fewer calls than numbers given, and
+-- they carry few bytes
 pub record HasCounts (phones : List (List PhoneState)) (counts : List (List ℕ)) (calls : CallTable) : Type 0 where
   pub numbered : AreNumbered calls
   pub over_phone : (n : ℕ) (c : Call) → call_at calls n ≡ Some c → IsSome (state_at phones c.from.task.0 c.from.phone.0)
   pub shaped : (t p : ℕ) → IsSome (state_at phones t p) → IsSome (count_at counts t p)
   pub counted : IsCounted counts calls
   pub few : len calls.records < calls.next_number
+  pub bytes : used calls ≤ most_buffered

@@ -7,6 +7,7 @@ use Rattle.ipc_ids.specs.declared.message.Reply.{Reply}
 use Rattle.ipc_ids.specs.declared.message.Outcome.TheVariants.{Empty}
 use Rattle.ipc_ids.specs.Codes.{eok}
 use Rattle.call_slab.specs.declared.call.Call.{Call}
+use Rattle.answerbox.specs.Calls.{used}
 use Rattle.address_space.specs.Memory.{Step}
 use Rattle.data_hooks.specs.DataMoments.{address_of, count_of, write_accept, read_accept, read_deliver}
 use Rattle.cleanup.specs.State.{KernelState, with_memory}
@@ -46,7 +47,7 @@ abbrev pub read_at_answer : KernelState → Call → Reply → Result (List ℕ)
 read_at_answer k c reply told = record { state = k; call = record c { reply = reply_told reply told; buffer = bytes_told told c.buffer }; note = None }
 
 abbrev pub accepted_read : KernelState → Call → Reply → TaskNo → Handed
-accepted_read k c reply t = read_at_answer k c reply (read_accept k.memory t c.request.args reply)
+accepted_read k c reply t = read_at_answer k c reply (read_accept k.memory t c.request.args reply (used k.calls))
 
 -- bytes were written at a delivery: the reply that is delivered has the code of the write
 abbrev pub written_at_delivery : KernelState → Call → TaskNo → Step (Option StoreNo) → Handed

@@ -13,3 +13,4 @@ pub mod Board
 pub mod Rooms
 pub mod KillRoom
 pub mod Ending
+pub mod EndStart

@@ -11,10 +11,12 @@ use Rattle.ipc_ids.specs.Methods.{phone_hungup, kind_of}
 use Rattle.call_slab.specs.declared.call.Call.{Call}
 use Rattle.call_slab.specs.declared.call.Place.{Place}
 use Rattle.call_slab.specs.declared.call.Place.TheVariants.{Incoming, Dispatched, Answers}
-use Rattle.answerbox.specs.Calls.{CallTable, call_at}
+use Rattle.answerbox.specs.Calls.{CallTable, call_at, used}
+use Rattle.ipc_ids.specs.Tables.{most_buffered}
 use Rattle.phone_table.specs.Phones.{state_at}
 use Rattle.address_space.specs.Memory.{Memory, areas_of}
 use Rattle.address_space.specs.Sound as spaces
+use Rattle.address_space.specs.Sound.{AreHeld}
 use Rattle.cleanup.specs.declared.kept.Keeper.{Keeper}
 use Rattle.cleanup.specs.declared.kept.Keeper.TheVariants.{Nobody, Receiver, Caller}
 use Rattle.cleanup.specs.State.{Tasks, KernelState, alive_in}
@@ -87,6 +89,8 @@ pub record IsSoundCall (tasks : Tasks) (next_number next_stamp n : ℕ) (c : Cal
 
 pub record AreSoundCalls (tasks : Tasks) (calls : CallTable) : Type 0 where
   pub each : (n : ℕ) (c : Call) → call_at calls n ≡ Some c → IsSoundCall tasks calls.next_number calls.next_stamp n c
+  -- they carry few bytes together
+  pub bytes : used calls ≤ most_buffered
   pub stamps_differ : (m n : ℕ) (c d : Call) → call_at calls m ≡ Some c → call_at calls n ≡ Some d → c.stamp ≡ d.stamp → m ≡ n
 
 -- a phone that neither leads nor led to a task
@@ -108,9 +112,10 @@ pub record AreSoundTasks (tasks : Tasks) : Type 0 where
 pub record HaveKeepers (phones : List (List PhoneState)) (calls : CallTable) : Type 0 where
   pub each : (t p : ℕ) → state_at phones t p ≡ Some Connecting → (n : ℕ) × (kept_by calls n ≡ Some (label_at t p))
 
--- each task has a list of areas, which are sound, and one that has ended has none
+-- each task has a list of areas, which are sound, and one that has ended has none; an area stands over each store
 pub record HasSoundMemory (alive : List Bool) (m : Memory) : Type 0 where
   pub spaces : spaces.IsSound m
+  pub held : AreHeld m
   pub paired : length m.areas ≡ length alive
   pub owned : (t : TaskNo) → 1 ≤ t.0 → alive_in alive t.0 ≡ false → areas_of m t ≡ []
 

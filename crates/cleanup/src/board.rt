@@ -1,12 +1,13 @@
 //! The tasks, their phones, their calls and their areas, with room for more calls.
 ghost use Rattle.std.specs.Prelude.{◌≡◌, ℕ, ◌+◌, ◌-◌, ◌^◌, ◌<◌, ◌≤◌, ◌++◌, ◌∷◌, [], replicate, true, Some, None, IsSome, IfSome, IfNone, IfOk, OnOk, OnErr, length};
 ghost use Rattle.std.specs.Option.{option_copied};
+ghost use Rattle.ipc_ids.specs.Tables.{most_buffered};
 ghost use Rattle.address_space.specs.Memory.{with_task as with_areas, Tells};
 ghost use Rattle.share_hooks.specs.ShareMoments.{out_before_send};
 ghost use Rattle.cleanup.specs.Sharing.{share_step};
 ghost use Rattle.data_hooks.specs.DataMoments.{write_before_send, write_accept, read_accept, read_deliver};
 ghost use Rattle.answerbox.specs.Places.{IsAt};
-ghost use Rattle.answerbox.specs.Calls.{call_at, task_of, enqueue, without_call, received, without_caller, active_calls, front, calls_of, calls_at, calls_by};
+ghost use Rattle.answerbox.specs.Calls.{used, call_at, task_of, enqueue, without_call, received, without_caller, active_calls, front, calls_of, calls_at, calls_by};
 ghost use Rattle.phone_table.specs.Phones.{hangup_answer};
 ghost use Rattle.cleanup.specs.State.{state_from, start, is_alive, phone_at, live_calls, with_calls, with_memory, with_phone, with_task, with_event};
 ghost use Rattle.call_slab.specs.declared.call.Place.TheVariants.{Dispatched, Answers};
@@ -19,7 +20,7 @@ ghost use Rattle.cleanup.specs.Kill.{width, mark_ended};
 ghost use Rattle.cleanup.specs.KillRoom.{kill_calls as kill_calls_of, kill_entries as kill_entries_of};
 ghost use Rattle.cleanup.specs.Rooms.{KeepsCalls, KeepsRoom};
 
-use crate::counted::{front, leave};
+use crate::counted::{answer, answer_with, front, leave, readdress, receive};
 use crate::counts::{count_out, count_up};
 use crate::kept::{kept_phone, lent_phone, unless_freed};
 use crate::kill_room::{kill_calls, kill_entries};
@@ -139,7 +140,6 @@ impl Switchboard {
     pub fn add_task(&mut self, limit: u32) -> Result<TaskNo, NoMemory>
         requires limit { IsLimit limit }
         requires few_tasks { length self.old.state.tasks.alive < 64 }
-        requires no_call { self.old.state.calls.next_number ≤ 1 }
         ensures ok { OnOk result (self.new.state ≡ with_task self.old.state limit) }
         ensures number { IfOk result (λ t. t.0 ≡ length self.old.state.tasks.alive + 1) }
         ensures err { OnErr result (self.new.state ≡ self.old.state) }
@@ -288,7 +288,8 @@ impl Switchboard {
 
     /// A new call over that phone, which is bound for a place.
     pub fn new_call(&self, from: Label, msg: &Msg, place: Place) -> Call
-        ensures { result ≡ new_call self.now.state from.task from.phone.0 msg.now place }
+        ensures call { result ≡ new_call self.now.state from.task from.phone.0 msg.now place }
+        ensures few { used self.now.state.calls ≤ most_buffered }
     {
         Call {
             number: self.boxes.next_number(),
@@ -361,8 +362,8 @@ impl Switchboard {
             (received self.old.state.calls call.0 msg reserved (Dispatched by)) }
         ensures room { KeepsRoom self.old self.new 0 }
     {
-        self.boxes
-            .receive(call, msg, reserved, Place::Dispatched(by));
+        let place = Place::Dispatched(by);
+        receive(&mut self.boxes, call, msg, reserved, place);
     }
 
     /// The call takes a reply that does not accept to the answers of its caller. Returns the phone
@@ -380,12 +381,8 @@ impl Switchboard {
     {
         let record = self.boxes.get(call).unwrap();
         let (lent, reserved) = (lent_phone(record), record.reserved);
-        self.boxes.answer(
-            call,
-            reply,
-            unless_freed(lent, reserved),
-            Place::Answers(caller),
-        );
+        let (left, place) = (unless_freed(lent, reserved), Place::Answers(caller));
+        answer(&mut self.boxes, call, reply, left, place);
         lent
     }
 
@@ -471,8 +468,8 @@ impl Switchboard {
         let record = self.boxes.get(call).unwrap();
         let (lent, reserved) = (lent_phone(record), record.reserved);
         let left = unless_freed(lent, reserved);
-        self.boxes
-            .readdress(call, msg, label, left, Place::Incoming(to));
+        let place = Place::Incoming(to);
+        readdress(&mut self.boxes, call, msg, label, left, place);
         lent
     }
 
@@ -531,8 +528,8 @@ impl Switchboard {
         let record = self.boxes.get(call).unwrap();
         let (kept, reserved) = (kept_phone(record), record.reserved);
         let code = connect_to_caller(t, kept, caller, &mut self.phones);
-        let args = reply.args;
-        self.boxes.answer(call, Reply { code, args }, reserved, Place::Answers(caller));
+        let (args, place) = (reply.args, Place::Answers(caller));
+        answer(&mut self.boxes, call, Reply { code, args }, reserved, place);
         (kept, code)
     }
 
@@ -560,8 +557,8 @@ impl Switchboard {
         let record = self.boxes.get(call).unwrap();
         let (kept, reserved) = (kept_phone(record), record.reserved);
         connect_to_answerer(kept, t, &mut self.phones);
-        self.boxes
-            .answer(call, *reply, reserved, Place::Answers(caller));
+        let place = Place::Answers(caller);
+        answer(&mut self.boxes, call, *reply, reserved, place);
         kept
     }
 
@@ -577,8 +574,8 @@ impl Switchboard {
         ensures room { KeepsRoom self.old self.new 0 }
     {
         let reserved = self.boxes.get(call).unwrap().reserved;
-        self.boxes
-            .answer(call, *reply, reserved, Place::Answers(caller));
+        let place = Place::Answers(caller);
+        answer(&mut self.boxes, call, *reply, reserved, place);
     }
 
     /// The bytes of the caller that a DATA_WRITE with these arguments carries.
@@ -588,9 +585,13 @@ impl Switchboard {
     /// `Refused` with the code with which the call is answered at once; `NoMemory`.
     pub fn bytes_to_send(&self, caller: TaskNo, args: &[u64; 5]) -> Result<Buffer, SpaceFault>
         requires added { IsAdded self.now.state caller }
-        ensures { Tells result (write_before_send self.now.state.memory caller args.now) }
+        ensures told { Tells result (write_before_send self.now.state.memory caller args.now
+            (used self.now.state.calls)) }
+        ensures fits { IfOk result (λ bytes. used self.now.state.calls + length bytes
+            ≤ most_buffered) }
     {
-        write_before_send(self.boxes.alloc(), &self.spaces, caller, args)
+        let used = self.boxes.used();
+        write_before_send(self.boxes.alloc(), &self.spaces, caller, args, used)
     }
 
     /// Writes the bytes that the call carries to the task, where the reply says.
@@ -630,8 +631,11 @@ impl Switchboard {
     ) -> Result<Buffer, SpaceFault>
         requires live { IsSome (call_at self.now.state.calls call.0) }
         requires added { IsAdded self.now.state t }
-        ensures { IfSome (call_at self.now.state.calls call.0) (λ c. Tells result
-            (read_accept self.now.state.memory t c.request.args reply.now)) }
+        ensures told { IfSome (call_at self.now.state.calls call.0) (λ c. Tells result
+            (read_accept self.now.state.memory t c.request.args reply.now
+            (used self.now.state.calls))) }
+        ensures fits { IfOk result (λ bytes. used self.now.state.calls + length bytes
+            ≤ most_buffered) }
     {
         let record = self.boxes.get(call).unwrap();
         read_accept(
@@ -640,6 +644,7 @@ impl Switchboard {
             t,
             &record.request.args,
             reply,
+            self.boxes.used(),
         )
     }
 
@@ -708,13 +713,14 @@ impl Switchboard {
         requires unkept { IfSome (call_at self.old.state.calls call.0)
             (λ c. kept_phone (record c { reply = reply; place = Answers caller }) ≡ None) }
         requires alive { is_alive self.old.state caller ≡ true }
+        requires room { used self.old.state.calls + length bytes ≤ most_buffered }
         requires few_stamps { self.old.state.calls.next_stamp < 2 ^ 63 }
         ensures state { self.new.state ≡ with_calls self.old.state
             (with_bytes self.old.state.calls call.0 reply bytes caller) }
         ensures room { KeepsRoom self.old self.new 0 }
     {
-        self.boxes
-            .answer_with(call, reply, bytes, Place::Answers(caller));
+        let place = Place::Answers(caller);
+        answer_with(&mut self.boxes, call, reply, bytes, place);
     }
 
     /// The phone, where there is one, is free. No call keeps it.

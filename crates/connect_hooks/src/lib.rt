@@ -7,7 +7,5 @@
 #![tactic(auto)]
 
 mod connecting;
-#[cfg(test)]
-mod tests;
 
 pub use connecting::{accept_me_to, accept_to_me, before_send, on_receive, release};

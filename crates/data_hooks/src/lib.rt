@@ -6,13 +6,16 @@
 //! are; the first two of a reply say it of the task that answers. 0 bytes lie anywhere.
 #![tactic(auto)]
 
+mod pool;
 mod read;
-#[cfg(test)]
-mod tests;
 mod write;
 
+pub use pool::cut_args;
 pub use read::{read_accept, read_before_send, read_deliver};
 pub use write::{write_accept, write_before_send};
 
 /// How many bytes one call may carry.
-const MOST_DATA: u64 = 4096;
+const MOST_DATA: u64 = 65536;
+
+/// How many bytes all calls may carry together.
+const MOST_BUFFERED: u64 = 67_108_864;

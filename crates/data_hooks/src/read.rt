@@ -1,25 +1,23 @@
 //! The moments of a DATA_READ.
-ghost use Rattle.std.specs.Prelude.{◌≡◌, IsOk};
+ghost use Rattle.std.specs.Prelude.{◌≡◌, ◌≤◌, ◌+◌, length, IsOk, IfOk};
+ghost use Rattle.ipc_ids.specs.Tables.{most_buffered};
 ghost use Rattle.address_space.specs.Memory.{Did, IsAdded, Tells};
 ghost use Rattle.data_hooks.specs.DataMoments.{count_of, read_before_send, read_accept, read_deliver};
 
-use crate::MOST_DATA;
+use crate::pool::{kept_count, read_pooled};
 use address_space::{SpaceFault, Spaces};
 use ipc_ids::{Buffer, Code, Reply, StoreNo, TaskNo};
 use std::alloc::Global;
 
-/// Whether a DATA_READ may be sent.
+/// How many bytes a DATA_READ that is sent may bring.
 ///
 /// # Errors
 ///
-/// `ELIMIT` above 4,096 bytes.
-pub fn read_before_send(args: &[u64; 5]) -> Result<(), Code>
+/// `ELIMIT` above 65,536 bytes, unless the call asks to be cut down.
+pub fn read_before_send(args: &[u64; 5]) -> Result<u64, Code>
     ensures { result ≡ read_before_send args.now }
 {
-    if args[1] > MOST_DATA {
-        return Err(Code::ELIMIT);
-    }
-    Ok(())
+    kept_count(args)
 }
 
 /// Copies bytes of the task that answers, where a DATA_READ is answered with `EOK`; 0 bytes take
@@ -28,22 +26,26 @@ pub fn read_before_send(args: &[u64; 5]) -> Result<(), Code>
 /// # Errors
 ///
 /// `ELIMIT` where they are more than the caller wants; `EPERM` where the task that answers may not
-/// read them all; `NoMemory`.
+/// read them all; `ENOMEM` where all calls, which carry `used` bytes so far, would carry more than
+/// 67,108,864 bytes; `NoMemory`.
 pub fn read_accept(
     alloc: Global,
     spaces: &Spaces,
     answerer: TaskNo,
     args: &[u64; 5],
     reply: &Reply,
+    used: u64,
 ) -> Result<Buffer, SpaceFault>
     requires added { IsAdded spaces.now answerer }
-    ensures told { Tells result (read_accept spaces.now answerer args.now reply.now) }
+    requires few { used ≤ most_buffered }
+    ensures told { Tells result (read_accept spaces.now answerer args.now reply.now used) }
     ensures empty { count_of reply.now.args ≡ 0 → IsOk result }
+    ensures fits { IfOk result (λ bytes. used + length bytes ≤ most_buffered) }
 {
     if reply.args[1] > args[1] {
         return Err(SpaceFault::Refused(Code::ELIMIT));
     }
-    spaces.read(alloc, answerer, reply.args[0], reply.args[1])
+    read_pooled(alloc, spaces, answerer, reply.args[0], reply.args[1], used)
 }
 
 /// Writes the buffer to the caller, where the answer of a DATA_READ is delivered with `EOK`, and

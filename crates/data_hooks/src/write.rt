@@ -1,9 +1,10 @@
 //! The moments of a DATA_WRITE.
-ghost use Rattle.std.specs.Prelude.{◌≡◌, IsOk};
+ghost use Rattle.std.specs.Prelude.{◌≡◌, ◌≤◌, ◌+◌, length, IsOk, IfOk};
+ghost use Rattle.ipc_ids.specs.Tables.{most_buffered};
 ghost use Rattle.address_space.specs.Memory.{Did, IsAdded, Tells};
 ghost use Rattle.data_hooks.specs.DataMoments.{count_of, write_before_send, write_accept};
 
-use crate::MOST_DATA;
+use crate::pool::{kept_count, read_pooled};
 use address_space::{SpaceFault, Spaces};
 use ipc_ids::{Buffer, Code, Reply, StoreNo, TaskNo};
 use std::alloc::Global;
@@ -12,21 +13,26 @@ use std::alloc::Global;
 ///
 /// # Errors
 ///
-/// `ELIMIT` above 4,096 bytes; `EPERM` where the caller may not read them all; `NoMemory`.
+/// `ELIMIT` above 65,536 bytes, unless the call asks to be cut down; `EPERM` where the caller may
+/// not read them all; `ENOMEM` where all calls, which carry `used` bytes so far, would carry more
+/// than 67,108,864 bytes; `NoMemory`.
 pub fn write_before_send(
     alloc: Global,
     spaces: &Spaces,
     caller: TaskNo,
     args: &[u64; 5],
+    used: u64,
 ) -> Result<Buffer, SpaceFault>
     requires added { IsAdded spaces.now caller }
-    ensures told { Tells result (write_before_send spaces.now caller args.now) }
+    requires few { used ≤ most_buffered }
+    ensures told { Tells result (write_before_send spaces.now caller args.now used) }
     ensures empty { count_of args.now ≡ 0 → IsOk result }
+    ensures fits { IfOk result (λ bytes. used + length bytes ≤ most_buffered) }
 {
-    if args[1] > MOST_DATA {
-        return Err(SpaceFault::Refused(Code::ELIMIT));
+    match kept_count(args) {
+        Ok(count) => read_pooled(alloc, spaces, caller, args[0], count, used),
+        Err(code) => Err(SpaceFault::Refused(code)),
     }
-    spaces.read(alloc, caller, args[0], args[1])
 }
 
 /// Writes the first bytes of the buffer, as many as the reply wants, where a DATA_WRITE is

@@ -1,5 +1,6 @@
 //! Files in memory, whose loads can be told to fail.
-ghost use Rattle.std.specs.Prelude.{◌≡◌, ◌≤◌, ◌+◌, ◌++◌, ◌⊎◌, [], ◌∷◌, length, IfOk, OnOk, OnErr, IsErrOf, Some, None, option_copied};
+ghost use Rattle.std.specs.Prelude.{◌≡◌, ◌≤◌, ◌+◌, ◌++◌, ◌⊎◌, [], ◌∷◌, length, IfOk, OnOk, OnErr};
+ghost use Rattle.std.specs.Prelude.{IsErrOf, Some, None, option_copied};
 ghost use Rattle.io_edge.specs.declared.shelf.LoadFault.TheVariants.{Failed, NoMemory as Memory};
 ghost use Rattle.io_edge.specs.Edge.{file_of, Gives, next_count};
 ghost use Rattle.io_edge.specs.Memory.{empty_shelf, with_failing_load, IsNextLoadListed};

@@ -1,7 +1,9 @@
 //! A sink in memory, whose puts can be told to fail.
-ghost use Rattle.std.specs.Prelude.{◌≡◌, ◌≤◌, ◌<◌, ◌+◌, ◌^◌, ◌++◌, [], ◌∷◌, IsOk, IfOk, OnOk, OnErr, Some, None, length, map};
+ghost use Rattle.std.specs.Prelude.{◌≡◌, ◌≤◌, ◌<◌, ◌+◌, ◌^◌, ◌++◌, [], ◌∷◌, IsOk, IfOk, OnOk};
+ghost use Rattle.std.specs.Prelude.{OnErr, Some, None, length, map};
 ghost use Rattle.io_edge.specs.Edge.{AppendsStart, Rose, next_count};
-ghost use Rattle.io_edge.specs.Memory.{empty_sink, with_failing_put, kept_by, next_kept, Fits, bytes_after_failure};
+ghost use Rattle.io_edge.specs.Memory.{empty_sink, with_failing_put, kept_by, next_kept, Fits};
+ghost use Rattle.io_edge.specs.Memory.{bytes_after_failure};
 ghost use Rattle.io_edge.specs.Stops.{stop_pair};
 
 use crate::{PutFailed, Sink};

@@ -1,5 +1,6 @@
 //! Files that are loaded by name.
-ghost use Rattle.std.specs.Prelude.{◌≡◌, ◌≤◌, ◌++◌, [], ◌∷◌, List, ℕ, length, IfOk, OnOk, IsErrOf, Option};
+ghost use Rattle.std.specs.Prelude.{◌≡◌, ◌≤◌, ◌++◌, [], ◌∷◌, List, ℕ, length, IfOk, OnOk, IsErrOf};
+ghost use Rattle.std.specs.Prelude.{Option};
 ghost use Rattle.io_edge.specs.declared.shelf.LoadFault.TheVariants.{Failed, NoMemory};
 ghost use Rattle.io_edge.specs.Edge.{Gives};
 

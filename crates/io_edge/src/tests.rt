@@ -1,41 +1,90 @@
 //! The calls that want memory where there is enough of it, and reads and writes that are cut short.
-use crate::{FileShelf, LoadFault, MemShelf, MemSink, OutSink, PutFailed, Shelf, Sink, read_most};
+use crate::{FileShelf, LoadFault, MemShelf, MemSink, OutSink, Shelf, Sink, read_most};
+use ipc_ids::NoMemory;
+use std::alloc::Global;
 use std::io;
 use std::io::{ErrorKind, Read, Write};
-use std::test::Fail;
+use std::rt::Files;
 
-#[test]
-fn a_shelf_in_memory_gives_the_newest_bytes(rt: HostRuntime) -> Result<(), Fail> {
-    let alloc = rt.alloc();
-    let mut shelf = MemShelf::new(alloc);
+/// A name, how many bytes are asked for at most, and the bytes that come; none where the load
+/// fails.
+type Load<'a> = (&'a str, usize, Option<&'a [u8]>);
+
+/// A piece, and whether it is written whole.
+type Put<'a> = (&'a [u8], bool);
+
+fn gives<S: Shelf>(shelf: &mut S, alloc: Global, load: Load) -> bool {
+    let (name, most, wanted) = load;
+    match (shelf.load(alloc, name, most), wanted) {
+        (Ok(bytes), Some(wanted)) => bytes.as_slice() == wanted,
+        (Err(fault), None) => fault == LoadFault::Failed,
+        _ => false,
+    }
+}
+
+/// Whether these loads come to that, one after the other.
+fn gives_all<S: Shelf>(shelf: &mut S, alloc: Global, loads: &[Load]) -> bool {
+    for load in loads {
+        if !gives(shelf, alloc, *load) {
+            return false;
+        }
+    }
+    true
+}
+
+/// Whether these puts come to that, one after the other.
+fn takes_all<S: Sink>(sink: &mut S, puts: &[Put]) -> bool {
+    for (piece, whole) in puts {
+        if sink.put(piece).is_ok() != *whole {
+            return false;
+        }
+    }
+    true
+}
+
+/// Two files, one of them added twice; the third load fails.
+fn fill(shelf: &mut MemShelf) -> Result<(), NoMemory> {
     shelf.add("a", b"old")?;
     shelf.add("b", b"other")?;
     shelf.add("a", b"newer")?;
-    shelf.fail_at(3)?;
-    assert_eq!(rt;
-        shelf.load(alloc, "a", 100)?.as_slice(),
-        b"newer".as_slice()
-    );
-    assert_eq!(rt; shelf.load(alloc, "a", 2)?.as_slice(), b"ne".as_slice());
-    assert_eq!(rt; shelf.load(alloc, "b", 100).err(), Some(LoadFault::Failed));
-    assert_eq!(rt;
-        shelf.load(alloc, "b", 100)?.as_slice(),
-        b"other".as_slice()
-    );
-    assert_eq!(rt; shelf.load(alloc, "c", 100).err(), Some(LoadFault::Failed));
-    Ok(())
+    shelf.fail_at(3)
+}
+
+fn memory_gives(alloc: Global, loads: &[Load]) -> bool {
+    let mut shelf = MemShelf::new(alloc);
+    fill(&mut shelf).is_ok() && gives_all(&mut shelf, alloc, loads)
 }
 
 #[test]
-fn a_sink_in_memory_keeps_what_fits(rt: HostRuntime) -> Result<(), Fail> {
-    let mut sink = MemSink::new(rt.alloc(), 8)?;
-    sink.fail_at(2, 1)?;
-    assert_eq!(rt; sink.put(b"abc"), Ok(()));
-    assert_eq!(rt; sink.put(b"def"), Err(PutFailed));
-    assert_eq!(rt; sink.put(b"ghijkl"), Err(PutFailed));
-    assert_eq!(rt; sink.put(b""), Ok(()));
-    assert_eq!(rt; sink.written(), b"abcdghij".as_slice());
-    Ok(())
+fn a_shelf_in_memory_gives_the_newest_bytes(rt: HostRuntime) {
+    let loads: [Load; 5] = [
+        ("a", 100, Some(b"newer")),
+        ("a", 2, Some(b"ne")),
+        ("b", 100, None),
+        ("b", 100, Some(b"other")),
+        ("c", 100, None),
+    ];
+    assert!(rt; memory_gives(rt.alloc(), &loads));
+}
+
+fn memory_takes(alloc: Global, puts: &[Put], written: &[u8]) -> bool {
+    match MemSink::new(alloc, 8) {
+        Ok(mut sink) => {
+            sink.fail_at(2, 1).is_ok() && takes_all(&mut sink, puts) && sink.written() == written
+        }
+        Err(_) => false,
+    }
+}
+
+#[test]
+fn a_sink_in_memory_keeps_what_fits(rt: HostRuntime) {
+    let puts: [Put; 4] = [
+        (b"abc", true),
+        (b"def", false),
+        (b"ghijkl", false),
+        (b"", true),
+    ];
+    assert!(rt; memory_takes(rt.alloc(), &puts, b"abcdghij"));
 }
 
 const TEXT: &[u8] = b"seven b";
@@ -74,16 +123,28 @@ fn slow_reader(broken: u32) -> SlowReader {
     }
 }
 
-#[test]
-fn an_interrupted_read_is_tried_again(rt: HostRuntime) -> Result<(), Fail> {
-    let alloc = rt.alloc();
-    for (most, read) in [(100, 7), (7, 7), (3, 3), (0, 0)] {
-        let bytes = read_most(alloc, slow_reader(0), most)?;
-        assert_eq!(rt; bytes.as_slice(), &TEXT[..read]);
+fn reads(alloc: Global, most: usize, wanted: &[u8]) -> bool {
+    match read_most(alloc, slow_reader(0), most) {
+        Ok(bytes) => bytes.as_slice() == wanted,
+        Err(_) => false,
     }
-    let fault = read_most(alloc, slow_reader(3), 100).err();
-    assert!(rt; fault.is_some_and(|e| e.kind() == ErrorKind::TimedOut));
-    Ok(())
+}
+
+fn tells_the_fault(alloc: Global) -> bool {
+    match read_most(alloc, slow_reader(3), 100) {
+        Ok(_) => false,
+        Err(e) => e.kind() == ErrorKind::TimedOut,
+    }
+}
+
+#[test]
+fn an_interrupted_read_is_tried_again(rt: HostRuntime) {
+    let alloc = rt.alloc();
+    assert!(rt; reads(alloc, 100, TEXT));
+    assert!(rt; reads(alloc, 7, TEXT));
+    assert!(rt; reads(alloc, 3, b"sev"));
+    assert!(rt; reads(alloc, 0, b""));
+    assert!(rt; tells_the_fault(alloc));
 }
 
 // Takes pieces of 2 bytes; each second call is interrupted. With no room left it takes 0 bytes.
@@ -111,35 +172,34 @@ impl Write for SlowWriter {
     }
 }
 
-#[test]
-fn a_short_write_goes_on(rt: HostRuntime) -> Result<(), Fail> {
+fn writer_takes(alloc: Global, puts: &[Put], written: &[u8]) -> bool {
     let mut writer = SlowWriter {
-        bytes: Vec::new(rt.alloc()),
+        bytes: Vec::new(alloc),
         room: 7,
         calls: 0,
     };
     let mut sink = OutSink::new(&mut writer);
-    assert_eq!(rt; sink.put(b"abcde"), Ok(()));
-    assert_eq!(rt; sink.put(b""), Ok(()));
-    assert_eq!(rt; sink.put(b"fghi"), Err(PutFailed));
-    assert_eq!(rt; sink.put(b""), Ok(()));
-    assert_eq!(rt; writer.bytes.as_slice(), b"abcdefg".as_slice());
-    Ok(())
+    takes_all(&mut sink, puts) && writer.bytes.as_slice() == written
 }
 
 #[test]
-fn a_real_file_is_loaded_or_fails(rt: HostRuntime) -> Result<(), Fail> {
-    let alloc = rt.alloc();
-    let mut shelf = FileShelf::new(&rt, alloc);
-    assert_eq!(rt;
-        shelf.load(alloc, "/dev/zero", 5000)?.as_slice(),
-        [0u8; 5000].as_slice()
-    );
-    assert_eq!(rt; shelf.load(alloc, "/dev/null", 5000)?.len(), 0);
-    assert_eq!(rt;
-        shelf.load(alloc, "/no such file", 5000).err(),
-        Some(LoadFault::Failed)
-    );
-    assert_eq!(rt; shelf.load(alloc, "/", 5000).err(), Some(LoadFault::Failed));
-    Ok(())
+fn a_short_write_goes_on(rt: HostRuntime) {
+    let puts: [Put; 4] = [(b"abcde", true), (b"", true), (b"fghi", false), (b"", true)];
+    assert!(rt; writer_takes(rt.alloc(), &puts, b"abcdefg"));
+}
+
+fn files_give<R: Files + Drop>(rt: R, alloc: Global, loads: &[Load]) -> bool {
+    let mut shelf = FileShelf::new(rt, alloc);
+    gives_all(&mut shelf, alloc, loads)
+}
+
+#[test]
+fn a_real_file_is_loaded_or_fails(rt: HostRuntime) {
+    let loads: [Load; 4] = [
+        ("/dev/zero", 5000, Some(&[0; 5000])),
+        ("/dev/null", 5000, Some(b"")),
+        ("/no such file", 5000, None),
+        ("/", 5000, None),
+    ];
+    assert!(rt; files_give(&rt, rt.alloc(), &loads));
 }

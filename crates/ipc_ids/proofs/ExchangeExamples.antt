@@ -1,12 +1,12 @@
 -- The law of exchanges at work on short lists: two that keep it, and some that break it.
-use Rattle.std.proofs.Common.{ℕ, ◌++◌, Bool, true, false, None, List, [], ◌∷◌, refl, inl, inr, arith}
+use Rattle.std.proofs.Common.{ℕ, ◌≡◌, ◌++◌, ap, Bool, true, false, None, List, [], ◌∷◌, refl, inl, inr, arith}
 use Rattle.std.specs.Prelude.{◌==◌}
 use Rattle.ipc_ids.specs.declared.numbers.TaskNo.{TaskNo}
 use Rattle.ipc_ids.specs.declared.numbers.FibrilNo.{FibrilNo}
 use Rattle.ipc_ids.specs.declared.numbers.ExchangeNo.{ExchangeNo}
 use Rattle.ipc_ids.specs.declared.message.Reply.{Reply}
 use Rattle.ipc_ids.specs.declared.message.ExchangeMode.{ExchangeMode}
-use Rattle.ipc_ids.specs.declared.message.ExchangeMode.TheVariants.{Serialize, Parallel}
+use Rattle.ipc_ids.specs.declared.message.ExchangeMode.TheVariants.{Atomic, Serialize, Parallel}
 use Rattle.ipc_ids.specs.declared.message.Request.TheVariants as request
 use Rattle.ipc_ids.specs.declared.message.Outcome.TheVariants as outcome
 use Rattle.ipc_ids.specs.declared.entry.Entry.{Entry}
@@ -129,12 +129,16 @@ by_another_fibril law =
 abbrev given : List Fact
 given = Gets 1 1 None connected ∷ Answer 1 connected ∷ Head true ∷ []
 
+-- what stands between the two begins of an exchange that has ended
+abbrev over : List Fact
+over = Other ∷ Head true ∷ EndsExchange 1 ∷ Other ∷ Head true ∷ []
+
 -- an exchange is begun again before it has ended
 again_before_its_end :
     ExchangesAreLawful (is_connected 1 (begins 1 1 Parallel 3) ++ step (begins 2 1 Parallel 3)) → ⊥
 again_before_its_end law =
     let between : List Fact = Other ∷ Head true ∷ [] in
-    let it = (law 1).begun_again [] between given 2 1 1 (parallel 3) (parallel 3) refl refl
+    let it = (law 1).begun_again [] between given 2 1 1 (parallel 3) (parallel 3) refl
     (λ f of s. grind arith) in
     grind (arith, it.2)
 
@@ -143,8 +147,27 @@ again_over_another_phone :
     ExchangesAreLawful
     (is_connected 1 (begins 1 1 Parallel 3) ++ step (ends 1 1) ++ step (begins 2 1 Parallel 0)) → ⊥
 again_over_another_phone law =
-    let between : List Fact = Other ∷ Head true ∷ EndsExchange 1 ∷ Other ∷ Head true ∷ [] in
-    let it = (law 1).begun_again [] between given 2 1 1 (parallel 0) (parallel 3) refl refl
+    let it = (law 1).begun_again [] over given 2 1 1 (parallel 0) (parallel 3) refl
+    (λ f of s. grind arith) in
+    let phone : 0 ≡ 3 = ap (λ (y : Terms). y.phone) it.0 in
+    absurd (cc phone)
+
+-- it is begun again in another mode
+again_in_another_mode :
+    ExchangesAreLawful
+    (is_connected 1 (begins 1 1 Parallel 3) ++ step (ends 1 1) ++ step (begins 2 1 Atomic 3)) → ⊥
+again_in_another_mode law =
+    let of : Terms = record { mode = Atomic; session = 1; phone = 3 } in
+    let it = (law 1).begun_again [] over given 2 1 1 of (parallel 3) refl (λ f of s. grind arith) in
+    let mode : Atomic ≡ Parallel = ap (λ (y : Terms). y.mode) it.0 in
+    absurd (cc mode)
+
+-- an exchange that is not parallel is begun again
+again_a_serialized_one :
+    ExchangesAreLawful
+    (step (begins 1 1 Serialize 0) ++ step (ends 1 1) ++ step (begins 2 1 Serialize 0)) → ⊥
+again_a_serialized_one law =
+    let it = (law 1).begun_again [] over (Other ∷ Head true ∷ []) 2 1 1 serial serial refl
     (λ f of s. grind arith) in
     absurd (cc it.1)
 
@@ -156,6 +179,6 @@ again_after_it_was_dropped :
 again_after_it_was_dropped law =
     let between : List Fact =
     Other ∷ Head true ∷ Drops 1 ∷ Other ∷ Head true ∷ EndsExchange 1 ∷ Other ∷ Head true ∷ [] in
-    let it = (law 1).begun_again [] between given 2 1 1 (parallel 3) (parallel 3) refl refl
+    let it = (law 1).begun_again [] between given 2 1 1 (parallel 3) (parallel 3) refl
     (λ f of s. grind arith) in
     it.3 (inr (inr (inl refl)))

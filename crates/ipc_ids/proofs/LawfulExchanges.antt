@@ -1,5 +1,5 @@
 -- The law of exchanges holds of a list whose facts were each allowed as they came.
-use Rattle.std.proofs.Common.{ℕ, ◌≡◌, List, [], ◌∷◌, ◌++◌, refl, sym, ◌∙◌, ap, subst, inl, inr, arith}
+use Rattle.std.proofs.Common.{ℕ, ◌≡◌, List, [], ◌∷◌, ◌++◌, refl, sym, ◌∙◌, subst, inl, inr, arith}
 use Rattle.std.specs.Prelude.{⊤}
 use Rattle.std.proofs.lemmas.Bool.{eq-eqb, ne_eqb}
 use Rattle.ipc_ids.specs.declared.message.ExchangeMode.TheVariants.{Serialize, Parallel}
@@ -109,23 +109,21 @@ module _ (p : List Fact) (l : ExchangesWereLawful p) where
   begun_again :
       (later between earlier : List Fact) (f g e : ℕ) (of before : Terms) →
       p ≡ later ++ (Begins f e of ∷ (between ++ (Begins g e before ∷ earlier))) →
-      of.mode ≡ Parallel → HasNoBegin e between →
-      (of.session ≡ before.session) × (of.phone ≡ before.phone)
+      HasNoBegin e between →
+      (of ≡ before) × (of.mode ≡ Parallel)
       × Stands (EndsExchange e) between × (Stands (Drops e) between → ⊥)
-  begun_again later between earlier f g e of before at mode none =
+  begun_again later between earlier f g e of before at none =
       let q : List Fact = between ++ (Begins g e before ∷ earlier) in
       let it = lawful_at later q (Begins f e of) at in
       again_by q (stage e q) (comes_to between earlier g e before it.0 none) it.1.1
     where
       again_by :
           (q : List Fact) (s : Stage) → ComesTo e before between s → MayBegin q f of s →
-          (of.session ≡ before.session) × (of.phone ≡ before.phone)
+          (of ≡ before) × (of.mode ≡ Parallel)
           × Stands (EndsExchange e) between × (Stands (Drops e) between → ⊥)
       again_by q Unused c may = absurd c
       again_by q (Begun x) c may = absurd may
-      again_by q (Ended x) c may =
-          let same : of ≡ before = sym may.0 ∙ c.0 in
-          (ap (λ (y : Terms). y.session) same, ap (λ (y : Terms). y.phone) same, c.1, c.2)
+      again_by q (Ended x) c may = (sym may.0 ∙ c.0, may.1, c.1, c.2)
       again_by q Dropped c may = absurd may
 
   pub each_exchange_is_lawful : EachExchangeIsLawful p

@@ -62,6 +62,7 @@ Delivers n (entry.Delivered m t ∷ es) = (m.0 ≡ n) ⊎ Delivers n es
 Delivers n (entry.Head t asked ∷ es) = ⊥
 Delivers n (entry.Kill t ∷ es) = ⊥
 Delivers n (entry.Gone t ∷ es) = ⊥
+Delivers n (entry.Spawn t ∷ es) = ⊥
 Delivers n (_ ∷ es) = Delivers n es
 
 -- task t pokes

@@ -30,12 +30,12 @@ pub record EachExchangeIsLawful (p : List Fact) : Type 0 where
   pub connected : (later earlier : List Fact) (f e : ℕ) (of : Terms) →
       p ≡ later ++ (Begins f e of ∷ earlier) → of.mode ≡ Parallel → HasNoBegin e earlier →
       ConnectsTo f of.phone earlier
-  -- a parallel exchange that is begun again is of the same session and over the same phone; it has
-  -- ended since it was begun before, and was not dropped
+  -- an exchange that is begun again is a parallel one, of the same session, over the same phone and in
+  -- the same mode as before; it has ended since then, and was not dropped
   pub begun_again : (later between earlier : List Fact) (f g e : ℕ) (of before : Terms) →
       p ≡ later ++ (Begins f e of ∷ (between ++ (Begins g e before ∷ earlier))) →
-      of.mode ≡ Parallel → HasNoBegin e between →
-      (of.session ≡ before.session) × (of.phone ≡ before.phone)
+      HasNoBegin e between →
+      (of ≡ before) × (of.mode ≡ Parallel)
       × Stands (EndsExchange e) between × (Stands (Drops e) between → ⊥)
 
 -- the law of exchanges, for each task by itself

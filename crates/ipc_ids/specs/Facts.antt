@@ -44,6 +44,7 @@ abbrev pub fact : ℕ → Entry → Fact
 fact t (entry.Head u asked) = Head (u.0 == t)
 fact t (entry.Kill u) = Head (u.0 == t)
 fact t (entry.Gone u) = Head (u.0 == t)
+fact t (entry.Spawn u) = Head (u.0 == t)
 fact t (entry.Accepted n from method to) = Accepts n.0
 fact t (entry.Outcome o) = outcome_fact o
 fact t (entry.Sent u f n slot) = if_mine (u.0 == t) (Sent f.0 n.0 slot)

@@ -39,6 +39,7 @@ present [] = None
 present (entry.Head t asked ∷ p) = Some (entry.Head t asked)
 present (entry.Kill t ∷ p) = Some (entry.Kill t)
 present (entry.Gone t ∷ p) = Some (entry.Gone t)
+present (entry.Spawn t ∷ p) = Some (entry.Spawn t)
 present (_ ∷ p) = present p
 
 -- how a call was made: by which task, with which method, and in the event with which head

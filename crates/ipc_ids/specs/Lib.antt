@@ -1,9 +1,13 @@
 pub mod AreaLaw
 pub mod Codes
+pub mod Digits
+pub mod Doings
 pub mod Exchanges
 pub mod Facts
 pub mod Holdings
 pub mod Lawful
+pub mod KeptCalls
+pub mod Labels
 pub mod Laws
 pub mod Life
 pub mod Methods

@@ -13,6 +13,8 @@ pub enum Entry {
     Kill(TaskNo),
     /// The event named a task that has ended.
     Gone(TaskNo),
+    /// The task is made.
+    Spawn(TaskNo),
     /// The call goes to that task; where `to` is `None`, it is answered at once.
     Accepted {
         call: CallNo,
@@ -20,6 +22,7 @@ pub enum Entry {
         method: u64,
         to: Option<TaskNo>,
     },
+    /// The task has the call from now on, and is to answer it.
     Received {
         call: CallNo,
         by: TaskNo,
@@ -39,6 +42,7 @@ pub enum Entry {
     },
     /// The call is over: its caller has ended.
     Vanished(CallNo),
+    /// The caller has the answer, and the call is over.
     Delivered {
         call: CallNo,
         to: TaskNo,
@@ -75,6 +79,7 @@ pub enum Entry {
         count: u64,
         store: StoreNo,
     },
+    /// What the task is told.
     Outcome(Outcome),
     /// The fibril sent the call, from this slot; where `slot` is `None`, for the exchange that it
     /// begins.
@@ -93,6 +98,7 @@ pub enum Entry {
         slot: Option<u32>,
         reply: Reply,
     },
+    /// The fibril waits for this.
     Blocks {
         task: TaskNo,
         fibril: FibrilNo,
@@ -104,6 +110,7 @@ pub enum Entry {
         fibril: FibrilNo,
         label: Label,
     },
+    /// The fibril has ended.
     Ends {
         task: TaskNo,
         fibril: FibrilNo,
@@ -117,6 +124,7 @@ pub enum Entry {
         session: u32,
         phone: u64,
     },
+    /// The fibril has ended the exchange.
     ExchangeEnds {
         task: TaskNo,
         fibril: FibrilNo,

@@ -8,6 +8,7 @@
 #![tactic(auto)]
 
 mod buffer;
+mod digits;
 mod entry;
 mod laws;
 mod message;
@@ -17,11 +18,10 @@ mod op;
 mod program;
 mod short;
 mod steps;
-#[cfg(test)]
-mod tests;
 mod trace;
 
 pub use buffer::Buffer;
+pub use digits::in_base;
 pub use entry::Entry;
 pub use laws::lawful_lists_keep_the_laws;
 pub use message::{Event, ExchangeMode, Mode, Msg, Outcome, PhoneState, Reply, Request, Why};

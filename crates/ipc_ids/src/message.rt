@@ -22,39 +22,50 @@ pub struct Reply {
 /// Where a phone leads.
 #[derive(Clone, Copy, Debug, PartialEq, Eq)]
 pub enum PhoneState {
+    /// Nowhere; a connection may take it.
     Free,
+    /// It is kept for a connection that is being made.
     Connecting,
+    /// To that task.
     Connected(TaskNo),
+    /// Nowhere: it was hung up.
     HungUp,
+    /// Nowhere: the task that it led to has ended.
     Slammed,
 }
 
 /// Whether a forwarded call shows its forwarder as the sender (`ROUTE_FROM_ME`).
 #[derive(Clone, Copy, Debug, PartialEq, Eq)]
 pub enum Mode {
+    /// The sender stays who it was.
     Plain,
+    /// The forwarder is shown.
     Route,
 }
 
 /// What a task asks of the kernel in one step.
 #[derive(Drop)]
 pub enum Request {
+    /// Sends a call over the phone.
     Call {
         phone: u64,
         msg: Msg,
     },
+    /// Takes the next answer, or else the next call.
     Receive,
+    /// Answers a call that the task has received.
     Answer {
         call: u64,
         reply: Reply,
     },
-    /// A `change` is what the next receiver sees in place of the message.
+    /// Passes on a call that the task has received. A `change` is what the next receiver sees in place of the message.
     Forward {
         call: u64,
         phone: u64,
         mode: Mode,
         change: Option<Msg>,
     },
+    /// Hangs up the phone.
     Hangup {
         phone: u64,
     },
@@ -79,24 +90,31 @@ pub enum Request {
         at: u64,
         count: u64,
     },
+    /// The step asks for nothing.
     Nothing,
 }
 
 /// What the kernel tells the task.
 #[derive(Debug, PartialEq, Eq, Drop)]
 pub enum Outcome {
+    /// The request was done.
     Done,
+    /// Nothing was done, for this reason.
     Refused(Code),
+    /// The call was accepted, and has this number.
     Accepted(CallNo),
+    /// A call, its message and its sender.
     Received {
         call: CallNo,
         msg: Msg,
         label: Label,
     },
+    /// The answer to a call of the task.
     Answered {
         call: CallNo,
         reply: Reply,
     },
+    /// There was nothing to receive.
     Empty,
     /// What a peek read.
     Bytes(Short),
@@ -135,6 +153,8 @@ pub enum Event {
     Kill(TaskNo),
     /// The phone of the task is hung up.
     Hangup(TaskNo, u64),
+    /// The next task is made from the template at this place, from 0 on.
+    Spawn(u32),
 }
 
 impl Outcome {

@@ -2,7 +2,7 @@
 ghost use Rattle.std.specs.Prelude.{◌≡◌};
 ghost use Rattle.ipc_ids.specs.Methods.{kind_of};
 
-/// A phone that led to the receiver was hung up. The kernel alone makes such a call.
+/// Tells that a phone that led to the receiver was hung up. The kernel alone makes such a call.
 pub const PHONE_HUNGUP: u64 = 0;
 
 /// Asks the receiver to keep a phone that leads to the caller.

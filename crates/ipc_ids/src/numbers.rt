@@ -38,23 +38,33 @@ pub struct Label {
 }
 
 impl Code {
+    /// Success.
     pub const EOK: Code = Code(0);
 
+    /// No such call, phone, task or area.
     pub const ENOENT: Code = Code(1);
 
+    /// This is not allowed.
     pub const EPERM: Code = Code(2);
 
+    /// It is there already.
     pub const EEXIST: Code = Code(3);
 
+    /// An argument has no meaning.
     pub const EINVAL: Code = Code(4);
 
+    /// A limit is reached.
     pub const ELIMIT: Code = Code(5);
 
+    /// The other side has hung up or has ended.
     pub const EHANGUP: Code = Code(6);
 
+    /// The call could not be passed on.
     pub const EFORWARD: Code = Code(7);
 
+    /// The session is in use.
     pub const EBUSY: Code = Code(8);
 
+    /// The pool of buffers has no room.
     pub const ENOMEM: Code = Code(9);
 }

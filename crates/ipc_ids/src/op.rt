@@ -10,7 +10,9 @@ use std::marker::Model;
 /// A number, or what a register holds, `r0` to `r31`.
 #[derive(Clone, Copy, Debug, PartialEq, Eq)]
 pub enum Value {
+    /// This number.
     Number(u64),
+    /// What the register with this number from 0 to 31 holds.
     Register(u32),
 }
 
@@ -18,22 +20,27 @@ pub enum Value {
 /// `CallSlot` on are those of fibrils. Slots and handles have the numbers 0 to 7, sessions 0 to 15.
 #[derive(Debug, PartialEq, Eq, Drop)]
 pub enum Op {
+    /// Sends a call over the phone.
     Call {
         phone: Value,
         method: Value,
         args: [Value; 5],
     },
+    /// Takes the next answer, or else the next call.
     Receive,
+    /// Answers the call.
     Answer {
         call: Value,
         code: Value,
         args: [Value; 5],
     },
+    /// Passes the call on over the phone.
     Forward {
         call: Value,
         phone: Value,
         mode: Mode,
     },
+    /// Passes the call on with another method and other arguments.
     ForwardWith {
         call: Value,
         phone: Value,
@@ -41,31 +48,40 @@ pub enum Op {
         method: Value,
         args: [Value; 5],
     },
+    /// Hangs up the phone.
     Hangup(Value),
+    /// Makes an area of so many pages.
     Area {
         base: Value,
         pages: Value,
         rights: Value,
     },
+    /// Drops the area with this base.
     Unarea(Value),
+    /// Writes these bytes from an address on.
     Poke {
         at: Value,
         bytes: Short,
     },
+    /// Reads so many bytes from an address on.
     Peek {
         at: Value,
         count: Value,
     },
+    /// Gives the register a value.
     Set {
         register: u32,
         value: Value,
     },
+    /// Goes on at this place of the body.
     Jump(u32),
+    /// Goes on at this place where both values are one.
     JumpEqual {
         left: Value,
         right: Value,
         to: u32,
     },
+    /// Goes on at this place where the values differ.
     JumpDiffer {
         left: Value,
         right: Value,
@@ -263,6 +279,7 @@ impl Model for Bodies {
 }
 
 impl Ops {
+    /// No operations; it takes no memory.
     pub fn new(alloc: Global) -> Ops
         ensures { result ≡ [] }
     {
@@ -271,6 +288,11 @@ impl Ops {
         }
     }
 
+    /// Adds the operation at the end.
+    ///
+    /// # Errors
+    ///
+    /// `NoMemory` where no memory was found. Nothing has changed then.
     pub fn push(&mut self, item: Op) -> Result<(), NoMemory>
         ensures ok { OnOk result (self.new ≡ self.old ++ item ∷ []) }
         ensures err { OnErr result (self.new ≡ self.old) }
@@ -281,6 +303,7 @@ impl Ops {
         }
     }
 
+    /// The operations in their order.
     pub fn as_slice(&self) -> &[Op]
         ensures { result.now ≡ self.now }
     {
@@ -289,6 +312,7 @@ impl Ops {
 }
 
 impl Bodies {
+    /// No bodies; it takes no memory.
     pub fn new(alloc: Global) -> Bodies
         ensures { result ≡ [] }
     {
@@ -297,6 +321,11 @@ impl Bodies {
         }
     }
 
+    /// Adds the body at the end.
+    ///
+    /// # Errors
+    ///
+    /// `NoMemory` where no memory was found. Nothing has changed then.
     pub fn push(&mut self, item: Body) -> Result<(), NoMemory>
         ensures ok { OnOk result (self.new ≡ self.old ++ item ∷ []) }
         ensures err { OnErr result (self.new ≡ self.old) }
@@ -307,6 +336,7 @@ impl Bodies {
         }
     }
 
+    /// The bodies in their order.
     pub fn as_slice(&self) -> &[Body]
         ensures { result.now ≡ self.now }
     {

@@ -49,6 +49,7 @@ impl Short {
         }
     }
 
+    /// The bytes in their order, 64 at most.
     pub fn as_slice(&self) -> &[u8]
         ensures bytes { result.now ≡ self.now }
         ensures few { length result.now ≤ 64 }

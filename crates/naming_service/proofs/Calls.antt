@@ -7,10 +7,15 @@ use Rattle.ipc_ids.specs.declared.message.Outcome.TheVariants as outcome
 use Rattle.naming_service.specs.declared.received.ReceivedCall.{ReceivedCall}
 use Rattle.naming_service.specs.declared.received.Work.{Work}
 use Rattle.naming_service.specs.declared.received.Asked.{Asked}
-use Rattle.naming_service.specs.declared.received.Asked.TheVariants.{Register, Connect, HungUp, Other}
+use Rattle.naming_service.specs.declared.received.Asked.TheVariants.{Register, Connect, Introduce, Leave, Wait, HungUp, Other}
 use Rattle.ipc_ids.specs.Codes.{eok}
-use Rattle.naming_service.specs.Naming.{NamingState, first_work, service_of, phone_given, no_phone, is_blocking, asked_by, answering, forwarding, forwarding_all, wants_another, phone_of, registered_by, wait_or_refuse_by, connect_by, handled_by, after_receive, after_outcome_by, after, without_phone}
-use Rattle.naming_service.specs.Registrations.{receipt, IsAmong, HasWorkOn, IsKept}
+use Rattle.task_ends.specs.declared.introduced.Introduced.{Introduced}
+use Rattle.task_ends.specs.declared.introduced.Wait.{Wait as Waiter}
+use Rattle.task_ends.specs.declared.ends.Waited.{Waited}
+use Rattle.task_ends.specs.declared.ends.Waited.TheVariants as waited
+use Rattle.task_ends.specs.Ends.{is_known, entry_of, waited_by, waited_by_end}
+use Rattle.naming_service.specs.Naming.{NamingState, first_work, service_of, phone_given, no_phone, is_blocking, asked_by, answering, forwarding, forwarding_all, wants_another, phone_of, registered_by, wait_or_refuse_by, connect_by, introduced_by, waited_for_by, handled_by, after_receive, after_outcome_by, after, without_phone}
+use Rattle.naming_service.specs.Registrations.{receipt, IsAmong, HasWorkOn, HasWait, IsKept}
 
 -- work that was there, and work that is added
 work_in_front : (n : CallNo) (ws vs : List Work) → HasWorkOn n ws → HasWorkOn n (ws ++ vs)
@@ -18,7 +23,7 @@ work_in_front n [] vs h = absurd h
 work_in_front n (w ∷ ws) vs (inl is) = inl is
 work_in_front n (w ∷ ws) vs (inr h) = inr (work_in_front n ws vs h)
 
-work_behind : (n : CallNo) (ws vs : List Work) → HasWorkOn n vs → HasWorkOn n (ws ++ vs)
+pub work_behind : (n : CallNo) (ws vs : List Work) → HasWorkOn n vs → HasWorkOn n (ws ++ vs)
 work_behind n [] vs h = h
 work_behind n (w ∷ ws) vs h = inr (work_behind n ws vs h)
 
@@ -59,24 +64,45 @@ own_registered s r false None = work_in_front r.number _ _ (work_behind r.number
 
 own_waiting : (s : NamingState) (r : ReceivedCall) (b : Bool) → IsKept r (wait_or_refuse_by s r b)
 own_waiting s r true = inl (among_added r s.pending)
-own_waiting s r false = inr (work_behind r.number s.work _ (inl refl))
+own_waiting s r false = inr (inl (work_behind r.number s.work _ (inl refl)))
 
 own_connect : (s : NamingState) (r : ReceivedCall) (known : Option ℕ) → IsKept r (connect_by s r known)
-own_connect s r (Some phone) = inr (work_behind r.number s.work _ (inl refl))
+own_connect s r (Some phone) = inr (inl (work_behind r.number s.work _ (inl refl)))
 own_connect s r None = own_waiting s r (is_blocking r)
+
+own_introduced : (s : NamingState) (r : ReceivedCall) (known : Bool) → HasWorkOn r.number (introduced_by s r known).work
+own_introduced s r true = work_behind r.number s.work _ (inl refl)
+own_introduced s r false = work_behind r.number s.work _ (inl refl)
+
+wait_added : (n : CallNo) (w : ℕ) (xs : List Waiter) → HasWait n (xs ++ record { call = n; task = w } ∷ [])
+wait_added n w [] = inl refl
+wait_added n w (x ∷ xs) = inr (wait_added n w xs)
+
+own_wait_end : (s : NamingState) (r : ReceivedCall) (x : Introduced) (b : Bool) → waited_by (entry_of (service_of r) s.ends.introduced) ≡ waited_by_end x b
+    → HasWorkOn r.number (waited_for_by s r (waited_by_end x b)).work ⊎ HasWait r.number (waited_for_by s r (waited_by_end x b)).ends.waits
+own_wait_end s r x true at = inl (work_behind r.number s.work _ (inl refl))
+own_wait_end s r x false at = inr (rw at (wait_added r.number (service_of r) s.ends.waits))
+
+own_wait : (s : NamingState) (r : ReceivedCall) (o : Option Introduced) → entry_of (service_of r) s.ends.introduced ≡ o
+    → HasWorkOn r.number (waited_for_by s r (waited_by o)).work ⊎ HasWait r.number (waited_for_by s r (waited_by o)).ends.waits
+own_wait s r None at = inl (work_behind r.number s.work _ (inl refl))
+own_wait s r (Some x) at = own_wait_end s r x x.ended (ap waited_by at)
 
 own_handled : (s : NamingState) (r : ReceivedCall) (asked : Asked) → IsKept r (handled_by s r asked)
 own_handled s r Register =
     let left = without_phone s (phone_given r) in
-    inr (own_registered left r (phone_given r == no_phone) (phone_of left.registry (service_of r)))
+    inr (inl (own_registered left r (phone_given r == no_phone) (phone_of left.registry (service_of r))))
 own_handled s r Connect = own_connect s r (phone_of s.registry (service_of r))
-own_handled s r HungUp = inr (work_behind r.number s.work _ (inl refl))
-own_handled s r Other = inr (work_behind r.number s.work _ (inl refl))
+own_handled s r Introduce = inr (inl (own_introduced s r (is_known r.label.task.0 s.ends.introduced)))
+own_handled s r Leave = inr (inl (work_behind r.number s.work _ (inl refl)))
+own_handled s r Wait = inr (own_wait s r (entry_of (service_of r) s.ends.introduced) refl)
+own_handled s r HungUp = inr (inl (work_in_front r.number (s.work ++ answering r.number eok ∷ []) _ (work_behind r.number s.work _ (inl refl))))
+own_handled s r Other = inr (inl (work_behind r.number s.work _ (inl refl)))
 
 -- a call that waited before
 old_goes : (s : NamingState) (c r : ReceivedCall) → Goes (service_of c) (phone_given c) r s.pending → IsKept r (registered_by s c false None)
 old_goes s c r (inl h) = inl h
-old_goes s c r (inr h) = inr (work_behind r.number (s.work ++ answering c.number eok ∷ []) _ h)
+old_goes s c r (inr h) = inr (inl (work_behind r.number (s.work ++ answering c.number eok ∷ []) _ h))
 
 old_registered : (s : NamingState) (c r : ReceivedCall) (full : Bool) (known : Option ℕ) → IsAmong r s.pending → IsKept r (registered_by s c full known)
 old_registered s c r true known h = inl h
@@ -91,11 +117,23 @@ old_connect : (s : NamingState) (c r : ReceivedCall) (known : Option ℕ) → Is
 old_connect s c r (Some phone) h = inl h
 old_connect s c r None h = old_waiting s c r (is_blocking c) h
 
+old_introduced : (s : NamingState) (c r : ReceivedCall) (known : Bool) → IsAmong r s.pending → IsAmong r (introduced_by s c known).pending
+old_introduced s c r true h = h
+old_introduced s c r false h = h
+
+old_wait : (s : NamingState) (c r : ReceivedCall) (learns : Waited) → IsAmong r s.pending → IsAmong r (waited_for_by s c learns).pending
+old_wait s c r (waited.Ended end) h = h
+old_wait s c r waited.Pending h = h
+old_wait s c r waited.Unknown h = h
+
 old_handled : (s : NamingState) (c r : ReceivedCall) (asked : Asked) → IsAmong r s.pending → IsKept r (handled_by s c asked)
 old_handled s c r Register h =
     let left = without_phone s (phone_given c) in
     old_registered left c r (phone_given c == no_phone) (phone_of left.registry (service_of c)) h
 old_handled s c r Connect h = old_connect s c r (phone_of s.registry (service_of c)) h
+old_handled s c r Introduce h = inl (old_introduced s c r (is_known c.label.task.0 s.ends.introduced) h)
+old_handled s c r Leave h = inl h
+old_handled s c r Wait h = inl (old_wait s c r (waited_by (entry_of (service_of c) s.ends.introduced)) h)
 old_handled s c r HungUp h = inl h
 old_handled s c r Other h = inl h
 

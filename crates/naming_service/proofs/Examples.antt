@@ -112,7 +112,7 @@ both_are_there = refl
 hangup_is_answered : wanted (after idle (received 5 2 phone_hungup (replicate 5 0))) ≡ answer 5 eok
 hangup_is_answered = refl
 
-other_is_refused : wanted (after idle (received 5 2 512 (replicate 5 0))) ≡ answer 5 enoent
+other_is_refused : wanted (after idle (received 5 2 515 (replicate 5 0))) ≡ answer 5 enoent
 other_is_refused = refl
 
 -- an answer that comes changes nothing but the count

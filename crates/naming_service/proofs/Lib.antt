@@ -1,5 +1,7 @@
 mod Calls
+pub mod StepsFit
 mod Entries
 mod Examples
 mod RegistrationLaws
 mod Results
+pub mod EndLaws

@@ -6,9 +6,12 @@ use Rattle.ipc_ids.specs.declared.message.Outcome.{Outcome}
 use Rattle.ipc_ids.specs.declared.message.Outcome.TheVariants as outcome
 use Rattle.naming_service.specs.declared.received.ReceivedCall.{ReceivedCall}
 use Rattle.naming_service.specs.declared.received.Work.{Work}
+use Rattle.task_ends.specs.declared.ends.Waited.{Waited}
+use Rattle.task_ends.specs.declared.ends.Waited.TheVariants as waited
+use Rattle.task_ends.specs.Ends.{is_known, entry_of, waited_by}
 use Rattle.naming_service.specs.declared.received.Asked.{Asked}
-use Rattle.naming_service.specs.declared.received.Asked.TheVariants.{Register, Connect, HungUp, Other}
-use Rattle.naming_service.specs.Naming.{NamingState, first_work, service_of, phone_given, no_phone, is_blocking, asked_by, forwarding, forwarding_all, wants_another, leads_elsewhere, phone_of, registered_by, register, registration, wait_or_refuse_by, connect_by, handled_by, after_receive, after_outcome_by, after, without_phone}
+use Rattle.naming_service.specs.declared.received.Asked.TheVariants.{Register, Connect, Introduce, Leave, Wait, HungUp, Other}
+use Rattle.naming_service.specs.Naming.{NamingState, first_work, service_of, phone_given, no_phone, is_blocking, asked_by, forwarding, forwarding_all, wants_another, leads_elsewhere, phone_of, registered_by, introduced_by, waited_for_by, register, registration, wait_or_refuse_by, connect_by, handled_by, after_receive, after_outcome_by, after, without_phone}
 use Rattle.naming_service.specs.Registrations.{receipt, HasEntry, ServicesDiffer, IsOffer, IsTaken, IsSplit, PassesPendingOn, HandsOver}
 use Rattle.naming_service.proofs.Entries.{stays, was_there, in_front, added, old_or_new, gone, absent, differ_left, differ_added}
 
@@ -91,11 +94,23 @@ differ_connect : (s : NamingState) (r : ReceivedCall) (known : Option ℕ) → S
 differ_connect s r (Some phone) d = d
 differ_connect s r None d = differ_waiting s r (is_blocking r) d
 
+differ_introduced : (s : NamingState) (r : ReceivedCall) (known : Bool) → ServicesDiffer s.registry → ServicesDiffer (introduced_by s r known).registry
+differ_introduced s r true d = d
+differ_introduced s r false d = d
+
+differ_wait : (s : NamingState) (r : ReceivedCall) (learns : Waited) → ServicesDiffer s.registry → ServicesDiffer (waited_for_by s r learns).registry
+differ_wait s r (waited.Ended end) d = d
+differ_wait s r waited.Pending d = d
+differ_wait s r waited.Unknown d = d
+
 differ_handled : (s : NamingState) (r : ReceivedCall) (asked : Asked) → ServicesDiffer s.registry → ServicesDiffer (handled_by s r asked).registry
 differ_handled s r Register d =
     let left = without_phone s (phone_given r) in
     differ_registered left r (phone_given r == no_phone) (phone_of left.registry (service_of r)) refl (differ_left (phone_given r) s.registry d)
 differ_handled s r Connect d = differ_connect s r (phone_of s.registry (service_of r)) d
+differ_handled s r Introduce d = differ_introduced s r (is_known r.label.task.0 s.ends.introduced) d
+differ_handled s r Leave d = d
+differ_handled s r Wait d = differ_wait s r (waited_by (entry_of (service_of r) s.ends.introduced)) d
 differ_handled s r HungUp d = d
 differ_handled s r Other d = d
 

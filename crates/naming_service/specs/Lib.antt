@@ -1,2 +1,4 @@
+pub mod Ends
 pub mod Naming
+pub mod NamingHistory
 pub mod Registrations

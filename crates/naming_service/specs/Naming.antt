@@ -1,6 +1,6 @@
 -- The naming service: what it asks, and what an outcome makes of it. It does its first work, or
 -- receives; what becomes of a received call is one equation for each thing that a call may ask.
-use Rattle.std.specs.Prelude.{ℕ, ◌+◌, ◌==◌, nat_eq, Bool, true, false, not, if◌then◌else◌, List, [], ◌∷◌, ◌++◌, drop, filter, Option, None, Some, replicate, slice_get, slice_index}
+use Rattle.std.specs.Prelude.{ℕ, ◌+◌, ◌==◌, nat_eq, Bool, true, false, not, if◌then◌else◌, List, [], ◌∷◌, ◌++◌, drop, filter, Option, None, Some, replicate, slice_get, slice_index, is_some}
 use Rattle.std.specs.Map.{lookup}
 use Rattle.ipc_ids.specs.declared.numbers.CallNo.{CallNo}
 use Rattle.ipc_ids.specs.declared.numbers.Code.{Code}
@@ -16,19 +16,27 @@ use Rattle.naming_service.specs.declared.received.ReceivedCall.{ReceivedCall}
 use Rattle.naming_service.specs.declared.received.Work.{Work}
 use Rattle.naming_service.specs.declared.received.Work.TheVariants.{Answer, Forward}
 use Rattle.naming_service.specs.declared.received.Asked.{Asked}
-use Rattle.naming_service.specs.declared.received.Asked.TheVariants.{Register, Connect, HungUp, Other}
+use Rattle.naming_service.specs.declared.received.Asked.TheVariants.{Register, Connect, Introduce, Leave, Wait, HungUp, Other}
+use Rattle.task_ends.specs.declared.introduced.End.{End}
+use Rattle.task_ends.specs.declared.ends.Waited.{Waited}
+use Rattle.task_ends.specs.declared.ends.Waited.TheVariants as waited
+use Rattle.task_ends.specs.Ends.{EndsState, nobody, is_known, open_entry, entry_of, waited_by, freed_end, freed_waits}
+use Rattle.task_ends.specs.Ends as ends
+use Rattle.task_ends.specs.EndLaw.{introduce_self, leave_value, wait_for, end_arguments}
 
 -- services with their phones, in the order of registration; the calls that wait for a service, in
--- the order of arrival; what is to be done, the first first; and how many outcomes came
+-- the order of arrival; the tasks that introduced themselves and who waits for their end; what is to
+-- be done, the first first; and how many outcomes came
 pub record NamingState : Type 0 where
   pub registry : List (ℕ × ℕ)
   pub pending : List ReceivedCall
+  pub ends : EndsState
   pub work : List Work
   pub taken : ℕ
 
 -- before the first outcome
 abbrev pub started : NamingState
-started = record { registry = []; pending = []; work = []; taken = 0 }
+started = record { registry = []; pending = []; ends = nobody; work = []; taken = 0 }
 
 -- what is to be done next
 abbrev pub first_work : NamingState → Option Work
@@ -66,6 +74,9 @@ asked_by method =
     if method == phone_hungup then HungUp
     else if method == connect_to_me then Register
     else if method == connect_me_to then Connect
+    else if method == introduce_self then Introduce
+    else if method == leave_value then Leave
+    else if method == wait_for then Wait
     else Other
 
 -- the call gets an answer without arguments
@@ -159,11 +170,66 @@ connect_by s received None = wait_or_refuse s received
 abbrev pub connect : NamingState → ReceivedCall → NamingState
 connect s received = connect_by s received (phone_of s.registry (service_of received))
 
+-- whether the caller's task is in the list of those that introduced themselves
+abbrev pub introduced_by : NamingState → ReceivedCall → Bool → NamingState
+introduced_by s received true = answered s received.number eexist
+introduced_by s received false =
+    answered (record s { ends = ends.introduced received.label s.ends }) received.number eok
+
+-- the caller's task introduces itself
+abbrev pub introduced : NamingState → ReceivedCall → NamingState
+introduced s received =
+    introduced_by s received (is_known received.label.task.0 s.ends.introduced)
+
+-- whether the caller has introduced itself and not ended
+abbrev pub leave_code : Bool → Code
+leave_code true = eok
+leave_code false = enoent
+
+-- the caller leaves a value, its first argument
+abbrev pub left : NamingState → ReceivedCall → NamingState
+left s received =
+    answered (record s { ends = ends.left received.label (service_of received) s.ends }) received.number
+    (leave_code (is_some (open_entry received.label s.ends.introduced)))
+
+-- the call learns of this end
+abbrev pub telling : End → CallNo → Work
+telling end call = Answer call (record { code = eok; args = end_arguments end })
+
+abbrev pub telling_all : End → List CallNo → List Work
+telling_all end [] = []
+telling_all end (call ∷ calls) = telling end call ∷ telling_all end calls
+
+-- what the caller learns of the task that it asks for
+abbrev pub waited_for_by : NamingState → ReceivedCall → Waited → NamingState
+waited_for_by s received (waited.Ended end) = with_work s (telling end received.number ∷ [])
+waited_for_by s received waited.Pending =
+    record s { ends = ends.waited received.number (service_of received) s.ends }
+waited_for_by s received waited.Unknown = answered s received.number enoent
+
+-- the caller waits for the end of a task, whose number is its first argument
+abbrev pub waited_for : NamingState → ReceivedCall → NamingState
+waited_for s received =
+    waited_for_by s received (waited_by (entry_of (service_of received) s.ends.introduced))
+
+-- a phone was hung up: the task that introduced itself over it ends, and who waited for it learns of
+-- its end
+abbrev pub hung_up : NamingState → ReceivedCall → NamingState
+hung_up s received =
+    record s {
+      ends = ends.ended received.label s.ends;
+      work = (s.work ++ answering received.number eok ∷ [])
+          ++ telling_all (freed_end received.label s.ends) (freed_waits received.label s.ends);
+    }
+
 -- what becomes of a received call: an equation for each thing that it may ask
 abbrev pub handled_by : NamingState → ReceivedCall → Asked → NamingState
 handled_by s received Register = register s received
 handled_by s received Connect = connect s received
-handled_by s received HungUp = answered s received.number eok
+handled_by s received Introduce = introduced s received
+handled_by s received Leave = left s received
+handled_by s received Wait = waited_for s received
+handled_by s received HungUp = hung_up s received
 handled_by s received Other = answered s received.number enoent
 
 abbrev pub handled : NamingState → ReceivedCall → NamingState

@@ -5,6 +5,7 @@ use Rattle.ipc_ids.specs.declared.message.Outcome.{Outcome}
 use Rattle.ipc_ids.specs.declared.message.Outcome.TheVariants as outcome
 use Rattle.ipc_ids.specs.Codes.{eok}
 use Rattle.ipc_ids.specs.Methods.{connect_to_me}
+use Rattle.task_ends.specs.declared.introduced.Wait.{Wait as Waiter}
 use Rattle.naming_service.specs.declared.received.ReceivedCall.{ReceivedCall}
 use Rattle.naming_service.specs.declared.received.Work.{Work}
 use Rattle.naming_service.specs.declared.received.Work.TheVariants.{Answer, Forward}
@@ -74,6 +75,11 @@ abbrev pub HasWorkOn : CallNo → List Work → Type 0
 HasWorkOn n [] = ⊥
 HasWorkOn n (w ∷ ws) = IsWorkOn n w ⊎ HasWorkOn n ws
 
--- the call is not lost: it is pending, or there is work on it
+-- the call waits for the end of a task
+abbrev pub HasWait : CallNo → List Waiter → Type 0
+HasWait n [] = ⊥
+HasWait n (x ∷ xs) = (x.call ≡ n) ⊎ HasWait n xs
+
+-- the call is not lost: it is pending or waits for the end of a task, or there is work on it
 abbrev pub IsKept : ReceivedCall → NamingState → Type 0
-IsKept r s = IsAmong r s.pending ⊎ HasWorkOn r.number s.work
+IsKept r s = IsAmong r s.pending ⊎ (HasWorkOn r.number s.work ⊎ HasWait r.number s.ends.waits)

@@ -2,11 +2,12 @@
 ghost use Rattle.std.specs.Prelude.{◌≡◌, ◌+◌, ◌<◌, ◌≤◌, [], ◌∷◌, ◌++◌, None, OnOk, filter, length, vec_len};
 ghost use Rattle.std.specs.Vec.{vec_capacity};
 ghost use Rattle.indexmap.specs.IndexMap.{KeepsRoom, spare};
-ghost use Rattle.naming_service.specs.Naming.{phone_of, forwarding_all, leads_elsewhere, wants_another};
+ghost use Rattle.naming_service.specs.Naming.{phone_of, forwarding_all, leads_elsewhere, wants_another, telling_all};
 
 use crate::received::{ReceivedCall, Work};
 use indexmap::IndexMap;
-use ipc_ids::NoMemory;
+use ipc_ids::{CallNo, NoMemory};
+use task_ends::{End, Wait};
 
 /// Adds a forward over the phone for each pending call that wants the service, in their order.
 pub fn forward_pending(work: &mut Vec<Work>, pending: &[ReceivedCall], service: u64, phone: u64)
@@ -17,6 +18,27 @@ pub fn forward_pending(work: &mut Vec<Work>, pending: &[ReceivedCall], service: 
         if received.service() == service {
             work.push_reserved(Work::forwarding(received, phone));
         }
+    }
+}
+
+/// Adds an answer that tells of the end for each call, in their order.
+pub fn tell_all(work: &mut Vec<Work>, end: End, calls: &[CallNo])
+    requires room { vec_len work.old + length calls.now ≤ vec_capacity work.old }
+    ensures { work.new.items ≡ work.old.items ++ telling_all end calls.now }
+{
+    for call in calls {
+        work.push_reserved(Work::telling(end, *call));
+    }
+}
+
+/// Makes room for one piece of work and one for each of these waits.
+pub fn reserve_for_waits(work: &mut Vec<Work>, waits: &[Wait]) -> Result<(), NoMemory>
+    ensures items { work.new.items ≡ work.old.items }
+    ensures room { OnOk result (vec_len work.new + (length waits.now + 1) ≤ vec_capacity work.new) }
+{
+    match work.reserve(waits.len() + 1) {
+        Ok(()) => Ok(()),
+        Err(_) => Err(NoMemory),
     }
 }
 

@@ -4,25 +4,29 @@ ghost use Rattle.std.specs.Option.{option_copied};
 ghost use Rattle.naming_service.specs.Naming.{started, first_work, phone_of, wanted, after, entries};
 ghost use Rattle.naming_service.specs.Naming.{after_outcome, after_receive, handled, answered};
 ghost use Rattle.naming_service.specs.Naming.{register, connect, wait_or_refuse};
+ghost use Rattle.naming_service.specs.Naming.{introduced, left, waited_for, hung_up};
 
 use crate::lists::{
     forward_pending, insert_reserved, keep_elsewhere, keep_others, reserve_for_one,
+    reserve_for_waits, tell_all,
 };
 use crate::received::{Asked, ReceivedCall, Work};
 use indexmap::IndexMap;
 use ipc_ids::{CallNo, Code, Mode, NoMemory, Outcome, Program, Request, Trace};
 use std::alloc::Global;
 use std::marker::Model;
+use task_ends::{Ends, Waited};
 
 /// The number in place of a phone where the receiver had none to give.
 const NO_PHONE: u64 = 64;
 
-/// The phones of services, the calls that wait for a service, what is to be done, the first first,
-/// and how many outcomes came.
+/// The phones of services, the calls that wait for a service, the tasks that introduced themselves
+/// and who waits for their end, what is to be done, the first first, and how many outcomes came.
 #[derive(Drop)]
 pub struct NamingService {
     registry: IndexMap<u64, u64>,
     pending: Vec<ReceivedCall>,
+    ends: Ends,
     work: Vec<Work>,
     taken: u64,
 }
@@ -35,6 +39,7 @@ impl Model for NamingService {
     ghost view = { λ a. record {
       registry = a.registry.entries;
       pending = a.pending.items;
+      ends = a.ends;
       work = a.work.items;
       taken = a.taken;
     } };
@@ -88,6 +93,7 @@ impl NamingService {
         NamingService {
             registry: IndexMap::new(alloc),
             pending: Vec::new(alloc),
+            ends: Ends::new(alloc),
             work: Vec::new(alloc),
             taken: 0,
         }
@@ -135,7 +141,10 @@ impl NamingService {
         match Asked::by(received.msg.method) {
             Asked::Register => self.register(received),
             Asked::Connect => self.connect(received),
-            Asked::HungUp => self.answer(received.number, Code::EOK),
+            Asked::Introduce => self.introduce(received),
+            Asked::Leave => self.leave(received),
+            Asked::Wait => self.wait(received),
+            Asked::HungUp => self.hang_up(received),
             Asked::Other => self.answer(received.number, Code::ENOENT),
         }
     }
@@ -206,6 +215,89 @@ impl NamingService {
                 }
                 Ok(())
             }
+            Err(NoMemory) => Err(NoMemory),
+        }
+    }
+
+    /// The caller's task introduces itself, unless it is in the list.
+    fn introduce(&mut self, received: &ReceivedCall) -> Result<(), NoMemory>
+        ensures state { OnOk result (self.new ≡ introduced self.old received.now) }
+        ensures unchanged { OnErr result (self.new ≡ self.old) }
+    {
+        let call = received.number;
+        match self.work.reserve(1) {
+            Ok(()) => match self.ends.introduce(received.label) {
+                Ok(true) => {
+                    self.work.push_reserved(Work::answering(call, Code::EOK));
+                    Ok(())
+                }
+                Ok(false) => {
+                    self.work.push_reserved(Work::answering(call, Code::EEXIST));
+                    Ok(())
+                }
+                Err(NoMemory) => Err(NoMemory),
+            },
+            Err(_) => Err(NoMemory),
+        }
+    }
+
+    /// The caller's task leaves a value.
+    fn leave(&mut self, received: &ReceivedCall) -> Result<(), NoMemory>
+        ensures state { OnOk result (self.new ≡ left self.old received.now) }
+        ensures unchanged { OnErr result (self.new ≡ self.old) }
+    {
+        let call = received.number;
+        match self.work.reserve(1) {
+            Ok(()) => {
+                if self.ends.set_value(received.label, received.service()) {
+                    self.work.push_reserved(Work::answering(call, Code::EOK));
+                } else {
+                    self.work.push_reserved(Work::answering(call, Code::ENOENT));
+                }
+                Ok(())
+            }
+            Err(_) => Err(NoMemory),
+        }
+    }
+
+    /// Tells the caller of the end of a task, or keeps its call until that ends.
+    fn wait(&mut self, received: &ReceivedCall) -> Result<(), NoMemory>
+        ensures state { OnOk result (self.new ≡ waited_for self.old received.now) }
+        ensures unchanged { OnErr result (self.new ≡ self.old) }
+    {
+        let call = received.number;
+        match self.work.reserve(1) {
+            Ok(()) => match self.ends.wait(call, received.service()) {
+                Ok(Waited::Ended(end)) => {
+                    self.work.push_reserved(Work::telling(end, call));
+                    Ok(())
+                }
+                Ok(Waited::Pending) => Ok(()),
+                Ok(Waited::Unknown) => {
+                    self.work.push_reserved(Work::answering(call, Code::ENOENT));
+                    Ok(())
+                }
+                Err(NoMemory) => Err(NoMemory),
+            },
+            Err(_) => Err(NoMemory),
+        }
+    }
+
+    /// The task that introduced itself over this phone ends, and who waits for it learns of it.
+    fn hang_up(&mut self, received: &ReceivedCall) -> Result<(), NoMemory>
+        ensures state { OnOk result (self.new ≡ hung_up self.old received.now) }
+        ensures unchanged { OnErr result (self.new ≡ self.old) }
+    {
+        let call = received.number;
+        match reserve_for_waits(&mut self.work, self.ends.waits()) {
+            Ok(()) => match self.ends.end(received.label) {
+                Ok(freed) => {
+                    self.work.push_reserved(Work::answering(call, Code::EOK));
+                    tell_all(&mut self.work, freed.end, freed.waits.as_slice());
+                    Ok(())
+                }
+                Err(NoMemory) => Err(NoMemory),
+            },
             Err(NoMemory) => Err(NoMemory),
         }
     }

@@ -1,10 +1,22 @@
 //! A call as the naming service received it, what it asks, and what the service does to it.
 ghost use Rattle.std.specs.Prelude.{◌≡◌};
 ghost use Rattle.naming_service.specs.Naming.{asked_by, answering, forwarding};
+ghost use Rattle.naming_service.specs.Naming.{telling};
+ghost use Rattle.task_ends.specs.EndLaw.{end_arguments};
 ghost use Rattle.naming_service.specs.Naming.{service_of, phone_given, is_blocking};
 
 use ipc_ids::methods::{CONNECT_ME_TO, CONNECT_TO_ME, PHONE_HUNGUP};
 use ipc_ids::{CallNo, Code, Label, Msg, Reply};
+use task_ends::End;
+
+/// The caller's task introduces itself.
+pub const INTRODUCE_SELF: u64 = 512;
+
+/// The caller's task leaves a value.
+pub const LEAVE_VALUE: u64 = 513;
+
+/// The caller waits for the end of a task.
+pub const WAIT_FOR: u64 = 514;
 
 /// A call that the service has received and not dealt with.
 #[derive(Clone, Copy)]
@@ -29,6 +41,12 @@ pub enum Asked {
     Register,
     /// The caller wants a phone that leads to a service.
     Connect,
+    /// The caller's task introduces itself.
+    Introduce,
+    /// The caller's task leaves a value.
+    Leave,
+    /// The caller waits for the end of a task.
+    Wait,
     /// Nothing: a phone was hung up.
     HungUp,
     /// What the service does not know.
@@ -44,6 +62,9 @@ impl Asked {
             PHONE_HUNGUP => Asked::HungUp,
             CONNECT_TO_ME => Asked::Register,
             CONNECT_ME_TO => Asked::Connect,
+            INTRODUCE_SELF => Asked::Introduce,
+            LEAVE_VALUE => Asked::Leave,
+            WAIT_FOR => Asked::Wait,
             _ => Asked::Other,
         }
     }
@@ -72,7 +93,31 @@ impl ReceivedCall {
     }
 }
 
+/// The arguments of an answer that tells of an end.
+fn end_arguments(end: End) -> [u64; 5]
+    ensures { result ≡ end_arguments end }
+{
+    if end.has {
+        [1, end.value, 0, 0, 0]
+    } else {
+        [0; 5]
+    }
+}
+
 impl Work {
+    /// Tells the call of an end.
+    pub fn telling(end: End, call: CallNo) -> Work
+        ensures { result ≡ telling end call }
+    {
+        Work::Answer {
+            call,
+            reply: Reply {
+                code: Code::EOK,
+                args: end_arguments(end),
+            },
+        }
+    }
+
     /// Answers the call with a code and no arguments.
     pub fn answering(call: CallNo, code: Code) -> Work
         ensures { result ≡ answering call code }

@@ -4,8 +4,6 @@
 mod hung;
 mod phones;
 mod rows;
-#[cfg(test)]
-mod tests;
 
 pub use hung::Hung;
 pub use phones::Phones;

@@ -1,10 +1,14 @@
 -- A caller and the task that answers it, step by step: what each asks, and what an outcome makes of it.
-use Rattle.std.proofs.Common.{◌≡◌, [], ◌∷◌, refl}
+use Rattle.std.proofs.Common.{◌≡◌, List, [], ◌∷◌, refl}
 use Rattle.ipc_ids.specs.declared.message.Request.TheVariants as ask
 use Rattle.ipc_ids.specs.declared.message.Outcome.TheVariants as got
+use Rattle.ipc_ids.specs.declared.op.Value.{Value}
 use Rattle.ipc_ids.specs.declared.op.Value.TheVariants.{Number, Register}
 use Rattle.ipc_ids.specs.declared.op.Op.TheVariants as op
 use Rattle.raw_program.specs.Raw.{RawState, started, wanted, after}
+
+abbrev zeros : List Value
+zeros = Number 0 ∷ Number 0 ∷ Number 0 ∷ Number 0 ∷ Number 0 ∷ []
 
 -- call 0 512 7, receive
 abbrev caller : RawState
@@ -33,6 +37,34 @@ caller_ends = refl
 
 ended_stays : after (after waiting got.Done) got.Done ≡ record (after waiting got.Done) { taken = 3 }
 ended_stays = refl
+
+-- call 3 512, receive, call r10 r1: what came is in the registers
+abbrev asker : RawState
+asker =
+    started
+    (op.Call (Number 3) (Number 512) zeros ∷ op.Receive ∷ op.Call (Register 10) (Register 1) zeros ∷ [])
+
+abbrev answered : RawState
+answered =
+    after
+    (after (after asker (got.Accepted (record { 0 = 9 }))) got.Empty)
+    (got.Answered (record { 0 = 9 }) (record { code = record { 0 = 1 }; args = 0 ∷ 0 ∷ 0 ∷ 0 ∷ 0 ∷ [] }))
+
+asker_asks_again : wanted answered ≡ ask.Call 1 (record { method = 9; args = 0 ∷ 0 ∷ 0 ∷ 0 ∷ 0 ∷ [] })
+asker_asks_again = refl
+
+refused_at_the_end : wanted (after answered (got.Refused (record { 0 = 1 }))) ≡ ask.Nothing
+refused_at_the_end = refl
+
+each_outcome_is_counted : (after answered (got.Refused (record { 0 = 1 }))).taken ≡ 4
+each_outcome_is_counted = refl
+
+-- jump 2, receive, hangup 5
+abbrev jumper : RawState
+jumper = started (op.Jump 2 ∷ op.Receive ∷ op.Hangup (Number 5) ∷ [])
+
+jumper_goes_where_it_says : wanted (after jumper got.Done) ≡ ask.Hangup 5
+jumper_goes_where_it_says = refl
 
 -- receive, answer r2 EOK 8, jumpeq r3 512 0
 abbrev server : RawState

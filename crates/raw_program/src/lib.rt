@@ -6,7 +6,5 @@
 #![tactic(auto)]
 
 mod raw;
-#[cfg(test)]
-mod tests;
 
 pub use raw::RawProgram;

@@ -1,5 +1,6 @@
 //! The raw program, which does one operation of its body at a time.
-ghost use Rattle.std.specs.Prelude.{◌≡◌, ◌+◌, ◌^◌, ◌<◌, ◌++◌, if◌then◌else◌, true, length, IfOk, IfSome, IsOk};
+ghost use Rattle.std.specs.Prelude.{◌≡◌, ◌+◌, ◌^◌, ◌<◌, ◌++◌, if◌then◌else◌, true, length, IfOk};
+ghost use Rattle.std.specs.Prelude.{IfSome, IsOk};
 ghost use Rattle.std.specs.Option.{option_copied};
 ghost use Rattle.ipc_ids.specs.Program.{fits};
 ghost use Rattle.raw_program.specs.Raw.{started, operation, value_in, value_of, values_of};

@@ -4,7 +4,8 @@ use Rattle.std.proofs.Common.{◌≡◌, ℕ, ◌≤◌, List, length}
 use Rattle.ipc_ids.specs.declared.numbers.TaskNo.{TaskNo}
 use Rattle.ipc_ids.specs.declared.message.Reply.{Reply}
 use Rattle.address_space.specs.Memory.{Memory, areas_of, share}
-use Rattle.address_space.specs.Sound.{IsSound}
+use Rattle.address_space.specs.Sound.{IsSound, AreHeld}
+use Rattle.address_space.proofs.Held.{held_share}
 use Rattle.address_space.proofs.Numbers.{stores_at_share}
 use Rattle.address_space.proofs.Rows.{length_share, others_at_share}
 use Rattle.address_space.proofs.Soundness.{sound_share}
@@ -17,6 +18,7 @@ pub record KeepsOthers (to : TaskNo) (m after : Memory) : Type 0 where
   pub next : after.next_store ≡ m.next_store
   pub others : (u : TaskNo) → 1 ≤ to.0 → 1 ≤ u.0 → (u.0 ≡ to.0 → ⊥) → areas_of after u ≡ areas_of m u
   pub sound : IsSound m → IsSound after
+  pub held : AreHeld m → AreHeld after
 
 pub shared : (m : Memory) (from : TaskNo) (base : ℕ) (to : TaskNo) (target pages rights : ℕ) → KeepsOthers to m (share m from base to target pages rights).memory
 shared m from base to target pages rights =
@@ -27,6 +29,7 @@ shared m from base to target pages rights =
       next = same.next;
       others = λ u some more apart. others_at_share m from base to target pages rights u some more apart;
       sound = λ s. sound_share m from base to target pages rights s;
+      held = λ h. held_share m from base to target pages rights h;
     }
 
 pub out_accept_keeps : (m : Memory) (caller answerer : TaskNo) (args : List ℕ) (reply : Reply) → KeepsOthers answerer m (out_accept m caller answerer args reply).memory

@@ -8,8 +8,6 @@
 
 mod share_in;
 mod share_out;
-#[cfg(test)]
-mod tests;
 
 pub use share_in::{in_accept, in_before_send};
 pub use share_out::{out_accept, out_before_send};

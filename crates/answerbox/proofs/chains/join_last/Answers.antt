@@ -1,4 +1,4 @@
-use Rattle.std.proofs.Common.{◌≡◌, ◌≤◌, ◌<◌, ◌+◌, ℕ, List, Some, None, Option, IfSome, IsSome, option_map, length, refl, sym, ap, ◌∙◌, arith}
+use Rattle.std.proofs.Common.{Some, refl}
 use Rattle.answerbox.proofs.Chain.{live_cores, cores-next_put}
 use Rattle.answerbox.proofs.chains.join_last.Goals as goal
 

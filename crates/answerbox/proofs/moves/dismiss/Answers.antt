@@ -1,4 +1,4 @@
-use Rattle.std.proofs.Common.{◌≡◌, ◌≤◌, ◌<◌, ◌+◌, ℕ, List, Some, None, Option, IfSome, IsSome, option_map, length, refl, sym, ap, ◌∙◌, arith}
+use Rattle.std.proofs.Common.{sym, ap, ◌∙◌}
 use Rattle.std.specs.FinMap.{get, remove}
 use Rattle.call_slab.specs.Calls.{CallsState, name_of}
 use Rattle.answerbox.specs.declared.chains.Chain.TheVariants.{Queue, Own}

@@ -1,6 +1,6 @@
-use Rattle.std.proofs.Common.{◌≡◌, ◌≤◌, ◌<◌, ◌+◌, ℕ, List, Some, None, Option, IfSome, IsSome, option_map, length, refl, sym, ap, ◌∙◌, arith}
+use Rattle.std.proofs.Common.{ap}
 use Rattle.call_slab.specs.Calls.{CallsState}
-use Rattle.answerbox.specs.declared.chains.Chain.TheVariants.{Queue, Own}
+use Rattle.answerbox.specs.declared.chains.Chain.TheVariants.{Own}
 use Rattle.answerbox.proofs.Moving.{small_task, row_of_call, between_by, live_unlinked}
 use Rattle.answerbox.proofs.moves.disown.Goals as goal
 

@@ -1,4 +1,4 @@
 use Rattle.cleanup.proofs.counted.leave.Given as goal
 
-abbrev pub ghosts-leave_with : goal.ghosts-leave_with
-ghosts-leave_with a = record { name = a.blank.name; parts = a.blank.parts }
+abbrev pub ghosts-leave_counted : goal.ghosts-leave_counted
+ghosts-leave_counted a = record { name = a.blank.name; parts = a.blank.parts }

@@ -1,4 +1,4 @@
-use Rattle.std.proofs.Common.{◌≡◌, ◌≤◌, ◌<◌, ◌+◌, ℕ, List, Some, None, Option, IfSome, IsSome, option_map, length, refl, sym, ap, ◌∙◌, arith}
+use Rattle.std.proofs.Common.{◌≡◌, List, refl, sym, ap, ◌∙◌}
 use Rattle.answerbox.specs.declared.chains.Ends.{Ends}
 use Rattle.answerbox.specs.Chain.{first_of, place_index}
 use Rattle.answerbox.proofs.Finding.{front_empty, front_found}
@@ -8,25 +8,25 @@ use Rattle.answerbox.proofs.Moving.{call_is_core}
 use Rattle.answerbox.proofs.boxes.Boxes.front.Goals as goal
 
 pub returns-in-None-clause-none : goal.returns-in-None-clause-none
-returns-in-None-clause-none g c = rw (← c.self.view_is) (front_empty c.self.inside.calls c.self.inside.queues.items c.self.inside.owns.items c.self.inside.next_number c.self.inside.next_stamp c.args.place c.self.invariant (ap (λ (es : List Ends). first_of es (place_index c.args.place)) (sym c.deref.ensures.value) ∙ sym c.in-None.ensures))
+returns-in-None-clause-none g c = rw (← c.self.view_is) (front_empty c.self.inside.calls c.self.inside.queues.items c.self.inside.owns.items c.self.inside.next_number c.self.inside.next_stamp c.args.place c.self.invariant.0 (ap (λ (es : List Ends). first_of es (place_index c.args.place)) (sym c.deref.ensures.value) ∙ sym c.in-None.ensures))
 
 pub returns-in-None-clause-empty : goal.returns-in-None-clause-empty
-returns-in-None-clause-empty g c = rw (← c.self.view_is) (no_front-has_no_calls (table_of c.self.inside.calls c.self.inside.next_number c.self.inside.next_stamp) c.args.place (front_empty c.self.inside.calls c.self.inside.queues.items c.self.inside.owns.items c.self.inside.next_number c.self.inside.next_stamp c.args.place c.self.invariant (ap (λ (es : List Ends). first_of es (place_index c.args.place)) (sym c.deref.ensures.value) ∙ sym c.in-None.ensures)))
+returns-in-None-clause-empty g c = rw (← c.self.view_is) (no_front-has_no_calls (table_of c.self.inside.calls c.self.inside.next_number c.self.inside.next_stamp) c.args.place (front_empty c.self.inside.calls c.self.inside.queues.items c.self.inside.owns.items c.self.inside.next_number c.self.inside.next_stamp c.args.place c.self.invariant.0 (ap (λ (es : List Ends). first_of es (place_index c.args.place)) (sym c.deref.ensures.value) ∙ sym c.in-None.ensures)))
 
 pub returns-in-Some-clause-live : goal.returns-in-Some-clause-live
 returns-in-Some-clause-live g c =
-    let f = front_found c.self.inside.calls c.self.inside.queues.items c.self.inside.owns.items c.self.inside.next_number c.self.inside.next_stamp c.in-Some.key c.args.place c.self.invariant (ap (λ (es : List Ends). first_of es (place_index c.args.place)) (sym c.deref.ensures.value) ∙ sym c.in-Some.ensures) in
+    let f = front_found c.self.inside.calls c.self.inside.queues.items c.self.inside.owns.items c.self.inside.next_number c.self.inside.next_stamp c.in-Some.key c.args.place c.self.invariant.0 (ap (λ (es : List Ends). first_of es (place_index c.args.place)) (sym c.deref.ensures.value) ∙ sym c.in-Some.ensures) in
     let is : c.get.result.now ≡ f.0.call = call_is_core c.self.inside.calls.slots c.in-Some.key f.0 c.get.result.now f.1 c.get.ensures.call in
     rw (← c.self.view_is, is, f.2) refl
 
 pub returns-in-Some-clause-some : goal.returns-in-Some-clause-some
 returns-in-Some-clause-some g c =
-    let f = front_found c.self.inside.calls c.self.inside.queues.items c.self.inside.owns.items c.self.inside.next_number c.self.inside.next_stamp c.in-Some.key c.args.place c.self.invariant (ap (λ (es : List Ends). first_of es (place_index c.args.place)) (sym c.deref.ensures.value) ∙ sym c.in-Some.ensures) in
+    let f = front_found c.self.inside.calls c.self.inside.queues.items c.self.inside.owns.items c.self.inside.next_number c.self.inside.next_stamp c.in-Some.key c.args.place c.self.invariant.0 (ap (λ (es : List Ends). first_of es (place_index c.args.place)) (sym c.deref.ensures.value) ∙ sym c.in-Some.ensures) in
     let is : c.get.result.now ≡ f.0.call = call_is_core c.self.inside.calls.slots c.in-Some.key f.0 c.get.result.now f.1 c.get.ensures.call in
     rw (← c.self.view_is, is, f.2) f.3
 
 pub returns-in-Some-clause-least : goal.returns-in-Some-clause-least
 returns-in-Some-clause-least g c =
-    let f = front_found c.self.inside.calls c.self.inside.queues.items c.self.inside.owns.items c.self.inside.next_number c.self.inside.next_stamp c.in-Some.key c.args.place c.self.invariant (ap (λ (es : List Ends). first_of es (place_index c.args.place)) (sym c.deref.ensures.value) ∙ sym c.in-Some.ensures) in
+    let f = front_found c.self.inside.calls c.self.inside.queues.items c.self.inside.owns.items c.self.inside.next_number c.self.inside.next_stamp c.in-Some.key c.args.place c.self.invariant.0 (ap (λ (es : List Ends). first_of es (place_index c.args.place)) (sym c.deref.ensures.value) ∙ sym c.in-Some.ensures) in
     let is : c.get.result.now ≡ f.0.call = call_is_core c.self.inside.calls.slots c.in-Some.key f.0 c.get.result.now f.1 c.get.ensures.call in
     rw (← c.self.view_is, is) (front-is_front (table_of c.self.inside.calls c.self.inside.next_number c.self.inside.next_stamp) c.args.place f.0.call.number.0 f.0.call f.3 f.2)

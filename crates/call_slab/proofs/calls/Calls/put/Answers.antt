@@ -1,4 +1,6 @@
 use Rattle.call_slab.proofs.Kept.{get_slots, slots_put, keys_put}
+use Rattle.call_slab.specs.Calls.{no_links}
+use Rattle.call_slab.proofs.Keyed.{put_keeps}
 use Rattle.call_slab.proofs.calls.Calls.put.Goals as goal
 
 pub returns-clause-fresh : goal.returns-clause-fresh
@@ -9,3 +11,8 @@ returns-clause-slots c = rw (← c.self.view_is) (slots_put c.self.inside.slots 
 
 pub returns-clause-keys : goal.returns-clause-keys
 returns-clause-keys c = rw (← c.self.view_is) (keys_put c.self.inside.keys.entries c.insert.new.self.entries c.args.call.number.0 c.insert_reserved-key.result (rw c.unwrap.ensures at c.insert.ensures.updates).0)
+
+pub invariant_of-self : goal.invariant_of-self
+invariant_of-self c =
+    put_keeps c.self.inside.slots c.insert_reserved-key.new.self c.self.inside.keys.entries c.insert.new.self.entries c.self.inside.last c.insert_reserved-key.result (record { name = c.args.call.number.0; call = c.args.call; links = no_links })
+    c.self.invariant c.insert_reserved-key.ensures.was_vacant (rw (← c.self.view_is) at c.requires.above) c.insert_reserved-key.ensures.updates (rw c.unwrap.ensures at c.insert.ensures.updates).0

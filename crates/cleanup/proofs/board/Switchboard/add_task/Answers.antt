@@ -12,4 +12,4 @@ invariant_of-self-2 c =
     let reserved = c.reserve.new.self.ok.0 in
     let areas = c.self.invariant.1.memory in
     rw (c.push_reserved.ensures.items, c.reserve.ensures.items, c.in_ok-add_row.ensures.phones, c.in_ok-add_row.ensures.counts, c.in_ok-add_row.ensures.areas, c.add_place.ensures.calls)
-    (switched_task c.args.limit c.add_place.new.boxes.tasks c.self.invariant.0 c.tasks.ensures.counts (omega (arith, places.enough, more, had, items, reserved)) (rw (← c.self.view_is) at c.requires.no_call), record { calls = record { covers = rw length-append (omega (arith, more, had, items, reserved)); enough = places.enough; no_more = rw length-append (omega (arith, places.no_more, had, items, reserved)) }; memory = rw (length-append, length-append) (omega (arith, areas)) })
+    (switched_task c.args.limit c.add_place.new.boxes.tasks c.self.invariant.0 c.tasks.ensures.counts (omega (arith, places.enough, more, had, items, reserved)), record { calls = record { covers = rw length-append (omega (arith, more, had, items, reserved)); enough = places.enough; no_more = rw length-append (omega (arith, places.no_more, had, items, reserved)) }; memory = rw (length-append, length-append) (omega (arith, areas)) })

@@ -23,7 +23,7 @@ invariant_of-self c =
     let is : call_at i.boxes.calls c.args.call.0 ≡ Some r = sym c.get.ensures.call ∙ ap option_copied c.unwrap.ensures in
     let none : kept_phone (record r { reply = c.args.reply.now; place = Answers c.args.caller }) ≡ None = rw is at (rw (← c.self.view_is) at c.requires.unkept) in
     rw (c.answer.ensures.calls, c.answer.ensures.tasks, is)
-    (switched_put c.args.call.0 r (record r { reply = c.args.reply.now }) (Answers c.args.caller) c.self.invariant.0 is refl refl refl (kept_put (inner i) c.args.call.0 r (record r { reply = c.args.reply.now }) (Answers c.args.caller) c.self.invariant.0.kept is (c.self.invariant.0.has_counts.numbered c.args.call.0 r is) (inr (rw none tt))), c.self.invariant.1)
+    (switched_put c.args.call.0 r (record r { reply = c.args.reply.now }) (Answers c.args.caller) c.self.invariant.0 is refl refl refl refl (kept_put (inner i) c.args.call.0 r (record r { reply = c.args.reply.now }) (Answers c.args.caller) c.self.invariant.0.kept is (c.self.invariant.0.has_counts.numbered c.args.call.0 r is) (inr (rw none tt))), c.self.invariant.1)
 
 pub returns-clause-state : goal.returns-clause-state
 returns-clause-state c =

@@ -10,5 +10,6 @@ enqueue-requires-clause-new_call c =
       phone = new.phone;
       place = new.place;
       few = new.few;
+      bytes = new.bytes;
       kept = unreserved_loose c.args.self.now.state (record c.args.call { reply = c.bare-reply.result }) c.requires.unreserved;
     }

@@ -7,7 +7,7 @@ use Rattle.cleanup.proofs.Endings.{within}
 use Rattle.cleanup.proofs.Inner.{inner}
 use Rattle.cleanup.proofs.KeptCalls.{kept_put}
 use Rattle.cleanup.proofs.Live.{called, live_bytes}
-use Rattle.cleanup.proofs.Switched.{switched_put}
+use Rattle.cleanup.proofs.Switched.{switched_bytes}
 use Rattle.cleanup.proofs.board.Switchboard.answer_with.Goals as goal
 
 pub answer_with-requires-clause-task : goal.answer_with-requires-clause-task
@@ -24,7 +24,7 @@ invariant_of-self c =
     let is : call_at i.boxes.calls c.args.call.0 ≡ Some r = found.1 in
     let none : kept_phone (record r { reply = c.args.reply; place = Answers c.args.caller }) ≡ None = rw is at (rw (← c.self.view_is) at c.requires.unkept) in
     rw (c.answer_with.ensures.calls, c.answer_with.ensures.tasks, is)
-    (switched_put c.args.call.0 r (record r { reply = c.args.reply; buffer = c.args.bytes }) (Answers c.args.caller) c.self.invariant.0 is refl refl refl (kept_put (inner i) c.args.call.0 r (record r { reply = c.args.reply; buffer = c.args.bytes }) (Answers c.args.caller) c.self.invariant.0.kept is (c.self.invariant.0.has_counts.numbered c.args.call.0 r is) (inr (rw none tt))), c.self.invariant.1)
+    (switched_bytes c.args.call.0 r (record r { reply = c.args.reply; buffer = c.args.bytes }) (Answers c.args.caller) c.self.invariant.0 is refl refl refl (rw (← c.self.view_is) at c.requires.room) (kept_put (inner i) c.args.call.0 r (record r { reply = c.args.reply; buffer = c.args.bytes }) (Answers c.args.caller) c.self.invariant.0.kept is (c.self.invariant.0.has_counts.numbered c.args.call.0 r is) (inr (rw none tt))), c.self.invariant.1)
 
 pub returns-clause-room : goal.returns-clause-room
 returns-clause-room c =

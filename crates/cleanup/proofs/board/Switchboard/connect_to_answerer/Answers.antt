@@ -40,7 +40,7 @@ invariant_of-self c =
     let kept = kept_put (inner i) c.args.call.0 r (record r { reply = c.args.reply.now }) (Answers c.args.caller) c.self.invariant.0.kept is number (inr (rw none tt)) in
     rw (c.answer.ensures.calls, c.answer.ensures.tasks, is, c.connect_to_answerer.ensures.states, c.connect_to_answerer.ensures.counts, c.kept_phone-kept.ensures) (
       switched_kept (kept_phone r) (Connected c.args.t)
-          (switched_put c.args.call.0 r (record r { reply = c.args.reply.now }) (Answers c.args.caller) c.self.invariant.0 is refl refl refl kept)
+          (switched_put c.args.call.0 r (record r { reply = c.args.reply.now }) (Answers c.args.caller) c.self.invariant.0 is refl refl refl refl kept)
           (waiting_there i.phones.states (kept_phone r) (kept_waits i.phones.states i.boxes.calls c.args.call.0 r c.self.invariant.0.kept is))
           (leads_here c.args.t (length i.alive.items) added.task)
           (put_unkept (inner i) c.args.call.0 r (record r { reply = c.args.reply.now }) (Answers c.args.caller) c.self.invariant.0.kept is number none),

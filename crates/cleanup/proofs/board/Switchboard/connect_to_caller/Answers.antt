@@ -49,7 +49,7 @@ invariant_of-self c =
     let kept = kept_put (inner i) c.args.call.0 r (record r { reply = reply }) (Answers c.args.caller) c.self.invariant.0.kept is number (inr (rw none tt)) in
     rw (c.answer.ensures.calls, c.answer.ensures.tasks, is, c.connect_to_caller-code.ensures.states, c.connect_to_caller-code.ensures.counts, c.kept_phone-kept.ensures) (
       switched_kept (kept_phone r) (Connected c.args.caller)
-          (switched_put c.args.call.0 r (record r { reply = reply }) (Answers c.args.caller) c.self.invariant.0 is refl refl refl kept)
+          (switched_put c.args.call.0 r (record r { reply = reply }) (Answers c.args.caller) c.self.invariant.0 is refl refl refl refl kept)
           (waiting_there i.phones.states (kept_phone r) (kept_waits i.phones.states i.boxes.calls c.args.call.0 r c.self.invariant.0.kept is))
           (leads_here c.args.caller (length i.alive.items) added)
           (put_unkept (inner i) c.args.call.0 r (record r { reply = reply }) (Answers c.args.caller) c.self.invariant.0.kept is number none),

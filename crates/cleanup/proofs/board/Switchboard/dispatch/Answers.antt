@@ -16,7 +16,7 @@ invariant_of-self c =
     let r = found.0 in
     let may : MayKeep (inner i) r (record r { reserved = c.args.reserved; place = Dispatched c.args.by }) = rw found.1 at (rw (← c.self.view_is) at c.requires.reserved) in
     rw (c.receive.ensures.calls, c.receive.ensures.tasks, found.1)
-    (switched_put c.args.call.0 r (record r { msg = c.args.msg; reserved = c.args.reserved }) (Dispatched c.args.by) c.self.invariant.0 found.1 refl refl refl (kept_put (inner i) c.args.call.0 r (record r { msg = c.args.msg; reserved = c.args.reserved }) (Dispatched c.args.by) c.self.invariant.0.kept found.1 (c.self.invariant.0.has_counts.numbered c.args.call.0 r found.1) may), c.self.invariant.1)
+    (switched_put c.args.call.0 r (record r { msg = c.args.msg; reserved = c.args.reserved }) (Dispatched c.args.by) c.self.invariant.0 found.1 refl refl refl refl (kept_put (inner i) c.args.call.0 r (record r { msg = c.args.msg; reserved = c.args.reserved }) (Dispatched c.args.by) c.self.invariant.0.kept found.1 (c.self.invariant.0.has_counts.numbered c.args.call.0 r found.1) may), c.self.invariant.1)
 
 pub returns-clause-room : goal.returns-clause-room
 returns-clause-room c =

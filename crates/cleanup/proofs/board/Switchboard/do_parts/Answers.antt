@@ -1,4 +1,4 @@
-use Rattle.std.proofs.Common.{◌≡◌, ap, ◌∙◌, arith}
+use Rattle.std.proofs.Common.{ap, ◌∙◌, arith}
 use Rattle.address_space.specs.Memory.{Memory, count_areas}
 use Rattle.cleanup.specs.State.{KernelState}
 use Rattle.cleanup.proofs.Killing.{calls_steady}

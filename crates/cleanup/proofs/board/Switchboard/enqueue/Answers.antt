@@ -19,7 +19,7 @@ invariant_of-self c =
     let i = c.self.inside in
     let new : IsNewCall (inner i) c.args.call = rw (← c.self.view_is) at c.requires.new_call in
     rw (c.count_up.ensures.states, c.count_up.ensures.counts, c.enqueue.ensures.calls, c.enqueue.ensures.tasks)
-    (switched_calls _ _ c.self.invariant.0 (counts_enqueue i.phones.states i.phones.counts i.boxes.calls c.args.call c.self.invariant.0.has_counts (ap (call_at i.boxes.calls) new.number ∙ c.next_number-number.ensures.free) new.caller new.phone) (kept_enqueue (inner i) c.args.call c.self.invariant.0.kept new.kept), c.self.invariant.1)
+    (switched_calls _ _ c.self.invariant.0 (counts_enqueue i.phones.states i.phones.counts i.boxes.calls c.args.call c.self.invariant.0.has_counts (ap (call_at i.boxes.calls) new.number ∙ c.next_number-number.ensures.free) new.caller new.phone new.bytes) (kept_enqueue (inner i) c.args.call c.self.invariant.0.kept new.kept), c.self.invariant.1)
 
 pub returns-clause-room : goal.returns-clause-room
 returns-clause-room c =

@@ -19,7 +19,7 @@ invariant_of-self c =
     let pending : IsPendingAt r.place = rw is at (rw (← c.self.view_is) at c.requires.pending) in
     let d = passed_call c.args.msg c.args.label r in
     rw (c.readdress.ensures.calls, c.readdress.ensures.tasks, is, c.unless_freed-left.ensures, c.lent_phone-lent.ensures)
-    (switched_put c.args.call.0 r d (Incoming c.args.to) c.self.invariant.0 is refl refl refl (kept_put (inner i) c.args.call.0 r d (Incoming c.args.to) c.self.invariant.0.kept is number (passed_keeps (inner i) r c.args.msg c.args.label c.args.to pending)), c.self.invariant.1)
+    (switched_put c.args.call.0 r d (Incoming c.args.to) c.self.invariant.0 is refl refl refl refl (kept_put (inner i) c.args.call.0 r d (Incoming c.args.to) c.self.invariant.0.kept is number (passed_keeps (inner i) r c.args.msg c.args.label c.args.to pending)), c.self.invariant.1)
 
 pub returns-clause-loose : goal.returns-clause-loose
 returns-clause-loose c =

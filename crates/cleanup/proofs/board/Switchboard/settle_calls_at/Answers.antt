@@ -1,5 +1,5 @@
-use Rattle.std.proofs.Common.{◌≡◌, Some, ◌∙◌, sym, arith}
-use Rattle.answerbox.specs.Calls.{call_at, front}
+use Rattle.std.proofs.Common.{◌∙◌, arith}
+use Rattle.answerbox.specs.Calls.{call_at}
 use Rattle.cleanup.specs.Kill.{first_at, settle_call}
 use Rattle.cleanup.proofs.Lookups.{record_of}
 use Rattle.cleanup.proofs.KillRoom.{settled_moves, settled_entries}
