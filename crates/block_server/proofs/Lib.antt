@@ -1,0 +1,4 @@
+pub mod LawfulBlocks
+pub mod StepsFit
+mod BlockExamples
+pub mod Windows

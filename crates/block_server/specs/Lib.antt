@@ -1,0 +1,4 @@
+pub mod Blocks
+pub mod BlockLaw
+pub mod BlockHistory
+pub mod WindowLaws
