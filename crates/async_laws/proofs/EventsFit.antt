@@ -11,8 +11,8 @@ use Rattle.ipc_ids.specs.declared.message.Request.{Request}
 use Rattle.ipc_ids.specs.declared.message.Outcome.{Outcome}
 use Rattle.ipc_ids.specs.Program.{fits}
 use Rattle.kernel_core.specs.Effects.{is_effect, AreEffects, is_acceptance, has_acceptance}
-use Rattle.ipc_ids.specs.Facts.{Fact, Head, Accepts, Answer, Sent, Gets, Ends, Begins, EndsExchange}
-use Rattle.ipc_ids.specs.Facts.{Drops, Other, fact, outcome_fact, facts_onto, facts}
+use Rattle.ipc_ids.specs.Facts.{Fact, Head, Accepts, Answer}
+use Rattle.ipc_ids.specs.Facts.{Other, fact, outcome_fact, facts_onto, facts}
 use Rattle.ipc_ids.specs.Replies.{Waiter, is_mine, answer, sent, has_ended, had_ended, accepted_now}
 use Rattle.fibril_core.specs.Fibrils.{FibrilOrder, no_fibrils}
 use Rattle.async_sessions.specs.Sessions.{Open, no_sessions}
@@ -20,13 +20,15 @@ use Rattle.async_task.specs.declared.awaited.Awaited.{Awaited}
 use Rattle.async_task.specs.AsyncState.{AsyncState}
 use Rattle.async_task.specs.Wanted.{wanted}
 use Rattle.async_task.specs.Steps.{step, bare_task, start_in, start_at, start_bodies}
-use Rattle.async_task.specs.Program.{started}
 use Rattle.async_task.proofs.Bounds.{step_near}
-use Rattle.async_laws.specs.KeptAnswers.{KeptAnswers, accepted, given}
+use Rattle.async_laws.specs.KeptAnswers.{KeptAnswers, accepted, given, waiting}
 use Rattle.async_laws.specs.KeptExchanges.{KeptExchanges}
 use Rattle.async_laws.specs.KeptFibrils.{KeptFibrils}
+use Rattle.async_laws.specs.NoLostWakes.{IsNewCall}
+use Rattle.async_laws.proofs.NoLostWakes.{step_keeps, started_keeps}
+use Rattle.async_laws.specs.TaskHistory.{FittingLosesNoWake}
 use Rattle.async_laws.specs.TaskHistory.{FactsFit, Promises, IsHeard, event, EachFits, is_foreign}
-use Rattle.async_laws.specs.TaskHistory.{AreForeign, OthersFit, HangupsFit, KillsFit, GoneFits}
+use Rattle.async_laws.specs.TaskHistory.{AreForeign, OthersFit, HangupsFit, KillsFit, GoneFits, SpawnsFit}
 use Rattle.async_laws.specs.TaskHistory.{StartFits, FittingIsLawful}
 use Rattle.async_laws.proofs.AnswerFacts.{head_answers, accepts_answers, other_answers}
 use Rattle.async_laws.proofs.AnswerFacts.{others_answers}
@@ -219,8 +221,19 @@ mine_fits h es a o kept promises fit =
     (step_fits a o q inside.fits
     (heard a.me.0 p es o a.awaited a.pool a.order kept promises) fit)
 
+-- a call that the kernel accepts is awaited by nobody yet
+new_call : (p : List Fact) (es : List Entry) (a : AsyncState) (o : Outcome) →
+    KeptAnswers p a.awaited → Promises p es o → IsNewCall a o
+new_call p es a o kept promises n is = by (waiting n.0 a.awaited) refl
+  where
+    by : (q : Option Waiter) → waiting n.0 a.awaited ≡ q → q ≡ None
+    by None h = refl
+    by (Some d) h =
+        absurd (cc (kept.sent_accepted n.0 d (kept.was_sent n.0 d h), (promises.accepts n is).1))
+
 pub each_fits : EachFits
 each_fits h es t a o kept promises fit = record {
+  wakes = step_keeps a o kept.wakes (new_call (facts t h) es a o kept.fits.answers promises);
   me = ap (λ (u : TaskNo). u.0) (step_near a o).me ∙ kept.me;
   fits =
       subst (λ (u : ℕ). FitsOf (facts u (h ++ event a es o)) (step a o).state) kept.me
@@ -266,6 +279,7 @@ all_foreign t (e ∷ es) q ws o r h i kept =
 
 pub others_fit : OthersFit
 others_fit h es t a u asked kept other foreign = record {
+  wakes = kept.wakes;
   me = kept.me;
   fits =
       rw (facts_append t h (entry.Head u asked ∷ es) [], other)
@@ -284,6 +298,7 @@ pub hangups_fit : HangupsFit
 hangups_fit h es t a u r o kept effects plain =
     let p : List Fact = Head (u.0 == t) ∷ facts t h in
     record {
+      wakes = kept.wakes;
       me = kept.me;
       fits =
           subst (λ (q : List Fact). FitsOf q a) (sym (hangup_facts h es t u r o))
@@ -295,6 +310,7 @@ hangups_fit h es t a u r o kept effects plain =
 
 pub kills_fit : KillsFit
 kills_fit h es t a u kept effects = record {
+  wakes = kept.wakes;
   me = kept.me;
   fits =
       rw (facts_append t h (entry.Kill u ∷ es) [])
@@ -302,8 +318,19 @@ kills_fit h es t a u kept effects = record {
       (head_fits (u.0 == t) (facts t h) a.awaited a.pool a.order kept.fits));
 }
 
+pub spawns_fit : SpawnsFit
+spawns_fit h es t a u kept effects = record {
+  wakes = kept.wakes;
+  me = kept.me;
+  fits =
+      rw (facts_append t h (entry.Spawn u ∷ es) [])
+      (effects_fit t es (Head (u.0 == t) ∷ facts t h) a.awaited a.pool a.order effects
+      (head_fits (u.0 == t) (facts t h) a.awaited a.pool a.order kept.fits));
+}
+
 pub gone_fits : GoneFits
 gone_fits h t a u kept = record {
+  wakes = kept.wakes;
   me = kept.me;
   fits =
       rw (facts_append t h (entry.Gone u ∷ []) [])
@@ -364,6 +391,7 @@ start_fits me bodies =
     let a : AsyncState = bare_task me bodies in
     let same : IsStarted a (start_bodies (length bodies) a) = start_same (length bodies) a in
     record {
+      wakes = started_keeps me bodies;
       me = ap (λ (u : TaskNo). u.0) same.2;
       fits = record {
         answers = rw same.0 no_answers;
@@ -371,6 +399,9 @@ start_fits me bodies =
         fibrils = same.3 [] no_fibril;
       };
     }
+
+pub fitting_loses_no_wake : FittingLosesNoWake
+fitting_loses_no_wake h t a kept = kept.wakes.wakes
 
 pub fitting_is_lawful : FittingIsLawful
 fitting_is_lawful h t a kept =

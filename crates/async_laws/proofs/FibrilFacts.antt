@@ -1,6 +1,6 @@
 -- What each kind of fact, and each change of the fibrils, does to the fit of the fibrils.
-use Rattle.std.proofs.Common.{ℕ, zero, suc, ◌+◌, ◌-◌, ◌≡◌, ◌≤◌, ◌<◌, Bool, true, false, length}
-use Rattle.std.proofs.Common.{Option, Some, None, List, [], ◌∷◌, ◌++◌, refl, sym, subst, arith}
+use Rattle.std.proofs.Common.{ℕ, zero, suc, ◌-◌, ◌≡◌, Bool, true, false, length}
+use Rattle.std.proofs.Common.{Option, Some, None, List, [], ◌∷◌, ◌++◌, refl, subst, arith}
 use Rattle.std.specs.Prelude.{if◌then◌else◌, ◌==◌, nat_lt, slice_get, slice_set}
 use Rattle.std.proofs.lemmas.Bool.{cases_eq, eq-eqb, ne_eqb, cases_Bool}
 use Rattle.std.proofs.lemmas.Option.{slice_get_past}
@@ -43,7 +43,7 @@ set_get (x ∷ xs) (suc i) zero v = grind (arith, eq-eqb, ne_eqb)
 set_get (x ∷ xs) (suc i) (suc j) v =
     grind (arith, set_get xs i j v, eq-eqb, ne_eqb, cases_eq i j)
 
-push_get : (xs : List Fibril) (j : ℕ) (v : Fibril) →
+pub push_get : (xs : List Fibril) (j : ℕ) (v : Fibril) →
     slice_get (xs ++ v ∷ []) j ≡ if length xs == j then Some v else slice_get xs j
 push_get [] zero v = grind (arith, eq-eqb, ne_eqb)
 push_get [] (suc j) v = grind (arith, eq-eqb, ne_eqb)
@@ -51,7 +51,7 @@ push_get (x ∷ xs) zero v = grind (arith, eq-eqb, ne_eqb)
 push_get (x ∷ xs) (suc j) v =
     grind (arith, push_get xs j v, eq-eqb, ne_eqb, cases_eq (length xs) j)
 
-put_get : (o : FibrilOrder) (v : Fibril) (j : ℕ) →
+pub put_get : (o : FibrilOrder) (v : Fibril) (j : ℕ) →
     slice_get (put_fibril o v).fibrils j
     ≡ if (v.number.0 - 1) == j then put_in v (slice_get o.fibrils j) else slice_get o.fibrils j
 put_get o v j = put_by (nat_lt (v.number.0 - 1) (length o.fibrils)) refl

@@ -2,9 +2,16 @@ pub mod AnswerFacts
 pub mod ExchangeFacts
 pub mod ExchangePlans
 pub mod FibrilFacts
+pub mod WakeOrders
+pub mod WakePools
+pub mod WakeConns
+pub mod NoLostWakes
+pub mod OrderLaws
+pub mod HeldCalls
 pub mod StepsFit
 pub mod EventsFit
 pub mod OwnEntries
 pub mod Linking
 pub mod NewTasks
 pub mod QuietTasks
+pub mod WakeExamples

@@ -27,11 +27,11 @@ use Rattle.async_task.specs.AsyncState.{AsyncState}
 use Rattle.async_task.specs.Wanted.{wanted}
 use Rattle.async_task.specs.Steps.{step}
 use Rattle.async_laws.specs.KeptAnswers.{given, accepted}
-use Rattle.async_laws.specs.TaskHistory.{is_foreign, AreForeign, TaskHistoryFits, event}
+use Rattle.async_laws.specs.TaskHistory.{is_foreign, AreForeign, event}
 use Rattle.async_laws.specs.Links.{Linked, IsLinked, IsHistoryOf, asked, PromisesFollow, is_own}
 use Rattle.async_laws.specs.Links.{AreOwn, LinkStays, LinkStaysForOthers, EventKeeps}
-use Rattle.async_laws.specs.Links.{EventKeepsOthers, KillKeeps, HangupKeeps, GoneKeeps}
-use Rattle.async_laws.proofs.EventsFit.{facts_append, each_fits, others_fit, kills_fit}
+use Rattle.async_laws.specs.Links.{EventKeepsOthers, KillKeeps, HangupKeeps, GoneKeeps, SpawnKeeps}
+use Rattle.async_laws.proofs.EventsFit.{facts_append, each_fits, others_fit, kills_fit, spawns_fit}
 use Rattle.async_laws.proofs.EventsFit.{hangups_fit, gone_fits}
 use Rattle.async_laws.proofs.OwnEntries.{own_entries}
 
@@ -345,6 +345,18 @@ kill_keeps h es t a u kept law effects =
       both_append t h (entry.Kill u ∷ es)
           (linked_effects t es p l effects lawful
           (linked_entry t (entry.Kill u) (facts t h) (past h) refl first kept.1)),
+    )
+
+pub spawn_keeps : SpawnKeeps
+spawn_keeps h es t a u kept law effects =
+    let l : List Tale = tale (entry.Spawn u) ∷ past h in
+    let p : List Fact = fact t (entry.Spawn u) ∷ facts t h in
+    let lawful : Lawful (then es l) = subst Lawful (past-append h (entry.Spawn u ∷ es)) law in
+    let first : Lawful l = lawful_before (tales es) l lawful in (
+      spawns_fit h es t a u kept.0 effects,
+      both_append t h (entry.Spawn u ∷ es)
+          (linked_effects t es p l effects lawful
+          (linked_entry t (entry.Spawn u) (facts t h) (past h) refl first kept.1)),
     )
 
 pub gone_keeps : GoneKeeps

@@ -1,10 +1,10 @@
 -- A task that starts when others have run.
-use Rattle.std.proofs.Common.{ℕ, ◌≡◌, Bool, true, false, List, [], ◌∷◌, refl, sym, ◌∙◌, arith}
+use Rattle.std.proofs.Common.{ℕ, ◌≡◌, Option, Some, None, true, false, List, [], ◌∷◌, refl, sym, ◌∙◌, arith}
 use Rattle.std.specs.Prelude.{⊤, ◌==◌}
+use Rattle.std.proofs.lemmas.Bool.{ne_eqb}
 use Rattle.ipc_ids.specs.declared.numbers.TaskNo.{TaskNo}
 use Rattle.ipc_ids.specs.declared.entry.Entry.{Entry}
-use Rattle.ipc_ids.specs.declared.op.Body.{Body}
-use Rattle.ipc_ids.specs.Tales.{Tale, tale, tales, past}
+use Rattle.ipc_ids.specs.Tales.{Tale, tale, tales}
 use Rattle.ipc_ids.specs.Lawful.{Lawful}
 use Rattle.ipc_ids.specs.Facts.{Fact, Head, Accepts, Answer, Other, fact, facts_onto}
 use Rattle.ipc_ids.specs.Replies.{is_mine}
@@ -17,6 +17,9 @@ use Rattle.async_task.specs.Program.{started}
 use Rattle.async_laws.specs.KeptAnswers.{given}
 use Rattle.async_laws.specs.TaskHistory.{FactsFit, TaskHistoryFits}
 use Rattle.async_laws.specs.Links.{Linked, is_strange, AreStrange, NewFits}
+use Rattle.kernel_core.specs.History.{actor, IsOneOf, AreOfTasks}
+use Rattle.async_laws.specs.QuietTasks.{HasNoFibril, TellsOfNoFibril}
+use Rattle.async_laws.proofs.QuietTasks.{head_quiet, other_quiet, effect_quiet, start_quiet}
 use Rattle.async_laws.proofs.EventsFit.{head_fits, foreign_fits, start_fits}
 use Rattle.async_laws.proofs.Linking.{then, over_stays, known_later}
 
@@ -77,9 +80,51 @@ new_fits h me bodies strange law =
     let a : AsyncState = started me bodies in
     let start : TaskHistoryFits [] me.0 a = start_fits me bodies in (
       record {
+        wakes = start.wakes;
         me = start.me;
         fits = all_strange me.0 h [] a.awaited a.pool a.order strange refl start.fits;
       },
       linked_strange me.0 h [] [] strange refl law
           (record { over = λ n i. absurd (cc i); known = λ n i. absurd (cc i) }),
     )
+
+-- the entries of other tasks tell of no fibril of this one
+
+strange_quiet_one :
+    (x : Fact) (p : List Fact) → IsStrangeFact x → is_mine p ≡ false → HasNoFibril p →
+    HasNoFibril (x ∷ p)
+strange_quiet_one (Head b) p h i none = head_quiet b p none
+strange_quiet_one (Accepts n) p h i none = effect_quiet (Accepts n) p tt none
+strange_quiet_one (Answer n reply) p h i none =
+    record {
+      unsent = none.unsent;
+      replies = (none.replies, λ mine. absurd (cc (mine, i)));
+      exchanges = (none.exchanges, tt);
+    }
+strange_quiet_one Other p h i none = other_quiet p none
+strange_quiet_one _ p h i none = absurd h
+
+all_quiet :
+    (t : ℕ) (es : List Entry) (p : List Fact) → AreStrange t es → is_mine p ≡ false →
+    HasNoFibril p → HasNoFibril (facts_onto t es p)
+all_quiet t [] p h i none = none
+all_quiet t (e ∷ es) p h i none =
+    let strange : IsStrangeFact (fact t e) = strange_fact t e h.0 in
+    all_quiet t es (fact t e ∷ p) h.1 (strange_mine (fact t e) p strange i)
+    (strange_quiet_one (fact t e) p strange i none)
+
+pub strange_quiet : (h : List Entry) (t : ℕ) → AreStrange t h → TellsOfNoFibril h t
+strange_quiet h t strange = all_quiet t h [] strange refl (start_quiet t)
+
+-- what is told of the first n tasks is strange to each other one
+strange_one : (n t : ℕ) (e : Entry) → IsOneOf n (actor e) → (IsOneOf n (Some (record { 0 = t })) → ⊥) → is_strange t e ≡ true
+strange_one n t e known other = by_actor (actor e) refl known where
+  by_actor : (o : Option TaskNo) → actor e ≡ o → IsOneOf n o → is_strange t e ≡ true
+  by_actor None is h = grind (arith, is)
+  by_actor (Some u) is h =
+      let apart : (u.0 == t) ≡ false = ne_eqb u.0 t (λ same. other (omega (arith, h.0, same), omega (arith, h.1, same))) in
+      grind (arith, is, apart)
+
+pub known_strange : (n t : ℕ) (h : List Entry) → AreOfTasks n h → (IsOneOf n (Some (record { 0 = t })) → ⊥) → AreStrange t h
+known_strange n t [] known other = tt
+known_strange n t (e ∷ es) known other = (strange_one n t e known.0 other, known_strange n t es known.1 other)

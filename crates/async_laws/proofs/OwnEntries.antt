@@ -32,8 +32,8 @@ use Rattle.async_sessions.specs.Sessions.{end_after, held_by, close_after}
 use Rattle.async_task.specs.declared.awaited.Awaited.{Awaited}
 use Rattle.async_task.specs.declared.context.Slot.{Slot}
 use Rattle.async_task.specs.declared.context.Context.{Context}
-use Rattle.async_task.specs.declared.machine.Turn.{Turn}
-use Rattle.async_task.specs.declared.machine.Turn.TheVariants as turn
+use Rattle.async_task.specs.Turns.{Turn}
+use Rattle.async_task.specs.Turns as turn
 use Rattle.async_task.specs.Contexts.{slot_at, handle_at, value_of}
 use Rattle.async_task.specs.AsyncState.{AsyncState, context_at, present_op}
 use Rattle.async_task.specs.Turns.{turn_now}
@@ -45,7 +45,7 @@ use Rattle.async_task.specs.Exchanges.{close_outcome}
 use Rattle.async_task.specs.Answers.{is_of_call, connect, answer_begin_by, answer_begin_at}
 use Rattle.async_task.specs.Answers.{give_answer, is_for, wake_if, forget_call, take_answer}
 use Rattle.async_task.specs.Connections.{connect_call, receive_call_by, is_of_connections}
-use Rattle.async_task.specs.Steps.{do_op, manage, step_in, step}
+use Rattle.async_task.specs.Steps.{do_op, manage, step_in}
 use Rattle.async_laws.specs.Links.{AreOwn, EntriesAreOwn}
 
 same : (n : ℕ) → (n == n) ≡ true

@@ -1,18 +1,16 @@
 -- Events keep it that a list of entries tells of no fibril of a task.
 use Rattle.std.proofs.Common.{ℕ, ◌≡◌, Bool, true, false, Option, Some, None, List, [], ◌∷◌, ◌++◌}
-use Rattle.std.proofs.Common.{refl, sym, ◌∙◌, subst, ap, arith}
-use Rattle.std.specs.Prelude.{⊤, ◌==◌}
+use Rattle.std.proofs.Common.{refl, sym, ◌∙◌, subst, arith}
+use Rattle.std.specs.Prelude.{◌==◌}
 use Rattle.std.proofs.lemmas.Bool.{eq-eqb, eqb-true}
 use Rattle.ipc_ids.specs.declared.numbers.TaskNo.{TaskNo}
-use Rattle.ipc_ids.specs.declared.message.Reply.{Reply}
 use Rattle.ipc_ids.specs.declared.message.Request.{Request}
 use Rattle.ipc_ids.specs.declared.message.Outcome.{Outcome}
 use Rattle.ipc_ids.specs.declared.message.Outcome.TheVariants as outcome
 use Rattle.ipc_ids.specs.declared.entry.Entry.{Entry}
 use Rattle.ipc_ids.specs.declared.entry.Entry.TheVariants as entry
-use Rattle.ipc_ids.specs.Facts.{Fact, Head, Accepts, Answer, Other, fact, outcome_fact, facts_onto, facts}
-use Rattle.ipc_ids.specs.Replies.{Waiter, AnsweredCall, is_mine, answer, sent, IsPassedOn, RepliesWereLawful}
-use Rattle.ipc_ids.specs.Exchanges.{ExchangesWereLawful}
+use Rattle.ipc_ids.specs.Facts.{Fact, Head, Accepts, Other, fact, outcome_fact, facts_onto, facts}
+use Rattle.ipc_ids.specs.Replies.{Waiter, answer, sent, IsPassedOn}
 use Rattle.kernel_core.specs.Effects.{AreEffects}
 use Rattle.async_laws.specs.Links.{is_own, AreOwn}
 use Rattle.async_laws.specs.QuietTasks.{HasNoFibril, TellsOfNoFibril, AreSilent}
@@ -25,17 +23,17 @@ not_both o d none some = absurd (cc (none, some))
 pub nothing_passed_on : (p : List Fact) → HasNoFibril p → IsPassedOn p
 nothing_passed_on p none n reply d mine told sends alive = absurd (not_both (sent n p) d (none.unsent n) sends)
 
-head_quiet : (b : Bool) (p : List Fact) → HasNoFibril p → HasNoFibril (Head b ∷ p)
+pub head_quiet : (b : Bool) (p : List Fact) → HasNoFibril p → HasNoFibril (Head b ∷ p)
 head_quiet b p none = record {
   unsent = none.unsent;
   replies = (none.replies, nothing_passed_on p none);
   exchanges = (none.exchanges, tt);
 }
 
-other_quiet : (p : List Fact) → HasNoFibril p → HasNoFibril (Other ∷ p)
+pub other_quiet : (p : List Fact) → HasNoFibril p → HasNoFibril (Other ∷ p)
 other_quiet p none = record { unsent = none.unsent; replies = (none.replies, tt); exchanges = (none.exchanges, tt) }
 
-effect_quiet : (x : Fact) (p : List Fact) → IsEffectFact x → HasNoFibril p → HasNoFibril (x ∷ p)
+pub effect_quiet : (x : Fact) (p : List Fact) → IsEffectFact x → HasNoFibril p → HasNoFibril (x ∷ p)
 effect_quiet (Accepts n) p h none = record { unsent = none.unsent; replies = (none.replies, tt); exchanges = (none.exchanges, tt) }
 effect_quiet Other p h none = other_quiet p none
 effect_quiet _ p h none = absurd h
@@ -101,6 +99,13 @@ pub killed_quiet : (h es : List Entry) (t : ℕ) (u : TaskNo) → TellsOfNoFibri
     TellsOfNoFibril (h ++ (entry.Kill u ∷ es)) t
 killed_quiet h es t u none effects =
     subst HasNoFibril (sym (facts_append t h (entry.Kill u ∷ es) []))
+    (effects_quiet t es (Head (u.0 == t) ∷ facts t h) effects (head_quiet (u.0 == t) (facts t h) none))
+
+-- the making of any task
+pub spawned_quiet : (h es : List Entry) (t : ℕ) (u : TaskNo) → TellsOfNoFibril h t → AreEffects es →
+    TellsOfNoFibril (h ++ (entry.Spawn u ∷ es)) t
+spawned_quiet h es t u none effects =
+    subst HasNoFibril (sym (facts_append t h (entry.Spawn u ∷ es) []))
     (effects_quiet t es (Head (u.0 == t) ∷ facts t h) effects (head_quiet (u.0 == t) (facts t h) none))
 
 -- an event of a task that has ended

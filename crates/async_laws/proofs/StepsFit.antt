@@ -50,8 +50,8 @@ use Rattle.async_task.specs.declared.awaited.Awaited.{Awaited}
 use Rattle.async_task.specs.declared.context.Slot.{Slot}
 use Rattle.async_task.specs.declared.context.Slot.TheVariants as slot
 use Rattle.async_task.specs.declared.context.Context.{Context}
-use Rattle.async_task.specs.declared.machine.Turn.{Turn}
-use Rattle.async_task.specs.declared.machine.Turn.TheVariants as turn
+use Rattle.async_task.specs.Turns.{Turn}
+use Rattle.async_task.specs.Turns as turn
 use Rattle.async_task.specs.Contexts.{slot_at, handle_at, value_of}
 use Rattle.async_task.specs.AsyncState.{AsyncState, Transition, context_at, present_op}
 use Rattle.async_task.specs.Turns.{turn_of, fibril_turn, work_turn, turn_now}
@@ -64,7 +64,7 @@ use Rattle.async_task.specs.Exchanges.{connect_outcome, begin_op, end_outcome, e
 use Rattle.async_task.specs.Answers.{is_of_call, answer_slot, connect, answer_begin_by}
 use Rattle.async_task.specs.Answers.{answer_begin_at, give_answer, is_for, wake_if, forget_call}
 use Rattle.async_task.specs.Answers.{take_answer}
-use Rattle.async_task.specs.Connections.{hand_over, wake_reader, reach_blocked, reach, after_route}
+use Rattle.async_task.specs.Connections.{hand_over, wake_reader, reach_blocked, after_route}
 use Rattle.async_task.specs.Connections.{route_call, reach_holder, called_label, with_connection}
 use Rattle.async_task.specs.Connections.{start_connection, connect_call, receive_call_by}
 use Rattle.async_task.specs.Connections.{is_of_connections, end_fibril}

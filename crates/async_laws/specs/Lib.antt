@@ -1,6 +1,9 @@
 pub mod KeptAnswers
 pub mod KeptExchanges
 pub mod KeptFibrils
+pub mod NoLostWakes
+pub mod OrderLaws
+pub mod HeldCalls
 pub mod TaskHistory
 pub mod Links
 pub mod QuietTasks

@@ -115,11 +115,18 @@ abbrev pub GoneKeeps : Type 0
 GoneKeeps = (h : List Entry) (t : ℕ) (a : AsyncState) (u : TaskNo) → IsHistoryOf h t a →
     Lawful (tales.past (h ++ (entry.Gone u ∷ []))) → IsHistoryOf (h ++ (entry.Gone u ∷ [])) t a
 
+-- the making of any task
+abbrev pub SpawnKeeps : Type 0
+SpawnKeeps = (h es : List Entry) (t : ℕ) (a : AsyncState) (u : TaskNo) → IsHistoryOf h t a →
+    Lawful (tales.past (h ++ (entry.Spawn u ∷ es))) → AreEffects es →
+    IsHistoryOf (h ++ (entry.Spawn u ∷ es)) t a
+
 -- an entry that does not tell of task t
 abbrev pub is_strange : ℕ → Entry → Bool
 is_strange t (entry.Head u request) = not (u.0 == t)
 is_strange t (entry.Kill u) = not (u.0 == t)
 is_strange t (entry.Gone u) = not (u.0 == t)
+is_strange t (entry.Spawn u) = not (u.0 == t)
 is_strange t e = is_foreign t e
 
 abbrev pub AreStrange : ℕ → List Entry → Type 0

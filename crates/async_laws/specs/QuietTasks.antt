@@ -1,6 +1,6 @@
 -- A list of entries that tells of no fibril of a task: the task's program runs none, or there is no
 -- such task.
-use Rattle.std.specs.Prelude.{ℕ, ◌≡◌, Option, None, List, [], ◌∷◌, ⊤}
+use Rattle.std.specs.Prelude.{ℕ, ◌≡◌, None, List, [], ◌∷◌, ⊤}
 use Rattle.ipc_ids.specs.declared.entry.Entry.{Entry}
 use Rattle.ipc_ids.specs.Facts.{Fact, Other, fact, facts}
 use Rattle.ipc_ids.specs.Replies.{sent, RepliesWereLawful}

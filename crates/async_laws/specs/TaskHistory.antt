@@ -1,5 +1,5 @@
 -- A list of entries fits the state of an async task, at the start and after each event.
-use Rattle.std.specs.Prelude.{ℕ, ◌≡◌, ◌==◌, not, Bool, true, false, Option, None, List, [], ◌∷◌}
+use Rattle.std.specs.Prelude.{ℕ, ◌≡◌, ◌==◌, not, Bool, true, false, None, List, [], ◌∷◌}
 use Rattle.std.specs.Prelude.{◌++◌, ⊤}
 use Rattle.ipc_ids.specs.declared.numbers.CallNo.{CallNo}
 use Rattle.ipc_ids.specs.declared.numbers.TaskNo.{TaskNo}
@@ -26,6 +26,7 @@ use Rattle.async_task.specs.Program.{started}
 use Rattle.async_laws.specs.KeptAnswers.{KeptAnswers, given, accepted}
 use Rattle.async_laws.specs.KeptExchanges.{KeptExchanges}
 use Rattle.async_laws.specs.KeptFibrils.{KeptFibrils}
+use Rattle.async_laws.specs.NoLostWakes.{NoWakeIsLost, KeepsWakes, IsNewCall}
 
 -- the facts fit what is awaited, the exchanges and the fibrils
 pub record FactsFit (p : List Fact) (ws : List Awaited) (o : Open) (q : FibrilOrder) : Type 0 where
@@ -37,6 +38,7 @@ pub record FactsFit (p : List Fact) (ws : List Awaited) (o : Open) (q : FibrilOr
 pub record TaskHistoryFits (h : List Entry) (t : ℕ) (a : AsyncState) : Type 0 where
   pub me : a.me.0 ≡ t
   pub fits : FactsFit (facts t h) a.awaited a.pool a.order
+  pub wakes : KeepsWakes a
 
 -- what the kernel promises of an outcome and the effects before it: a call that it accepts is in
 -- the effects, and is new; an answer that it gives was not given before
@@ -84,6 +86,7 @@ is_foreign t (entry.Drops u f e) = not (u.0 == t)
 is_foreign t (entry.Head u asked) = false
 is_foreign t (entry.Kill u) = false
 is_foreign t (entry.Gone u) = false
+is_foreign t (entry.Spawn u) = false
 is_foreign t _ = true
 
 abbrev pub AreForeign : ℕ → List Entry → Type 0
@@ -116,9 +119,27 @@ GoneFits =
     (h : List Entry) (t : ℕ) (a : AsyncState) (u : TaskNo) → TaskHistoryFits h t a →
     TaskHistoryFits (h ++ (entry.Gone u ∷ [])) t a
 
+-- so does the making of any task
+abbrev pub SpawnsFit : Type 0
+SpawnsFit =
+    (h es : List Entry) (t : ℕ) (a : AsyncState) (u : TaskNo) → TaskHistoryFits h t a →
+    AreEffects es → TaskHistoryFits (h ++ (entry.Spawn u ∷ es)) t a
+
 -- it holds at the start
 abbrev pub StartFits : Type 0
 StartFits = (me : TaskNo) (bodies : List Body) → TaskHistoryFits [] me.0 (started me bodies)
+
+-- no wake-up of the task is lost then
+abbrev pub FittingLosesNoWake : Type 0
+FittingLosesNoWake = (h : List Entry) (t : ℕ) (a : AsyncState) → TaskHistoryFits h t a → NoWakeIsLost a
+
+-- no wake-up is lost at the start
+abbrev pub StartKeepsWakes : Type 0
+StartKeepsWakes = (me : TaskNo) (bodies : List Body) → KeepsWakes (started me bodies)
+
+-- nor in an event of the task, whatever its outcome
+abbrev pub EachKeepsWakes : Type 0
+EachKeepsWakes = (a : AsyncState) (o : Outcome) → KeepsWakes a → IsNewCall a o → KeepsWakes (step a o).state
 
 -- the laws hold of entries that fit the state of the task
 abbrev pub FittingIsLawful : Type 0

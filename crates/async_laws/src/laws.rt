@@ -1,8 +1,13 @@
 //! Each event of a run keeps the fit of its entries to the state of an async task.
 ghost use Rattle.async_laws.specs.TaskHistory.{StartFits, EachFits, OthersFit, HangupsFit};
-ghost use Rattle.async_laws.specs.TaskHistory.{KillsFit, GoneFits, FittingIsLawful};
+ghost use Rattle.async_laws.specs.TaskHistory.{KillsFit, GoneFits, SpawnsFit, FittingIsLawful};
+ghost use Rattle.async_laws.specs.TaskHistory.{FittingLosesNoWake, StartKeepsWakes, EachKeepsWakes};
+ghost use Rattle.async_laws.specs.OrderLaws.{YieldsGoBehind, RoutesGoLast, FirstIsTaken};
+ghost use Rattle.async_laws.specs.HeldCalls.{ReceivedCallsCome, KeptCallsStay};
+ghost use Rattle.async_laws.specs.OrderLaws.{StrayCallsAreRefused, LimitsAreHeeded};
 ghost use Rattle.async_laws.specs.Links.{PromisesFollow, EntriesAreOwn, EventKeeps};
 ghost use Rattle.async_laws.specs.Links.{EventKeepsOthers, KillKeeps, HangupKeeps, GoneKeeps};
+ghost use Rattle.async_laws.specs.Links.{SpawnKeeps};
 ghost use Rattle.async_laws.specs.Links.{NewFits};
 
 /// The entries so far fit the state of a task at the start, and each event keeps it: one of the
@@ -15,11 +20,43 @@ pub fn events_keep_the_fit()
     ensures hangups { HangupsFit }
     ensures kills { KillsFit }
     ensures gone { GoneFits }
+    ensures spawns { SpawnsFit }
 {}
 
 /// Entries that fit the state of a task keep the laws of replies and of exchanges.
 pub fn fitting_entries_keep_the_laws()
     ensures { FittingIsLawful }
+{}
+
+/// No wake-up is lost, at the start and after each event: where a fibril is blocked, what it waits
+/// for has not come yet. A fibril that is blocked on an answer is the one that awaits it. One that
+/// is blocked on a serialized session finds an exchange of it begun. One that is blocked on a phone
+/// finds no idle exchange in the task. One that is blocked on a message has a connection that is
+/// open and has no call queued. So it is in each state that the entries of a run fit.
+pub fn no_wake_up_is_lost()
+    ensures start { StartKeepsWakes }
+    ensures each { EachKeepsWakes }
+    ensures always { FittingLosesNoWake }
+{}
+
+/// A fibril that yields stands behind all others. A call that comes to a connection is the last of
+/// its queue, or becomes its close call where it has none, and the first of a queue is taken. A
+/// call that belongs to no connection is owed `EHANGUP`. After `ELIMIT` a begin asks for no connect
+/// call.
+pub fn fibrils_and_calls_keep_their_order()
+    ensures yields { YieldsGoBehind }
+    ensures routes { RoutesGoLast }
+    ensures taken { FirstIsTaken }
+    ensures stray { StrayCallsAreRefused }
+    ensures limit { LimitsAreHeeded }
+{}
+
+/// No call that came is lost. One that comes is queued at a connection or is its close call, is
+/// owed an answer, is handed to the fibril that waited for it, or starts a connection. What is
+/// queued, closes or is owed stays so until its answer is made or its fibril takes it.
+pub fn received_calls_are_not_lost()
+    ensures received { ReceivedCallsCome }
+    ensures stay { KeptCallsStay }
 {}
 
 /// What the kernel promises a task follows from the laws of calls, where the effects of an event
@@ -38,5 +75,6 @@ pub fn lawful_runs_keep_the_fit()
     ensures kill { KillKeeps }
     ensures hangup { HangupKeeps }
     ensures gone { GoneKeeps }
+    ensures spawn { SpawnKeeps }
     ensures new { NewFits }
 {}

@@ -1,5 +1,5 @@
 //! What the state of an async task says of the entries of a run so far, and that each event of the
-//! run keeps it; so the laws of replies and of exchanges hold of every run.
+//! run keeps it; so the laws of replies and of exchanges hold of every run, and no wake-up is lost.
 //!
 //! The crate has no code: each of its functions has an empty body, and its clauses are laws over
 //! lists of entries and the definitions of async tasks.
@@ -8,6 +8,7 @@
 mod laws;
 
 pub use laws::{
-    events_keep_the_fit, fitting_entries_keep_the_laws, lawful_runs_keep_the_fit,
-    laws_of_calls_keep_the_promises,
+    events_keep_the_fit, fibrils_and_calls_keep_their_order, fitting_entries_keep_the_laws,
+    lawful_runs_keep_the_fit, laws_of_calls_keep_the_promises, no_wake_up_is_lost,
+    received_calls_are_not_lost,
 };

@@ -1,8 +1,8 @@
 -- What a begin, a close and an end answer, and what they leave as it was.
 use Rattle.std.proofs.Common.{ℕ, ◌≡◌, ◌≢◌, ◌<◌, Bool, true, false, Option, Some, None, List, [], ◌∷◌}
 use Rattle.std.proofs.Common.{zero, suc, inl, inr, refl, ap, subst, sym, ◌∙◌, arith}
-use Rattle.std.specs.Prelude.{◌⊎◌, if◌then◌else◌, ◌==◌, ◌||◌, nat_lt, slice_get, slice_set}
-use Rattle.std.proofs.lemmas.Bool.{cases_eq, eq-eqb, ne_eqb, lt-ltb, true≢false, eqb-true}
+use Rattle.std.specs.Prelude.{if◌then◌else◌, ◌==◌, ◌||◌, nat_lt, slice_get, slice_set}
+use Rattle.std.proofs.lemmas.Bool.{eq-eqb, ne_eqb, lt-ltb, true≢false, eqb-true}
 use Rattle.ipc_ids.specs.declared.numbers.FibrilNo.{FibrilNo}
 use Rattle.ipc_ids.specs.declared.numbers.ExchangeNo.{ExchangeNo}
 use Rattle.ipc_ids.specs.declared.message.ExchangeMode.{ExchangeMode}
@@ -15,12 +15,13 @@ use Rattle.async_sessions.specs.declared.sessions.Close.TheVariants as close
 use Rattle.async_sessions.specs.Sessions.{Open, session_at, session_in, exchange_at, same_held}
 use Rattle.async_sessions.specs.Sessions.{held_in, held_by, first_idle, any_begun, dropped, ended}
 use Rattle.async_sessions.specs.Sessions.{serial_of, short_of, unless_idle, idle_of, begin_in}
-use Rattle.async_sessions.specs.Sessions.{begin_answer, close_idle, close_in, close_answer, ebusy}
-use Rattle.async_sessions.specs.Sessions.{end_after, close_after, with_session}
+use Rattle.async_sessions.specs.Sessions.{begin_answer, close_idle, close_answer}
+use Rattle.ipc_ids.specs.Codes.{ebusy}
+use Rattle.async_sessions.specs.Sessions.{end_after, with_session}
 use Rattle.async_sessions.specs.SessionLaws.{HasNoIdle, AnswersSerial, AnswersParallel, AnswersIn}
 use Rattle.async_sessions.specs.SessionLaws.{AnswersBegin, ClosesIn, AnswersClose, FindsHeld}
-use Rattle.async_sessions.specs.SessionLaws.{LeavesOthers, Loses, EndsOne, LosesSession}
-use Rattle.async_sessions.proofs.Lookups.{exchange_of, find_exchange, changed_at, of-drop, of-change}
+use Rattle.async_sessions.specs.SessionLaws.{Loses, EndsOne, LosesSession}
+use Rattle.async_sessions.proofs.Lookups.{exchange_of, find_exchange, of-drop, of-change}
 use Rattle.async_sessions.proofs.Lookups.{of-number}
 use Rattle.async_sessions.proofs.Searches.{none_idle, longest_idle, none_begun, one_begun}
 

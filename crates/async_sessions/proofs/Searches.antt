@@ -1,16 +1,16 @@
 -- The exchange that has been idle longest, and whether one is begun, told by those in the list.
 use Rattle.std.proofs.Common.{ℕ, ◌≡◌, ◌≤◌, Bool, true, false, Option, Some, None, List, [], ◌∷◌}
-use Rattle.std.proofs.Common.{inl, inr, fold, refl, ap, subst, sym, ◌∙◌, arith}
+use Rattle.std.proofs.Common.{inl, inr, fold, refl, subst, sym, ◌∙◌, arith}
 use Rattle.std.specs.Prelude.{⊤, ◌⊎◌, if◌then◌else◌, ◌==◌, ◌&&◌, ◌||◌, not, nat_lt}
 use Rattle.std.proofs.lemmas.Bool.{eqb-true, eq-eqb, and_from, or_parts, true≢false}
 use Rattle.std.proofs.lemmas.Bool.Decides.{nat_tests}
 use Rattle.async_sessions.specs.declared.sessions.Exchange.{Exchange}
 use Rattle.async_sessions.specs.declared.sessions.Held.{Held}
 use Rattle.async_sessions.specs.declared.sessions.Held.TheVariants.{By, Idle}
-use Rattle.async_sessions.specs.Sessions.{same_held, in_session, sooner, sooner_idle, first_idle}
+use Rattle.async_sessions.specs.Sessions.{same_held, in_session, sooner_idle, first_idle}
 use Rattle.async_sessions.specs.Sessions.{is_begun_in, any_begun}
 use Rattle.async_sessions.specs.SessionLaws.{IsAmong, IsBegun, IsIdleOf, HasNoIdle, IsLongestIdle}
-use Rattle.async_sessions.specs.SessionLaws.{IsBegunOf, HasNoneBegun, HasOneBegun}
+use Rattle.async_sessions.specs.SessionLaws.{HasNoneBegun, HasOneBegun}
 
 -- whether the exchange is one of those that the search is about
 abbrev passes : Option ℕ → Exchange → Bool

@@ -1,5 +1,5 @@
 -- Each call keeps what holds of sessions and exchanges.
-use Rattle.std.proofs.Common.{ℕ, suc, ◌≡◌, ◌≢◌, ◌<◌, ◌+◌, Bool, true, false, Option, Some, None, List}
+use Rattle.std.proofs.Common.{ℕ, ◌≡◌, ◌≢◌, ◌<◌, ◌+◌, Bool, true, false, Option, Some, None, List}
 use Rattle.std.proofs.Common.{[], ◌∷◌, ◌++◌, inl, inr, refl, ap, subst, sym, ◌∙◌, arith}
 use Rattle.std.specs.Prelude.{◌⊎◌, if◌then◌else◌, ◌==◌, ◌||◌}
 use Rattle.std.proofs.lemmas.Bool.{cases_eq, eq-eqb, ne_eqb, eqb-true}
@@ -14,8 +14,9 @@ use Rattle.async_sessions.specs.declared.sessions.Held.TheVariants.{By, Idle}
 use Rattle.async_sessions.specs.declared.sessions.Close.TheVariants as close
 use Rattle.async_sessions.specs.Sessions.{Open, no_sessions, session_at, mode_answer, exchange_at}
 use Rattle.async_sessions.specs.Sessions.{first_idle, any_begun, held_by, new_exchange, added}
-use Rattle.async_sessions.specs.Sessions.{changed, changed_one, dropped, ended, begun_again}
-use Rattle.async_sessions.specs.Sessions.{begun_after, begin_in, begin_answer, begin_after, ebusy}
+use Rattle.async_sessions.specs.Sessions.{changed, dropped, ended, begun_again}
+use Rattle.async_sessions.specs.Sessions.{begun_after, begin_in, begin_answer, begin_after}
+use Rattle.ipc_ids.specs.Codes.{ebusy}
 use Rattle.async_sessions.specs.Sessions.{serial_of, short_of, unless_idle, idle_of, with_session}
 use Rattle.async_sessions.specs.Sessions.{make_after, end_after, close_idle, close_answer, close_after}
 use Rattle.async_sessions.specs.SessionLaws.{IsBegun, HasNoneBegun, HasNoIdle, IsSound}

@@ -15,7 +15,8 @@ use Rattle.async_sessions.specs.declared.sessions.Begin.TheVariants as begin
 use Rattle.async_sessions.specs.declared.sessions.Close.{Close}
 use Rattle.async_sessions.specs.declared.sessions.Close.TheVariants as close
 use Rattle.async_sessions.specs.Sessions.{Open, session_at, mode_answer, exchange_at, in_session}
-use Rattle.async_sessions.specs.Sessions.{next_exchange, ebusy}
+use Rattle.async_sessions.specs.Sessions.{next_exchange}
+use Rattle.ipc_ids.specs.Codes.{ebusy}
 
 -- x is one of these exchanges
 abbrev pub IsAmong : Exchange → List Exchange → Type 0

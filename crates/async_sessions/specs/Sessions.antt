@@ -8,7 +8,7 @@ use Rattle.ipc_ids.specs.declared.numbers.ExchangeNo.{ExchangeNo}
 use Rattle.ipc_ids.specs.declared.numbers.Code.{Code}
 use Rattle.ipc_ids.specs.declared.message.ExchangeMode.{ExchangeMode}
 use Rattle.ipc_ids.specs.declared.message.ExchangeMode.TheVariants.{Atomic, Serialize, Parallel}
-use Rattle.ipc_ids.specs.Codes.{enoent}
+use Rattle.ipc_ids.specs.Codes.{enoent, ebusy}
 use Rattle.async_sessions.specs.declared.sessions.Session.{Session}
 use Rattle.async_sessions.specs.declared.sessions.Held.{Held}
 use Rattle.async_sessions.specs.declared.sessions.Held.TheVariants.{By, Idle}
@@ -40,10 +40,6 @@ pub record IsWithinBounds (o : Open) : Type 0 where
 abbrev pub no_sessions : Open
 no_sessions =
     record { sessions = replicate 16 None; exchanges = []; next_number = 1; next_stamp = 1 }
-
--- the session is in use, or is busy
-abbrev pub ebusy : Code
-ebusy = record { 0 = 8 }
 
 -- the session at a place, if there is that place
 abbrev pub session_in : Option (Option Session) → Option Session

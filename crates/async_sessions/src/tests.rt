@@ -1,15 +1,18 @@
 //! Each mode once, a phone that is wanted, and a close in its steps, with ample memory.
+ghost use Rattle.std.specs.Prelude.{◌≡◌};
+ghost use Rattle.async_sessions.specs.Sessions.{no_sessions};
 
 use crate::{Begin, Close, Ended, Sessions};
 use ipc_ids::{Code, ExchangeMode, ExchangeNo, FibrilNo};
-use std::process::Abort;
-use std::test::Fail;
+use std::alloc::Global;
 
 const ONE: FibrilNo = FibrilNo(1);
 
 const TWO: FibrilNo = FibrilNo(2);
 
 const FIRST: ExchangeNo = ExchangeNo(1);
+
+const SECOND: ExchangeNo = ExchangeNo(2);
 
 /// What the end of an exchange of this parallel session answers.
 const fn ended(session: u32) -> Result<Ended, Code> {
@@ -19,65 +22,152 @@ const fn ended(session: u32) -> Result<Ended, Code> {
     })
 }
 
-#[test]
-fn an_atomic_session_has_many_exchanges(rt: HostRuntime) -> Result<(), Fail> {
-    let mut sessions = Sessions::new(rt.alloc());
-    assert_eq!(rt; sessions.reserve(), Ok(()));
-    assert_eq!(rt; sessions.make(0, 5, ExchangeMode::Atomic), Ok(()));
-    assert_eq!(rt; sessions.make(0, 6, ExchangeMode::Atomic), Err(Code::EBUSY));
-    assert_eq!(rt; sessions.begin(ONE, 0, false), Begin::Begun(FIRST, 5));
-    assert_eq!(rt;
-        sessions.begin(TWO, 0, false),
-        Begin::Begun(ExchangeNo(2), 5)
-    );
-    Ok(())
+/// Whether an atomic session has many exchanges.
+fn shares(sessions: &mut Sessions) -> bool
+    requires none { sessions.old.now ≡ no_sessions }
+{
+    if sessions.reserve() != Ok(()) || sessions.make(0, 5, ExchangeMode::Atomic) != Ok(()) {
+        return false;
+    }
+    if sessions.make(0, 6, ExchangeMode::Atomic) != Err(Code::EBUSY) {
+        return false;
+    }
+    if sessions.begin(ONE, 0, false) != Begin::Begun(FIRST, 5) {
+        return false;
+    }
+    sessions.begin(TWO, 0, false) == Begin::Begun(SECOND, 5)
+}
+
+/// Whether a serialized session lets a second begin wait, and another fibril end nothing.
+fn waits(sessions: &mut Sessions) -> bool
+    requires none { sessions.old.now ≡ no_sessions }
+{
+    if sessions.make(15, 5, ExchangeMode::Serialize) != Ok(()) {
+        return false;
+    }
+    if sessions.begin(ONE, 15, false) != Begin::Begun(FIRST, 5) {
+        return false;
+    }
+    if sessions.begin(TWO, 15, false) != Begin::WaitMutex {
+        return false;
+    }
+    sessions.end(TWO, FIRST) == Err(Code::ENOENT)
+}
+
+/// Whether a parallel session connects, and begins an idle exchange again.
+fn begins_again(sessions: &mut Sessions) -> bool
+    requires none { sessions.old.now ≡ no_sessions }
+{
+    if sessions.make(3, 5, ExchangeMode::Parallel) != Ok(()) {
+        return false;
+    }
+    if sessions.begin(ONE, 3, false) != Begin::Connect(5) {
+        return false;
+    }
+    if sessions.connected(ONE, 3, 8) != Ok(FIRST) || sessions.phone_of(ONE, FIRST) != Some(8) {
+        return false;
+    }
+    if sessions.end(ONE, FIRST) != ended(3) {
+        return false;
+    }
+    sessions.begin(TWO, 3, false) == Begin::Begun(FIRST, 8)
+}
+
+/// Whether at the limit the phone of an idle exchange of another session is hung up.
+fn hangs_up(sessions: &mut Sessions) -> bool
+    requires none { sessions.old.now ≡ no_sessions }
+{
+    if sessions.make(0, 2, ExchangeMode::Parallel) != Ok(()) {
+        return false;
+    }
+    if sessions.make(1, 3, ExchangeMode::Parallel) != Ok(()) {
+        return false;
+    }
+    if sessions.connected(ONE, 0, 7) != Ok(FIRST) {
+        return false;
+    }
+    if sessions.plan_begin(ONE, 1, true) != Begin::WaitPhone
+        || sessions.end(ONE, FIRST) != ended(0)
+    {
+        return false;
+    }
+    if sessions.begin(ONE, 1, true) != Begin::HangIdle(FIRST, 7) {
+        return false;
+    }
+    sessions.plan_begin(ONE, 1, true) == Begin::WaitPhone
+}
+
+/// Whether a close hangs up idle exchanges first, and the session last.
+fn closes(sessions: &mut Sessions) -> bool
+    requires none { sessions.old.now ≡ no_sessions }
+{
+    if sessions.make(2, 4, ExchangeMode::Parallel) != Ok(()) {
+        return false;
+    }
+    if sessions.connected(ONE, 2, 9) != Ok(FIRST) {
+        return false;
+    }
+    if sessions.close(2, false) != Close::Refused(Code::EBUSY) {
+        return false;
+    }
+    if sessions.end(ONE, FIRST) != ended(2) {
+        return false;
+    }
+    closes_idle(sessions)
+}
+
+fn closes_idle(sessions: &mut Sessions) -> bool {
+    if sessions.close(2, true) != Close::Refused(Code::EBUSY) {
+        return false;
+    }
+    if sessions.close(2, false) != Close::HangIdle(FIRST, 9) {
+        return false;
+    }
+    sessions.close(2, false) == Close::Last(4)
+        && sessions.close(2, false) == Close::Refused(Code::ENOENT)
+}
+
+/// What sessions do.
+enum Does {
+    Share,
+    Wait,
+    BeginAgain,
+    HangUp,
+    Close,
+}
+
+fn sessions_do(alloc: Global, what: Does) -> bool {
+    let mut sessions = Sessions::new(alloc);
+    match what {
+        Does::Share => shares(&mut sessions),
+        Does::Wait => waits(&mut sessions),
+        Does::BeginAgain => begins_again(&mut sessions),
+        Does::HangUp => hangs_up(&mut sessions),
+        Does::Close => closes(&mut sessions),
+    }
 }
 
 #[test]
-fn a_serialized_session_waits(rt: HostRuntime) -> Result<(), Fail> {
-    let mut sessions = Sessions::new(rt.alloc());
-    assert_eq!(rt; sessions.make(15, 5, ExchangeMode::Serialize), Ok(()));
-    assert_eq!(rt; sessions.begin(ONE, 15, false), Begin::Begun(FIRST, 5));
-    assert_eq!(rt; sessions.begin(TWO, 15, false), Begin::WaitMutex);
-    assert_eq!(rt; sessions.end(TWO, FIRST), Err(Code::ENOENT));
-    Ok(())
+fn an_atomic_session_has_many_exchanges(rt: HostRuntime) {
+    assert!(rt; sessions_do(rt.alloc(), Does::Share));
 }
 
 #[test]
-fn a_parallel_session_begins_an_idle_exchange(rt: HostRuntime) -> Result<(), Fail> {
-    let mut sessions = Sessions::new(rt.alloc());
-    assert_eq!(rt; sessions.make(3, 5, ExchangeMode::Parallel), Ok(()));
-    assert_eq!(rt; sessions.begin(ONE, 3, false), Begin::Connect(5));
-    assert_eq!(rt; sessions.connected(ONE, 3, 8), Ok(FIRST));
-    assert_eq!(rt; sessions.phone_of(ONE, FIRST), Some(8));
-    assert_eq!(rt; sessions.end(ONE, FIRST), ended(3));
-    assert_eq!(rt; sessions.begin(TWO, 3, false), Begin::Begun(FIRST, 8));
-    Ok(())
+fn a_serialized_session_waits(rt: HostRuntime) {
+    assert!(rt; sessions_do(rt.alloc(), Does::Wait));
 }
 
 #[test]
-fn a_phone_of_another_session_is_hung_up(rt: HostRuntime) -> Result<(), Fail> {
-    let mut sessions = Sessions::new(rt.alloc());
-    assert_eq!(rt; sessions.make(0, 2, ExchangeMode::Parallel), Ok(()));
-    assert_eq!(rt; sessions.make(1, 3, ExchangeMode::Parallel), Ok(()));
-    assert_eq!(rt; sessions.connected(ONE, 0, 7), Ok(FIRST));
-    assert_eq!(rt; sessions.plan_begin(ONE, 1, true), Begin::WaitPhone);
-    assert_eq!(rt; sessions.end(ONE, FIRST), ended(0));
-    assert_eq!(rt; sessions.begin(ONE, 1, true), Begin::HangIdle(FIRST, 7));
-    assert_eq!(rt; sessions.plan_begin(ONE, 1, true), Begin::WaitPhone);
-    Ok(())
+fn a_parallel_session_begins_an_idle_exchange(rt: HostRuntime) {
+    assert!(rt; sessions_do(rt.alloc(), Does::BeginAgain));
 }
 
 #[test]
-fn a_close_hangs_up_the_session_last(rt: HostRuntime) -> Result<(), Fail> {
-    let mut sessions = Sessions::new(rt.alloc());
-    assert_eq!(rt; sessions.make(2, 4, ExchangeMode::Parallel), Ok(()));
-    assert_eq!(rt; sessions.connected(ONE, 2, 9), Ok(FIRST));
-    assert_eq!(rt; sessions.close(2, false), Close::Refused(Code::EBUSY));
-    assert_eq!(rt; sessions.end(ONE, FIRST), ended(2));
-    assert_eq!(rt; sessions.close(2, true), Close::Refused(Code::EBUSY));
-    assert_eq!(rt; sessions.close(2, false), Close::HangIdle(FIRST, 9));
-    assert_eq!(rt; sessions.close(2, false), Close::Last(4));
-    assert_eq!(rt; sessions.close(2, false), Close::Refused(Code::ENOENT));
-    Ok(())
+fn a_phone_of_another_session_is_hung_up(rt: HostRuntime) {
+    assert!(rt; sessions_do(rt.alloc(), Does::HangUp));
+}
+
+#[test]
+fn a_close_hangs_up_the_session_last(rt: HostRuntime) {
+    assert!(rt; sessions_do(rt.alloc(), Does::Close));
 }

@@ -1,12 +1,11 @@
 -- How many stamps, fibrils and numbers one event uses, and that each connection keeps its fibril.
 use Rattle.std.proofs.Common.{ℕ, suc, zero, ◌+◌, ◌^◌, ◌<◌, ◌≤◌, ◌≡◌, Bool, true, false, List}
 use Rattle.std.proofs.Common.{length, Option}
-use Rattle.std.proofs.Common.{Some, None, refl, sym, ◌∙◌, arith}
-use Rattle.std.specs.Prelude.{if◌then◌else◌, ◌==◌, slice_get, slice_index, position}
+use Rattle.std.proofs.Common.{Some, None, refl, ◌∙◌, arith}
+use Rattle.std.specs.Prelude.{if◌then◌else◌, ◌==◌, slice_index, position}
 use Rattle.std.specs.List.{find}
 use Rattle.std.proofs.lemmas.Grind.{common_steps}
 use Rattle.std.proofs.lemmas.Bool.{cases_Bool}
-use Rattle.ipc_ids.specs.declared.numbers.TaskNo.{TaskNo}
 use Rattle.ipc_ids.specs.declared.numbers.CallNo.{CallNo}
 use Rattle.ipc_ids.specs.declared.numbers.FibrilNo.{FibrilNo}
 use Rattle.ipc_ids.specs.declared.numbers.ExchangeNo.{ExchangeNo}
@@ -34,8 +33,8 @@ use Rattle.fibril_core.specs.declared.conn.Routed.{Routed}
 use Rattle.fibril_core.specs.declared.conn.Routed.TheVariants as routed
 use Rattle.fibril_core.specs.Fibrils.{FibrilOrder, first_with, number_of, current, why_of}
 use Rattle.fibril_core.specs.Fibrils.{next_number}
-use Rattle.fibril_core.specs.Fibrils.{with_status, found_with, found_over, block_on, yield_now}
-use Rattle.fibril_core.specs.Fibrils.{end_current, make_ready, wake_first, wake_times}
+use Rattle.fibril_core.specs.Fibrils.{with_status, found_with, found_over, block_on}
+use Rattle.fibril_core.specs.Fibrils.{make_ready, wake_times}
 use Rattle.fibril_core.specs.Conns as conns
 use Rattle.fibril_core.specs.Conns.{conn_of_fibril, conn_of_label, fibril_of, route_answer}
 use Rattle.async_sessions.specs.declared.sessions.Session.{Session}
@@ -52,20 +51,20 @@ use Rattle.async_task.specs.declared.awaited.Awaited.{Awaited}
 use Rattle.async_task.specs.declared.context.Slot.{Slot}
 use Rattle.async_task.specs.declared.context.Slot.TheVariants as slot
 use Rattle.async_task.specs.declared.context.Context.{Context}
-use Rattle.async_task.specs.declared.machine.Turn.{Turn}
-use Rattle.async_task.specs.declared.machine.Turn.TheVariants as turn
+use Rattle.async_task.specs.Turns.{Turn}
+use Rattle.async_task.specs.Turns as turn
 use Rattle.async_task.specs.Contexts.{slot_at, handle_at, value_of}
 use Rattle.async_task.specs.AsyncState.{AsyncState, AreServed, context_at, present_op}
 use Rattle.async_task.specs.Turns.{turn_now}
 use Rattle.async_task.specs.Wanted.{phone_by, plan_begin, plan_close}
 use Rattle.async_task.specs.Calls.{call_slot, send_over, wait_slot, next_call, with_taken}
 use Rattle.async_task.specs.Exchanges.{with_pool, open_outcome, begin_exchange, connect_refused_by}
-use Rattle.async_task.specs.Exchanges.{connect_refused, connect_outcome, begin_op, wake_waiters}
+use Rattle.async_task.specs.Exchanges.{connect_outcome, begin_op, wake_waiters}
 use Rattle.async_task.specs.Exchanges.{end_outcome, end_op, close_op}
 use Rattle.async_task.specs.Answers.{is_of_call, answer_slot, connect, answer_begin_by}
 use Rattle.async_task.specs.Answers.{answer_begin_at, give_answer, is_for, wake_if, forget_call}
 use Rattle.async_task.specs.Answers.{take_answer}
-use Rattle.async_task.specs.Connections.{hand_over, wake_reader, reach_blocked, reach, after_route}
+use Rattle.async_task.specs.Connections.{hand_over, wake_reader, reach_blocked, after_route}
 use Rattle.async_task.specs.Connections.{route_call, reach_holder, called_label, with_connection}
 use Rattle.async_task.specs.Connections.{start_connection, connect_call, receive_call_by}
 use Rattle.async_task.specs.Connections.{is_of_connections, end_fibril}

@@ -1,5 +1,5 @@
 -- What the manager does with an answer that comes.
-use Rattle.std.specs.Prelude.{ℕ, Bool, true, false, ◌==◌, not, if◌then◌else◌, List, ◌∷◌}
+use Rattle.std.specs.Prelude.{ℕ, Bool, true, false, ◌==◌, not, if◌then◌else◌, ◌∷◌}
 use Rattle.std.specs.Prelude.{Option, None, Some, slice_index}
 use Rattle.std.specs.List.{filter}
 use Rattle.ipc_ids.specs.declared.numbers.CallNo.{CallNo}

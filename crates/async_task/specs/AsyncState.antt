@@ -15,6 +15,7 @@ use Rattle.fibril_core.specs.Fibrils.{FibrilOrder}
 use Rattle.async_sessions.specs.Sessions.{Open}
 use Rattle.async_task.specs.declared.awaited.Awaited.{Awaited}
 use Rattle.async_task.specs.declared.context.Context.{Context}
+use Rattle.async_task.specs.Contexts.{new_context}
 
 -- the task's own number; its bodies; its fibrils, by their stamps and by what each keeps; its
 -- connections, sessions and exchanges; the calls whose answers are awaited; the answers that it
@@ -94,6 +95,15 @@ without_entries a = record { state = a; entries = [] }
 -- what the fibril with this number keeps
 abbrev pub context_at : AsyncState → FibrilNo → Option Context
 context_at a f = slice_get a.contexts (f.0 - 1)
+
+-- that or, where there is none, a new one
+abbrev pub or_new : Option Context → Context
+or_new (Some t) = t
+or_new None = new_context 0
+
+-- what the fibril with this number keeps; a new context where there is no such fibril
+abbrev pub context_or_new : AsyncState → FibrilNo → Context
+context_or_new a f = or_new (context_at a f)
 
 -- it keeps that from now on
 abbrev pub with_context : AsyncState → FibrilNo → Context → AsyncState

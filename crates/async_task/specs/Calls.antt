@@ -1,5 +1,5 @@
 -- Operations that call, wait and yield, and those of raw bodies.
-use Rattle.std.specs.Prelude.{ℕ, true, ◌==◌, not, List, [], ◌∷◌, ◌++◌, Option, None, Some}
+use Rattle.std.specs.Prelude.{ℕ, true, ◌==◌, not, [], ◌∷◌, ◌++◌, Option, None, Some}
 use Rattle.ipc_ids.specs.declared.numbers.CallNo.{CallNo}
 use Rattle.ipc_ids.specs.declared.numbers.FibrilNo.{FibrilNo}
 use Rattle.ipc_ids.specs.declared.numbers.Code.{Code}
@@ -10,7 +10,7 @@ use Rattle.ipc_ids.specs.declared.message.Outcome.TheVariants as outcome
 use Rattle.ipc_ids.specs.declared.entry.Entry.TheVariants as entry
 use Rattle.ipc_ids.specs.declared.op.Op.{Op}
 use Rattle.ipc_ids.specs.declared.op.Op.TheVariants as op
-use Rattle.ipc_ids.specs.Codes.{enoent}
+use Rattle.ipc_ids.specs.Codes.{enoent, ebusy}
 use Rattle.fibril_core.specs.declared.conn.Taken.{Taken}
 use Rattle.fibril_core.specs.declared.conn.Taken.TheVariants as taken
 use Rattle.fibril_core.specs.Fibrils.{block_on, yield_now}
@@ -22,10 +22,6 @@ use Rattle.async_task.specs.Contexts.{at_next, jump_if, value_of, with_register,
 use Rattle.async_task.specs.Contexts.{after_refused, after_accepted, after_answered, with_received}
 use Rattle.async_task.specs.AsyncState.{AsyncState, Transition, without_entries, with_context}
 use Rattle.async_task.specs.Wanted.{bare_msg}
-
--- something is in use
-abbrev pub ebusy : Code
-ebusy = record { 0 = 8 }
 
 -- the program refuses the operation of the fibril
 abbrev pub refuse_op : AsyncState → FibrilNo → Context → Code → Transition
@@ -107,3 +103,8 @@ after_raw t op.Receive o = at_next t
 after_raw t (op.Call phone method args) o = at_next t
 after_raw t (op.Hangup phone) o = at_next t
 after_raw t _ o = after_outcome t o
+
+-- the same of the operation that is there
+abbrev pub after_present : Context → Outcome → Option Op → Context
+after_present t o None = t
+after_present t o (Some p) = after_raw t p o

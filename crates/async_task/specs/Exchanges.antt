@@ -1,5 +1,5 @@
 -- Operations on sessions and exchanges.
-use Rattle.std.specs.Prelude.{ℕ, ⊤, Bool, true, false, ◌==◌, List, [], ◌∷◌, ◌++◌}
+use Rattle.std.specs.Prelude.{ℕ, ⊤, Bool, true, false, ◌==◌, [], ◌∷◌, ◌++◌}
 use Rattle.std.specs.Prelude.{Option, None, Some, Result, Ok, Err}
 use Rattle.ipc_ids.specs.declared.numbers.CallNo.{CallNo}
 use Rattle.ipc_ids.specs.declared.numbers.FibrilNo.{FibrilNo}

@@ -16,8 +16,8 @@ use Rattle.fibril_core.specs.Conns.{no_conns, conn_of_fibril}
 use Rattle.fibril_core.specs.Conns as conns
 use Rattle.async_sessions.specs.Sessions.{no_sessions}
 use Rattle.async_task.specs.declared.context.Context.{Context}
-use Rattle.async_task.specs.declared.machine.Turn.{Turn}
-use Rattle.async_task.specs.declared.machine.Turn.TheVariants as turn
+use Rattle.async_task.specs.Turns.{Turn}
+use Rattle.async_task.specs.Turns as turn
 use Rattle.async_task.specs.Contexts.{new_context, slot_at, handle_at, value_of}
 use Rattle.async_task.specs.AsyncState.{AsyncState, Transition, without_entries, with_context}
 use Rattle.async_task.specs.Turns.{turn_now}

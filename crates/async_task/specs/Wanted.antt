@@ -3,7 +3,6 @@ use Rattle.std.specs.Prelude.{ℕ, suc, zero, Bool, true, false, ◌==◌, ◌&&
 use Rattle.std.specs.Prelude.{Option, None, Some, replicate}
 use Rattle.ipc_ids.specs.declared.numbers.FibrilNo.{FibrilNo}
 use Rattle.ipc_ids.specs.declared.numbers.ExchangeNo.{ExchangeNo}
-use Rattle.ipc_ids.specs.declared.numbers.Code.{Code}
 use Rattle.ipc_ids.specs.declared.message.Msg.{Msg}
 use Rattle.ipc_ids.specs.declared.message.Why.{Why}
 use Rattle.ipc_ids.specs.declared.message.Request.{Request}
@@ -23,8 +22,8 @@ use Rattle.async_sessions.specs.Sessions.{close_answer}
 use Rattle.async_task.specs.declared.context.Slot.{Slot}
 use Rattle.async_task.specs.declared.context.Slot.TheVariants as slot
 use Rattle.async_task.specs.declared.context.Context.{Context}
-use Rattle.async_task.specs.declared.machine.Turn.{Turn}
-use Rattle.async_task.specs.declared.machine.Turn.TheVariants as turn
+use Rattle.async_task.specs.Turns.{Turn}
+use Rattle.async_task.specs.Turns as turn
 use Rattle.async_task.specs.Contexts.{value_of, msg_of, reply_of, slot_at, handle_at}
 use Rattle.async_task.specs.AsyncState.{AsyncState, context_at, present_op}
 use Rattle.async_task.specs.Turns.{turn_now}

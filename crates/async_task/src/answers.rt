@@ -3,13 +3,12 @@ ghost use Rattle.std.specs.Prelude.{◌≡◌, ◌^◌, ◌<◌, ◌++◌};
 ghost use Rattle.std.specs.List.{find};
 ghost use Rattle.fibril_core.specs.Fibrils.{IsWithinBounds, why_of};
 ghost use Rattle.async_sessions.specs.Sessions.{session_at, mode_answer};
-ghost use Rattle.async_task.specs.AsyncState.{Does, IsReady, context_at};
+ghost use Rattle.async_task.specs.AsyncState.{Does, IsReady, context_at, context_or_new};
 ghost use Rattle.async_task.specs.Answers.{is_of_call, answer_slot, connect, answer_begin};
-ghost use Rattle.async_task.specs.Answers.{answer_begin_at, give_answer, is_for, wake_if};
+ghost use Rattle.async_task.specs.Answers.{give_answer, is_for, wake_if};
 ghost use Rattle.async_task.specs.Answers.{forget_call, deliver, take_answer};
 
 use crate::awaited::{Awaited, awaiting, forget_call};
-use crate::context::{Context, Slot};
 use crate::machine::Machine;
 use ipc_ids::{CallNo, Code, Entry, ExchangeMode, FibrilNo, Op, Reply, Trace, Why};
 
@@ -98,60 +97,34 @@ impl Machine {
     {
         match self.context(f) {
             Some(t) => match slot {
-                Some(slot) => self.answer_slot(f, slot, call, reply, woken, t),
-                None => {
-                    let op = self.present_op(&t);
-                    self.answer_begin_at(f, t, reply, &op, out);
-                }
+                Some(slot) => self.answer_slot(f, slot, call, reply, woken),
+                None => match self.present_op(t) {
+                    Some(Op::Begin { handle, session }) => {
+                        let handle = *handle;
+                        let session = *session;
+                        self.answer_begin(f, handle, session, reply, out);
+                    }
+                    _ => {}
+                },
             },
             None => {}
         }
     }
 
-    fn answer_slot(
-        &mut self,
-        f: FibrilNo,
-        slot: u32,
-        call: CallNo,
-        reply: &Reply,
-        woken: bool,
-        t: Context,
-    )
-        ensures { self.new.state ≡ answer_slot self.old.state f slot call reply.now woken t }
+    fn answer_slot(&mut self, f: FibrilNo, slot: u32, call: CallNo, reply: &Reply, woken: bool)
+        ensures { self.new.state ≡ answer_slot self.old.state f slot call reply.now woken
+            (context_or_new self.old.state f) }
     {
         if woken {
-            self.set_context(f, t.after_answered(slot, call, reply));
+            self.answered_at(f, slot, call, reply);
         } else {
-            self.set_context(f, t.with_slot(slot, Slot::Answered(call, *reply)));
-        }
-    }
-
-    fn answer_begin_at(
-        &mut self,
-        f: FibrilNo,
-        t: Context,
-        reply: &Reply,
-        op: &Option<Op>,
-        out: &mut Trace,
-    )
-        requires entry { 0 < out.old.spare }
-        requires exchange { 0 < self.old.room.exchanges }
-        requires exchanges { self.old.state.pool.next_number < 2 ^ 62 }
-        ensures { Does self.new out.old out.new
-            (answer_begin_at self.old.state f t reply.now op.now) }
-    {
-        match op {
-            Some(Op::Begin { handle, session }) => {
-                self.answer_begin(f, t, *handle, *session, reply, out);
-            }
-            _ => {}
+            self.filled_at(f, slot, call, reply);
         }
     }
 
     fn answer_begin(
         &mut self,
         f: FibrilNo,
-        t: Context,
         handle: u32,
         session: u32,
         reply: &Reply,
@@ -161,30 +134,24 @@ impl Machine {
         requires exchange { 0 < self.old.room.exchanges }
         requires exchanges { self.old.state.pool.next_number < 2 ^ 62 }
         ensures { Does self.new out.old out.new
-            (answer_begin self.old.state f t handle session reply.now) }
+            (answer_begin self.old.state f
+            (context_or_new self.old.state f) handle session reply.now) }
     {
         if reply.code.0 == Code::EOK.0 {
-            self.connect(f, t, handle, session, reply.args[4], out);
+            self.connect(f, handle, session, reply.args[4], out);
         } else {
-            self.connect_refused(f, t, reply.code, out);
+            self.connect_refused(f, reply.code, out);
         }
     }
 
     /// The connect call of a begin gave a phone. Where the session is gone or another one, nothing
     /// is begun.
-    fn connect(
-        &mut self,
-        f: FibrilNo,
-        t: Context,
-        handle: u32,
-        session: u32,
-        phone: u64,
-        out: &mut Trace,
-    )
+    fn connect(&mut self, f: FibrilNo, handle: u32, session: u32, phone: u64, out: &mut Trace)
         requires entry { 0 < out.old.spare }
         requires exchange { 0 < self.old.room.exchanges }
         requires exchanges { self.old.state.pool.next_number < 2 ^ 62 }
-        ensures { Does self.new out.old out.new (connect self.old.state f t handle session phone
+        ensures { Does self.new out.old out.new
+            (connect self.old.state f (context_or_new self.old.state f) handle session phone
             (mode_answer (session_at self.old.state.pool session))) }
     {
         match self.sessions.mode_of(session) {
@@ -192,7 +159,7 @@ impl Machine {
                 let exchange = self.sessions.next_number();
                 let mode = ExchangeMode::Parallel;
                 self.sessions.add(f, session, phone, mode);
-                self.finish_begin(f, t, handle, session, exchange, mode, phone, out);
+                self.finish_begin(f, handle, session, exchange, mode, phone, out);
             }
             _ => {}
         }

@@ -117,7 +117,9 @@ impl Machine {
         let me = self.me;
         self.add_connection(label, f);
         self.reach_holder(holder);
-        self.add_fibril(Context::new(body).with_received(call, msg, from));
+        let mut t = Context::new(body);
+        t.received(call, msg, from);
+        self.add_fibril(t);
         out.push(Entry::Starts {
             task: me,
             fibril: f,
@@ -227,20 +229,10 @@ impl Machine {
         ensures order { self.new.state.order ≡ self.old.state.order }
         ensures room { self.new.room ≡ self.old.room }
     {
-        match self.context(f) {
-            Some(t) => match taken {
-                Taken::Call(call, msg, label) => {
-                    self.set_context(f, t.with_received(*call, msg, *label).at_next());
-                }
-                Taken::HungUp(label) => {
-                    self.set_context(
-                        f,
-                        t.with_received(CallNo(0), &Msg::bare(0), *label).at_next(),
-                    );
-                }
-                Taken::Wait | Taken::NoConnection => {}
-            },
-            None => {}
+        match taken {
+            Taken::Call(call, msg, label) => self.received_at(f, *call, msg, *label),
+            Taken::HungUp(label) => self.received_at(f, CallNo(0), &Msg::bare(0), *label),
+            Taken::Wait | Taken::NoConnection => {}
         }
     }
 

@@ -7,8 +7,9 @@ ghost use Rattle.async_task.specs.Contexts.{with_slot, handle_at, with_handle, w
 ghost use Rattle.async_task.specs.Contexts.{after_done, after_refused, after_outcome};
 ghost use Rattle.async_task.specs.Contexts.{with_received, after_accepted, after_answered};
 ghost use Rattle.async_task.specs.Contexts.{after_begun, after_ended};
+ghost use Rattle.async_task.specs.Calls.{after_raw};
 
-use ipc_ids::{CallNo, Code, ExchangeNo, Label, Msg, Outcome, Reply, Value};
+use ipc_ids::{CallNo, Code, ExchangeNo, Label, Msg, Op, Outcome, Reply, Value};
 
 /// What a slot holds.
 #[derive(Clone, Copy)]
@@ -46,49 +47,48 @@ impl Context {
         }
     }
 
-    pub(crate) fn with_register(mut self, register: u32, value: u64) -> Context
-        ensures { result ≡ with_register self register value }
+    /// A register holds that. There is none from 32 on.
+    fn set_register(&mut self, register: u32, value: u64)
+        ensures { self.new ≡ with_register self.old register value }
     {
         if register < 32 {
             self.registers[register as usize] = value;
         }
-        self
     }
 
     /// Five registers, from `first` on.
-    fn with_five(self, first: u32, values: &[u64; 5]) -> Context
+    fn set_five(&mut self, first: u32, values: &[u64; 5])
         requires { first < 1000 }
-        ensures { result ≡ with_five self first values.now }
+        ensures { self.new ≡ with_five self.old first values.now }
     {
-        self.with_register(first, values[0])
-            .with_register(first + 1, values[1])
-            .with_register(first + 2, values[2])
-            .with_register(first + 3, values[3])
-            .with_register(first + 4, values[4])
+        self.set_register(first, values[0]);
+        self.set_register(first + 1, values[1]);
+        self.set_register(first + 2, values[2]);
+        self.set_register(first + 3, values[3]);
+        self.set_register(first + 4, values[4]);
     }
 
     /// At the next operation.
-    pub(crate) fn at_next(mut self) -> Context
-        ensures { result ≡ at_next self }
+    pub(crate) fn advance(&mut self)
+        ensures { self.new ≡ at_next self.old }
     {
         if self.place < 1 << 62 {
             self.place += 1;
         }
-        self
     }
 
     /// At another operation where `jumps` says so, else at the next one.
-    pub(crate) fn jump_if(mut self, jumps: bool, to: u32) -> Context
-        ensures { result ≡ jump_if self jumps to }
+    fn jump_if(&mut self, jumps: bool, to: u32)
+        ensures { self.new ≡ jump_if self.old jumps to }
     {
         if jumps {
             self.place = to as usize;
-            self
         } else {
-            self.at_next()
+            self.advance();
         }
     }
 
+    /// A number, or what a register holds.
     pub(crate) fn value(&self, value: Value) -> u64
         ensures { result ≡ value_of self.now value }
     {
@@ -100,6 +100,7 @@ impl Context {
         }
     }
 
+    /// What each of these is.
     fn values(&self, args: &[Value; 5]) -> [u64; 5]
         ensures { result ≡ values_of self.now args.now }
     {
@@ -112,6 +113,7 @@ impl Context {
         ]
     }
 
+    /// The message of a call, or of a forward that changes it.
     pub(crate) fn msg(&self, method: Value, args: &[Value; 5]) -> Msg
         ensures { result ≡ msg_of self.now method args.now }
     {
@@ -121,6 +123,7 @@ impl Context {
         }
     }
 
+    /// The reply of an answer.
     pub(crate) fn reply(&self, code: Value, args: &[Value; 5]) -> Reply
         ensures { result ≡ reply_of self.now code args.now }
     {
@@ -140,13 +143,13 @@ impl Context {
         }
     }
 
-    pub(crate) fn with_slot(mut self, slot: u32, holds: Slot) -> Context
-        ensures { result ≡ with_slot self slot holds }
+    /// A slot holds that. There is none from 8 on.
+    pub(crate) fn set_slot(&mut self, slot: u32, holds: Slot)
+        ensures { self.new ≡ with_slot self.old slot holds }
     {
         if slot < 8 {
             self.slots[slot as usize] = holds;
         }
-        self
     }
 
     /// The exchange that a handle names.
@@ -159,94 +162,120 @@ impl Context {
         }
     }
 
-    fn with_handle(mut self, handle: u32, names: Option<ExchangeNo>) -> Context
-        ensures { result ≡ with_handle self handle names }
+    /// A handle names that. There is none from 8 on.
+    fn set_handle(&mut self, handle: u32, names: Option<ExchangeNo>)
+        ensures { self.new ≡ with_handle self.old handle names }
     {
         if handle < 8 {
             self.handles[handle as usize] = names;
         }
-        self
     }
 
     /// Whether a connect call of the present begin met the limit.
-    pub(crate) fn with_short(mut self, short: bool) -> Context
-        ensures { result ≡ with_short self short }
+    pub(crate) fn set_short(&mut self, short: bool)
+        ensures { self.new ≡ with_short self.old short }
     {
         self.short = short;
-        self
     }
 
     /// An operation was done.
-    pub(crate) fn after_done(self) -> Context
-        ensures { result ≡ after_done self }
+    pub(crate) fn done(&mut self)
+        ensures { self.new ≡ after_done self.old }
     {
-        self.with_register(0, 0).at_next()
+        self.set_register(0, 0);
+        self.advance();
     }
 
     /// An operation was refused.
-    pub(crate) fn after_refused(self, code: Code) -> Context
-        ensures { result ≡ after_refused self code }
+    pub(crate) fn refused(&mut self, code: Code)
+        ensures { self.new ≡ after_refused self.old code }
     {
-        self.with_register(0, code.0).at_next()
+        self.set_register(0, code.0);
+        self.advance();
     }
 
     /// The request of an operation was done or refused.
-    pub(crate) fn after_outcome(self, got: &Outcome) -> Context
-        ensures { result ≡ after_outcome self got.now }
+    pub(crate) fn outcome(&mut self, got: &Outcome)
+        ensures { self.new ≡ after_outcome self.old got.now }
     {
         match got {
-            Outcome::Refused(code) => self.after_refused(*code),
-            _ => self.after_done(),
+            Outcome::Refused(code) => self.refused(*code),
+            _ => self.done(),
+        }
+    }
+
+    /// What an operation changes that has no need of fibrils. One that no body has is passed over.
+    pub(crate) fn raw(&mut self, op: &Op, got: &Outcome)
+        ensures { self.new ≡ after_raw self.old op.now got.now }
+    {
+        match op {
+            Op::Set { register, value } => {
+                let value = self.value(*value);
+                self.set_register(*register, value);
+                self.advance();
+            }
+            Op::Jump(to) => self.jump_if(true, *to),
+            Op::JumpEqual { left, right, to } => {
+                let jumps = self.value(*left) == self.value(*right);
+                self.jump_if(jumps, *to);
+            }
+            Op::JumpDiffer { left, right, to } => {
+                let jumps = self.value(*left) != self.value(*right);
+                self.jump_if(jumps, *to);
+            }
+            Op::Receive | Op::Call { .. } | Op::Hangup(_) => self.advance(),
+            _ => self.outcome(got),
         }
     }
 
     /// A call was received.
-    pub(crate) fn with_received(self, call: CallNo, msg: &Msg, label: Label) -> Context
-        ensures { result ≡ with_received self call msg.now label }
+    pub(crate) fn received(&mut self, call: CallNo, msg: &Msg, label: Label)
+        ensures { self.new ≡ with_received self.old call msg.now label }
     {
-        self.with_register(0, 0)
-            .with_register(2, call.0)
-            .with_register(3, msg.method)
-            .with_five(4, &msg.args)
-            .with_register(16, label.task.0)
-            .with_register(17, label.phone.0 as u64)
+        self.set_register(0, 0);
+        self.set_register(2, call.0);
+        self.set_register(3, msg.method);
+        self.set_five(4, &msg.args);
+        self.set_register(16, label.task.0);
+        self.set_register(17, label.phone.0 as u64);
     }
 
     /// The call of the slot was accepted.
-    pub(crate) fn after_accepted(self, slot: u32, call: CallNo) -> Context
-        ensures { result ≡ after_accepted self slot call }
+    pub(crate) fn accepted(&mut self, slot: u32, call: CallNo)
+        ensures { self.new ≡ after_accepted self.old slot call }
     {
-        self.with_register(0, 0)
-            .with_register(1, call.0)
-            .with_slot(slot, Slot::Sent(call))
-            .at_next()
+        self.set_register(0, 0);
+        self.set_register(1, call.0);
+        self.set_slot(slot, Slot::Sent(call));
+        self.advance();
     }
 
     /// The answer was taken from the slot.
-    pub(crate) fn after_answered(self, slot: u32, call: CallNo, reply: &Reply) -> Context
-        ensures { result ≡ after_answered self slot call reply.now }
+    pub(crate) fn answered(&mut self, slot: u32, call: CallNo, reply: &Reply)
+        ensures { self.new ≡ after_answered self.old slot call reply.now }
     {
-        self.with_register(0, 0)
-            .with_register(9, call.0)
-            .with_register(10, reply.code.0)
-            .with_five(11, &reply.args)
-            .with_slot(slot, Slot::Closed)
-            .at_next()
+        self.set_register(0, 0);
+        self.set_register(9, call.0);
+        self.set_register(10, reply.code.0);
+        self.set_five(11, &reply.args);
+        self.set_slot(slot, Slot::Closed);
+        self.advance();
     }
 
     /// A begin ended with that exchange, which the handle names from now on.
-    pub(crate) fn after_begun(self, handle: u32, exchange: ExchangeNo) -> Context
-        ensures { result ≡ after_begun self handle exchange }
+    pub(crate) fn begun(&mut self, handle: u32, exchange: ExchangeNo)
+        ensures { self.new ≡ after_begun self.old handle exchange }
     {
-        self.with_short(false)
-            .with_handle(handle, Some(exchange))
-            .after_done()
+        self.set_short(false);
+        self.set_handle(handle, Some(exchange));
+        self.done();
     }
 
     /// The exchange that the handle named ended.
-    pub(crate) fn after_ended(self, handle: u32) -> Context
-        ensures { result ≡ after_ended self handle }
+    pub(crate) fn ended(&mut self, handle: u32)
+        ensures { self.new ≡ after_ended self.old handle }
     {
-        self.with_handle(handle, None).after_done()
+        self.set_handle(handle, None);
+        self.done();
     }
 }

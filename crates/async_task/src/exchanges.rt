@@ -2,7 +2,7 @@
 ghost use Rattle.std.specs.Prelude.{◌≡◌, ◌^◌, ◌<◌, ◌++◌, Some};
 ghost use Rattle.fibril_core.specs.Fibrils.{current, IsWithinBounds};
 ghost use Rattle.async_sessions.specs.Sessions.{session_at, mode_answer};
-ghost use Rattle.async_task.specs.AsyncState.{Does, IsReady};
+ghost use Rattle.async_task.specs.AsyncState.{Does, IsReady, context_or_new};
 ghost use Rattle.async_task.specs.Wanted.{plan_close};
 ghost use Rattle.async_task.specs.Exchanges.{open_session, finish_begin, begin_exchange};
 ghost use Rattle.async_task.specs.Exchanges.{refuse_begin, send_connect, connect_refused};
@@ -10,7 +10,6 @@ ghost use Rattle.async_task.specs.Exchanges.{connect_outcome, drop_idle, begin_o
 ghost use Rattle.async_task.specs.Exchanges.{end_outcome, end_op, close_outcome, close_op};
 
 use crate::awaited::Awaited;
-use crate::context::Context;
 use crate::machine::Machine;
 use async_sessions::{Begin, Close, Ended};
 use ipc_ids::{CallNo, Code, Entry, ExchangeMode, ExchangeNo, FibrilNo, Outcome, Trace, Why};
@@ -20,7 +19,6 @@ impl Machine {
     pub(crate) fn open_session(
         &mut self,
         f: FibrilNo,
-        t: Context,
         session: u32,
         phone: u64,
         mode: ExchangeMode,
@@ -28,11 +26,11 @@ impl Machine {
     )
         requires ready { IsReady self.old out.old }
         ensures { Does self.new out.old out.new
-            (open_session self.old.state f t session phone mode) }
+            (open_session self.old.state f (context_or_new self.old.state f) session phone mode) }
     {
         match self.sessions.make(session, phone, mode) {
-            Ok(()) => self.set_context(f, t.after_done()),
-            Err(code) => self.refuse_op(f, t, code, out),
+            Ok(()) => self.done_at(f),
+            Err(code) => self.refuse_op(f, code, out),
         }
     }
 
@@ -40,7 +38,6 @@ impl Machine {
     pub(crate) fn begin_op(
         &mut self,
         f: FibrilNo,
-        t: Context,
         handle: u32,
         session: u32,
         got: &Outcome,
@@ -50,23 +47,24 @@ impl Machine {
         requires ready { IsReady self.old out.old }
         requires present { current self.old.state.order ≡ Some f }
         ensures { Does self.new out.old out.new
-            (begin_op self.old.state f t handle session got.now plan.now) }
+            (begin_op self.old.state f
+            (context_or_new self.old.state f) handle session got.now plan.now) }
     {
         match plan {
             Begin::Begun(exchange, phone) => {
-                self.begin_exchange(f, t, handle, session, *exchange, *phone, out);
+                self.begin_exchange(f, handle, session, *exchange, *phone, out);
             }
-            Begin::Connect(_) => self.connect_outcome(f, t, got, out),
+            Begin::Connect(_) => self.connect_outcome(f, got, out),
             Begin::HangIdle(exchange, _) => {
-                self.set_context(f, t.with_short(false));
+                self.short_at(f, false);
                 self.drop_idle(f, *exchange, out);
             }
             Begin::WaitMutex => self.block(f, Why::Mutex(session), out),
             Begin::WaitPhone => {
-                self.set_context(f, t.with_short(false));
+                self.short_at(f, false);
                 self.block(f, Why::Phone, out);
             }
-            Begin::Refused(code) => self.refuse_begin(f, t, *code, out),
+            Begin::Refused(code) => self.refuse_begin(f, *code, out),
             Begin::NoMemory => {}
         }
     }
@@ -74,7 +72,6 @@ impl Machine {
     fn begin_exchange(
         &mut self,
         f: FibrilNo,
-        t: Context,
         handle: u32,
         session: u32,
         exchange: ExchangeNo,
@@ -83,14 +80,15 @@ impl Machine {
     )
         requires ready { IsReady self.old out.old }
         ensures { Does self.new out.old out.new
-            (begin_exchange self.old.state f t handle session exchange phone
+            (begin_exchange self.old.state f
+            (context_or_new self.old.state f) handle session exchange phone
             (mode_answer (session_at self.old.state.pool session))) }
     {
         match self.sessions.mode_of(session) {
             Some(mode) => {
                 self.sessions
                     .begin_exchange(f, session, exchange, phone, mode);
-                self.finish_begin(f, t, handle, session, exchange, mode, phone, out);
+                self.finish_begin(f, handle, session, exchange, mode, phone, out);
             }
             None => {}
         }
@@ -100,7 +98,6 @@ impl Machine {
     pub(crate) fn finish_begin(
         &mut self,
         f: FibrilNo,
-        t: Context,
         handle: u32,
         session: u32,
         exchange: ExchangeNo,
@@ -110,9 +107,10 @@ impl Machine {
     )
         requires entry { 0 < out.old.spare }
         ensures { Does self.new out.old out.new
-            (finish_begin self.old.state f t handle session exchange mode phone) }
+            (finish_begin self.old.state f
+            (context_or_new self.old.state f) handle session exchange mode phone) }
     {
-        self.set_context(f, t.after_begun(handle, exchange));
+        self.begun_at(f, handle, exchange);
         out.push(Entry::Begins {
             task: self.me,
             fibril: f,
@@ -123,21 +121,28 @@ impl Machine {
         });
     }
 
-    fn refuse_begin(&mut self, f: FibrilNo, t: Context, code: Code, out: &mut Trace)
+    fn refuse_begin(&mut self, f: FibrilNo, code: Code, out: &mut Trace)
         requires entry { 0 < out.old.spare }
-        ensures { Does self.new out.old out.new (refuse_begin self.old.state f t code) }
+        ensures { Does self.new out.old out.new
+            (refuse_begin self.old.state f (context_or_new self.old.state f) code) }
     {
-        self.refuse_op(f, t.with_short(false), code, out);
+        self.refused_begin_at(f, code);
+        out.push(Entry::RefusedOp {
+            task: self.me,
+            fibril: f,
+            code,
+        });
     }
 
-    fn connect_outcome(&mut self, f: FibrilNo, t: Context, got: &Outcome, out: &mut Trace)
+    fn connect_outcome(&mut self, f: FibrilNo, got: &Outcome, out: &mut Trace)
         requires ready { IsReady self.old out.old }
         requires present { current self.old.state.order ≡ Some f }
-        ensures { Does self.new out.old out.new (connect_outcome self.old.state f t got.now) }
+        ensures { Does self.new out.old out.new
+            (connect_outcome self.old.state f (context_or_new self.old.state f) got.now) }
     {
         match got {
             Outcome::Accepted(call) => self.send_connect(f, *call, out),
-            Outcome::Refused(code) => self.connect_refused(f, t, *code, out),
+            Outcome::Refused(code) => self.connect_refused(f, *code, out),
             _ => {}
         }
     }
@@ -169,14 +174,15 @@ impl Machine {
 
     /// The connect call of a begin was refused, by the kernel or by an answer. At the limit the
     /// begin goes on without it.
-    pub(crate) fn connect_refused(&mut self, f: FibrilNo, t: Context, code: Code, out: &mut Trace)
+    pub(crate) fn connect_refused(&mut self, f: FibrilNo, code: Code, out: &mut Trace)
         requires entry { 0 < out.old.spare }
-        ensures { Does self.new out.old out.new (connect_refused self.old.state f t code) }
+        ensures { Does self.new out.old out.new
+            (connect_refused self.old.state f (context_or_new self.old.state f) code) }
     {
         if code.0 == Code::ELIMIT.0 {
-            self.set_context(f, t.with_short(true));
+            self.short_at(f, true);
         } else {
-            self.refuse_begin(f, t, code, out);
+            self.refuse_begin(f, code, out);
         }
     }
 
@@ -197,27 +203,26 @@ impl Machine {
     pub(crate) fn end_op(
         &mut self,
         f: FibrilNo,
-        t: Context,
         handle: u32,
         names: Option<ExchangeNo>,
         out: &mut Trace,
     )
         requires ready { IsReady self.old out.old }
-        ensures { Does self.new out.old out.new (end_op self.old.state f t handle names) }
+        ensures { Does self.new out.old out.new
+            (end_op self.old.state f (context_or_new self.old.state f) handle names) }
     {
         match names {
             Some(exchange) => {
                 let ended = self.sessions.end(f, exchange);
-                self.end_outcome(f, t, handle, exchange, &ended, out);
+                self.end_outcome(f, handle, exchange, &ended, out);
             }
-            None => self.refuse_op(f, t, Code::ENOENT, out),
+            None => self.refuse_op(f, Code::ENOENT, out),
         }
     }
 
     fn end_outcome(
         &mut self,
         f: FibrilNo,
-        t: Context,
         handle: u32,
         exchange: ExchangeNo,
         ended: &Result<Ended, Code>,
@@ -226,11 +231,12 @@ impl Machine {
         requires entry { 0 < out.old.spare }
         requires bounds { IsWithinBounds self.old.state.order }
         ensures { Does self.new out.old out.new
-            (end_outcome self.old.state f t handle exchange ended.now) }
+            (end_outcome self.old.state f
+            (context_or_new self.old.state f) handle exchange ended.now) }
     {
         match ended {
             Ok(of) => {
-                self.set_context(f, t.after_ended(handle));
+                self.ended_at(f, handle);
                 self.wake_waiters(of.mode, of.session);
                 out.push(Entry::ExchangeEnds {
                     task: self.me,
@@ -238,7 +244,7 @@ impl Machine {
                     exchange,
                 });
             }
-            Err(code) => self.refuse_op(f, t, *code, out),
+            Err(code) => self.refuse_op(f, *code, out),
         }
     }
 
@@ -256,34 +262,21 @@ impl Machine {
     }
 
     /// Closes the session, or hangs up the phone of one of its idle exchanges.
-    pub(crate) fn close_op(
-        &mut self,
-        f: FibrilNo,
-        t: Context,
-        session: u32,
-        got: &Outcome,
-        out: &mut Trace,
-    )
+    pub(crate) fn close_op(&mut self, f: FibrilNo, session: u32, got: &Outcome, out: &mut Trace)
         requires ready { IsReady self.old out.old }
         ensures { Does self.new out.old out.new
-            (close_op self.old.state f t session got.now (plan_close self.old.state session)) }
+            (close_op self.old.state f (context_or_new self.old.state f) session got.now
+            (plan_close self.old.state session)) }
     {
         let waits = self.any_waits(session);
         let plan = self.sessions.close(session, waits);
-        self.close_outcome(f, t, got, &plan, out);
+        self.close_outcome(f, got, &plan, out);
     }
 
-    fn close_outcome(
-        &mut self,
-        f: FibrilNo,
-        t: Context,
-        got: &Outcome,
-        plan: &Close,
-        out: &mut Trace,
-    )
+    fn close_outcome(&mut self, f: FibrilNo, got: &Outcome, plan: &Close, out: &mut Trace)
         requires entry { 0 < out.old.spare }
         ensures { Does self.new out.old out.new
-            (close_outcome self.old.state f t got.now plan.now) }
+            (close_outcome self.old.state f (context_or_new self.old.state f) got.now plan.now) }
     {
         match plan {
             Close::HangIdle(exchange, _) => {
@@ -293,8 +286,8 @@ impl Machine {
                     exchange: *exchange,
                 });
             }
-            Close::Last(_) => self.set_context(f, t.after_outcome(got)),
-            Close::Refused(code) => self.refuse_op(f, t, *code, out),
+            Close::Last(_) => self.outcome_at(f, got),
+            Close::Refused(code) => self.refuse_op(f, *code, out),
         }
     }
 }

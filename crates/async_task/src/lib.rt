@@ -22,5 +22,4 @@ mod wanted;
 
 pub use awaited::Awaited;
 pub use context::{Context, Slot};
-pub use machine::Turn;
 pub use program::AsyncProgram;

@@ -1,29 +1,23 @@
-//! What a task stands on: its fibrils, connections, sessions and awaited calls, with room for more;
-//! and whose turn it is.
-ghost use Rattle.std.specs.Prelude.{◌≡◌, ◌<◌, ◌≤◌, OnOk, OnErr, IfOk};
-ghost use Rattle.fibril_core.specs.Fibrils.{current};
-ghost use Rattle.async_task.specs.AsyncState.{context_at, with_context, present_op};
-ghost use Rattle.async_task.specs.Turns.{turn_now, fibril_turn, turn_of, IsOfPresent};
+//! What a task stands on: its fibrils, connections, sessions and awaited calls, with room for more.
+ghost use Rattle.std.specs.Prelude.{◌≡◌, ◌-◌, ◌<◌, ◌≤◌, OnOk, OnErr, IfOk, IsSome};
+ghost use Rattle.std.specs.Prelude.{option_copied, slice_get, false};
+ghost use Rattle.async_task.specs.AsyncState.{context_at, context_or_new, with_context};
+ghost use Rattle.async_task.specs.AsyncState.{op_in, present_op};
+ghost use Rattle.async_task.specs.Contexts.{at_next, after_done, after_refused, after_outcome};
+ghost use Rattle.async_task.specs.Contexts.{after_accepted, after_answered, with_slot};
+ghost use Rattle.async_task.specs.Contexts.{with_received, after_begun, after_ended, with_short};
+ghost use Rattle.async_task.specs.Calls.{after_present};
 ghost use Rattle.async_task.specs.Steps.{bare_task};
 
 use crate::awaited::Awaited;
-use crate::context::Context;
+use crate::context::{Context, Slot};
 use async_sessions::Sessions;
 use fibril_core::{Conns, Fibrils};
-use ipc_ids::{Bodies, CallNo, Code, FibrilNo, NoMemory, Op, TaskNo};
+use ipc_ids::{
+    Bodies, CallNo, Code, ExchangeNo, FibrilNo, Label, Msg, NoMemory, Op, Outcome, Reply, TaskNo,
+};
 use std::alloc::Global;
 use std::marker::Model;
-
-/// Who does the next event.
-#[derive(Drop)]
-pub enum Turn {
-    /// The manager, which gives this answer.
-    Work(CallNo, Code),
-    /// A fibril, which keeps this and does this operation; without one it ends.
-    Run(FibrilNo, Context, Option<Op>),
-    /// The manager, which receives.
-    Receive,
-}
 
 /// A task, with room for more of what it may add.
 #[derive(Drop)]
@@ -85,68 +79,172 @@ impl Machine {
     }
 
     /// What a fibril keeps.
-    pub(crate) fn context(&self, f: FibrilNo) -> Option<Context>
-        ensures { result ≡ context_at self.now.state f }
+    pub(crate) fn context(&self, f: FibrilNo) -> Option<&Context>
+        ensures { option_copied result ≡ context_at self.now.state f }
     {
-        self.contexts.get((f.0 as usize).saturating_sub(1)).copied()
-    }
-
-    /// A fibril keeps this from now on.
-    pub(crate) fn set_context(&mut self, f: FibrilNo, t: Context)
-        ensures state { self.new.state ≡ with_context self.old.state f t }
-        ensures room { self.new.room ≡ self.old.room }
-    {
-        let i = (f.0 as usize).saturating_sub(1);
-        if i < self.contexts.len() {
-            self.contexts[i] = t;
-        }
+        self.contexts.get(place_of(f))
     }
 
     /// The present operation of a fibril.
-    pub(crate) fn present_op(&self, t: &Context) -> Option<Op>
-        ensures { result ≡ present_op self.now.state t.now }
+    pub(crate) fn present_op<'a>(&'a self, t: &Context) -> Option<&'a Op>
+        ensures { option_copied result ≡ present_op self.now.state t.now }
     {
-        match self.bodies.as_slice().get(t.body) {
-            Some(body) => match body.ops.as_slice().get(t.place) {
-                Some(op) => Some(op.copy()),
-                None => None,
-            },
-            None => None,
+        op_at(&self.bodies, t.body, t.place)
+    }
+
+    /// The fibril is at its next operation.
+    pub(crate) fn advance_at(&mut self, f: FibrilNo)
+        ensures state { self.new.state
+            ≡ with_context self.old.state f (at_next (context_or_new self.old.state f)) }
+        ensures room { self.new.room ≡ self.old.room }
+    {
+        if let Some(t) = self.contexts.get_mut(place_of(f)) {
+            t.advance();
         }
     }
 
-    /// Whose turn it is.
-    pub(crate) fn turn(&self) -> Turn
-        ensures turn { result ≡ turn_now self.now.state }
-        ensures present { IsOfPresent self.now.state result }
+    /// The present operation of the fibril, which has no need of fibrils, is done. There is one.
+    pub(crate) fn raw_at(&mut self, f: FibrilNo, got: &Outcome)
+        requires op { IsSome (present_op self.old.state (context_or_new self.old.state f)) }
+        ensures state { self.new.state ≡ with_context self.old.state f
+            (after_present (context_or_new self.old.state f) got.now
+            (present_op self.old.state (context_or_new self.old.state f))) }
+        ensures room { self.new.room ≡ self.old.room }
     {
-        match self.work.first() {
-            Some(owed) => Turn::Work(owed.0, owed.1),
-            None => self.fibril_turn(),
-        }
-    }
-
-    fn fibril_turn(&self) -> Turn
-        ensures turn { result ≡ fibril_turn self.now.state (current self.now.state.order) }
-        ensures present { IsOfPresent self.now.state result }
-    {
-        match self.fibrils.current() {
-            Some(f) => self.turn_of(f),
-            None => Turn::Receive,
-        }
-    }
-
-    fn turn_of(&self, f: FibrilNo) -> Turn
-        requires present { current self.now.state.order ≡ Some f }
-        ensures turn { result ≡ turn_of self.now.state f (context_at self.now.state f) }
-        ensures present { IsOfPresent self.now.state result }
-    {
-        match self.context(f) {
-            Some(t) => {
-                let op = self.present_op(&t);
-                Turn::Run(f, t, op)
+        if let Some(t) = self.contexts.get_mut(place_of(f)) {
+            if let Some(op) = op_at(&self.bodies, t.body, t.place) {
+                t.raw(op, got);
             }
-            None => Turn::Receive,
+        }
+    }
+
+    /// An operation of the fibril was done.
+    pub(crate) fn done_at(&mut self, f: FibrilNo)
+        ensures state { self.new.state
+            ≡ with_context self.old.state f (after_done (context_or_new self.old.state f)) }
+        ensures room { self.new.room ≡ self.old.room }
+    {
+        if let Some(t) = self.contexts.get_mut(place_of(f)) {
+            t.done();
+        }
+    }
+
+    /// An operation of the fibril was refused.
+    pub(crate) fn refused_at(&mut self, f: FibrilNo, code: Code)
+        ensures state { self.new.state
+            ≡ with_context self.old.state f (after_refused (context_or_new self.old.state f) code) }
+        ensures room { self.new.room ≡ self.old.room }
+    {
+        if let Some(t) = self.contexts.get_mut(place_of(f)) {
+            t.refused(code);
+        }
+    }
+
+    /// A begin of the fibril was refused.
+    pub(crate) fn refused_begin_at(&mut self, f: FibrilNo, code: Code)
+        ensures state { self.new.state
+            ≡ with_context self.old.state f
+            (after_refused (with_short (context_or_new self.old.state f) false) code) }
+        ensures room { self.new.room ≡ self.old.room }
+    {
+        if let Some(t) = self.contexts.get_mut(place_of(f)) {
+            t.set_short(false);
+            t.refused(code);
+        }
+    }
+
+    /// The request of the fibril's operation was done or refused.
+    pub(crate) fn outcome_at(&mut self, f: FibrilNo, got: &Outcome)
+        ensures state { self.new.state
+            ≡ with_context self.old.state f
+            (after_outcome (context_or_new self.old.state f) got.now) }
+        ensures room { self.new.room ≡ self.old.room }
+    {
+        if let Some(t) = self.contexts.get_mut(place_of(f)) {
+            t.outcome(got);
+        }
+    }
+
+    /// The call of a slot of the fibril was accepted.
+    pub(crate) fn accepted_at(&mut self, f: FibrilNo, slot: u32, call: CallNo)
+        ensures state { self.new.state
+            ≡ with_context self.old.state f
+            (after_accepted (context_or_new self.old.state f) slot call) }
+        ensures room { self.new.room ≡ self.old.room }
+    {
+        if let Some(t) = self.contexts.get_mut(place_of(f)) {
+            t.accepted(slot, call);
+        }
+    }
+
+    /// The fibril takes the answer from its slot.
+    pub(crate) fn answered_at(&mut self, f: FibrilNo, slot: u32, call: CallNo, reply: &Reply)
+        ensures state { self.new.state
+            ≡ with_context self.old.state f
+            (after_answered (context_or_new self.old.state f) slot call reply.now) }
+        ensures room { self.new.room ≡ self.old.room }
+    {
+        if let Some(t) = self.contexts.get_mut(place_of(f)) {
+            t.answered(slot, call, reply);
+        }
+    }
+
+    /// The answer of a slot of the fibril came, and stays there.
+    pub(crate) fn filled_at(&mut self, f: FibrilNo, slot: u32, call: CallNo, reply: &Reply)
+        ensures state { self.new.state
+            ≡ with_context self.old.state f
+            (with_slot (context_or_new self.old.state f) slot (Slot.Answered call reply.now)) }
+        ensures room { self.new.room ≡ self.old.room }
+    {
+        if let Some(t) = self.contexts.get_mut(place_of(f)) {
+            t.set_slot(slot, Slot::Answered(call, *reply));
+        }
+    }
+
+    /// The fibril received a call.
+    pub(crate) fn received_at(&mut self, f: FibrilNo, call: CallNo, msg: &Msg, label: Label)
+        ensures state { self.new.state
+            ≡ with_context self.old.state f
+            (at_next (with_received (context_or_new self.old.state f) call msg.now label)) }
+        ensures room { self.new.room ≡ self.old.room }
+    {
+        if let Some(t) = self.contexts.get_mut(place_of(f)) {
+            t.received(call, msg, label);
+            t.advance();
+        }
+    }
+
+    /// A begin of the fibril ended with that exchange.
+    pub(crate) fn begun_at(&mut self, f: FibrilNo, handle: u32, exchange: ExchangeNo)
+        ensures state { self.new.state
+            ≡ with_context self.old.state f
+            (after_begun (context_or_new self.old.state f) handle exchange) }
+        ensures room { self.new.room ≡ self.old.room }
+    {
+        if let Some(t) = self.contexts.get_mut(place_of(f)) {
+            t.begun(handle, exchange);
+        }
+    }
+
+    /// The exchange that a handle of the fibril named ended.
+    pub(crate) fn ended_at(&mut self, f: FibrilNo, handle: u32)
+        ensures state { self.new.state
+            ≡ with_context self.old.state f (after_ended (context_or_new self.old.state f) handle) }
+        ensures room { self.new.room ≡ self.old.room }
+    {
+        if let Some(t) = self.contexts.get_mut(place_of(f)) {
+            t.ended(handle);
+        }
+    }
+
+    /// Whether a connect call of the fibril's present begin met the limit.
+    pub(crate) fn short_at(&mut self, f: FibrilNo, short: bool)
+        ensures state { self.new.state
+            ≡ with_context self.old.state f (with_short (context_or_new self.old.state f) short) }
+        ensures room { self.new.room ≡ self.old.room }
+    {
+        if let Some(t) = self.contexts.get_mut(place_of(f)) {
+            t.set_short(short);
         }
     }
 
@@ -175,5 +273,22 @@ impl Machine {
             Ok(()) => Ok(()),
             Err(_) => Err(NoMemory),
         }
+    }
+}
+
+/// Where stands what a fibril keeps.
+fn place_of(f: FibrilNo) -> usize
+    ensures { result ≡ f.0 - 1 }
+{
+    (f.0 as usize).saturating_sub(1)
+}
+
+/// The operation at a place of a body.
+fn op_at(bodies: &Bodies, body: usize, place: usize) -> Option<&Op>
+    ensures { option_copied result ≡ op_in (slice_get bodies.now body) place }
+{
+    match bodies.as_slice().get(body) {
+        Some(body) => body.ops.as_slice().get(place),
+        None => None,
     }
 }

@@ -18,7 +18,7 @@ use std::test::Fail;
 const ME: TaskNo = TaskNo(2);
 
 /// What the task asks, with the first argument alone.
-#[derive(Clone, Copy, Debug, PartialEq, Eq)]
+#[derive(Clone, Copy, PartialEq, Eq)]
 enum Asks {
     Nothing,
     Receive,
@@ -48,7 +48,7 @@ enum Told<'a> {
 }
 
 /// What a fibril, which comes first, does.
-#[derive(Clone, Copy, Debug, PartialEq, Eq)]
+#[derive(Clone, Copy, PartialEq, Eq)]
 enum Own {
     Sends(u64, u64, Option<u32>),
     Gets(u64, u64, Option<u32>),
@@ -285,8 +285,15 @@ fn are_own(left: &[Entry], right: &[Own]) -> bool {
     left.len() == right.len() && left.iter().zip(right).all(|(l, r)| own_of(l) == *r)
 }
 
-/// Whether the task does these steps in turn.
-fn runs(program: &mut AsyncProgram, steps: &[Step], trace: &mut Trace) -> Result<bool, Fail> {
+/// Whether a task of these bodies does these steps in turn. The first is the body of its
+/// connections if the word says so.
+fn runs(alloc: Global, connects: bool, bodies: [&[Op]; 2], steps: &[Step]) -> Result<bool, Fail> {
+    let mut program = task(alloc, connects, bodies)?;
+    let mut trace = Trace::new(alloc);
+    do_all(&mut program, steps, &mut trace)
+}
+
+fn do_all(program: &mut AsyncProgram, steps: &[Step], trace: &mut Trace) -> Result<bool, Fail> {
     for step in steps {
         if !does(program, *step, trace)? {
             return Ok(false);
@@ -295,7 +302,6 @@ fn runs(program: &mut AsyncProgram, steps: &[Step], trace: &mut Trace) -> Result
     Ok(true)
 }
 
-/// A task of these bodies, the first of which is that of its connections if the first word says so.
 fn task(alloc: Global, connects: bool, bodies: [&[Op]; 2]) -> Result<AsyncProgram, Fail> {
     let bodies = [
         body(alloc, connects, bodies[0])?,
@@ -306,11 +312,8 @@ fn task(alloc: Global, connects: bool, bodies: [&[Op]; 2]) -> Result<AsyncProgra
 
 #[test]
 fn answers_in_the_other_order_go_to_their_fibrils(rt: HostRuntime) -> Result<(), Fail> {
-    let alloc = rt.alloc();
     let first = [call_slot(0, 0, 601), Op::Wait(0), show(9)];
     let second = [call_slot(0, 0, 602), Op::Wait(0), show(9)];
-    let mut program = task(alloc, false, [&first, &second])?;
-    let mut trace = Trace::new(alloc);
     let steps = [
         calls(0, 601, 1, &[Own::Sends(1, 1, Some(0))]),
         nothing(&[Own::Blocks(1, Why::Answer(CallNo(1)))]),
@@ -324,13 +327,12 @@ fn answers_in_the_other_order_go_to_their_fibrils(rt: HostRuntime) -> Result<(),
         nothing(&[Own::Ends(1)]),
         step(Asks::Receive, Told::Empty, &[]),
     ];
-    assert!(rt; runs(&mut program, &steps, &mut trace)?);
+    assert!(rt; runs(rt.alloc(), false, [&first, &second], &steps)?);
     Ok(())
 }
 
 #[test]
 fn a_fibril_that_ended_gets_no_answer(rt: HostRuntime) -> Result<(), Fail> {
-    let alloc = rt.alloc();
     let ends = [
         call_slot(0, 0, 601),
         call_slot(0, 0, 602),
@@ -344,8 +346,6 @@ fn a_fibril_that_ended_gets_no_answer(rt: HostRuntime) -> Result<(), Fail> {
         Op::Wait(7),
         show(15),
     ];
-    let mut program = task(alloc, false, [&ends, &waits])?;
-    let mut trace = Trace::new(alloc);
     let steps = [
         calls(0, 601, 1, &[Own::Sends(1, 1, Some(0))]),
         nothing(&[Own::Refuses(1, Code::EBUSY)]),
@@ -361,13 +361,12 @@ fn a_fibril_that_ended_gets_no_answer(rt: HostRuntime) -> Result<(), Fail> {
         answers(9, Code::EOK, 6),
         nothing(&[Own::Ends(2)]),
     ];
-    assert!(rt; runs(&mut program, &steps, &mut trace)?);
+    assert!(rt; runs(rt.alloc(), false, [&ends, &waits], &steps)?);
     Ok(())
 }
 
 #[test]
 fn an_answer_waits_in_its_slot(rt: HostRuntime) -> Result<(), Fail> {
-    let alloc = rt.alloc();
     let first = [
         call_slot(3, 0, 601),
         call_slot(0, 0, 602),
@@ -376,8 +375,6 @@ fn an_answer_waits_in_its_slot(rt: HostRuntime) -> Result<(), Fail> {
         show(9),
     ];
     let ends = [];
-    let mut program = task(alloc, false, [&first, &ends])?;
-    let mut trace = Trace::new(alloc);
     let steps = [
         calls(0, 601, 1, &[Own::Sends(1, 1, Some(3))]),
         calls(0, 602, 2, &[Own::Sends(1, 2, Some(0))]),
@@ -388,7 +385,7 @@ fn an_answer_waits_in_its_slot(rt: HostRuntime) -> Result<(), Fail> {
         nothing(&[]),
         answers(9, Code::EOK, 1),
     ];
-    assert!(rt; runs(&mut program, &steps, &mut trace)?);
+    assert!(rt; runs(rt.alloc(), false, [&first, &ends], &steps)?);
     Ok(())
 }
 
@@ -438,13 +435,10 @@ fn raw_ops(bytes: Short) -> [Op; 12] {
 
 #[test]
 fn raw_operations_do_as_in_raw_bodies(rt: HostRuntime) -> Result<(), Fail> {
-    let alloc = rt.alloc();
     let Some(bytes) = Short::from_slice(&[1, 2]) else {
         return Err(Fail::new("two bytes are short"));
     };
     let (first, second) = (raw_ops(bytes), [Op::Receive]);
-    let mut program = task(alloc, false, [&first, &second])?;
-    let mut trace = Trace::new(alloc);
     let steps = [
         step(
             Asks::Forward(4, 1, Mode::Route),
@@ -468,6 +462,6 @@ fn raw_operations_do_as_in_raw_bodies(rt: HostRuntime) -> Result<(), Fail> {
         nothing(&[]),
         nothing(&[Own::Ends(2)]),
     ];
-    assert!(rt; runs(&mut program, &steps, &mut trace)?);
+    assert!(rt; runs(rt.alloc(), false, [&first, &second], &steps)?);
     Ok(())
 }

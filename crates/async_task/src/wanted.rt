@@ -1,5 +1,8 @@
 //! What a task asks next.
-ghost use Rattle.std.specs.Prelude.{◌≡◌, length};
+ghost use Rattle.std.specs.Prelude.{◌≡◌, length, option_copied};
+ghost use Rattle.fibril_core.specs.Fibrils.{current};
+ghost use Rattle.async_task.specs.Turns.{fibril_turn, turn_of};
+ghost use Rattle.async_task.specs.Wanted.{wanted_in};
 ghost use Rattle.async_task.specs.AsyncState.{context_at};
 ghost use Rattle.async_task.specs.Wanted.{wanted, wanted_op, wanted_raw, wanted_of_memory};
 ghost use Rattle.async_task.specs.Wanted.{wanted_call, wanted_send};
@@ -7,7 +10,7 @@ ghost use Rattle.async_task.specs.Wanted.{wanted_begin, wanted_close, phone_by, 
 ghost use Rattle.async_task.specs.Wanted.{plan_close, waits_for, any_waits, begins_in, is_begin_of};
 
 use crate::context::{Context, Slot};
-use crate::machine::{Machine, Turn};
+use crate::machine::Machine;
 use async_sessions::{Begin, Close};
 use ipc_ids::methods::CONNECT_ME_TO;
 use ipc_ids::{Code, ExchangeNo, FibrilNo, Msg, Op, Reply, Request, Value};
@@ -17,14 +20,35 @@ impl Machine {
     pub(crate) fn next(&self) -> Request
         ensures { result ≡ wanted self.now.state }
     {
-        match self.turn() {
-            Turn::Work(call, code) => Request::Answer {
-                call: call.0,
-                reply: Reply::bare(code),
+        match self.work.first() {
+            Some(owed) => Request::Answer {
+                call: owed.0.0,
+                reply: Reply::bare(owed.1),
             },
-            Turn::Run(f, t, Some(op)) => self.wanted_op(f, &t, &op),
-            Turn::Run(_, _, None) => Request::Nothing,
-            Turn::Receive => Request::Receive,
+            None => self.fibril_wants(),
+        }
+    }
+
+    fn fibril_wants(&self) -> Request
+        ensures { result
+            ≡ wanted_in self.now.state (fibril_turn self.now.state (current self.now.state.order)) }
+    {
+        match self.fibrils.current() {
+            Some(f) => self.wants(f),
+            None => Request::Receive,
+        }
+    }
+
+    fn wants(&self, f: FibrilNo) -> Request
+        ensures { result
+            ≡ wanted_in self.now.state (turn_of self.now.state f (context_at self.now.state f)) }
+    {
+        match self.context(f) {
+            Some(t) => match self.present_op(t) {
+                Some(op) => self.wanted_op(f, t, op),
+                None => Request::Nothing,
+            },
+            None => Request::Receive,
         }
     }
 
@@ -112,7 +136,7 @@ impl Machine {
         ensures { result ≡ begins_in self.now.state session (context_at self.now.state f) }
     {
         match self.context(f) {
-            Some(t) => is_begin_of(session, &self.present_op(&t)),
+            Some(t) => is_begin_of(session, self.present_op(t)),
             None => false,
         }
     }
@@ -233,8 +257,8 @@ fn wanted_of_memory(t: &Context, op: &Op) -> Request
 }
 
 /// Whether an operation is a begin of the session.
-fn is_begin_of(session: u32, op: &Option<Op>) -> bool
-    ensures { result ≡ is_begin_of session op.now }
+fn is_begin_of(session: u32, op: Option<&Op>) -> bool
+    ensures { result ≡ is_begin_of session (option_copied op.entry) }
 {
     match op {
         Some(Op::Begin { session: other, .. }) => *other == session,

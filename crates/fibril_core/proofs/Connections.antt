@@ -11,7 +11,8 @@ use Rattle.ipc_ids.specs.declared.message.Msg.{Msg}
 use Rattle.ipc_ids.specs.Codes.{eok, ehangup}
 use Rattle.fibril_core.specs.declared.conn.Conn.{Conn}
 use Rattle.fibril_core.specs.declared.conn.Queued.{Queued}
-use Rattle.fibril_core.specs.Conns.{no_conns, same_label, leads_to, serves, conn_at, conn_of_label, conn_of_fibril, lose_label, lose_labels, new_conn, start, take_first, with_conn, took_first, take_next, closes, route_to, routed_to, route, hung_up, close_answer, owed_by, without_conn, finish}
+use Rattle.ipc_ids.specs.Labels.{same_label}
+use Rattle.fibril_core.specs.Conns.{no_conns, leads_to, serves, conn_at, conn_of_label, conn_of_fibril, lose_label, lose_labels, new_conn, start, take_first, with_conn, took_first, take_next, closes, route_to, routed_to, route, hung_up, close_answer, owed_by, without_conn, finish}
 use Rattle.fibril_core.specs.ConnLaws.{IsOpenOrClosed, IsSound, Finds, after_loss, Starts, Changes, Ends, OwesInOrder}
 use Rattle.fibril_core.proofs.Places.{set_here, which, which_pushed, within}
 use Rattle.fibril_core.proofs.Searches.{find_is, found_place, find_one, find_none, none_found, find_set, find_removed, find_pushed, find_unpushed, skip, skip_other, skip_one, removed_at}

@@ -1,5 +1,5 @@
 -- What it comes to that fibrils that wait for one thing are made ready one after the other.
-use Rattle.std.proofs.Common.{◌≡◌, ◌≢◌, ℕ, zero, suc, ◌+◌, ◌<◌, ◌≤◌, ◌⊎◌, inl, inr, Bool, true, false, List, [], ◌∷◌, length, Option, Some, None, refl, ap, sym, ◌∙◌, subst, arith}
+use Rattle.std.proofs.Common.{◌≡◌, ◌≢◌, ℕ, zero, suc, ◌+◌, ◌-◌, ◌<◌, ◌≤◌, ◌⊎◌, inl, inr, Bool, true, false, List, [], ◌∷◌, length, Option, Some, None, refl, ap, sym, ◌∙◌, subst, arith}
 use Rattle.std.specs.Prelude.{if◌then◌else◌, slice_get, slice_set}
 use Rattle.std.proofs.lemmas.Bool.{cases_eq}
 use Rattle.ipc_ids.specs.declared.numbers.FibrilNo.{FibrilNo}
@@ -216,3 +216,16 @@ wakes_all o w sound =
 
 pub sound_wakes : (o : FibrilOrder) (w : Why) → IsSound o → IsSound (wake_all o w)
 sound_wakes o w sound = (waking_times (length o.fibrils) o w sound).waking.sound
+
+-- where none waits any more, further wakes change nothing
+pub wakes_end : (n m : ℕ) (o : FibrilOrder) (w : Why) → n ≤ m → first_blocked (wake_times n o w) w ≡ None → wake_times m o w ≡ wake_times n o w
+wakes_end n m o w h none = end_by (m - n) m (omega arith) where
+  stays : (k l : ℕ) → l ≡ n + k → wake_times l o w ≡ wake_times n o w
+  stays zero l e = let same : l ≡ n = omega arith in ap (λ (i : ℕ). wake_times i o w) same
+  stays (suc k) zero e = absurd (omega arith)
+  stays (suc k) (suc l) e =
+      let before = stays k l (omega arith) in
+      ap (λ (p : FibrilOrder). wake_first p w) before ∙ ap (found_with (wake_times n o w) Ready) none
+
+  end_by : (k l : ℕ) → l ≡ n + k → wake_times l o w ≡ wake_times n o w
+  end_by k l e = stays k l e

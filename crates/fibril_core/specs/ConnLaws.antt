@@ -7,7 +7,8 @@ use Rattle.ipc_ids.specs.declared.numbers.Label.{Label}
 use Rattle.ipc_ids.specs.Codes.{eok, ehangup}
 use Rattle.fibril_core.specs.declared.conn.Conn.{Conn}
 use Rattle.fibril_core.specs.declared.conn.Queued.{Queued}
-use Rattle.fibril_core.specs.Conns.{same_label, leads_to, lose_label, new_conn, conn_of_fibril, conn_of_label}
+use Rattle.ipc_ids.specs.Labels.{same_label}
+use Rattle.fibril_core.specs.Conns.{leads_to, lose_label, new_conn, conn_of_fibril, conn_of_label}
 
 -- what a search finds stands there and passes, and where it finds none, none passes
 pub record Finds (passes : Conn → Bool) (cs : List Conn) (found : Option Conn) : Type 0 where

@@ -7,6 +7,7 @@ use Rattle.ipc_ids.specs.declared.numbers.Code.{Code}
 use Rattle.ipc_ids.specs.declared.numbers.Label.{Label}
 use Rattle.ipc_ids.specs.declared.message.Msg.{Msg}
 use Rattle.ipc_ids.specs.Codes.{eok, ehangup}
+use Rattle.ipc_ids.specs.Labels.{same_label}
 use Rattle.fibril_core.specs.declared.conn.Conn.{Conn}
 use Rattle.fibril_core.specs.declared.conn.Queued.{Queued}
 use Rattle.fibril_core.specs.declared.conn.Routed.{Routed}
@@ -32,10 +33,6 @@ first_of (q ∷ queue) = Some q
 abbrev pub rest_of : List Queued → List Queued
 rest_of [] = []
 rest_of (q ∷ queue) = queue
-
--- whether two labels are one
-abbrev pub same_label : Label → Label → Bool
-same_label a b = (a.task.0 == b.task.0) && (a.phone.0 == b.phone.0)
 
 -- whether the label leads to the connection
 abbrev pub leads_to : Label → Conn → Bool

@@ -1,7 +1,10 @@
 //! One connection, and what is done with it.
-ghost use Rattle.std.specs.Prelude.{◌≡◌, ◌^◌, ◌<◌, ◌++◌, [], ◌∷◌, OnOk, OnErr, Some, IfOk, length, map};
+ghost use Rattle.std.specs.Prelude.{◌≡◌, ◌^◌, ◌<◌, ◌++◌, [], ◌∷◌, OnOk, OnErr, Some, IfOk, length};
+ghost use Rattle.std.specs.Prelude.{map};
 ghost use Rattle.std.specs.Option.{option_copied};
-ghost use Rattle.fibril_core.specs.Conns.{first_of, rest_of, fibril_of, lose_label, take_answer, take_first, route_answer, route_to, owed_by, hung_up, close_answer};
+ghost use Rattle.fibril_core.specs.Conns.{first_of, rest_of, fibril_of, lose_label, take_answer};
+ghost use Rattle.fibril_core.specs.Conns.{take_first, route_answer, route_to, owed_by, hung_up};
+ghost use Rattle.fibril_core.specs.Conns.{close_answer};
 
 use crate::owed::Owed;
 use ipc_ids::{CallNo, Code, FibrilNo, Label, Msg, NoMemory};

@@ -1,7 +1,11 @@
 //! The connections of a task.
-ghost use Rattle.std.specs.Prelude.{◌≡◌, ◌+◌, ◌<◌, ◌≤◌, OnOk, OnErr, None, IfOk, IfSome, length, position, slice_get, remove};
+ghost use Rattle.std.specs.Prelude.{◌≡◌, ◌+◌, ◌<◌, ◌≤◌, OnOk, OnErr, None, IfOk, IfSome, length};
+ghost use Rattle.std.specs.Prelude.{position, slice_get, remove};
 ghost use Rattle.std.specs.Option.{option_copied};
-ghost use Rattle.fibril_core.specs.Conns.{no_conns, serves, leads_to, conn_of_fibril, conn_of_label, fibril_of, lose_labels, start, take_answer, take_next, route_answer, route, owed_by, finish};
+ghost use Rattle.fibril_core.specs.Conns.{no_conns, serves, leads_to, conn_of_fibril};
+ghost use Rattle.fibril_core.specs.Conns.{conn_of_label, fibril_of, lose_labels, start};
+ghost use Rattle.fibril_core.specs.Conns.{take_answer, take_next, route_answer, route, owed_by};
+ghost use Rattle.fibril_core.specs.Conns.{finish};
 
 use crate::conn::{
     Conn, Queue, Routed, Taken, count_owed, fibril_of, lose_label, owed_by, route_to, take_first,

@@ -1,7 +1,10 @@
 //! Fibrils by number, and since when each is ready or blocked.
 ghost use Rattle.std.specs.Prelude.{◌≡◌, ◌+◌, ◌^◌, ◌<◌, ◌≤◌, OnOk, OnErr, IfOk, IsSome, length};
 ghost use Rattle.std.specs.Option.{option_copied};
-ghost use Rattle.fibril_core.specs.Fibrils.{no_fibrils, first_with, current, first_blocked, next_number, why_in, why_of, IsWithinBounds, spawned, put_fibril, with_status, block_on, yield_now, end_current, make_ready, wake_first, wake_all};
+ghost use Rattle.fibril_core.specs.Fibrils.{no_fibrils, first_with, current, first_blocked};
+ghost use Rattle.fibril_core.specs.Fibrils.{next_number, why_in, why_of, IsWithinBounds, spawned};
+ghost use Rattle.fibril_core.specs.Fibrils.{put_fibril, with_status, block_on, yield_now};
+ghost use Rattle.fibril_core.specs.Fibrils.{end_current, make_ready, wake_first, wake_all};
 
 use ipc_ids::{CallNo, FibrilNo, NoMemory, Why};
 use std::alloc::Global;
@@ -227,7 +230,7 @@ impl Fibrils {
         for _ in 0..self.fibrils.len() {
             match self.first_blocked(why) {
                 Some(f) => self.stamp(f, Status::Ready),
-                None => {}
+                None => break,
             }
         }
     }

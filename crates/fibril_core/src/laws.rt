@@ -7,10 +7,16 @@ ghost use Rattle.ipc_ids.specs.declared.message.Msg.{Msg};
 ghost use Rattle.ipc_ids.specs.declared.message.Why.{Why};
 ghost use Rattle.fibril_core.specs.declared.conn.Conn.{Conn};
 ghost use Rattle.fibril_core.specs.declared.fibrils.Status.TheVariants as status;
-ghost use Rattle.fibril_core.specs.Fibrils.{FibrilOrder, no_fibrils, current, first_blocked, why_of, spawned, block_on, yield_now, end_current, make_ready, wake_first, wake_all};
-ghost use Rattle.fibril_core.specs.FibrilLaws.{IsSound as IsSoundOrder, IsFirst, HasNone, Becomes, WakesAll};
-ghost use Rattle.fibril_core.specs.Conns.{no_conns, leads_to, serves, conn_of_fibril, conn_of_label, start, route_to, route, take_first, take_next, owed_by, finish};
-ghost use Rattle.fibril_core.specs.ConnLaws.{IsSound as AreSoundConns, Finds, Starts, Changes, Ends, OwesInOrder};
+ghost use Rattle.fibril_core.specs.Fibrils.{FibrilOrder, no_fibrils, current, first_blocked};
+ghost use Rattle.fibril_core.specs.Fibrils.{why_of, spawned, block_on, yield_now, end_current};
+ghost use Rattle.fibril_core.specs.Fibrils.{make_ready, wake_first, wake_all};
+ghost use Rattle.fibril_core.specs.FibrilLaws.{IsSound as IsSoundOrder, IsFirst, HasNone, Becomes};
+ghost use Rattle.fibril_core.specs.FibrilLaws.{WakesAll};
+ghost use Rattle.fibril_core.specs.Conns.{no_conns, leads_to, serves, conn_of_fibril};
+ghost use Rattle.fibril_core.specs.Conns.{conn_of_label, start, route_to, route, take_first};
+ghost use Rattle.fibril_core.specs.Conns.{take_next, owed_by, finish};
+ghost use Rattle.fibril_core.specs.ConnLaws.{IsSound as AreSoundConns, Finds, Starts, Changes};
+ghost use Rattle.fibril_core.specs.ConnLaws.{Ends, OwesInOrder};
 
 /// An order that is sound is so after each call. None are at the start, and that is sound.
 pub fn calls_keep_fibrils_sound()
@@ -55,8 +61,8 @@ pub fn wakes_keep_the_order_of_blocking()
     ensures { (o : FibrilOrder) (w : Why) → IsSoundOrder o → WakesAll o (wake_all o w) w }
 {}
 
-/// The holder of a label is a connection to which it leads, and there is none exactly where it leads
-/// to none. So it is with the connection of a fibril.
+/// The holder of a label is a connection to which it leads, and there is none exactly where it
+/// leads to none. So it is with the connection of a fibril.
 pub fn searches_find_the_connection()
     ensures label { (label : Label) (cs : List Conn)
         → Finds (leads_to label) cs (conn_of_label label cs) }

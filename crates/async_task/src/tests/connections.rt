@@ -1,9 +1,9 @@
 //! Connections, from their start to their end.
 use crate::tests::{
-    Own, answered, answers, call_slot, calls, nothing, received, register, runs, show, task,
+    Own, answered, answers, call_slot, calls, nothing, received, register, runs, show,
 };
 use ipc_ids::methods::{CONNECT_ME_TO, PHONE_HUNGUP};
-use ipc_ids::{CallNo, Code, Label, Op, PhoneNo, TaskNo, Trace, Value, Why};
+use ipc_ids::{CallNo, Code, Label, Op, PhoneNo, TaskNo, Value, Why};
 use std::test::Fail;
 
 /// The label that a connect call with the last argument 65 gives.
@@ -24,7 +24,6 @@ fn answer_it() -> Op {
 
 #[test]
 fn a_connection_starts_and_ends(rt: HostRuntime) -> Result<(), Fail> {
-    let alloc = rt.alloc();
     let serves = [
         answer_it(),
         Op::Next,
@@ -34,8 +33,6 @@ fn a_connection_starts_and_ends(rt: HostRuntime) -> Result<(), Fail> {
         show(17),
     ];
     let ends = [];
-    let mut program = task(alloc, true, [&serves, &ends])?;
-    let mut trace = Trace::new(alloc);
     let steps = [
         nothing(&[Own::Ends(1)]),
         received(1, 600, 0, &[]),
@@ -54,17 +51,14 @@ fn a_connection_starts_and_ends(rt: HostRuntime) -> Result<(), Fail> {
         received(5, 602, 0, &[]),
         answers(5, Code::EHANGUP, 0),
     ];
-    assert!(rt; runs(&mut program, &steps, &mut trace)?);
+    assert!(rt; runs(rt.alloc(), true, [&serves, &ends], &steps)?);
     Ok(())
 }
 
 #[test]
 fn calls_that_wait_are_hung_up_first(rt: HostRuntime) -> Result<(), Fail> {
-    let alloc = rt.alloc();
     let serves = [call_slot(0, 0, 700), Op::Wait(0)];
     let second = [Op::Next];
-    let mut program = task(alloc, true, [&serves, &second])?;
-    let mut trace = Trace::new(alloc);
     let steps = [
         nothing(&[Own::Refuses(1, Code::ENOENT)]),
         nothing(&[Own::Ends(1)]),
@@ -80,17 +74,14 @@ fn calls_that_wait_are_hung_up_first(rt: HostRuntime) -> Result<(), Fail> {
         answers(5, Code::EHANGUP, 0),
         answers(4, Code::EOK, 0),
     ];
-    assert!(rt; runs(&mut program, &steps, &mut trace)?);
+    assert!(rt; runs(rt.alloc(), true, [&serves, &second], &steps)?);
     Ok(())
 }
 
 #[test]
 fn a_newer_connection_takes_the_label(rt: HostRuntime) -> Result<(), Fail> {
-    let alloc = rt.alloc();
     let serves = [Op::Next, answer_it(), show(17)];
     let ends = [];
-    let mut program = task(alloc, true, [&serves, &ends])?;
-    let mut trace = Trace::new(alloc);
     let steps = [
         nothing(&[Own::Ends(1)]),
         received(1, CONNECT_ME_TO, 65, &[Own::Starts(2, LABEL)]),
@@ -103,6 +94,6 @@ fn a_newer_connection_takes_the_label(rt: HostRuntime) -> Result<(), Fail> {
         received(3, 601, 0, &[]),
         answers(3, Code::EOK, 601),
     ];
-    assert!(rt; runs(&mut program, &steps, &mut trace)?);
+    assert!(rt; runs(rt.alloc(), true, [&serves, &ends], &steps)?);
     Ok(())
 }

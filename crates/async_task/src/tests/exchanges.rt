@@ -1,10 +1,10 @@
 //! Sessions and exchanges of each mode.
 use crate::tests::{
     Asks, Own, Step, Told, answered, answers, call_slot, calls, nothing, number, one_value, runs,
-    show, step, task,
+    show, step,
 };
 use ipc_ids::methods::CONNECT_ME_TO;
-use ipc_ids::{CallNo, Code, ExchangeMode, Op, Trace, Why};
+use ipc_ids::{CallNo, Code, ExchangeMode, Op, Why};
 use std::test::Fail;
 
 /// A session over that phone.
@@ -35,6 +35,27 @@ fn connects<'a>(phone: u64, call: u64, own: &'a [Own]) -> Step<'a> {
     calls(phone, CONNECT_ME_TO, call, own)
 }
 
+/// The first fibril sends the connect call 1, and waits for its answer.
+const FIRST_CONNECTS: [Own; 2] = [
+    Own::Sends(1, 1, None),
+    Own::Blocks(1, Why::Answer(CallNo(1))),
+];
+
+/// The second fibril sends the connect call 2, and waits for its answer.
+const SECOND_CONNECTS: [Own; 2] = [
+    Own::Sends(2, 2, None),
+    Own::Blocks(2, Why::Answer(CallNo(2))),
+];
+
+/// A connect call over a phone, which the kernel refuses.
+fn is_refused<'a>(phone: u64, code: Code, own: &'a [Own]) -> Step<'a> {
+    step(
+        Asks::Call(phone, CONNECT_ME_TO, 0),
+        Told::Refused(code),
+        own,
+    )
+}
+
 /// The answer ELIMIT comes.
 fn limits(call: u64, own: &[Own]) -> Step {
     step(Asks::Receive, Told::Answered(call, Code::ELIMIT, 0), own)
@@ -46,7 +67,6 @@ fn hangs_up<'a>(phone: u64, told: Told<'a>, own: &'a [Own]) -> Step<'a> {
 
 #[test]
 fn what_is_not_there_or_in_use_is_refused(rt: HostRuntime) -> Result<(), Fail> {
-    let alloc = rt.alloc();
     let atomic = ExchangeMode::Atomic;
     let ops = [
         Op::Wait(0),
@@ -67,8 +87,6 @@ fn what_is_not_there_or_in_use_is_refused(rt: HostRuntime) -> Result<(), Fail> {
         show(0),
     ];
     let ends = [];
-    let mut program = task(alloc, true, [&ends, &ops])?;
-    let mut trace = Trace::new(alloc);
     let (absent, busy) = (
         [Own::Refuses(1, Code::ENOENT)],
         [Own::Refuses(1, Code::EBUSY)],
@@ -91,13 +109,12 @@ fn what_is_not_there_or_in_use_is_refused(rt: HostRuntime) -> Result<(), Fail> {
         hangs_up(0, Told::Refused(Code::EINVAL), &[]),
         answers(9, Code::EINVAL, Code::EINVAL.0),
     ];
-    assert!(rt; runs(&mut program, &steps, &mut trace)?);
+    assert!(rt; runs(rt.alloc(), true, [&ends, &ops], &steps)?);
     Ok(())
 }
 
 #[test]
 fn a_serialized_begin_waits_for_the_end(rt: HostRuntime) -> Result<(), Fail> {
-    let alloc = rt.alloc();
     let serialize = ExchangeMode::Serialize;
     let first = [
         open(0, 0, serialize),
@@ -108,8 +125,6 @@ fn a_serialized_begin_waits_for_the_end(rt: HostRuntime) -> Result<(), Fail> {
         Op::Close(0),
     ];
     let second = [begin(0, 0), Op::End(0), Op::Close(0)];
-    let mut program = task(alloc, false, [&first, &second])?;
-    let mut trace = Trace::new(alloc);
     let steps = [
         nothing(&[]),
         nothing(&[Own::Begins(1, 1, 0)]),
@@ -125,13 +140,12 @@ fn a_serialized_begin_waits_for_the_end(rt: HostRuntime) -> Result<(), Fail> {
         nothing(&[Own::Refuses(2, Code::ENOENT)]),
         nothing(&[Own::Ends(2)]),
     ];
-    assert!(rt; runs(&mut program, &steps, &mut trace)?);
+    assert!(rt; runs(rt.alloc(), false, [&first, &second], &steps)?);
     Ok(())
 }
 
 #[test]
 fn a_parallel_begin_waits_for_a_phone(rt: HostRuntime) -> Result<(), Fail> {
-    let alloc = rt.alloc();
     let first = [
         open(0, 0, ExchangeMode::Parallel),
         begin(0, 0),
@@ -139,26 +153,10 @@ fn a_parallel_begin_waits_for_a_phone(rt: HostRuntime) -> Result<(), Fail> {
         Op::Close(0),
     ];
     let second = [begin(0, 0), Op::End(0), Op::Close(0), show(0)];
-    let mut program = task(alloc, false, [&first, &second])?;
-    let mut trace = Trace::new(alloc);
     let steps = [
         nothing(&[]),
-        connects(
-            0,
-            1,
-            &[
-                Own::Sends(1, 1, None),
-                Own::Blocks(1, Why::Answer(CallNo(1))),
-            ],
-        ),
-        connects(
-            0,
-            2,
-            &[
-                Own::Sends(2, 2, None),
-                Own::Blocks(2, Why::Answer(CallNo(2))),
-            ],
-        ),
+        connects(0, 1, &FIRST_CONNECTS),
+        connects(0, 2, &SECOND_CONNECTS),
         limits(2, &[Own::Gets(2, 2, None)]),
         nothing(&[Own::Blocks(2, Why::Phone)]),
         answered(1, 1, &[Own::Gets(1, 1, None), Own::Begins(1, 1, 1)]),
@@ -168,13 +166,12 @@ fn a_parallel_begin_waits_for_a_phone(rt: HostRuntime) -> Result<(), Fail> {
         nothing(&[Own::Ends(1)]),
         nothing(&[Own::Refuses(2, Code::ENOENT)]),
     ];
-    assert!(rt; runs(&mut program, &steps, &mut trace)?);
+    assert!(rt; runs(rt.alloc(), false, [&first, &second], &steps)?);
     Ok(())
 }
 
 #[test]
 fn at_the_limit_an_idle_exchange_is_given_up(rt: HostRuntime) -> Result<(), Fail> {
-    let alloc = rt.alloc();
     let parallel = ExchangeMode::Parallel;
     let first = [
         open(0, 0, parallel),
@@ -191,28 +188,12 @@ fn at_the_limit_an_idle_exchange_is_given_up(rt: HostRuntime) -> Result<(), Fail
         begin(3, 1),
         show(0),
     ];
-    let mut program = task(alloc, false, [&first, &second])?;
-    let mut trace = Trace::new(alloc);
     let steps = [
         nothing(&[]),
-        connects(
-            0,
-            1,
-            &[
-                Own::Sends(1, 1, None),
-                Own::Blocks(1, Why::Answer(CallNo(1))),
-            ],
-        ),
+        connects(0, 1, &FIRST_CONNECTS),
         nothing(&[]),
         nothing(&[]),
-        connects(
-            1,
-            2,
-            &[
-                Own::Sends(2, 2, None),
-                Own::Blocks(2, Why::Answer(CallNo(2))),
-            ],
-        ),
+        connects(1, 2, &SECOND_CONNECTS),
         answered(1, 3, &[Own::Gets(1, 1, None), Own::Begins(1, 1, 3)]),
         nothing(&[Own::Finishes(1, 1)]),
         nothing(&[Own::Begins(1, 1, 3)]),
@@ -220,21 +201,16 @@ fn at_the_limit_an_idle_exchange_is_given_up(rt: HostRuntime) -> Result<(), Fail
         nothing(&[Own::Ends(1)]),
         limits(2, &[Own::Gets(2, 2, None)]),
         hangs_up(3, Told::Done, &[Own::Drops(2, 1)]),
-        step(
-            Asks::Call(1, CONNECT_ME_TO, 0),
-            Told::Refused(Code::ELIMIT),
-            &[],
-        ),
+        is_refused(1, Code::ELIMIT, &[]),
         nothing(&[Own::Blocks(2, Why::Phone)]),
         step(Asks::Receive, Told::Empty, &[]),
     ];
-    assert!(rt; runs(&mut program, &steps, &mut trace)?);
+    assert!(rt; runs(rt.alloc(), false, [&first, &second], &steps)?);
     Ok(())
 }
 
 #[test]
 fn a_parallel_begin_ends_as_its_connect_call(rt: HostRuntime) -> Result<(), Fail> {
-    let alloc = rt.alloc();
     let ops = [
         open(1, 1, ExchangeMode::Parallel),
         begin(2, 1),
@@ -244,23 +220,10 @@ fn a_parallel_begin_ends_as_its_connect_call(rt: HostRuntime) -> Result<(), Fail
         show(1),
     ];
     let ends = [];
-    let mut program = task(alloc, true, [&ends, &ops])?;
-    let mut trace = Trace::new(alloc);
     let steps = [
         nothing(&[]),
-        step(
-            Asks::Call(1, CONNECT_ME_TO, 0),
-            Told::Refused(Code::EHANGUP),
-            &[Own::Refuses(1, Code::EHANGUP)],
-        ),
-        connects(
-            1,
-            1,
-            &[
-                Own::Sends(1, 1, None),
-                Own::Blocks(1, Why::Answer(CallNo(1))),
-            ],
-        ),
+        is_refused(1, Code::EHANGUP, &[Own::Refuses(1, Code::EHANGUP)]),
+        connects(1, 1, &FIRST_CONNECTS),
         step(
             Asks::Receive,
             Told::Answered(1, Code::EPERM, 0),
@@ -278,6 +241,6 @@ fn a_parallel_begin_ends_as_its_connect_call(rt: HostRuntime) -> Result<(), Fail
         calls(5, 600, 3, &[Own::Sends(1, 3, Some(0))]),
         answers(9, Code::EOK, 3),
     ];
-    assert!(rt; runs(&mut program, &steps, &mut trace)?);
+    assert!(rt; runs(rt.alloc(), true, [&ends, &ops], &steps)?);
     Ok(())
 }

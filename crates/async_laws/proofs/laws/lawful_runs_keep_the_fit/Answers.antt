@@ -1,5 +1,5 @@
 use Rattle.async_laws.proofs.Linking.{event_keeps, event_keeps_others, kill_keeps, hangup_keeps}
-use Rattle.async_laws.proofs.Linking.{gone_keeps}
+use Rattle.async_laws.proofs.Linking.{gone_keeps, spawn_keeps}
 use Rattle.async_laws.proofs.NewTasks.{new_fits}
 use Rattle.async_laws.proofs.laws.lawful_runs_keep_the_fit.Goals as goal
 
@@ -10,5 +10,6 @@ returns c = record {
   kill = kill_keeps;
   hangup = hangup_keeps;
   gone = gone_keeps;
+  spawn = spawn_keeps;
   new = new_fits;
 }
