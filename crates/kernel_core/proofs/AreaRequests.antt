@@ -29,7 +29,7 @@ use Rattle.ipc_ids.specs.AreaLaw.{SharesFrom, Shares, SharesAsked, SharesMade, P
 use Rattle.ipc_ids.proofs.LawfulAreas.{on_top-append}
 use Rattle.call_slab.specs.declared.call.Call.{Call}
 use Rattle.call_slab.specs.declared.call.Place.TheVariants as place
-use Rattle.answerbox.specs.Calls.{CallTable, call_at, calls_at, same_place, enqueue, put_at, without_call, front, active_calls}
+use Rattle.answerbox.specs.Calls.{CallTable, call_at, calls_at, same_place, enqueue, put_at, without_call, front, active_calls, used}
 use Rattle.forwarding.specs.declared.passing.Forwarded.{Forwarded}
 use Rattle.forwarding.specs.declared.passing.ForwardFault.{ForwardFault}
 use Rattle.forwarding.specs.declared.passing.ForwardFault.TheVariants.{NotHeld, NotForwardable, NotConnected}
@@ -41,7 +41,7 @@ use Rattle.address_space.specs.Memory as spaces
 use Rattle.address_space.specs.Sound as sound
 use Rattle.address_space.proofs.Numbers.{next_at_write, next_at_drop}
 use Rattle.address_space.proofs.Rows.{areas_at_write}
-use Rattle.data_hooks.specs.DataMoments.{address_of, count_of, write_before_send, read_before_send, read_accept}
+use Rattle.data_hooks.specs.DataMoments.{address_of, count_of, cut_args, write_before_send, read_before_send, read_accept}
 use Rattle.share_hooks.specs.ShareMoments.{base_of, pages_of, rights_of, out_before_send, in_before_send}
 use Rattle.cleanup.specs.State.{KernelState, Transition, with_calls, with_memory, with_event, phone_at, label_of, alive_in, is_alive}
 use Rattle.cleanup.specs.Kept.{accepts, first_usable_of, kept_phone, with_kept, kept_note}
@@ -54,7 +54,7 @@ use Rattle.cleanup.specs.Sound.{IsSound, IsCaller}
 use Rattle.cleanup.proofs.Lookups.{at_insert}
 use Rattle.cleanup.proofs.SoundMemory.{from_one}
 use Rattle.cleanup.proofs.Histories.{drain_tells}
-use Rattle.kernel_core.specs.Moments.{keeping_to_send, carrying, asking, before_send_of, on_receive_of, on_accept_of, reply_of, brings_bytes, brings_bytes_of}
+use Rattle.kernel_core.specs.Moments.{keeping_to_send, carrying, asking, before_send_of, on_receive_of, on_accept_of, reply_of, brings_bytes, brings_bytes_of, cut_down, bringing}
 use Rattle.kernel_core.specs.Calling.{sent_to, call_through, is_callable, call_tested, call_over}
 use Rattle.kernel_core.specs.Receiving.{receive_first, receive_now, unawaited, next_unawaited, drop_unawaited}
 use Rattle.kernel_core.specs.Answering.{held_call, accept_for, answer_call, answer_held}
@@ -63,7 +63,7 @@ use Rattle.kernel_core.specs.Forward.{failed_forward, forward_told}
 use Rattle.kernel_core.specs.Request.{serve_request}
 use Rattle.kernel_core.specs.Kernel.{serve}
 use Rattle.kernel_core.specs.History.{served_entries}
-use Rattle.kernel_core.specs.AreaHistory.{holding, Asks, AreasFit}
+use Rattle.kernel_core.specs.AreaHistory.{holding, Asks, AreasFit, IsShare}
 use Rattle.kernel_core.proofs.InEvent.{by_test}
 use Rattle.kernel_core.proofs.HeldAreas.{IsAtOnly, area_made, area_shared, area_dropped, area_written, make_refused, share_refused, drop_refused}
 use Rattle.kernel_core.proofs.AreaSteps.{all_tell, IsOfOne, all_lead_back, after_quiet, IsOwn, own_call, own_front, kept_quiet, quiet_hand, quiet_vanishing, quiet_drop, quiet_answer, quiet_reception, quiet_delivery, quiet_passage, quiet_settle, begun, made_call, got_area, lost_area, same_areas, bytes_written}
@@ -107,8 +107,15 @@ last_rises store last next after fresh is more = grind arith
 last_stays : (store source last next after : ℕ) → store ≡ source → source < next → suc last ≡ next → after ≡ next → suc (max store last) ≡ after
 last_stays store source last next after same old is more = grind arith
 
-other_method : (n m : ℕ) → n ≡ m → (m ≡ phone_hungup → ⊥) → n ≡ phone_hungup → ⊥
-other_method n m is ne e = ne (sym is ∙ e)
+-- a method of this kind is not that of a share
+not_share : (method : ℕ) (kind : MethodKind) → kind_of method ≡ kind → (kind ≡ ShareOut → ⊥) → (kind ≡ ShareIn → ⊥) → IsShare method → ⊥
+not_share method kind is out in_ (inl e) = out (sym is ∙ ap kind_of e)
+not_share method kind is out in_ (inr e) = in_ (sym is ∙ ap kind_of e)
+
+-- the kernel's own hangup shares nothing
+no_share : IsShare phone_hungup → ⊥
+no_share (inl e) = cc
+no_share (inr e) = cc
 
 -- a task that is alive has areas of its own in the memory
 abbrev pub HasRow : Memory → TaskNo → Type 0
@@ -133,14 +140,14 @@ row_in k t s alive =
 -- a call
 
 module _ (t : TaskNo) (q : List Entry) (k : KernelState) (fits : AreasFit q k) (p : ℕ) (msg : Msg) (asks : Asks msg.args (present q)) where
-  goes_to : (u : TaskNo) (seen : Msg) (reserved : Option Label) (bytes : List ℕ) (kept : Option Label) (s : PhoneState) → AfterServed q (acceptance (quiet_hand k (record (new_call k t p msg (place.Incoming u)) { msg = seen; reserved = reserved; buffer = bytes }) kept s) (Some u))
-  goes_to u seen reserved bytes kept s =
-      let c : Call = record (new_call k t p msg (place.Incoming u)) { msg = seen; reserved = reserved; buffer = bytes } in
+  goes_to : (u : TaskNo) (args : List ℕ) (seen : Msg) (reserved : Option Label) (bytes : List ℕ) (kept : Option Label) (s : PhoneState) → (IsShare msg.method → Asks args (present q)) → AfterServed q (acceptance (quiet_hand k (record (new_call k t p msg (place.Incoming u)) { request = record { method = msg.method; args = args }; msg = seen; reserved = reserved; buffer = bytes }) kept s) (Some u))
+  goes_to u args seen reserved bytes kept s says =
+      let c : Call = record (new_call k t p msg (place.Incoming u)) { request = record { method = msg.method; args = args }; msg = seen; reserved = reserved; buffer = bytes } in
       let d : Call = record c { stamp = k.calls.next_stamp } in
       let table : CallTable = enqueue k.calls c in
       after_quiet (entry.Accepted d.number d.from d.request.method (Some u) ∷ q) (with_calls k table) (option_to_list (kept_note kept s)) (with_calls (with_kept k kept s) table)
       (record { quiet = kept_quiet kept s; memory = refl; calls = all_lead_back table })
-      (made_call q k d (Some u) table fits (λ m. at_insert k.calls.records d.number.0 m d) (λ _. asks))
+      (made_call q k d (Some u) table fits (λ m. at_insert k.calls.records d.number.0 m d) says)
 
   goes_back : (code : Code) → AfterServed q (answer_at_once k (new_call k t p msg (place.Answers t)) code)
   goes_back code =
@@ -151,40 +158,44 @@ module _ (t : TaskNo) (q : List Entry) (k : KernelState) (fits : AreasFit q k) (
       (record { quiet = (tt, tt); memory = refl; calls = all_lead_back table })
       (made_call q k d None table fits (λ m. at_insert k.calls.records d.number.0 m d) (λ _. asks))
 
-  sent : (u : TaskNo) (kind : MethodKind) → AfterServed q (sent_to u k (new_call k t p msg (place.Incoming u)) (before_send_of kind k (new_call k t p msg (place.Incoming u))))
+  sent : (u : TaskNo) (kind : MethodKind) → kind_of msg.method ≡ kind → AfterServed q (sent_to u k (new_call k t p msg (place.Incoming u)) (before_send_of kind k (new_call k t p msg (place.Incoming u))))
   sent u = by_kind where
     c : Call
     c = new_call k t p msg (place.Incoming u)
 
     plain : (bytes : List ℕ) → AfterServed q (acceptance (quiet_hand k (record (new_call k t p msg (place.Incoming u)) { buffer = bytes }) None phone.Free) (Some u))
-    plain bytes = goes_to u msg None bytes None phone.Free
+    plain bytes = goes_to u msg.args msg None bytes None phone.Free (λ _. asks)
 
     keeping : (kept : Option Label) → AfterServed q (sent_to u k (new_call k t p msg (place.Incoming u)) (keeping_to_send k (new_call k t p msg (place.Incoming u)) kept))
     keeping None = goes_back elimit
-    keeping (Some l) = goes_to u _ (Some l) [] (Some l) phone.Connecting
+    keeping (Some l) = goes_to u msg.args _ (Some l) [] (Some l) phone.Connecting (λ _. asks)
 
-    with_bytes : (told : Result (List ℕ) Code) → AfterServed q (sent_to u k (new_call k t p msg (place.Incoming u)) (carrying k (new_call k t p msg (place.Incoming u)) told))
-    with_bytes (Ok bytes) = plain bytes
-    with_bytes (Err code) = goes_back code
+    with_bytes : (IsShare msg.method → ⊥) → (told : Result (List ℕ) Code) → AfterServed q (sent_to u k (new_call k t p msg (place.Incoming u)) (carrying k (new_call k t p msg (place.Incoming u)) told))
+    with_bytes other (Ok bytes) = goes_to u (cut_args msg.args) (cut_down msg) None bytes None phone.Free (λ share. absurd (other share))
+    with_bytes other (Err code) = goes_back code
+
+    wanted : (IsShare msg.method → ⊥) → (told : Result ℕ Code) → AfterServed q (sent_to u k (new_call k t p msg (place.Incoming u)) (bringing k (new_call k t p msg (place.Incoming u)) told))
+    wanted other (Ok count) = goes_to u (cut_args msg.args) (cut_down msg) None [] None phone.Free (λ share. absurd (other share))
+    wanted other (Err code) = goes_back code
 
     wanting : (told : Result Unit Code) → AfterServed q (sent_to u k (new_call k t p msg (place.Incoming u)) (asking k (new_call k t p msg (place.Incoming u)) told))
     wanting (Ok done) = plain []
     wanting (Err code) = goes_back code
 
-    by_kind : (kind : MethodKind) → AfterServed q (sent_to u k (new_call k t p msg (place.Incoming u)) (before_send_of kind k (new_call k t p msg (place.Incoming u))))
-    by_kind ConnectMeTo = keeping (first_usable_of k t)
-    by_kind DataWrite = with_bytes (write_before_send k.memory t msg.args)
-    by_kind DataRead = wanting (read_before_send msg.args)
-    by_kind ShareOut = wanting (out_before_send k.memory t msg.args)
-    by_kind ShareIn = wanting (in_before_send msg.args)
-    by_kind _ = plain []
+    by_kind : (kind : MethodKind) → kind_of msg.method ≡ kind → AfterServed q (sent_to u k (new_call k t p msg (place.Incoming u)) (before_send_of kind k (new_call k t p msg (place.Incoming u))))
+    by_kind ConnectMeTo is = keeping (first_usable_of k t)
+    by_kind DataWrite is = with_bytes (not_share msg.method DataWrite is (λ e. cc) (λ e. cc)) (write_before_send k.memory t msg.args (used k.calls))
+    by_kind DataRead is = wanted (not_share msg.method DataRead is (λ e. cc) (λ e. cc)) (read_before_send msg.args)
+    by_kind ShareOut is = wanting (out_before_send k.memory t msg.args)
+    by_kind ShareIn is = wanting (in_before_send msg.args)
+    by_kind _ is = plain []
 
   through : (s : PhoneState) → AfterServed q (call_through k t p msg s)
   through phone.Free = fits
   through phone.Connecting = fits
   through phone.HungUp = goes_back ehangup
   through phone.Slammed = goes_back enoent
-  through (phone.Connected u) = sent u (kind_of msg.method)
+  through (phone.Connected u) = sent u (kind_of msg.method) refl
 
   tested : (s : PhoneState) → AfterServed q (call_tested k t p msg s)
   tested s = by_test (AfterServed q) (not (is_callable (kind_of msg.method))) _ _ (λ _. fits) (λ _. by_test (AfterServed q) (nat_le most_active (active_calls k.calls (label_of t p))) _ _ (λ _. fits) (λ _. through s))
@@ -210,7 +221,7 @@ hung_up t q k fits p (Some (phone.Connected u)) =
     let table : CallTable = enqueue k.calls c in
     after_quiet (entry.Accepted d.number d.from d.request.method (Some u) ∷ q) (with_calls k table) (entry.PhoneIs (label_of t p) phone.HungUp ∷ []) _
     (record { quiet = (tt, tt); memory = refl; calls = all_lead_back table })
-    (made_call q k d (Some u) table fits (λ m. at_insert k.calls.records d.number.0 m d) (λ ne. absurd (ne refl)))
+    (made_call q k d (Some u) table fits (λ m. at_insert k.calls.records d.number.0 m d) (λ share. absurd (no_share share)))
 
 hangup_done : (t : TaskNo) (q : List Entry) (k : KernelState) → AreasFit q k → (p : ℕ) (o : Option PhoneState) → AfterServed q (hangup_over k t p o)
 hangup_done t q k fits p None = fits
@@ -289,7 +300,7 @@ module _ (t : TaskNo) (q : List Entry) (k : KernelState) (fits : AreasFit q k) (
         (inr (inl (subst (AcceptsWrite t r) (sym now) (refl, accepted, rw made method))))
 
     -- a share call
-    shared : (u to : TaskNo) (target : ℕ) (from : TaskNo) (base : ℕ) → HasRow k.memory to → 1 ≤ from.0 → (c.request.method ≡ phone_hungup → ⊥) → ((made : Making) → made.caller ≡ c.from.task.0 → made.method ≡ c.request.method → (got : Holding) → SharesFrom (entries.held from.0 base q) got → Shares q made c.request.args t.0 reply.args to.0 target got) → AfterStep q (answer_to (shared_at_answer k c reply to target (spaces.share k.memory from base to target (pages_of c.request.args) (rights_of c.request.args))) (Some t) u)
+    shared : (u to : TaskNo) (target : ℕ) (from : TaskNo) (base : ℕ) → HasRow k.memory to → 1 ≤ from.0 → IsShare c.request.method → ((made : Making) → made.caller ≡ c.from.task.0 → made.method ≡ c.request.method → (got : Holding) → SharesFrom (entries.held from.0 base q) got → Shares q made c.request.args t.0 reply.args to.0 target got) → AfterStep q (answer_to (shared_at_answer k c reply to target (spaces.share k.memory from base to target (pages_of c.request.args) (rights_of c.request.args))) (Some t) u)
     shared u to target from base row some asked shares = by_told (spaces.share k.memory from base to target (pages_of c.request.args) (rights_of c.request.args)).told refl where
       by_told : (r : Result StoreNo Code) → (spaces.share k.memory from base to target (pages_of c.request.args) (rights_of c.request.args)).told ≡ r → After q (entry.Answered c.number (reply_told reply r) (Some t) ∷ option_to_list (shared_note to target (pages_of c.request.args) (rights_of c.request.args) r)) (with_calls (with_memory k (spaces.share k.memory from base to target (pages_of c.request.args) (rights_of c.request.args)).memory) (put_at k.calls (record c { reply = reply_told reply r }) (place.Answers u)))
       by_told (Err code) is =
@@ -317,16 +328,16 @@ module _ (t : TaskNo) (q : List Entry) (k : KernelState) (fits : AreasFit q k) (
     by_kind u mine lives' ConnectMeTo says = with_reply reply c.buffer (kept_phone c) (phone.Connected t) u
     by_kind u mine lives' DataWrite says = written u says (nat_lt (length c.buffer) (count_of reply.args)) refl
     by_kind u mine lives' DataRead says =
-        let told = read_accept k.memory t c.request.args reply in with_reply (reply_told reply told) (bytes_told told c.buffer) None phone.Free u
+        let told = read_accept k.memory t c.request.args reply (used k.calls) in with_reply (reply_told reply told) (bytes_told told c.buffer) None phone.Free u
     by_kind u mine lives' ShareOut says =
         let row = row_in k t safe alive in
         let caller : (u ≡ c.from.task) × (alive_in k.tasks.alive u.0 ≡ true) = subst (IsCaller k.tasks c.from) mine (safe.calls.each c.number.0 c live).caller in
-        shared u t (base_of reply.args) u (base_of c.request.args) row (row_in k u safe lives').0 (other_method c.request.method share_out says (λ e. absurd (omega (arith, e))))
+        shared u t (base_of reply.args) u (base_of c.request.args) row (row_in k u safe lives').0 (inl says)
         (λ made by method got shares. inl (method ∙ says, refl, refl, subst (λ (x : ℕ). SharesFrom (entries.held x (base_of c.request.args) q) got) (ap (λ (x : TaskNo). x.0) caller.0 ∙ sym by) shares))
     by_kind u mine lives' ShareIn says =
         let row = row_in k u safe lives' in
         let caller : (u ≡ c.from.task) × (alive_in k.tasks.alive u.0 ≡ true) = subst (IsCaller k.tasks c.from) mine (safe.calls.each c.number.0 c live).caller in
-        shared u u (base_of c.request.args) t (base_of reply.args) row (row_in k t safe alive).0 (other_method c.request.method share_in says (λ e. absurd (omega (arith, e))))
+        shared u u (base_of c.request.args) t (base_of reply.args) row (row_in k t safe alive).0 (inr says)
         (λ made by method got shares. inr (method ∙ says, ap (λ (x : TaskNo). x.0) caller.0 ∙ sym by, refl, shares))
     by_kind u mine lives' _ says = with_reply reply c.buffer None phone.Free u
 

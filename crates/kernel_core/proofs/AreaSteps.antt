@@ -13,7 +13,6 @@ use Rattle.ipc_ids.specs.declared.message.PhoneState.{PhoneState}
 use Rattle.ipc_ids.specs.declared.message.PhoneState.TheVariants as phone
 use Rattle.ipc_ids.specs.declared.entry.Entry.{Entry}
 use Rattle.ipc_ids.specs.declared.entry.Entry.TheVariants as entry
-use Rattle.ipc_ids.specs.Methods.{phone_hungup}
 use Rattle.ipc_ids.specs.Holdings as entries
 use Rattle.ipc_ids.specs.Holdings.{Holding, Making, on_top, present, last_store, making}
 use Rattle.ipc_ids.specs.AreaLaw.{IsLawfulEntry, WereLawful}
@@ -29,7 +28,7 @@ use Rattle.cleanup.specs.Kept.{kept_phone, lent_phone, with_kept, kept_note}
 use Rattle.cleanup.specs.Joins.{vanishing, answer_to, settle_for, declined_call, drop_answer, passage, passed_call, reception, delivery}
 use Rattle.cleanup.specs.Serving.{Handed}
 use Rattle.cleanup.proofs.Lookups.{at_insert, at_remove, chosen}
-use Rattle.kernel_core.specs.AreaHistory.{holding, Asks, IsMadeAs, AreasFit}
+use Rattle.kernel_core.specs.AreaHistory.{holding, Asks, IsShare, IsMadeAs, AreasFit}
 use Rattle.kernel_core.proofs.HeldAreas.{IsAtOnly}
 
 -- an entry that begins no event, and tells of no area and of no new call
@@ -110,7 +109,7 @@ made_still q r n c d same one it = record {
   number = ap (λ (x : CallNo). x.0) one.number ∙ it.number;
   asked = it.asked;
   made = same.calls n ∙ it.made ∙ ap (λ (x : Label). Came x c.request it.asked) (sym one.from) ∙ ap (λ (x : Msg). Came d.from x it.asked) (sym one.request);
-  arguments = subst (λ (x : Msg). (x.method ≡ phone_hungup → ⊥) → Asks x.args it.asked) (sym one.request) it.arguments;
+  arguments = subst (λ (x : Msg). IsShare x.method → Asks x.args it.asked) (sym one.request) it.arguments;
 }
 
 pub after_quiet : (q : List Entry) (k : KernelState) (es : List Entry) (j : KernelState) → IsQuietStep k es j → AreasFit q k → AreasFit (on_top es q) j
@@ -203,7 +202,7 @@ begun q k e areas last calls l fits = record {
 }
 
 -- a call is accepted, which has this record from then on
-pub made_call : (q : List Entry) (k : KernelState) (d : Call) (to : Option TaskNo) (new : CallTable) → AreasFit q k → ((m : ℕ) → call_at new m ≡ (if d.number.0 == m then Some d else call_at k.calls m)) → ((d.request.method ≡ phone_hungup → ⊥) → Asks d.request.args (present q)) → AreasFit (entry.Accepted d.number d.from d.request.method to ∷ q) (with_calls k new)
+pub made_call : (q : List Entry) (k : KernelState) (d : Call) (to : Option TaskNo) (new : CallTable) → AreasFit q k → ((m : ℕ) → call_at new m ≡ (if d.number.0 == m then Some d else call_at k.calls m)) → (IsShare d.request.method → Asks d.request.args (present q)) → AreasFit (entry.Accepted d.number d.from d.request.method to ∷ q) (with_calls k new)
 made_call q k d to new fits at asks = record {
   lawful = (fits.lawful, tt);
   held = fits.held;

@@ -1,6 +1,6 @@
 -- A kill keeps what the history tells of the state.
-use Rattle.std.proofs.Common.{ℕ, suc, zero, ◌≡◌, ◌+◌, ◌-◌, ◌⊎◌, Bool, true, false, not, Option, Some, None, List, [], ◌∷◌, ◌++◌, length, refl, sym, ◌∙◌, ap, subst, inl, inr, arith, set}
-use Rattle.std.specs.Prelude.{◌==◌, if◌then◌else◌, slice_get, unwrap_or}
+use Rattle.std.proofs.Common.{ℕ, ◌≡◌, ◌+◌, ◌-◌, ◌⊎◌, Bool, true, false, not, Option, Some, None, List, ◌∷◌, ◌++◌, length, refl, sym, ◌∙◌, ap, subst, inl, inr, arith, set}
+use Rattle.std.specs.Prelude.{◌==◌, if◌then◌else◌}
 use Rattle.std.proofs.lemmas.Bool.{eqb-true, cases_eq, eq-eqb, ne_eqb, false≢true}
 use Rattle.ipc_ids.specs.declared.numbers.TaskNo.{TaskNo}
 use Rattle.ipc_ids.specs.declared.entry.Entry.{Entry}
@@ -28,7 +28,10 @@ use Rattle.cleanup.proofs.Lookups.{at_insert}
 use Rattle.cleanup.proofs.Histories.{then_tells, each_tells, drain_tells}
 use Rattle.cleanup.proofs.Silence.{IsEnding, own_phones_hung_up, phones_slammed}
 use Rattle.cleanup.proofs.Queues.{IsUnanswered, incoming_settled, dispatched_settled, answers_dropped, forget_unanswered, call_from, forget_step}
-use Rattle.cleanup.proofs.Killing.{sound_kill, after_hangups, after_slams, after_incoming, after_dispatched, kill_leaves_nothing, HasNothingOf}
+use Rattle.std.proofs.lemmas.List.{length-set}
+use Rattle.kernel_core.proofs.HonestEvents.{kill_is_honest}
+use Rattle.kernel_core.proofs.Marks.{known_append, effects_known, alive_known}
+use Rattle.cleanup.proofs.Killing.{sound_kill, kill_marks, after_hangups, after_slams, after_incoming, after_dispatched, kill_leaves_nothing, HasNothingOf}
 use Rattle.cleanup.proofs.MarkChanges.{get_set_same, get_set_other, alive_at, apart, ended_here, alive_elsewhere}
 use Rattle.cleanup.proofs.Limits.{within_kill}
 use Rattle.kernel_core.proofs.ServedLimits.{within_event}
@@ -257,4 +260,8 @@ kill_fits h k t fits alive =
       limits = within_event (kill k t).state (within_kill k t fits.sound alive fits.limits);
       told = rw (past-append h (killed_entries t (kill_event k t))) (fits_later _ (kill k t).state (past_kills (past h) k fits.told fits.sound t alive));
       areas = rw (newest_first-append h (killed_entries t (kill_event k t))) (areas_kill t (newest_first h) k fits.areas fits.sound alive);
+      known =
+          let n : ℕ = length k.tasks.alive in
+          rw (kill_marks k t, length-set k.tasks.alive (t.0 - 1) false)
+          (known_append n h (killed_entries t (kill_event k t)) fits.known (alive_known k.tasks.alive t alive, effects_known n (kill_event k t).entries (kill_is_honest k t)));
     }

@@ -1,5 +1,5 @@
 -- What is handed to a join before a call is sent, and as one is received.
-use Rattle.std.proofs.Common.{◌≡◌, ℕ, ◌+◌, ◌*◌, Bool, true, false, List, Option, None, Some, Result, Ok, Err, refl, ◌∙◌, arith}
+use Rattle.std.proofs.Common.{◌≡◌, ℕ, ◌+◌, ◌*◌, Bool, true, false, Option, None, Some, Result, Ok, Err, refl, ◌∙◌, arith}
 use Rattle.std.specs.Prelude.{◌==◌, if◌then◌else◌, IsSome}
 use Rattle.ipc_ids.specs.Trace.{TraceState}
 use Rattle.ipc_ids.specs.declared.numbers.TaskNo.{TaskNo}
@@ -8,12 +8,9 @@ use Rattle.ipc_ids.specs.declared.numbers.Code.{Code}
 use Rattle.ipc_ids.specs.declared.message.Outcome.{Outcome}
 use Rattle.ipc_ids.specs.declared.message.PhoneState.TheVariants.{Connecting}
 use Rattle.ipc_ids.specs.declared.entry.Entry.{Entry}
-use Rattle.ipc_ids.specs.declared.methods.MethodKind.TheVariants.{ConnectMeTo, DataWrite, DataRead}
+use Rattle.ipc_ids.specs.declared.methods.MethodKind.TheVariants.{ConnectMeTo}
 use Rattle.ipc_ids.specs.Methods.{kind_of}
-use Rattle.address_space.specs.declared.spaces.SpaceFault.{SpaceFault}
-use Rattle.address_space.specs.declared.spaces.SpaceFault.TheVariants.{Refused, NoMemory}
-use Rattle.address_space.specs.Memory.{Tells}
-use Rattle.data_hooks.specs.DataMoments.{write_before_send, read_before_send}
+use Rattle.address_space.specs.declared.spaces.SpaceFault.TheVariants.{Refused}
 use Rattle.call_slab.specs.declared.call.Call.{Call}
 use Rattle.cleanup.specs.State.{KernelState, BoardState, phone_at}
 use Rattle.call_slab.specs.declared.call.Place.TheVariants.{Answers}
@@ -79,30 +76,10 @@ sent_keeping old new c noted l s first kind state loose told = rw (kind, first) 
     phone = rw state (phone_stays old.state l c.from.task c.from.phone.0 s.phone);
     place = rw state s.place;
     few = rw state s.few;
+    bytes = rw state s.bytes;
     kept = rw kind (kept_loose new.state l c.from.task (is_accepted c.place c.reply.code) loose);
   };
 })
-
--- a DATA_WRITE takes these bytes with it
-pub sent_with : (old : BoardState) (c : Call) (bytes : List ℕ) → IsNewCall old.state c → kind_of c.request.method ≡ DataWrite → write_before_send old.state.memory c.from.task c.request.args ≡ Ok bytes → IsSent old old c (record c { buffer = bytes }) (Ok None) (before_send old.state c)
-sent_with old c bytes s kind is = rw (kind, is) (record {
-  state = refl;
-  call = refl;
-  note = refl;
-  new_call = record { number = s.number; caller = s.caller; phone = s.phone; place = s.place; few = s.few; kept = s.kept };
-})
-
--- or none, and then it is not sent
-pub sent_without : (old : BoardState) (c : Call) (fault : SpaceFault) → kind_of c.request.method ≡ DataWrite → Tells (Err fault) (write_before_send old.state.memory c.from.task c.request.args) → IsSent old old c c (Err fault) (before_send old.state c)
-sent_without old c (Refused code) kind is = rw (kind, is) (record { state = refl; call = refl; code = refl })
-sent_without old c NoMemory kind is = refl
-
--- a DATA_READ, by what it asks for
-pub sent_asking : (old : BoardState) (c : Call) → IsNewCall old.state c → kind_of c.request.method ≡ DataRead → read_before_send c.request.args ≡ Ok tt → IsSent old old c c (Ok None) (before_send old.state c)
-sent_asking old c s kind is = rw (kind, is) (record { state = refl; call = refl; note = refl; new_call = s })
-
-pub unsent_asking : (old : BoardState) (c : Call) (code : Code) → kind_of c.request.method ≡ DataRead → read_before_send c.request.args ≡ Err code → IsSent old old c c (Err (Refused code)) (before_send old.state c)
-unsent_asking old c code kind is = rw (kind, is) (record { state = refl; call = refl; code = refl })
 
 -- a call that is not sent is a new one, which is to be answered at once
 pub unsent_new : (old new : BoardState) (c d : Call) (code : Code) (r : Result Handed Code) → IsNewCall old.state c → c.reserved ≡ None → IsAdded old.state c.from.task → IsSent old new c d (Err (Refused code)) r → IsNewCall new.state (record d { place = Answers d.from.task })
@@ -116,6 +93,7 @@ unsent_new old new c d code (Err wanted) made none added s =
       phone = made.phone;
       place = added.task;
       few = made.few;
+      bytes = made.bytes;
       kept = rw (keeps_none e none) tt;
     })
 

@@ -31,7 +31,7 @@ use Rattle.ipc_ids.proofs.Pasts.{above, follows, head_follows, past-append}
 use Rattle.call_slab.specs.declared.call.Call.{Call}
 use Rattle.call_slab.specs.declared.call.Place.{Place}
 use Rattle.call_slab.specs.declared.call.Place.TheVariants as place
-use Rattle.answerbox.specs.Calls.{CallTable, call_at, calls_at, same_place, enqueue, put_at, without_call, front, active_calls}
+use Rattle.answerbox.specs.Calls.{CallTable, call_at, calls_at, same_place, enqueue, put_at, without_call, front, active_calls, used}
 use Rattle.forwarding.specs.declared.passing.ForwardFault.{ForwardFault}
 use Rattle.forwarding.specs.declared.passing.ForwardFault.TheVariants.{NotHeld}
 use Rattle.forwarding.specs.Forwarding.{is_held, is_forwardable, msg_after, label_after}
@@ -40,7 +40,7 @@ use Rattle.address_space.specs.Memory.{Memory}
 use Rattle.address_space.specs.Memory as spaces
 use Rattle.share_hooks.specs.ShareMoments.{base_of, pages_of, rights_of, out_before_send, in_before_send, out_accept, in_accept}
 use Rattle.cleanup.specs.Sharing.{shared_note, shared_at_answer}
-use Rattle.data_hooks.specs.DataMoments.{address_of, count_of, write_before_send, read_before_send, write_accept, read_accept, read_deliver}
+use Rattle.data_hooks.specs.DataMoments.{address_of, count_of, cut_args, write_before_send, read_before_send, write_accept, read_accept, read_deliver}
 use Rattle.cleanup.specs.Areas.{made_note, gone_note, wrote_note}
 use Rattle.cleanup.specs.Data.{reply_told, bytes_told, written_at_answer, written_at_delivery, delivered_read}
 use Rattle.cleanup.specs.State.{KernelState, Transition, with_calls, with_memory, with_event, phone_at, label_of, alive_in, is_alive}
@@ -51,7 +51,7 @@ use Rattle.cleanup.proofs.Lookups.{at_insert, at_remove}
 use Rattle.cleanup.proofs.Histories.{drain_tells}
 use Rattle.cleanup.specs.Serving.{Handed, Served}
 use Rattle.kernel_core.proofs.ServedLimits.{serve_within}
-use Rattle.kernel_core.specs.Moments.{keeping_to_send, carrying, asking, before_send_of, on_receive_of, on_accept_of, reply_of, brings_bytes}
+use Rattle.kernel_core.specs.Moments.{keeping_to_send, carrying, bringing, cut_down, asking, before_send_of, on_receive_of, on_accept_of, reply_of, brings_bytes}
 use Rattle.kernel_core.specs.Calling.{sent_to, call_through, is_callable, call_tested, call_over}
 use Rattle.kernel_core.specs.Receiving.{receive_first, receive_now, unawaited, next_unawaited, drop_unawaited}
 use Rattle.kernel_core.specs.Answering.{held_call, accept_for, answer_held}
@@ -61,7 +61,9 @@ use Rattle.kernel_core.specs.Request.{serve_request}
 use Rattle.kernel_core.specs.Kernel.{serve}
 use Rattle.kernel_core.proofs.Serving.{sound_serve}
 use Rattle.kernel_core.proofs.AreaRequests.{areas_serve}
-use Rattle.kernel_core.specs.History.{is_ended, life_at, IsTold, TellsOf, PastFits, HistoryFits, served_entries}
+use Rattle.kernel_core.specs.History.{is_ended, life_at, IsTold, TellsOf, PastFits, AreOfTasks, HistoryFits, served_entries}
+use Rattle.kernel_core.proofs.HonestEvents.{serve_is_honest}
+use Rattle.kernel_core.proofs.Marks.{serve_marks, known_append, effects_known, alive_known}
 use Rattle.kernel_core.proofs.InEvent.{and_then, and_then-append, IsTask, CallerFits, IsHome, Agrees, Core, InEvent, AfterStep, AfterServed, MayLead, handed, by_test, same_place-true, noted, silent_told, memory_told, is_told, own, front_at, phone_told, joined, free_leads, caller_told}
 use Rattle.kernel_core.proofs.InEvent as one
 
@@ -145,28 +147,32 @@ module _ (t : TaskNo) (r : Ask) (p : List Tale) (k : KernelState) (inside : InEv
     c : Call
     c = new_call k t q msg (place.Incoming u)
 
-    accepted : (seen : Msg) (reserved : Option Label) (bytes : List ℕ) → InEvent (Step t.0 r) (On k.calls.next_number (Accepted t.0 q msg.method (To u.0)) ∷ p) (with_calls k (enqueue k.calls (record c { msg = seen; reserved = reserved; buffer = bytes })))
-    accepted seen reserved bytes = one.accepted (Step t.0 r) p k inside (record c { msg = seen; reserved = reserved; buffer = bytes }) u refl refl refl refl (inside.leads t.0 q u h)
+    accepted : (args : List ℕ) (seen : Msg) (reserved : Option Label) (bytes : List ℕ) → InEvent (Step t.0 r) (On k.calls.next_number (Accepted t.0 q msg.method (To u.0)) ∷ p) (with_calls k (enqueue k.calls (record c { request = record { method = msg.method; args = args }; msg = seen; reserved = reserved; buffer = bytes })))
+    accepted args seen reserved bytes = one.accepted (Step t.0 r) p k inside (record c { request = record { method = msg.method; args = args }; msg = seen; reserved = reserved; buffer = bytes }) u refl refl refl refl (inside.leads t.0 q u h)
 
     keeping : (kept : Option Label) → Is (sent_to u k c (keeping_to_send k c kept))
     keeping None = back_told (Step t.0 r) p k inside t q msg elimit refl
-    keeping (Some l) = joined (Step t.0 r) p k (On k.calls.next_number (Accepted t.0 q msg.method (To u.0))) _ (accepted _ (Some l) []) (Some l) phone.Connecting (λ v x. cc)
+    keeping (Some l) = joined (Step t.0 r) p k (On k.calls.next_number (Accepted t.0 q msg.method (To u.0))) _ (accepted msg.args _ (Some l) []) (Some l) phone.Connecting (λ v x. cc)
 
     with_bytes : (told : Result (List ℕ) Code) → Is (sent_to u k c (carrying k c told))
-    with_bytes (Ok bytes) = accepted msg None bytes
+    with_bytes (Ok bytes) = accepted (cut_args msg.args) (cut_down msg) None bytes
     with_bytes (Err code) = back_told (Step t.0 r) p k inside t q msg code refl
 
     wanting : (told : Result Unit Code) → Is (sent_to u k c (asking k c told))
-    wanting (Ok done) = accepted msg None []
+    wanting (Ok done) = accepted msg.args msg None []
     wanting (Err code) = back_told (Step t.0 r) p k inside t q msg code refl
+
+    wanted : (told : Result ℕ Code) → Is (sent_to u k c (bringing k c told))
+    wanted (Ok count) = accepted (cut_args msg.args) (cut_down msg) None []
+    wanted (Err code) = back_told (Step t.0 r) p k inside t q msg code refl
 
     by_kind : (kind : MethodKind) → Is (sent_to u k c (before_send_of kind k c))
     by_kind ConnectMeTo = keeping (first_usable_of k t)
-    by_kind DataWrite = with_bytes (write_before_send k.memory t msg.args)
-    by_kind DataRead = wanting (read_before_send msg.args)
+    by_kind DataWrite = with_bytes (write_before_send k.memory t msg.args (used k.calls))
+    by_kind DataRead = wanted (read_before_send msg.args)
     by_kind ShareOut = wanting (out_before_send k.memory t msg.args)
     by_kind ShareIn = wanting (in_before_send msg.args)
-    by_kind _ = accepted msg None []
+    by_kind _ = accepted msg.args msg None []
 
   through : (q : ℕ) (msg : Msg) (s : PhoneState) → phone_at k t q ≡ Some s → Is (call_through k t q msg s)
   through q msg phone.Free h = inside
@@ -236,7 +242,7 @@ module _ (t : TaskNo) (r : Ask) (p : List Tale) (k : KernelState) (inside : InEv
         answered u made lives' reply (kept_phone c) (phone.Connected t) (λ v x d. let same : t ≡ v = cc in absurd (step_kill t.0 t.0 r (inside.acts (rw (← same) at d))))
     by_kind u made lives' DataWrite = written u made lives' (write_accept k.memory t c.buffer reply)
     by_kind u made lives' DataRead =
-        let told = read_accept k.memory t c.request.args reply in with_bytes u made lives' (reply_told reply told) (bytes_told told c.buffer) None phone.Free (free_leads (Step t.0 r) k.tasks.alive)
+        let told = read_accept k.memory t c.request.args reply (used k.calls) in with_bytes u made lives' (reply_told reply told) (bytes_told told c.buffer) None phone.Free (free_leads (Step t.0 r) k.tasks.alive)
     by_kind u made lives' ShareOut = shared u made lives' t (base_of reply.args) (out_accept k.memory u t c.request.args reply)
     by_kind u made lives' ShareIn = shared u made lives' u (base_of c.request.args) (in_accept k.memory u t c.request.args reply)
     by_kind u made lives' _ = answered u made lives' reply None phone.Free (free_leads (Step t.0 r) k.tasks.alive)
@@ -477,4 +483,9 @@ serve_fits h k t asked fits alive = record {
   limits = serve_within k t asked fits.sound fits.limits;
   told = rw (past-append h (served_entries t asked (serve k t asked))) (past_serves (past h) k fits.told fits.sound t asked alive);
   areas = rw (newest_first-append h (served_entries t asked (serve k t asked))) (areas_serve t asked (newest_first h) k fits.areas fits.sound alive);
+  known =
+      let n : ℕ = length k.tasks.alive in
+      let s : Served = serve k t asked in
+      let of_event : AreOfTasks n (served_entries t asked s) = (alive_known k.tasks.alive t alive, known_append n s.entries (entry.Outcome s.outcome ∷ []) (effects_known n s.entries (serve_is_honest k t asked).effects) (tt, tt)) in
+      rw (serve_marks k t asked) (known_append n h (served_entries t asked s) fits.known of_event);
 }

@@ -24,7 +24,7 @@ use Rattle.ipc_ids.specs.Tables.{most_active}
 use Rattle.call_slab.specs.declared.call.Call.{Call}
 use Rattle.call_slab.specs.declared.call.Place.{Place}
 use Rattle.call_slab.specs.declared.call.Place.TheVariants.{Incoming, Dispatched, Answers}
-use Rattle.answerbox.specs.Calls.{call_at, calls_at, front, enqueue, put_at, without_call, same_place, active_calls}
+use Rattle.answerbox.specs.Calls.{call_at, calls_at, front, enqueue, put_at, without_call, same_place, active_calls, used}
 use Rattle.phone_table.specs.Phones.{is_usable}
 use Rattle.forwarding.specs.declared.passing.Forwarded.{Forwarded}
 use Rattle.forwarding.specs.declared.passing.ForwardFault.{ForwardFault}
@@ -37,7 +37,7 @@ use Rattle.cleanup.specs.Kept.{accepts, kept_phone, lent_phone, with_kept, first
 use Rattle.cleanup.specs.Sound.{IsSound}
 use Rattle.cleanup.specs.Joins.{bare_reply, new_call, acceptance, answer_at_once, reception, delivery, answer_to, code_of, lives, passed_call, passage, drop_answer}
 use Rattle.share_hooks.specs.ShareMoments.{out_before_send, in_before_send, out_accept, in_accept}
-use Rattle.data_hooks.specs.DataMoments.{write_before_send, read_before_send, write_accept, read_accept, read_deliver}
+use Rattle.data_hooks.specs.DataMoments.{cut_args, write_before_send, read_before_send, write_accept, read_accept, read_deliver}
 use Rattle.cleanup.specs.Data.{reply_told, bytes_told, delivered_read}
 use Rattle.cleanup.specs.Serving.{Handed, Served, as_it_is}
 use Rattle.cleanup.specs.Limits.{IsIdle, IsWithinLimits}
@@ -47,7 +47,7 @@ use Rattle.cleanup.proofs.Usable.{IsUsable, usable_is, kept_waits, lent_waits}
 use Rattle.cleanup.proofs.KilledPhones.{written_elsewhere}
 use Rattle.cleanup.proofs.Queues.{IsLive, sound_drop}
 use Rattle.cleanup.proofs.Limits.{within_call, within_kept, within_taken, within_over, within_put, within_settle, within_drop, within_hang_up}
-use Rattle.kernel_core.specs.Moments.{with_fifth, number_of, keeping_to_send, carrying, asking, before_send_of, on_receive_of, on_accept_of, brings_bytes}
+use Rattle.kernel_core.specs.Moments.{with_fifth, number_of, keeping_to_send, carrying, asking, before_send_of, on_receive_of, on_accept_of, brings_bytes, cut_down, bringing}
 use Rattle.kernel_core.specs.Calling.{is_callable, sent_to, call_through, call_tested, call_over, call}
 use Rattle.kernel_core.specs.Receiving.{receive_first, next_unawaited, drop_unawaited}
 use Rattle.kernel_core.specs.Answering.{held_call, accept_for, answer_call, answer_held}
@@ -104,12 +104,12 @@ module _ (t : TaskNo) (k : KernelState) (h : IsSound k) (w : IsWithinLimits k) w
 
   -- a new call with a method that a task may call with, over a phone with few active calls
   module _ (p : ℕ) (msg : Msg) (callable : not (is_callable (kind_of msg.method)) ≡ false) (few : nat_le most_active (active_calls k.calls (label_of t p)) ≡ false) where
-    made : (s : PhoneState) (place : Place) (reply : Reply) (bytes : List ℕ) → phone_at k t p ≡ Some s → (IsIdle (Some s) → ⊥) → IsWithinLimits (with_calls k (enqueue k.calls (record (new_call k t p msg place) { reply = reply; buffer = bytes })))
-    made s place reply bytes is busy =
-        within_call k (record (new_call k t p msg place) { reply = reply; buffer = bytes }) w (next_free k.tasks k.calls h.calls) (λ idle. busy (subst IsIdle is idle)) (sym (callable_method msg.method callable)) (few_of (active_calls k.calls (label_of t p)) few)
+    made : (args : List ℕ) (seen : Msg) (s : PhoneState) (place : Place) (reply : Reply) (bytes : List ℕ) → phone_at k t p ≡ Some s → (IsIdle (Some s) → ⊥) → IsWithinLimits (with_calls k (enqueue k.calls (record (new_call k t p msg place) { request = record { method = msg.method; args = args }; msg = seen; reply = reply; buffer = bytes })))
+    made args seen s place reply bytes is busy =
+        within_call k (record (new_call k t p msg place) { request = record { method = msg.method; args = args }; msg = seen; reply = reply; buffer = bytes }) w (next_free k.tasks k.calls h.calls) (λ idle. busy (subst IsIdle is idle)) (sym (callable_method msg.method callable)) (few_of (active_calls k.calls (label_of t p)) few)
 
     at_once : (s : PhoneState) (code : Code) → phone_at k t p ≡ Some s → (IsIdle (Some s) → ⊥) → Keeps (answer_at_once k (new_call k t p msg (Answers t)) code)
-    at_once s code is busy = made s (Answers t) (bare_reply code) [] is busy
+    at_once s code is busy = made msg.args msg s (Answers t) (bare_reply code) [] is busy
 
     keeping : (u : TaskNo) → phone_at k t p ≡ Some (Connected u) → (o : Option Label) → first_usable_of k t ≡ o → Keeps (sent_to u k (new_call k t p msg (Incoming u)) (keeping_to_send k (new_call k t p msg (Incoming u)) o))
     keeping u is None first = at_once (Connected u) elimit is (λ x. x)
@@ -119,20 +119,24 @@ module _ (t : TaskNo) (k : KernelState) (h : IsSound k) (w : IsWithinLimits k) w
         within_call (with_kept k (Some l) Connecting) d (within_taken k t (Some l) w first) (next_free k.tasks k.calls h.calls) (λ idle. subst IsIdle after idle) (sym (callable_method msg.method callable)) (few_of (active_calls k.calls (label_of t p)) few)
 
     plain : (u : TaskNo) → phone_at k t p ≡ Some (Connected u) → Keeps (acceptance (as_it_is k (new_call k t p msg (Incoming u))) (Some u))
-    plain u is = made (Connected u) (Incoming u) (bare_reply eok) [] is (λ x. x)
+    plain u is = made msg.args msg (Connected u) (Incoming u) (bare_reply eok) [] is (λ x. x)
 
     with_bytes : (u : TaskNo) → phone_at k t p ≡ Some (Connected u) → (told : Result (List ℕ) Code) → Keeps (sent_to u k (new_call k t p msg (Incoming u)) (carrying k (new_call k t p msg (Incoming u)) told))
-    with_bytes u is (Ok bytes) = made (Connected u) (Incoming u) (bare_reply eok) bytes is (λ x. x)
+    with_bytes u is (Ok bytes) = made (cut_args msg.args) (cut_down msg) (Connected u) (Incoming u) (bare_reply eok) bytes is (λ x. x)
     with_bytes u is (Err code) = at_once (Connected u) code is (λ x. x)
 
     wanting : (u : TaskNo) → phone_at k t p ≡ Some (Connected u) → (told : Result Unit Code) → Keeps (sent_to u k (new_call k t p msg (Incoming u)) (asking k (new_call k t p msg (Incoming u)) told))
     wanting u is (Ok done) = plain u is
     wanting u is (Err code) = at_once (Connected u) code is (λ x. x)
 
+    wanted : (u : TaskNo) → phone_at k t p ≡ Some (Connected u) → (told : Result ℕ Code) → Keeps (sent_to u k (new_call k t p msg (Incoming u)) (bringing k (new_call k t p msg (Incoming u)) told))
+    wanted u is (Ok count) = made (cut_args msg.args) (cut_down msg) (Connected u) (Incoming u) (bare_reply eok) [] is (λ x. x)
+    wanted u is (Err code) = at_once (Connected u) code is (λ x. x)
+
     sent : (u : TaskNo) → phone_at k t p ≡ Some (Connected u) → (kind : MethodKind) → Keeps (sent_to u k (new_call k t p msg (Incoming u)) (before_send_of kind k (new_call k t p msg (Incoming u))))
     sent u is ConnectMeTo = keeping u is (first_usable_of k t) refl
-    sent u is DataWrite = with_bytes u is (write_before_send k.memory t msg.args)
-    sent u is DataRead = wanting u is (read_before_send msg.args)
+    sent u is DataWrite = with_bytes u is (write_before_send k.memory t msg.args (used k.calls))
+    sent u is DataRead = wanted u is (read_before_send msg.args)
     sent u is ShareOut = wanting u is (out_before_send k.memory t msg.args)
     sent u is ShareIn = wanting u is (in_before_send msg.args)
     sent u is _ = plain u is
@@ -178,7 +182,7 @@ module _ (t : TaskNo) (k : KernelState) (h : IsSound k) (w : IsWithinLimits k) w
     accepted reply u DataWrite =
         let step = write_accept k.memory t c.buffer reply in put_answered (with_memory k step.memory) (reply_told reply step.told) u (within_memory k step.memory w) live
     accepted reply u DataRead =
-        let told = read_accept k.memory t c.request.args reply in within_put k c (record c { reply = reply_told reply told; buffer = bytes_told told c.buffer }) (Answers u) w live refl refl refl
+        let told = read_accept k.memory t c.request.args reply (used k.calls) in within_put k c (record c { reply = reply_told reply told; buffer = bytes_told told c.buffer }) (Answers u) w live refl refl refl
     accepted reply u ShareOut =
         let step = out_accept k.memory u t c.request.args reply in put_answered (with_memory k step.memory) (reply_told reply step.told) u (within_memory k step.memory w) live
     accepted reply u ShareIn =

@@ -1,5 +1,5 @@
 -- Each request keeps a sound state sound, by the definitions alone.
-use Rattle.std.proofs.Common.{◌≡◌, ℕ, ◌+◌, ◌*◌, Bool, true, false, not, Option, None, Some, Result, Ok, Err, List, refl, ap, sym, ◌∙◌, nat_le}
+use Rattle.std.proofs.Common.{◌≡◌, ℕ, ◌+◌, ◌*◌, Bool, true, false, not, Option, None, Some, Result, Ok, Err, List, refl, ap, sym, ◌∙◌, nat_le, length, ◌≤◌, arith}
 use Rattle.std.specs.Prelude.{◌==◌, if◌then◌else◌, IsSome, [], slice_index}
 use Rattle.std.proofs.lemmas.Bool.{false≢true}
 use Rattle.ipc_ids.specs.declared.numbers.TaskNo.{TaskNo}
@@ -20,7 +20,8 @@ use Rattle.ipc_ids.specs.Tables.{most_active}
 use Rattle.call_slab.specs.declared.call.Call.{Call}
 use Rattle.call_slab.specs.declared.call.Place.{Place}
 use Rattle.call_slab.specs.declared.call.Place.TheVariants.{Incoming, Dispatched, Answers}
-use Rattle.answerbox.specs.Calls.{call_at, calls_at, front, enqueue, same_place, active_calls}
+use Rattle.answerbox.specs.Calls.{call_at, calls_at, front, enqueue, same_place, active_calls, used}
+use Rattle.ipc_ids.specs.Tables.{most_buffered}
 use Rattle.answerbox.proofs.Fronts.{front_live}
 use Rattle.forwarding.specs.declared.passing.Forwarded.{Forwarded}
 use Rattle.forwarding.specs.declared.passing.ForwardFault.{ForwardFault}
@@ -28,7 +29,7 @@ use Rattle.forwarding.specs.declared.passing.ForwardFault.TheVariants.{NotHeld, 
 use Rattle.forwarding.specs.Forwarding.{msg_after, label_after}
 use Rattle.forwarding.specs.Routes.{forward_answer}
 use Rattle.address_space.specs.Memory.{Memory}
-use Rattle.data_hooks.specs.DataMoments.{write_before_send, read_before_send}
+use Rattle.data_hooks.specs.DataMoments.{cut_args, write_before_send, read_before_send}
 use Rattle.data_hooks.proofs.Lengths.{write_length}
 use Rattle.share_hooks.specs.ShareMoments.{out_before_send, in_before_send}
 use Rattle.cleanup.specs.declared.sharing.Share.TheVariants.{Out, In}
@@ -49,7 +50,7 @@ use Rattle.cleanup.proofs.SoundData.{sound_accepted_write, sound_accepted_read, 
 use Rattle.cleanup.proofs.Repeats.{by_test, drain_keeps}
 use Rattle.cleanup.proofs.Queues.{IsLive, sound_settle_for, sound_drop}
 use Rattle.cleanup.proofs.Silence.{sound_hang_up}
-use Rattle.kernel_core.specs.Moments.{with_fifth, number_of, keeping_to_send, carrying, asking, before_send_of, on_receive_of, on_accept_of, brings_bytes_of, brings_bytes}
+use Rattle.kernel_core.specs.Moments.{with_fifth, number_of, keeping_to_send, carrying, asking, before_send_of, on_receive_of, on_accept_of, brings_bytes_of, brings_bytes, cut_down, bringing}
 use Rattle.kernel_core.specs.Calling.{is_callable, sent_to, call_through, call_tested, call_over}
 use Rattle.kernel_core.specs.Receiving.{receive_first, unawaited, next_unawaited, drop_unawaited}
 use Rattle.kernel_core.specs.Answering.{held_call, accept_for, answer_call, answer_held}
@@ -97,14 +98,18 @@ module _ (t : TaskNo) (k : KernelState) (alive : is_alive k t ≡ true) (h : IsS
   Follows s = IsSound s.state
 
   -- a new call, which keeps no phone
-  made : (p : ℕ) (msg : Msg) (s : PhoneState) (place : Place) (reply : Reply) (bytes : List ℕ) → phone_at k t p ≡ Some s → not (is_callable (kind_of msg.method)) ≡ false → IsPlaced k.tasks (Some t) place → (NeedsPhone (keeper_of (kind_of msg.method)) place reply.code → ⊥) → Carries (kind_of msg.method) place bytes (slice_index msg.args 1)
-      → IsSound (with_calls k (enqueue k.calls (record (new_call k t p msg place) { reply = reply; buffer = bytes })))
-  made p msg s place reply bytes is callable placed needless carries =
-      let c : Call = record (new_call k t p msg place) { reply = reply; buffer = bytes } in
-      sound_enqueued k c h refl placed (refl, alive) (is_some (phone_at k t p) s is) (callable_method msg.method callable) (no_phone k.tasks.phones c refl needless) carries (keeps_none c refl)
+  made : (p : ℕ) (msg : Msg) (args : List ℕ) (seen : Msg) (s : PhoneState) (place : Place) (reply : Reply) (bytes : List ℕ) → phone_at k t p ≡ Some s → not (is_callable (kind_of msg.method)) ≡ false → IsPlaced k.tasks (Some t) place → (NeedsPhone (keeper_of (kind_of msg.method)) place reply.code → ⊥) → Carries (kind_of msg.method) place bytes (slice_index args 1) → used k.calls + length bytes ≤ most_buffered
+      → IsSound (with_calls k (enqueue k.calls (record (new_call k t p msg place) { request = record { method = msg.method; args = args }; msg = seen; reply = reply; buffer = bytes })))
+  made p msg args seen s place reply bytes is callable placed needless carries room =
+      let c : Call = record (new_call k t p msg place) { request = record { method = msg.method; args = args }; msg = seen; reply = reply; buffer = bytes } in
+      sound_enqueued k c h refl placed (refl, alive) (is_some (phone_at k t p) s is) (callable_method msg.method callable) (no_phone k.tasks.phones c refl needless) carries (keeps_none c refl) room
+
+  -- no bytes have room
+  no_bytes : used k.calls + length {A = ℕ} [] ≤ most_buffered
+  no_bytes = let b = h.calls.bytes in omega arith
 
   back : (p : ℕ) (msg : Msg) (s : PhoneState) (code : Code) → phone_at k t p ≡ Some s → not (is_callable (kind_of msg.method)) ≡ false → (NeedsPhone (keeper_of (kind_of msg.method)) (Answers t) code → ⊥) → Follows (answer_at_once k (new_call k t p msg (Answers t)) code)
-  back p msg s code is callable needless = made p msg s (Answers t) (bare_reply code) [] is callable refl needless (answer_carries (kind_of msg.method) t [] (slice_index msg.args 1))
+  back p msg s code is callable needless = made p msg msg.args msg s (Answers t) (bare_reply code) [] is callable refl needless (answer_carries (kind_of msg.method) t [] (slice_index msg.args 1)) no_bytes
 
   at_once : (p : ℕ) (msg : Msg) (s : PhoneState) (code : Code) → phone_at k t p ≡ Some s → not (is_callable (kind_of msg.method)) ≡ false → accepts code ≡ false → Follows (answer_at_once k (new_call k t p msg (Answers t)) code)
   at_once p msg s code is callable declines = back p msg s code is callable (declined_needless (kind_of msg.method) t code declines)
@@ -116,18 +121,24 @@ module _ (t : TaskNo) (k : KernelState) (alive : is_alive k t ≡ true) (h : IsS
 
     plain : (kind : MethodKind) → kind_of msg.method ≡ kind → (NeedsPhone (keeper_of kind) (Incoming u) c.reply.code → ⊥) → (kind ≡ DataWrite → ⊥) → Follows (acceptance (as_it_is k c) (Some u))
     plain kind same needless other =
-        made p msg (Connected u) (Incoming u) c.reply [] is callable (h.tasks.leads t.0 p u is) (λ needs. needless (rw same at needs)) (carries_none (kind_of msg.method) (Incoming u) [] (slice_index msg.args 1) (λ e. other (sym same ∙ e)))
+        made p msg msg.args msg (Connected u) (Incoming u) c.reply [] is callable (h.tasks.leads t.0 p u is) (λ needs. needless (rw same at needs)) (carries_none (kind_of msg.method) (Incoming u) [] (slice_index msg.args 1) (λ e. other (sym same ∙ e))) no_bytes
 
     keeping : (o : Option Label) → first_usable_of k t ≡ o → kind_of msg.method ≡ ConnectMeTo → Follows (sent_to u k c (keeping_to_send k c o))
     keeping None first kind = at_once p msg (Connected u) elimit is callable refl
     keeping (Some l) first kind =
         let d : Call = record c { msg = with_fifth msg (64 * t.0 + l.phone.0); reserved = Some l } in
-        sound_sent k d l h (usable_is k t l first) refl (h.tasks.leads t.0 p u is) (refl, alive) (is_some (phone_at k t p) (Connected u) is) (callable_method msg.method callable) kind tt refl
+        sound_sent k d l h (usable_is k t l first) refl (h.tasks.leads t.0 p u is) (refl, alive) (is_some (phone_at k t p) (Connected u) is) (callable_method msg.method callable) kind tt refl no_bytes
 
-    with_bytes : (told : Result (List ℕ) Code) → write_before_send k.memory t msg.args ≡ told → kind_of msg.method ≡ DataWrite → Follows (sent_to u k c (carrying k c told))
+    with_bytes : (told : Result (List ℕ) Code) → write_before_send k.memory t msg.args (used k.calls) ≡ told → kind_of msg.method ≡ DataWrite → Follows (sent_to u k c (carrying k c told))
     with_bytes (Ok bytes) copied kind =
-        made p msg (Connected u) (Incoming u) c.reply bytes is callable (h.tasks.leads t.0 p u is) (λ needs. rw kind at needs) (λ _. (write_length k.memory t msg.args bytes h.memory.spaces copied).all)
+        let got = write_length k.memory t msg.args bytes (used k.calls) h.memory.spaces copied in
+        made p msg (cut_args msg.args) (cut_down msg) (Connected u) (Incoming u) c.reply bytes is callable (h.tasks.leads t.0 p u is) (λ needs. rw kind at needs) (λ _. got.all) got.room
     with_bytes (Err code) copied kind = back p msg (Connected u) code is callable (λ needs. rw kind at needs)
+
+    wanted : kind_of msg.method ≡ DataRead → (told : Result ℕ Code) → Follows (sent_to u k c (bringing k c told))
+    wanted kind (Ok count) =
+        made p msg (cut_args msg.args) (cut_down msg) (Connected u) (Incoming u) c.reply [] is callable (h.tasks.leads t.0 p u is) (λ needs. rw kind at needs) (carries_none (kind_of msg.method) (Incoming u) [] (slice_index (cut_args msg.args) 1) (λ e. let g : DataRead ≡ DataWrite = sym kind ∙ e in cc g)) no_bytes
+    wanted kind (Err code) = back p msg (Connected u) code is callable (λ needs. rw kind at needs)
 
     wanting : (kind : MethodKind) → kind_of msg.method ≡ kind → ((place : Place) (code : Code) → NeedsPhone (keeper_of kind) place code → ⊥) → (kind ≡ DataWrite → ⊥) → (told : Result Unit Code) → Follows (sent_to u k c (asking k c told))
     wanting kind same needless other (Ok done) = plain kind same (needless (Incoming u) c.reply.code) other
@@ -135,8 +146,8 @@ module _ (t : TaskNo) (k : KernelState) (alive : is_alive k t ≡ true) (h : IsS
 
     sent : (kind : MethodKind) → kind_of msg.method ≡ kind → Follows (sent_to u k c (before_send_of kind k c))
     sent ConnectMeTo kind = keeping (first_usable_of k t) refl kind
-    sent DataWrite kind = with_bytes (write_before_send k.memory t msg.args) refl kind
-    sent DataRead kind = wanting DataRead kind (λ place code needs. needs) (λ e. cc) (read_before_send msg.args)
+    sent DataWrite kind = with_bytes (write_before_send k.memory t msg.args (used k.calls)) refl kind
+    sent DataRead kind = wanted kind (read_before_send msg.args)
     sent ShareOut kind = wanting ShareOut kind (λ place code needs. needs) (λ e. cc) (out_before_send k.memory t msg.args)
     sent ShareIn kind = wanting ShareIn kind (λ place code needs. needs) (λ e. cc) (in_before_send msg.args)
     sent other kind = plain other kind (λ needs. needs) (λ e. cc)

@@ -17,7 +17,7 @@ use Rattle.ipc_ids.specs.Methods.{kind_of}
 use Rattle.ipc_ids.specs.Tables.{most_active}
 use Rattle.call_slab.specs.declared.call.Call.{Call}
 use Rattle.call_slab.specs.declared.call.Place.TheVariants.{Incoming, Dispatched, Answers}
-use Rattle.answerbox.specs.Calls.{call_at, calls_at, front, same_place, active_calls}
+use Rattle.answerbox.specs.Calls.{call_at, calls_at, front, same_place, active_calls, used}
 use Rattle.address_space.proofs.Numbers.{next_at_make, next_at_drop, next_at_write}
 use Rattle.share_hooks.specs.ShareMoments.{out_before_send, in_before_send}
 use Rattle.share_hooks.proofs.Keeping.{out_accept_keeps, in_accept_keeps}
@@ -35,7 +35,7 @@ use Rattle.cleanup.specs.Serving.{Handed, Served}
 use Rattle.cleanup.specs.Kill.{mark_ended, kill}
 use Rattle.cleanup.proofs.Killing.{areas_last, calls_steady}
 use Rattle.cleanup.proofs.Repeats.{by_test, drain_keeps}
-use Rattle.kernel_core.specs.Moments.{keeping_to_send, carrying, asking, before_send_of, on_receive_of, on_accept_of, brings_bytes}
+use Rattle.kernel_core.specs.Moments.{keeping_to_send, carrying, asking, before_send_of, on_receive_of, on_accept_of, brings_bytes, bringing}
 use Rattle.kernel_core.specs.Calling.{is_callable, sent_to, call_through, call_tested, call_over}
 use Rattle.kernel_core.specs.Receiving.{receive_first, next_unawaited, drop_unawaited}
 use Rattle.kernel_core.specs.Answering.{held_call, accept_for, answer_call, answer_held}
@@ -64,10 +64,14 @@ module _ (k : KernelState) (t : TaskNo) (p : ℕ) (msg : Msg) where
   wanting u (Ok done) = refl
   wanting u (Err code) = refl
 
+  wanted : (u : TaskNo) (told : Result ℕ Code) → Keeps k (sent_to u k (new_call k t p msg (Incoming u)) (bringing k (new_call k t p msg (Incoming u)) told))
+  wanted u (Ok count) = refl
+  wanted u (Err code) = refl
+
   sent : (u : TaskNo) (kind : MethodKind) → Keeps k (sent_to u k (new_call k t p msg (Incoming u)) (before_send_of kind k (new_call k t p msg (Incoming u))))
   sent u ConnectMeTo = keeping u (first_usable_of k t)
-  sent u DataWrite = with_bytes u (write_before_send k.memory t msg.args)
-  sent u DataRead = wanting u (read_before_send msg.args)
+  sent u DataWrite = with_bytes u (write_before_send k.memory t msg.args (used k.calls))
+  sent u DataRead = wanted u (read_before_send msg.args)
   sent u ShareOut = wanting u (out_before_send k.memory t msg.args)
   sent u ShareIn = wanting u (in_before_send msg.args)
   sent u _ = refl

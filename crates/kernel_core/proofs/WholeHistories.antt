@@ -1,5 +1,5 @@
 -- What is told of the first states, of an event on a task that has ended, and by every history that fits.
-use Rattle.std.proofs.Common.{ℕ, suc, zero, ◌≡◌, ◌-◌, Bool, true, false, not, Option, Some, None, List, [], ◌∷◌, ◌++◌, refl, sym, ◌∙◌, ap, subst}
+use Rattle.std.proofs.Common.{ℕ, suc, zero, ◌≡◌, ◌≤◌, ◌-◌, arith, length, length-append, Bool, true, false, not, Option, Some, None, List, [], ◌∷◌, ◌++◌, refl, sym, ◌∙◌, ap, subst}
 use Rattle.std.specs.Prelude.{◌==◌, if◌then◌else◌, slice_get, unwrap_or}
 use Rattle.std.specs.Option.{option_map_or}
 use Rattle.std.specs.Ordering.{nat_cmp}
@@ -24,7 +24,8 @@ use Rattle.address_space.specs.Areas.{Area, place_of, area_in}
 use Rattle.kernel_core.specs.AreaHistory.{holding, AreasFit}
 use Rattle.kernel_core.proofs.HeldAreas.{area_in_is}
 use Rattle.kernel_core.proofs.AreaSteps.{begun}
-use Rattle.kernel_core.specs.History.{is_ended, TellsOf, PastFits, HistoryFits, gone_entries}
+use Rattle.kernel_core.specs.History.{is_ended, IsOneOf, TellsOf, PastFits, HistoryFits, gone_entries}
+use Rattle.kernel_core.proofs.Marks.{known_append, known_later}
 
 none_ended : (t : ℕ) → false ≡ is_ended [] t
 none_ended t = by_number (t == 0) where
@@ -34,7 +35,7 @@ none_ended t = by_number (t == 0) where
 
 -- before the first task
 pub start_fits : HistoryFits [] start
-start_fits = record { sound = sound_start; limits = within_start; told = told; areas = areas } where
+start_fits = record { sound = sound_start; limits = within_start; told = told; areas = areas; known = tt } where
   areas : AreasFit [] start
   areas = record {
     lawful = tt;
@@ -67,7 +68,10 @@ rows_stay (row ∷ rows) (suc i) = rows_stay rows i
 
 -- one task more
 pub task_fits : (h : List Entry) (k : KernelState) (limit : ℕ) → HistoryFits h k → HistoryFits h (with_task k limit)
-task_fits h k limit fits = record { sound = kept_task k limit fits.sound; limits = within_task k limit fits.limits; told = told; areas = areas } where
+task_fits h k limit fits = record { sound = kept_task k limit fits.sound; limits = within_task k limit fits.limits; told = told; areas = areas; known = known_later (length k.tasks.alive) (length (k.tasks.alive ++ true ∷ [])) h (one_more k.tasks.alive) fits.known } where
+  one_more : (alive : List Bool) → length alive ≤ length (alive ++ true ∷ [])
+  one_more alive = rw (length-append alive (true ∷ [])) (omega arith)
+
   areas : AreasFit (newest_first h) (with_task k limit)
   areas = record {
     lawful = fits.areas.lawful;
@@ -91,15 +95,15 @@ pub wire_fits : (h : List Entry) (k : KernelState) (t : TaskNo) (p : ℕ) (u : T
 wire_fits h k t p u fits alive target free =
     let f = fits.told in
     let a = fits.areas in
-    record { sound = kept_wired k t p u fits.sound alive target free; limits = within_wire k t p u fits.limits free; told = record { lawful = f.lawful; round = f.round; cleared = f.cleared; number = f.number; ended = f.ended; calls = f.calls }; areas = record { lawful = a.lawful; held = a.held; stores = a.stores; calls = a.calls } }
+    record { sound = kept_wired k t p u fits.sound alive target free; limits = within_wire k t p u fits.limits free; told = record { lawful = f.lawful; round = f.round; cleared = f.cleared; number = f.number; ended = f.ended; calls = f.calls }; areas = record { lawful = a.lawful; held = a.held; stores = a.stores; calls = a.calls }; known = fits.known }
 
 told_after_gone : (p : List Tale) (t n : ℕ) (o : Option Call) → TellsOf p n o → TellsOf (Head (Gone t) ∷ p) n o
 told_after_gone p t n None told = told
 told_after_gone p t n (Some c) told = record { place = told.place; origin = told.origin; forgotten = told.forgotten; caller = told.caller }
 
 -- an event that names a task that has ended changes nothing
-pub gone_fits : (h : List Entry) (k : KernelState) (t : TaskNo) → HistoryFits h k → HistoryFits (h ++ gone_entries t) k
-gone_fits h k t fits = record { sound = fits.sound; limits = fits.limits; told = rw (past-append h (gone_entries t)) (after (past h) fits.told); areas = rw (newest_first-append h (gone_entries t)) (begun (newest_first h) k (entry.Gone t) (λ u b. refl) refl (λ m. refl) tt fits.areas) } where
+pub gone_fits : (h : List Entry) (k : KernelState) (t : TaskNo) → HistoryFits h k → IsOneOf (length k.tasks.alive) (Some t) → HistoryFits (h ++ gone_entries t) k
+gone_fits h k t fits there = record { known = known_append (length k.tasks.alive) h (gone_entries t) fits.known (there, tt); sound = fits.sound; limits = fits.limits; told = rw (past-append h (gone_entries t)) (after (past h) fits.told); areas = rw (newest_first-append h (gone_entries t)) (begun (newest_first h) k (entry.Gone t) (λ u b. refl) refl (λ m. refl) tt fits.areas) } where
   after : (p : List Tale) → PastFits p k → PastFits (Head (Gone t.0) ∷ p) k
   after p f = record {
     lawful = (f.lawful, head_follows p (Gone t.0) f.round, (f.cleared, tt));

@@ -1,11 +1,11 @@
 -- What the entries so far, the newest first, tell of areas and of how calls were made, in the state
 -- of the kernel between two events.
-use Rattle.std.specs.Prelude.{ℕ, suc, ◌≡◌, ◌≤◌, List, Option, None, Some}
+use Rattle.std.specs.Prelude.{ℕ, suc, ◌≡◌, ◌≤◌, ◌⊎◌, List, Option, None, Some}
 use Rattle.ipc_ids.specs.declared.numbers.TaskNo.{TaskNo}
 use Rattle.ipc_ids.specs.declared.message.Request.TheVariants as request
 use Rattle.ipc_ids.specs.declared.entry.Entry.{Entry}
 use Rattle.ipc_ids.specs.declared.entry.Entry.TheVariants as entry
-use Rattle.ipc_ids.specs.Methods.{phone_hungup}
+use Rattle.ipc_ids.specs.Methods.{share_out, share_in}
 use Rattle.ipc_ids.specs.Holdings as entries
 use Rattle.ipc_ids.specs.Holdings.{Holding, Making, last_store, making}
 use Rattle.ipc_ids.specs.AreaLaw.{WereLawful}
@@ -25,13 +25,17 @@ abbrev pub Asks : List ℕ → Option Entry → Type 0
 Asks args (Some (entry.Head t (request.Call phone msg))) = msg.args ≡ args
 Asks args _ = ⊥
 
+-- this is the method of a share call
+abbrev pub IsShare : ℕ → Type 0
+IsShare method = (method ≡ share_out) ⊎ (method ≡ share_in)
+
 -- the entries tell how call n was made, as its record c does
 pub record IsMadeAs (q : List Entry) (n : ℕ) (c : Call) : Type 0 where
   pub number : c.number.0 ≡ n
   pub asked : Option Entry
   pub made : making n q ≡ Some (record { caller = c.from.task.0; method = c.request.method; asked = asked })
-  -- but for the kernel's own hangups, a task asked for it with these arguments
-  pub arguments : (c.request.method ≡ phone_hungup → ⊥) → Asks c.request.args asked
+  -- where it shares, a task asked for it with these arguments; a data call may have been cut down
+  pub arguments : IsShare c.request.method → Asks c.request.args asked
 
 -- the entries so far fit the memory and the calls of the state
 pub record AreasFit (q : List Entry) (k : KernelState) : Type 0 where

@@ -15,7 +15,8 @@ use Rattle.ipc_ids.specs.Methods.{kind_of}
 use Rattle.call_slab.specs.declared.call.Call.{Call}
 use Rattle.cleanup.specs.State.{KernelState}
 use Rattle.cleanup.specs.Kept.{accepts, first_usable_of, kept_note, with_kept}
-use Rattle.data_hooks.specs.DataMoments.{write_before_send, read_before_send}
+use Rattle.data_hooks.specs.DataMoments.{cut_args, write_before_send, read_before_send}
+use Rattle.answerbox.specs.Calls.{used}
 use Rattle.cleanup.specs.Joins.{accepted_to_me, accepted_me_to, with_delivery}
 use Rattle.share_hooks.specs.ShareMoments.{out_before_send, in_before_send}
 use Rattle.cleanup.specs.declared.sharing.Share.TheVariants.{Out, In}
@@ -40,20 +41,33 @@ keeping_to_send k c (Some l) =
       note = kept_note (Some l) Connecting;
     })
 
+-- the message of a data call, where the second argument is cut down to the most
+abbrev pub cut_down : Msg → Msg
+cut_down msg = record { method = msg.method; args = cut_args msg.args }
+
+-- a data call that is cut down, in what it asks and in what is received of it
+abbrev pub cut_call : Call → Call
+cut_call c = record c { request = cut_down c.request; msg = cut_down c.msg }
+
 -- before a DATA_WRITE is sent, the caller's bytes are copied
 abbrev pub carrying : KernelState → Call → Result (List ℕ) Code → Result Handed Code
-carrying k c (Ok bytes) = Ok (as_it_is k (record c { buffer = bytes }))
+carrying k c (Ok bytes) = Ok (as_it_is k (record (cut_call c) { buffer = bytes }))
 carrying k c (Err code) = Err code
 
--- a DATA_READ is sent where it asks for few bytes, a share where the area can be shared
+-- a DATA_READ is sent where it asks for few bytes, or to be cut down
+abbrev pub bringing : KernelState → Call → Result ℕ Code → Result Handed Code
+bringing k c (Ok count) = Ok (as_it_is k (cut_call c))
+bringing k c (Err code) = Err code
+
+-- a share is sent where the area can be shared
 abbrev pub asking : KernelState → Call → Result Unit Code → Result Handed Code
 asking k c (Ok done) = Ok (as_it_is k c)
 asking k c (Err code) = Err code
 
 abbrev pub before_send_of : MethodKind → KernelState → Call → Result Handed Code
 before_send_of ConnectMeTo k c = keeping_to_send k c (first_usable_of k c.from.task)
-before_send_of DataWrite k c = carrying k c (write_before_send k.memory c.from.task c.request.args)
-before_send_of DataRead k c = asking k c (read_before_send c.request.args)
+before_send_of DataWrite k c = carrying k c (write_before_send k.memory c.from.task c.request.args (used k.calls))
+before_send_of DataRead k c = bringing k c (read_before_send c.request.args)
 before_send_of ShareOut k c = asking k c (out_before_send k.memory c.from.task c.request.args)
 before_send_of ShareIn k c = asking k c (in_before_send c.request.args)
 before_send_of _ k c = Ok (as_it_is k c)

@@ -5,16 +5,17 @@ ghost use Rattle.ipc_ids.specs.Program.{fits};
 ghost use Rattle.cleanup.specs.State.{start, is_alive, phone_at, with_task, with_phone};
 ghost use Rattle.cleanup.specs.Board.{IsLimit};
 ghost use Rattle.cleanup.specs.Sound.{IsSound};
-ghost use Rattle.kernel_core.specs.Kernel.{serve, kill_event};
+ghost use Rattle.kernel_core.specs.Kernel.{serve, kill_event, next_task, spawn_event};
 ghost use Rattle.kernel_core.specs.History.{HistoryFits, served_entries, killed_entries};
 
 use crate::request::{room_of, serve_request};
+use crate::spawning::spawn;
 use cleanup::Switchboard;
 use ipc_ids::{NoMemory, Outcome, PhoneNo, PhoneState, Request, TaskNo, Trace};
 use std::alloc::Global;
 use std::marker::Model;
 
-/// The kernel of all tasks, which are added and wired before the first event.
+/// The kernel of all tasks. They are added and wired before the first event, or made by one.
 #[derive(Drop)]
 pub struct Kernel {
     board: Switchboard,
@@ -154,5 +155,51 @@ impl Kernel {
         self.board.end(who, out)?;
         self.board.count_event();
         Ok(())
+    }
+
+    /// The number that the next task will have, from 1 on; 65 once there can be no more. Takes no
+    /// memory.
+    pub fn next_task(&self) -> TaskNo
+        ensures { result ≡ next_task self.now }
+    {
+        TaskNo(self.board.tasks() + 1)
+    }
+
+    /// Makes a task with so many phones: an event. Phone 0 leads to `names`, where that is given and
+    /// has not ended; all other phones are free.
+    ///
+    /// # Errors
+    ///
+    /// `NoMemory` where no memory was found.
+    pub fn spawn(
+        &mut self,
+        limit: u32,
+        names: Option<TaskNo>,
+        out: &mut Trace,
+    ) -> Result<TaskNo, NoMemory>
+        requires limit { IsLimit limit }
+        requires few_tasks { length self.old.tasks.alive < 64 }
+        requires few_events { self.old.events < 2 ^ 24 }
+        ensures state { OnOk result (self.new ≡ (spawn_event self.old limit names).state) }
+        ensures entries { OnOk result (out.new.entries
+            ≡ out.old.entries ++ (spawn_event self.old limit names).entries) }
+        ensures number { IfOk result (λ t. t ≡ next_task self.old) }
+        ensures events { OnOk result (self.new.events ≡ self.old.events + 1) }
+        ensures unchanged { OnErr result (self.new ≡ self.old) }
+        ensures trace_unchanged { OnErr result (out.new.entries ≡ out.old.entries) }
+        ensures sound { IsSound self.new }
+        ensures history { OnOk result ((h : List Entry) → HistoryFits h self.old
+            → HistoryFits (h ++ (spawn_event self.old limit names).entries) self.new) }
+    {
+        // So a proof learns what the kernel keeps.
+        let _events = self.board.events();
+        out.reserve(2)?;
+        match spawn(&mut self.board, limit, names, out) {
+            Ok(task) => {
+                self.board.count_event();
+                Ok(task)
+            }
+            Err(NoMemory) => Err(NoMemory),
+        }
     }
 }

@@ -9,13 +9,13 @@ ghost use Rattle.cleanup.specs.Joins.{on_call, answer_to};
 ghost use Rattle.cleanup.specs.Kept.{accepts};
 ghost use Rattle.cleanup.specs.Rooms.{KeepsCalls, MayAccept, UsesRoom};
 ghost use Rattle.cleanup.specs.Serving.{DoesOrLeaves};
-ghost use Rattle.kernel_core.specs.Moments.{with_fifth, with_phone_named, number_of, reply_of, brings_bytes, before_send as before_send_of, on_receive as on_receive_of, on_accept as on_accept_of};
+ghost use Rattle.kernel_core.specs.Moments.{cut_call, cut_down, with_fifth, with_phone_named, number_of, reply_of, brings_bytes, before_send as before_send_of, on_receive as on_receive_of, on_accept as on_accept_of};
 ghost use Rattle.kernel_core.specs.Handing.{IsSent, Arrives};
 
 use address_space::SpaceFault;
 use call_slab::Call;
 use cleanup::{Arrival, Share, Switchboard, kept_note};
-use data_hooks::read_before_send;
+use data_hooks::{cut_args, read_before_send};
 use ipc_ids::{
     CallNo, Code, Entry, Label, MethodKind, Msg, NoMemory, PhoneState, Reply, TaskNo, Trace,
 };
@@ -25,8 +25,8 @@ use share_hooks::in_before_send;
 const NO_PHONE: u64 = 64;
 
 /// Before the new call is sent: the caller of a CONNECT_ME_TO keeps its first usable phone for it,
-/// and the message names the caller and the phone; a DATA_WRITE takes the caller's bytes with it.
-/// Returns what is told of it.
+/// and the message names the caller and the phone; a DATA_WRITE takes the caller's bytes with it; and
+/// a data call that asks for it is cut down. Returns what is told of it.
 ///
 /// # Errors
 ///
@@ -55,13 +55,17 @@ pub(crate) fn before_send(
         },
         MethodKind::DataWrite => match board.bytes_to_send(call.from.task, &call.request.args) {
             Ok(bytes) => {
+                cut_call(call);
                 call.buffer = bytes;
                 Ok(None)
             }
             Err(fault) => Err(fault),
         },
         MethodKind::DataRead => match read_before_send(&call.request.args) {
-            Ok(()) => Ok(None),
+            Ok(_) => {
+                cut_call(call);
+                Ok(None)
+            }
             Err(code) => Err(SpaceFault::Refused(code)),
         },
         MethodKind::ShareOut => match board.may_share_out(call.from.task, &call.request.args) {
@@ -212,6 +216,24 @@ fn with_phone_named(phone: Option<Label>, reply: &Reply) -> Reply
             }
         }
         None => *reply,
+    }
+}
+
+/// Cuts a data call down, in what it asks and in what is received of it.
+fn cut_call(call: &mut Call)
+    ensures { call.new ≡ cut_call call.old }
+{
+    call.request = cut_down(&call.request);
+    call.msg = cut_down(&call.msg);
+}
+
+/// The message of a data call, where the second argument is cut down to the most.
+fn cut_down(msg: &Msg) -> Msg
+    ensures { result ≡ cut_down msg.now }
+{
+    Msg {
+        method: msg.method,
+        args: cut_args(&msg.args),
     }
 }
 

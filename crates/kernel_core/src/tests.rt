@@ -1,17 +1,20 @@
-//! A call from task to task, a forwarded call, in `connect` calls that connect tasks, in `data`
-//! calls that carry bytes, in `share` calls that share areas, in `areas` the memory of tasks, and in
-//! `kill` the end of tasks, with ample memory.
+//! What tasks ask and are told, step by step, and the entries that it leaves, with ample memory: calls
+//! from task to task, in `connect` calls that connect tasks, in `data` calls that carry bytes, in
+//! `share` calls that share areas, in `areas` the memory of tasks, and in `kill` the end of tasks.
+//!
+//! A test has a table of steps. Functions that take such a table own the kernel and the trace.
 
 mod areas;
 mod connect;
 mod data;
+mod entries;
 mod kill;
 mod share;
 
 use crate::Kernel;
+use entries::{accepted, answered, are_same, delivered, forwarded, received};
 use ipc_ids::{
-    CallNo, Code, Entry, Label, Mode, Msg, Outcome, PhoneNo, PhoneState, Reply, Request, Short,
-    StoreNo, TaskNo, Trace,
+    Code, Entry, Label, Mode, Msg, Outcome, PhoneNo, Reply, Request, Short, TaskNo, Trace,
 };
 use std::alloc::Global;
 use std::test::Fail;
@@ -49,13 +52,52 @@ fn first_phone(task: TaskNo) -> Label {
     }
 }
 
-/// Two tasks, where the first calls the second over its phone 0.
+/// The tasks of a test, and their phones.
+#[derive(Clone, Copy)]
+enum Tasks {
+    /// The first calls the second.
+    Two,
+    /// The first calls the second, and that the third.
+    Row,
+    /// The first two call each other, and the third calls the second.
+    Ring,
+}
+
 fn two_tasks(alloc: Global) -> Result<Kernel, Fail> {
+    let mut kernel = Kernel::new(alloc);
+    kernel.add_task(2)?;
+    kernel.add_task(2)?;
+    kernel.wire(ONE, PhoneNo(0), TWO);
+    Ok(kernel)
+}
+
+fn row(alloc: Global) -> Result<Kernel, Fail> {
     let mut kernel = Kernel::new(alloc);
     kernel.add_task(1)?;
     kernel.add_task(1)?;
+    kernel.add_task(1)?;
     kernel.wire(ONE, PhoneNo(0), TWO);
+    kernel.wire(TWO, PhoneNo(0), THREE);
     Ok(kernel)
+}
+
+fn ring(alloc: Global) -> Result<Kernel, Fail> {
+    let mut kernel = Kernel::new(alloc);
+    kernel.add_task(1)?;
+    kernel.add_task(1)?;
+    kernel.add_task(1)?;
+    kernel.wire(ONE, PhoneNo(0), TWO);
+    kernel.wire(TWO, PhoneNo(0), ONE);
+    kernel.wire(THREE, PhoneNo(0), TWO);
+    Ok(kernel)
+}
+
+fn kernel_of(alloc: Global, tasks: Tasks) -> Result<Kernel, Fail> {
+    match tasks {
+        Tasks::Two => two_tasks(alloc),
+        Tasks::Row => row(alloc),
+        Tasks::Ring => ring(alloc),
+    }
 }
 
 /// What a task asks.
@@ -66,10 +108,17 @@ enum Asks<'a> {
     Answer { call: u64, reply: Reply },
     /// Pass that call on over phone 0, changed, so that it shows this phone.
     Route(u64),
+    Hangup(u64),
     Make { base: u64, pages: u64, rights: u64 },
     Lose(u64),
     Poke { at: u64, bytes: &'a [u8] },
     Peek { at: u64, count: u64 },
+    /// Be killed.
+    End,
+    /// Whether the task has ended, and there were so many events.
+    Ended(u64),
+    /// Whether the task has not ended, and there were so many events.
+    Lives(u64),
 }
 
 /// What a task is told.
@@ -78,8 +127,8 @@ enum Told<'a> {
     Done,
     Refused(Code),
     Accepted(u64),
-    /// A call that shows phone 0 of that task.
-    Received { call: u64, msg: Msg, from: TaskNo },
+    /// A call that shows this phone.
+    Received { call: u64, msg: Msg, label: Label },
     Answered { call: u64, reply: Reply },
     Empty,
     Bytes(&'a [u8]),
@@ -93,8 +142,13 @@ fn calls<'a>(who: TaskNo, phone: u64, msg: Msg, call: u64) -> Step<'a> {
     (who, Asks::Call { phone, msg }, Told::Accepted(call))
 }
 
+/// A call comes that shows phone 0 of a task.
 fn receives<'a>(who: TaskNo, call: u64, msg: Msg, from: TaskNo) -> Step<'a> {
-    (who, Asks::Receive, Told::Received { call, msg, from })
+    receives_over(who, call, msg, first_phone(from))
+}
+
+fn receives_over<'a>(who: TaskNo, call: u64, msg: Msg, label: Label) -> Step<'a> {
+    (who, Asks::Receive, Told::Received { call, msg, label })
 }
 
 fn answers<'a>(who: TaskNo, call: u64, reply: Reply) -> Step<'a> {
@@ -104,6 +158,10 @@ fn answers<'a>(who: TaskNo, call: u64, reply: Reply) -> Step<'a> {
 /// The answer of a call comes.
 fn gets<'a>(who: TaskNo, call: u64, reply: Reply) -> Step<'a> {
     (who, Asks::Receive, Told::Answered { call, reply })
+}
+
+fn ends<'a>(who: TaskNo) -> Step<'a> {
+    (who, Asks::End, Told::Done)
 }
 
 fn gets_nothing<'a>(who: TaskNo) -> Step<'a> {
@@ -148,6 +206,7 @@ fn request(asks: Asks) -> Result<Request, Fail> {
             mode: Mode::Route,
             change: Some(CHANGED),
         },
+        Asks::Hangup(phone) => Request::Hangup { phone },
         Asks::Make {
             base,
             pages,
@@ -163,6 +222,7 @@ fn request(asks: Asks) -> Result<Request, Fail> {
             None => return Err(Fail::new("too many bytes")),
         },
         Asks::Peek { at, count } => Request::Peek { at, count },
+        _ => return Err(Fail::new("no request")),
     })
 }
 
@@ -176,9 +236,9 @@ fn is_told(outcome: &Outcome, told: Told) -> bool {
             Told::Received {
                 call: number,
                 msg: asked,
-                from,
+                label: shown,
             },
-        ) => { call.0 == number && *msg == asked && *label == first_phone(from) }
+        ) => { call.0 == number && *msg == asked && *label == shown }
         (
             Outcome::Answered { call, reply },
             Told::Answered {
@@ -194,6 +254,24 @@ fn is_told(outcome: &Outcome, told: Told) -> bool {
 
 /// Whether the task is told so.
 fn does(
+    kernel: &mut Kernel,
+    who: TaskNo,
+    asks: Asks,
+    told: Told,
+    trace: &mut Trace,
+) -> Result<bool, Fail> {
+    match asks {
+        Asks::End => {
+            end_task(kernel, who, trace)?;
+            Ok(true)
+        }
+        Asks::Ended(events) => Ok(!kernel.alive(who) && kernel.events() == events),
+        Asks::Lives(events) => Ok(kernel.alive(who) && kernel.events() == events),
+        _ => is_served(kernel, who, asks, told, trace),
+    }
+}
+
+fn is_served(
     kernel: &mut Kernel,
     who: TaskNo,
     asks: Asks,
@@ -217,6 +295,30 @@ fn are_told(kernel: &mut Kernel, steps: &[Step], trace: &mut Trace) -> Result<bo
     Ok(true)
 }
 
+/// Whether the steps of the tasks are told so, and the last of them leave these entries.
+fn tells(
+    alloc: Global,
+    tasks: Tasks,
+    first: &[Step],
+    last: &[Step],
+    entries: &[Entry],
+) -> Result<bool, Fail> {
+    let mut kernel = kernel_of(alloc, tasks)?;
+    let mut trace = Trace::new(alloc);
+    if !are_told(&mut kernel, first, &mut trace)? {
+        return Ok(false);
+    }
+    trace.clear();
+    Ok(are_told(&mut kernel, last, &mut trace)? && are_same(trace.entries(), entries))
+}
+
+/// Whether the steps of the tasks are told so.
+fn runs(alloc: Global, tasks: Tasks, steps: &[Step]) -> Result<bool, Fail> {
+    let mut kernel = kernel_of(alloc, tasks)?;
+    let mut trace = Trace::new(alloc);
+    are_told(&mut kernel, steps, &mut trace)
+}
+
 fn end_task(kernel: &mut Kernel, who: TaskNo, trace: &mut Trace) -> Result<(), Fail> {
     if !kernel.alive(who) || kernel.events() >= 100 {
         return Err(Fail::new("no such task, or too many events"));
@@ -224,211 +326,54 @@ fn end_task(kernel: &mut Kernel, who: TaskNo, trace: &mut Trace) -> Result<(), F
     Ok(kernel.kill(who, trace)?)
 }
 
-/// A call over phone 0 of a task to another task.
-fn accepted(call: u64, from: TaskNo, method: u64, to: TaskNo) -> Entry {
-    Entry::Accepted {
-        call: CallNo(call),
-        from: first_phone(from),
-        method,
-        to: Some(to),
-    }
+/// Those arguments, by that method.
+fn with_args(method: u64, args: [u64; 5]) -> Msg {
+    Msg { method, args }
 }
 
-fn received(call: u64, by: TaskNo) -> Entry {
-    let call = CallNo(call);
-    Entry::Received { call, by }
+/// So many bytes from an address on, or so many pages from there with these rights, by that method.
+fn at(method: u64, base: u64, count: u64, third: u64) -> Msg {
+    with_args(method, [base, count, third, 0, 0])
 }
 
-fn answered(call: u64, reply: Reply, by: Option<TaskNo>) -> Entry {
-    let call = CallNo(call);
-    Entry::Answered { call, reply, by }
-}
-
-fn delivered(call: u64, to: TaskNo) -> Entry {
-    let call = CallNo(call);
-    Entry::Delivered { call, to }
-}
-
-/// A call that is passed on over phone 0.
-fn forwarded(call: u64, by: TaskNo, to: TaskNo) -> Entry {
-    let (call, label) = (CallNo(call), first_phone(by));
-    Entry::Forwarded {
-        call,
-        by,
-        to,
-        label,
-    }
-}
-
-/// Phone 0 of that task from now on.
-fn phone_is(task: TaskNo, state: PhoneState) -> Entry {
-    let phone = first_phone(task);
-    Entry::PhoneIs { phone, state }
-}
-
-/// An area that was made with both rights.
-fn area_made(task: TaskNo, base: u64, pages: u64, store: u64) -> Entry {
-    let (rights, store) = (3, StoreNo(store));
-    Entry::AreaMade {
-        task,
-        base,
-        pages,
-        rights,
-        store,
-    }
-}
-
-fn area_gone(task: TaskNo, base: u64) -> Entry {
-    Entry::AreaGone { task, base }
-}
-
-fn wrote(task: TaskNo, at: u64, count: u64, store: u64) -> Entry {
-    let store = StoreNo(store);
-    Entry::Wrote {
-        task,
-        at,
-        count,
-        store,
-    }
-}
-
-fn are_same(left: &[Entry], right: &[Entry]) -> bool {
-    left.len() == right.len() && left.iter().zip(right).all(|(l, r)| is_same(l, r))
-}
-
-fn is_same(left: &Entry, right: &Entry) -> bool {
-    match (left, right) {
-        (
-            Entry::Accepted {
-                call,
-                from,
-                method,
-                to,
-            },
-            Entry::Accepted {
-                call: c,
-                from: f,
-                method: m,
-                to: t,
-            },
-        ) => call == c && from == f && method == m && to == t,
-        (Entry::Received { call, by }, Entry::Received { call: c, by: b }) => call == c && by == b,
-        (
-            Entry::Forwarded {
-                call,
-                by,
-                to,
-                label,
-            },
-            Entry::Forwarded {
-                call: c,
-                by: b,
-                to: t,
-                label: l,
-            },
-        ) => call == c && by == b && to == t && label == l,
-        (
-            Entry::Answered { call, reply, by },
-            Entry::Answered {
-                call: c,
-                reply: r,
-                by: b,
-            },
-        ) => { call == c && reply == r && by == b }
-        (Entry::Delivered { call, to }, Entry::Delivered { call: c, to: t }) => {
-            call == c && to == t
-        }
-        _ => is_same_end(left, right) || is_same_memory(left, right),
-    }
-}
-
-/// Whether both are the same entry of the end of a task or of a call.
-fn is_same_end(left: &Entry, right: &Entry) -> bool {
-    match (left, right) {
-        (Entry::Vanished(call), Entry::Vanished(c)) => call == c,
-        (Entry::Forgotten(call), Entry::Forgotten(c)) => call == c,
-        (Entry::Dropped { call, at }, Entry::Dropped { call: c, at: a }) => call == c && at == a,
-        (Entry::PhoneIs { phone, state }, Entry::PhoneIs { phone: p, state: s }) => {
-            phone == p && state == s
-        }
-        _ => false,
-    }
-}
-
-/// Whether both are the same entry of an area or of bytes.
-fn is_same_memory(left: &Entry, right: &Entry) -> bool {
-    match (left, right) {
-        (
-            Entry::AreaMade {
-                task,
-                base,
-                pages,
-                rights,
-                store,
-            },
-            Entry::AreaMade {
-                task: t,
-                base: b,
-                pages: p,
-                rights: r,
-                store: s,
-            },
-        ) => task == t && base == b && pages == p && rights == r && store == s,
-        (Entry::AreaGone { task, base }, Entry::AreaGone { task: t, base: b }) => {
-            task == t && base == b
-        }
-        (
-            Entry::Wrote {
-                task,
-                at,
-                count,
-                store,
-            },
-            Entry::Wrote {
-                task: t,
-                at: a,
-                count: c,
-                store: s,
-            },
-        ) => task == t && at == a && count == c && store == s,
-        _ => false,
+/// A reply with two arguments.
+fn reply(code: Code, at: u64, count: u64) -> Reply {
+    Reply {
+        code,
+        args: [at, count, 0, 0, 0],
     }
 }
 
 #[test]
 fn a_call_is_answered(rt: HostRuntime) -> Result<(), Fail> {
-    let mut kernel = Kernel::new(rt.alloc());
-    assert_eq!(rt; kernel.add_task(64), Ok(ONE));
-    assert_eq!(rt; kernel.add_task(64), Ok(TWO));
-    kernel.wire(ONE, PhoneNo(0), TWO);
     let steps = [
         calls(ONE, 0, ASKED, 1),
         receives(TWO, 1, ASKED, ONE),
         answers(TWO, 1, GIVEN),
         gets(ONE, 1, GIVEN),
         gets_nothing(ONE),
+        refuses(
+            ONE,
+            Asks::Call {
+                phone: 2,
+                msg: ASKED,
+            },
+            Code::ENOENT,
+        ),
+        (ONE, Asks::Lives(6), Told::Done),
     ];
-    let mut trace = Trace::new(rt.alloc());
-    assert!(rt; are_told(&mut kernel, &steps, &mut trace)?);
     let entries = [
         accepted(1, ONE, 512, TWO),
         received(1, TWO),
         answered(1, GIVEN, Some(TWO)),
         delivered(1, ONE),
     ];
-    assert!(rt; are_same(trace.entries(), &entries));
-    assert_eq!(rt; kernel.events(), 5);
+    assert!(rt; tells(rt.alloc(), Tasks::Two, &[], &steps, &entries)?);
     Ok(())
 }
 
 #[test]
 fn a_call_is_forwarded(rt: HostRuntime) -> Result<(), Fail> {
-    let mut kernel = Kernel::new(rt.alloc());
-    assert_eq!(rt; kernel.add_task(1), Ok(ONE));
-    assert_eq!(rt; kernel.add_task(1), Ok(TWO));
-    assert_eq!(rt; kernel.add_task(1), Ok(THREE));
-    kernel.wire(ONE, PhoneNo(0), TWO);
-    kernel.wire(TWO, PhoneNo(0), THREE);
     let (call, reply) = (1, GIVEN);
     let steps = [
         calls(ONE, 0, ASKED, 1),
@@ -440,8 +385,6 @@ fn a_call_is_forwarded(rt: HostRuntime) -> Result<(), Fail> {
         gets_nothing(TWO),
         gets(ONE, 1, GIVEN),
     ];
-    let mut trace = Trace::new(rt.alloc());
-    assert!(rt; are_told(&mut kernel, &steps, &mut trace)?);
     let entries = [
         accepted(1, ONE, 512, TWO),
         received(1, TWO),
@@ -450,6 +393,6 @@ fn a_call_is_forwarded(rt: HostRuntime) -> Result<(), Fail> {
         answered(1, GIVEN, Some(THREE)),
         delivered(1, ONE),
     ];
-    assert!(rt; are_same(trace.entries(), &entries));
+    assert!(rt; tells(rt.alloc(), Tasks::Row, &[], &steps, &entries)?);
     Ok(())
 }

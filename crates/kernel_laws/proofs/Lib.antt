@@ -3,3 +3,9 @@ mod KillOrder
 mod KilledAreas
 mod KillLaws
 mod ReceiveLaws
+mod PoolChanges
+mod PoolSteps
+mod KilledPool
+mod ServedPool
+mod FullPool
+mod SpawnLaws

@@ -1,2 +1,4 @@
 pub mod KillLaws
+pub mod PoolLaws
 pub mod ReceiveLaws
+pub mod SpawnLaws
