@@ -5,9 +5,9 @@ use Rattle.std.specs.List.{fold}
 use mathlib.Core.Bool.{cond}
 use Rattle.ipc_ids.specs.declared.op.Body.{Body}
 use Rattle.script_reader.specs.declared.plan.Kind.{Kind}
-use Rattle.script_reader.specs.declared.plan.Kind.TheVariants.{Async}
+use Rattle.script_reader.specs.declared.plan.Kind.TheVariants.{Async, Block}
 use Rattle.script_reader.specs.declared.plan.TaskPlan.{TaskPlan}
-use Rattle.script_reader.specs.Sound.{fibrils, connections, IsAsyncTask, IsTaskOf, IsSoundTask}
+use Rattle.script_reader.specs.Sound.{fibrils, connections, IsAsyncTask, IsBlockTask, IsLimit, IsTaskOf, IsSoundTask}
 
 one_of : (c : Bool) → cond (not c) 1 0 + cond c 1 0 ≡ 1
 one_of true = refl
@@ -44,3 +44,7 @@ few_bodies task sound is = few_of task (subst (λ (k : Kind). IsTaskOf k task) i
 -- the same of bodies that are known by an equation
 pub few_here : (task : TaskPlan) (bodies : List Body) → bodies ≡ task.bodies → IsSoundTask task → task.kind ≡ Async → length bodies ≤ 2 ^ 16
 few_here task bodies same sound is = rw same (few_bodies task sound is)
+
+-- the blocks of a sound block server are few
+pub blocks_within : (task : TaskPlan) → IsSoundTask task → task.kind ≡ Block → IsLimit task.blocks
+blocks_within task sound is = let it : IsBlockTask task = subst (λ (k : Kind). IsTaskOf k task) is sound.of_kind in it.blocks

@@ -1,5 +1,6 @@
 -- The generated script is sound, and generated events are on its tasks.
-use Rattle.std.proofs.Common.{◌≡◌, ◌≢◌, ℕ, zero, suc, ◌+◌, ◌-◌, ◌/◌, ◌%◌, ◌^◌, ◌<◌, ◌≤◌, List, [], ◌∷◌, ◌++◌, length, get_or, map, refl, sym, ap, ◌∙◌, arith, true, false, Some, zero-add, append_assoc, append-nil}
+use Rattle.std.proofs.Common.{◌≡◌, ◌≢◌, ℕ, zero, suc, ◌+◌, ◌-◌, ◌/◌, ◌%◌, ◌^◌, ◌<◌, ◌≤◌, List, [], ◌∷◌, ◌++◌, length, get_or, map, refl, sym, ap, ◌∙◌, arith, true, false, Some, zero-add, append_assoc, append-nil, subst}
+use Rattle.script_reader.specs.declared.plan.TaskPlan.{TaskPlan}
 use Rattle.std.specs.Prelude.{All, AllPairs, Bool, if◌then◌else◌, ◌==◌}
 use Rattle.std.specs.Fmt.{decimal, digits}
 use Rattle.std.specs.List.{flat_map, list_all, range_with_len}
@@ -17,7 +18,8 @@ use Rattle.script_reader.specs.declared.plan.Kind.TheVariants.{Naming}
 use Rattle.script_reader.specs.declared.plan.Wire.{Wire}
 use Rattle.script_reader.specs.Names.{ns_name}
 use Rattle.script_reader.specs.Ranges.{IsInRange, IsRawOp}
-use Rattle.script_reader.specs.Schedule.{IsOnTaskOf, task_of_event}
+use Rattle.script_reader.specs.Schedule.{IsOnTaskOf, task_of_event, MayAllCome}
+use Rattle.script_reader.proofs.EventTasks.{all_may}
 use Rattle.script_reader.specs.Sound.{IsRawBody, IsSoundTask, Leads, IsSound}
 use Rattle.script_reader.specs.Word.{is_name, name_of}
 use Rattle.schedule_replay.specs.Generator.{answer_one, below, call_over, event_of, generated_events, generated_name, generated_operations, generated_plan, generated_task, generated_wire, next_number, wires_of}
@@ -156,6 +158,10 @@ wires_are : generated_plan.wires ≡ map wire_at (below 240)
 unfolding generated_plan
 wires_are = refl
 
+templates_are : generated_plan.templates ≡ []
+unfolding generated_plan
+templates_are = refl
+
 pub tasks_are : generated_plan.tasks ≡ map generated_task (below 16)
 unfolding generated_plan
 tasks_are = refl
@@ -182,7 +188,20 @@ generated_is_sound = record {
   wires_lead = rw (tasks_are, wires_are) (all_made (Leads (map generated_task (below 16))) wire_at 240 wire_leads);
   phones_differ = rw wires_are (all_pairs_made (λ a b. a.from ≡ b.from → a.phone ≢ b.phone) wire_at 240 (λ i j lt few. phones_differ i j lt));
   beside_service = rw tasks_are (λ i d lt has. absurd cc);
+  few_templates = rw templates_are (omega arith);
+  template_names_differ = rw templates_are (λ i j d lt below. absurd (omega arith));
+  templates_apart = rw templates_are (λ k d lt. absurd (omega arith));
+  sound_templates = rw templates_are (λ k d lt. absurd (omega arith));
+  raw_or_async = rw templates_are (λ k d lt. absurd (omega arith));
 }
+
+-- the plan of these parts
+pub plan_is : (tasks : List TaskPlan) (wires : List Wire) (templates : List TaskPlan) → tasks ≡ generated_plan.tasks → wires ≡ generated_plan.wires → templates ≡ [] → record { tasks = tasks; wires = wires; templates = templates } ≡ generated_plan
+unfolding generated_plan
+plan_is tasks wires templates a b c = rw (a, b, c) refl
+
+pub parts_are_sound : (tasks : List TaskPlan) (wires : List Wire) (templates : List TaskPlan) → tasks ≡ generated_plan.tasks → wires ≡ generated_plan.wires → templates ≡ [] → IsSound (record { tasks = tasks; wires = wires; templates = templates })
+parts_are_sound tasks wires templates a b c = subst IsSound (sym (plan_is tasks wires templates a b c)) generated_is_sound
 
 -- ---- the events
 
@@ -209,6 +228,9 @@ generated_on_tasks x zero = All-nil (IsOnTaskOf generated_plan)
 generated_on_tasks x (suc count) =
     All-cons (IsOnTaskOf generated_plan) (event_of (next_number x)) (generated_events (next_number x) count)
     (event_on_task (next_number x) (number_fits x)) (generated_on_tasks (next_number x) count)
+
+pub generated_may : (x count : ℕ) → MayAllCome (length generated_plan.tasks) (length generated_plan.templates) (generated_events x count)
+generated_may x count = all_may (length generated_plan.tasks) (length generated_plan.templates) (generated_events x count) (generated_on_tasks x count)
 
 pub generated_events_count : (x count : ℕ) → length (generated_events x count) ≡ count
 generated_events_count x zero = refl

@@ -9,3 +9,8 @@ pub mod Stepping
 pub mod Taking
 pub mod UnderWay
 pub mod Bodies
+pub mod Spawning
+mod Refusals
+mod ServiceHistories
+pub mod ServiceRuns
+pub mod LawfulRuns

@@ -1,6 +1,6 @@
 -- A program's own entries, behind an event's others, tell nothing of the kernel.
 use Rattle.std.proofs.Common.{ℕ, suc, ◌≡◌, Option, Some, None, List, [], ◌∷◌, ◌++◌, refl, ap, ◌∙◌, subst, sym}
-use Rattle.std.specs.Prelude.{⊤}
+use Rattle.std.specs.Prelude.{⊤, length}
 use Rattle.ipc_ids.specs.declared.numbers.TaskNo.{TaskNo}
 use Rattle.ipc_ids.specs.declared.message.Request.{Request}
 use Rattle.ipc_ids.specs.declared.entry.Entry.{Entry}
@@ -14,7 +14,8 @@ use Rattle.call_slab.specs.declared.call.Call.{Call}
 use Rattle.answerbox.specs.Calls.{call_at}
 use Rattle.cleanup.specs.State.{KernelState}
 use Rattle.kernel_core.specs.AreaHistory.{IsMadeAs, AreasFit}
-use Rattle.kernel_core.specs.History.{TellsOf, PastFits, HistoryFits}
+use Rattle.kernel_core.specs.History.{TellsOf, PastFits, AreOfTasks, HistoryFits}
+use Rattle.kernel_core.proofs.Marks.{known_append}
 use Rattle.kernel_core.proofs.AreaSteps.{TellsTheSame}
 
 -- an entry that tells of a fibril
@@ -110,10 +111,10 @@ has_head h rest t asked =
     let now = has_event rest (Head (Step t.0 (ask asked)) ∷ past h) (Step t.0 (ask asked)) refl in
     (now.0, ap event (past-append h (entry.Head t asked ∷ rest)) ∙ now.1)
 
--- behind the entries of a system call a program's own may stand
-pub own_entries_fit : (h rest own : List Entry) (t : TaskNo) (asked : Request) (k : KernelState) → AreOwn own
+-- behind the entries of a system call a program's own may stand, where they are of a task that there is
+pub own_entries_fit : (h rest own : List Entry) (t : TaskNo) (asked : Request) (k : KernelState) → AreOwn own → AreOfTasks (length k.tasks.alive) own
     → HistoryFits (h ++ entry.Head t asked ∷ rest) k → HistoryFits ((h ++ entry.Head t asked ∷ rest) ++ own) k
-own_entries_fit h rest own t asked k are fits =
+own_entries_fit h rest own t asked k are known fits =
     let before : List Entry = h ++ entry.Head t asked ∷ rest in
     let now = has_head h rest t asked in
     record {
@@ -121,4 +122,5 @@ own_entries_fit h rest own t asked k are fits =
       limits = fits.limits;
       told = rw (past-append before own) (own_past own are (past before) k now.0 now.1 fits.told);
       areas = rw (newest_first-append before own) (own_areas own (newest_first before) k are fits.areas);
+      known = known_append (length k.tasks.alive) before own fits.known known;
     }

@@ -80,7 +80,7 @@ module _ (before now : RunState) (task : TaskNo) (request : Request) (it : Asker
       → kernel ≡ (serve before.kernel task request).state
       → outcome ≡ (serve before.kernel task request).outcome
       → new ≡ after old outcome
-      → record { kernel = kernel; programs = set before.programs place new } ≡ (step now task).state
+      → record { kernel = kernel; programs = set before.programs place new; templates = before.templates; names = before.names } ≡ (step now task).state
   stepped place outcome old new kernel same at is kernel_is outcome_is new_is =
       let program : old ≡ it.program = is_program place old at is in
       rw (kernel_is, new_is, program, outcome_is, at) (sym (ap (λ (n : RunTransition). n.state) (steps_now same)))

@@ -2,7 +2,6 @@
 use Rattle.std.proofs.Common.{◌≡◌, ℕ, zero, suc, ◌≤◌, ◌<◌, List, [], ◌∷◌, length, set, refl, Result, Ok, Err, subst, sym, ap, arith}
 use Rattle.std.specs.Prelude.{◌+◌, get_or, OnOk, OnErr}
 use Rattle.ipc_ids.specs.declared.numbers.TaskNo.{TaskNo}
-use Rattle.ipc_ids.specs.declared.op.Body.{Body}
 use Rattle.script_reader.specs.declared.plan.Kind.{Kind}
 use Rattle.script_reader.specs.declared.plan.Kind.TheVariants as kind
 use Rattle.script_reader.specs.declared.plan.TaskPlan.{TaskPlan}
@@ -44,14 +43,15 @@ took_step r n m place ps old new took same is h few more =
     let now : taken new ≤ taken old + 1 = one_more_at_most r old new took same in
     took_set m place ps new (omega (arith, before, now, more)) (took_more n m ps (omega (arith, more)) few)
 
-none_taken : (me : TaskNo) (k : Kind) (bodies : List Body) → taken (program_by me k bodies) ≡ 0
-none_taken me kind.Naming bodies = refl
-none_taken me kind.Raw bodies = refl
-none_taken me kind.Async bodies = refl
+pub none_taken : (me : TaskNo) (task : TaskPlan) (k : Kind) → taken (program_by me task k) ≡ 0
+none_taken me task kind.Naming = refl
+none_taken me task kind.Raw = refl
+none_taken me task kind.Async = refl
+none_taken me task kind.Block = refl
 
 -- before the first event no program took an outcome
 pub took_none : (n t : ℕ) (tasks : List TaskPlan) → TookFew n (programs_from t tasks)
 took_none n t [] = tt
 took_none n t (task ∷ tasks) =
-    let none : taken (program_of t task) ≡ 0 = none_taken (record { 0 = t }) task.kind task.bodies in
+    let none : taken (program_of t task) ≡ 0 = none_taken (record { 0 = t }) task task.kind in
     (omega (arith, none), took_none n (t + 1) tasks)

@@ -1,6 +1,6 @@
 -- The runs that the generator makes of a number: a script of sixteen tasks that call one another, the
 -- same for every number, and events, which come from the number.
-use Rattle.std.specs.Prelude.{ℕ, zero, suc, ◌+◌, ◌*◌, ◌/◌, ◌%◌, ◌^◌, ◌==◌, if◌then◌else◌, false, List, [], ◌∷◌, ◌++◌, map, codes}
+use Rattle.std.specs.Prelude.{ℕ, zero, suc, ◌+◌, ◌*◌, ◌/◌, ◌%◌, ◌^◌, ◌==◌, if◌then◌else◌, false, List, [], ◌∷◌, ◌++◌, map, codes, None}
 use Rattle.std.specs.Fmt.{decimal}
 use Rattle.std.specs.List.{range_with_len, flat_map}
 use Rattle.ipc_ids.specs.Tables.{most_phones}
@@ -55,6 +55,8 @@ generated_task k = record {
   kind = Raw;
   limit = most_phones;
   bodies = record { connection = false; ops = generated_operations } ∷ [];
+  blocks = 0;
+  service = None;
 }
 
 -- phone p of gK leads to the task that stands p + 1 after it, where g0 comes after g15
@@ -74,6 +76,7 @@ unfoldable pub generated_plan : Plan
 generated_plan = record {
   tasks = map generated_task (below generated_count);
   wires = flat_map wires_of (below generated_count);
+  templates = [];
 }
 
 -- ---- the events

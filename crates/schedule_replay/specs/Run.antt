@@ -1,11 +1,12 @@
 -- A run: what the events of a schedule make of a script's tasks, and the entries that tell of it.
-use Rattle.std.specs.Prelude.{ℕ, Bool, ◌≡◌, ◌+◌, ◌-◌, if◌then◌else◌, List, [], ◌∷◌, ◌++◌, Option, None, Some, slice_get, slice_set, refl}
+use Rattle.std.specs.Prelude.{ℕ, Bool, ◌≡◌, ◌+◌, ◌-◌, length, if◌then◌else◌, List, [], ◌∷◌, ◌++◌, Option, None, Some, slice_get, slice_set, refl}
 use Rattle.std.specs.Coded.{Coded, code_by, coded×, coded_list, coded_bool}
+use Rattle.script_reader.specs.Sound.{has_service}
 use Rattle.ipc_ids.specs.declared.numbers.TaskNo.{TaskNo}
 use Rattle.ipc_ids.specs.declared.message.Request.{Request}
 use Rattle.ipc_ids.specs.declared.message.Request.TheVariants as ask
 use Rattle.ipc_ids.specs.declared.message.Event.{Event}
-use Rattle.ipc_ids.specs.declared.message.Event.TheVariants.{Step, Kill, Hangup}
+use Rattle.ipc_ids.specs.declared.message.Event.TheVariants.{Step, Kill, Hangup, Spawn}
 use Rattle.ipc_ids.specs.declared.entry.Entry.{Entry}
 use Rattle.ipc_ids.specs.Trace.{TraceState}
 use Rattle.ipc_ids.specs.declared.op.Op.{Op}
@@ -14,23 +15,28 @@ use Rattle.script_reader.specs.declared.plan.Kind.{Kind}
 use Rattle.script_reader.specs.declared.plan.Kind.TheVariants as kind
 use Rattle.script_reader.specs.declared.plan.TaskPlan.{TaskPlan}
 use Rattle.script_reader.specs.Plan.{Plan}
+use Rattle.script_reader.specs.Schedule.{MayCome, MayAllCome}
 use Rattle.cleanup.specs.State.{KernelState, Transition, is_alive, with_task}
 use Rattle.cleanup.specs.Serving.{Served}
 use Rattle.cleanup.specs.State as kernel
-use Rattle.kernel_core.specs.Kernel.{serve, kill_event}
+use Rattle.kernel_core.specs.Kernel.{serve, kill_event, next_task, spawn_event}
 use Rattle.kernel_core.specs.History.{served_entries, killed_entries, gone_entries}
 use Rattle.raw_program.specs.Raw as raw
 use Rattle.naming_service.specs.Naming as naming
 use Rattle.async_task.specs.Program as async_task
+use Rattle.block_server.specs.Blocks as block
 use Rattle.schedule_replay.specs.declared.any.AnyProgram.{AnyProgram}
 use Rattle.schedule_replay.specs.declared.any.AnyProgram.TheVariants as any
 use Rattle.schedule_replay.specs.Any.{wanted, after, entries}
 use Rattle.schedule_replay.specs.Wiring.{with_wires, wires_to_service}
 
--- the kernel, and the program of each task from the first on
+-- the kernel, the program of each task from the first on, what more tasks can be made from, and the naming service,
+-- where there is one
 pub record RunState : Type 0 where
   pub kernel : KernelState
   pub programs : List AnyProgram
+  pub templates : List TaskPlan
+  pub names : Option TaskNo
 
 -- a run, and whether memory was wanting in an event
 pub record ReplayState : Type 0 where
@@ -52,15 +58,16 @@ abbrev pub ops_of : List Body → List Op
 ops_of [] = []
 ops_of (body ∷ bodies) = body.ops
 
--- a program before its first step, by the number and the kind of its task
-abbrev pub program_by : TaskNo → Kind → List Body → AnyProgram
-program_by me kind.Naming bodies = any.Naming naming.started
-program_by me kind.Raw bodies = any.Raw (raw.started (ops_of bodies))
-program_by me kind.Async bodies = any.Async (record { state = async_task.started me bodies; taken = 0 })
+-- a program before its first step, by the number, the plan and the kind of its task
+abbrev pub program_by : TaskNo → TaskPlan → Kind → AnyProgram
+program_by me task kind.Naming = any.Naming naming.started
+program_by me task kind.Raw = any.Raw (raw.started (ops_of task.bodies))
+program_by me task kind.Async = any.Async (record { state = async_task.started me task.bodies; taken = 0 })
+program_by me task kind.Block = any.Block (block.started task.blocks task.service)
 
 -- the program of a task with this number, before its first step
 abbrev pub program_of : ℕ → TaskPlan → AnyProgram
-program_of t task = program_by (record { 0 = t }) task.kind task.bodies
+program_of t task = program_by (record { 0 = t }) task task.kind
 
 -- those of all tasks, the first of which has this number
 abbrev pub programs_from : ℕ → List TaskPlan → List AnyProgram
@@ -71,13 +78,23 @@ programs_from t (task ∷ tasks) = program_of t task ∷ programs_from (t + 1) t
 abbrev pub with_service : List TaskPlan → KernelState
 with_service tasks = with_wires (with_tasks kernel.start tasks) (wires_to_service tasks)
 
+-- the naming service, where there is one: the first task
+abbrev pub service_of : List TaskPlan → Option TaskNo
+service_of tasks = if has_service tasks then Some (record { 0 = 1 }) else None
+
 -- the tasks of the script, then its wires, those to the naming service first; there is no call yet
 abbrev pub start : Plan → RunState
 start plan =
     record {
       kernel = with_wires (with_service plan.tasks) plan.wires;
       programs = programs_from 1 plan.tasks;
+      templates = plan.templates;
+      names = service_of plan.tasks;
     }
+
+-- the programs stay
+abbrev pub with_kernel : RunState → KernelState → RunState
+with_kernel now kernel = record { kernel = kernel; programs = now.programs; templates = now.templates; names = now.names }
 
 -- the program of a task that has not ended
 abbrev pub program_at : RunState → TaskNo → Option AnyProgram
@@ -103,6 +120,8 @@ step_served now task program served =
       state = record {
         kernel = served.state;
         programs = slice_set now.programs (task.0 - 1) (after program served.outcome);
+        templates = now.templates;
+        names = now.names;
       };
       entries = served_entries task (wanted program) served ++ entries program served.outcome;
     }
@@ -120,7 +139,7 @@ step now task = step_by now task (program_at now task)
 abbrev pub request_served : RunState → TaskNo → Request → Served → RunTransition
 request_served now task request served =
     record {
-      state = record { kernel = served.state; programs = now.programs };
+      state = with_kernel now served.state;
       entries = served_entries task request served;
     }
 
@@ -137,7 +156,7 @@ hangup now task phone = request now task (ask.Hangup phone)
 abbrev pub killed : RunState → TaskNo → Transition → RunTransition
 killed now task done =
     record {
-      state = record { kernel = done.state; programs = now.programs };
+      state = with_kernel now done.state;
       entries = killed_entries task done;
     }
 
@@ -145,11 +164,41 @@ killed now task done =
 abbrev pub kill : RunState → TaskNo → RunTransition
 kill now task = if is_alive now.kernel task then killed now task (kill_event now.kernel task) else gone now task
 
+-- the next task is made, with a program of its own
+abbrev pub spawned : RunState → TaskPlan → Transition → RunTransition
+spawned now plan done =
+    record {
+      state = record {
+        kernel = done.state;
+        programs = now.programs ++ program_of (next_task now.kernel).0 plan ∷ [];
+        templates = now.templates;
+        names = now.names;
+      };
+      entries = done.entries;
+    }
+
+-- from this template, where there is one
+abbrev pub spawn_by : RunState → Option TaskPlan → RunTransition
+spawn_by now None = record { state = now; entries = [] }
+spawn_by now (Some plan) = spawned now plan (spawn_event now.kernel plan.limit now.names)
+
+abbrev pub spawn : RunState → ℕ → RunTransition
+spawn now place = spawn_by now (slice_get now.templates place)
+
+-- the event is on a task that was made, or makes one from a template while there are few
+abbrev pub MayHappen : RunState → Event → Type 0
+MayHappen now e = MayCome (length now.kernel.tasks.alive) (length now.templates) e
+
+-- so does each of these, after those before it
+abbrev pub MayAllHappen : RunState → List Event → Type 0
+MayAllHappen now events = MayAllCome (length now.kernel.tasks.alive) (length now.templates) events
+
 -- what an event makes of the state
 abbrev pub turn : RunState → Event → RunTransition
 turn now (Step task) = step now task
 turn now (Kill task) = kill now task
 turn now (Hangup task phone) = hangup now task phone
+turn now (Spawn place) = spawn now place
 
 -- the entries of events, each on the state that the one before left
 abbrev pub run_from : RunState → List Event → List Entry
@@ -166,20 +215,20 @@ abbrev pub run : Plan → List Event → List Entry
 run plan events = run_from (start plan) events
 
 -- how states of a run are told apart, by codes of their parts
-abbrev pub run_code : Coded KernelState → Coded AnyProgram → Coded RunState
-run_code k program =
+abbrev pub run_code : Coded KernelState → Coded AnyProgram → Coded (List TaskPlan) → Coded (Option TaskNo) → Coded RunState
+run_code k program plans task =
     code_by
-    (KernelState × List AnyProgram)
-    (coded× k (coded_list program))
-    (λ now. (now.kernel, now.programs))
-    (λ parts. record { kernel = parts.0; programs = parts.1 })
+    (KernelState × (List AnyProgram × (List TaskPlan × Option TaskNo)))
+    (coded× k (coded× (coded_list program) (coded× plans task)))
+    (λ now. (now.kernel, (now.programs, (now.templates, now.names))))
+    (λ parts. record { kernel = parts.0; programs = parts.1.0; templates = parts.1.1.0; names = parts.1.1.1 })
     (λ _. refl)
 
-abbrev pub replay_code : Coded KernelState → Coded AnyProgram → Coded ReplayState
-replay_code k program =
+abbrev pub replay_code : Coded KernelState → Coded AnyProgram → Coded (List TaskPlan) → Coded (Option TaskNo) → Coded ReplayState
+replay_code k program plans task =
     code_by
     (RunState × Bool)
-    (coded× (run_code k program) coded_bool)
+    (coded× (run_code k program plans task) coded_bool)
     (λ now. (now.state, now.lost))
     (λ parts. record { state = parts.0; lost = parts.1 })
     (λ _. refl)

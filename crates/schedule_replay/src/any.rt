@@ -2,6 +2,7 @@
 ghost use Rattle.schedule_replay.specs.Any.{wanted, after, entries, taken};
 
 use async_task::AsyncProgram;
+use block_server::BlockServer;
 use ipc_ids::{NoMemory, Outcome, Program, Request, Trace};
 use naming_service::NamingService;
 use raw_program::RawProgram;
@@ -12,6 +13,7 @@ pub enum AnyProgram {
     Raw(RawProgram),
     Naming(NamingService),
     Async(AsyncProgram),
+    Block(BlockServer),
 }
 
 impl Program for AnyProgram {
@@ -28,6 +30,7 @@ impl Program for AnyProgram {
             AnyProgram::Raw(program) => program.next(),
             AnyProgram::Naming(program) => program.next(),
             AnyProgram::Async(program) => program.next(),
+            AnyProgram::Block(program) => program.next(),
         }
     }
 
@@ -36,6 +39,7 @@ impl Program for AnyProgram {
             AnyProgram::Raw(program) => program.take(got, out),
             AnyProgram::Naming(program) => program.take(got, out),
             AnyProgram::Async(program) => program.take(got, out),
+            AnyProgram::Block(program) => program.take(got, out),
         }
     }
 
@@ -44,6 +48,7 @@ impl Program for AnyProgram {
             AnyProgram::Raw(program) => program.taken(),
             AnyProgram::Naming(program) => program.taken(),
             AnyProgram::Async(program) => program.taken(),
+            AnyProgram::Block(program) => program.taken(),
         }
     }
 }

@@ -1,7 +1,7 @@
 //! Makes a run of a number: a script of sixteen tasks that call one another, and events on them.
 ghost use Rattle.std.specs.Prelude.{◌≡◌, ◌<◌, ◌≤◌, [], ◌∷◌, ◌++◌, length, All, IfOk, OnOk, OnErr};
 ghost use Rattle.ipc_ids.specs.Tables.{most_events};
-ghost use Rattle.script_reader.specs.Schedule.{IsOnTaskOf};
+ghost use Rattle.script_reader.specs.Schedule.{IsOnTaskOf, MayAllCome};
 ghost use Rattle.schedule_replay.specs.Generator.{event_of, generated_count, generated_events, generated_name, generated_operations, generated_plan, generated_task, next_number, wires_of};
 
 use ipc_ids::{Bodies, Body, Code, Event, NoMemory, Op, Ops, PhoneNo, TaskNo, Value};
@@ -129,6 +129,8 @@ fn task(alloc: Global, k: u64) -> Result<TaskPlan, NoMemory>
         kind: Kind::Raw,
         limit: 64,
         bodies,
+        blocks: 0,
+        service: None,
     })
 }
 
@@ -171,13 +173,16 @@ fn wires(alloc: Global) -> Result<Wires, NoMemory>
     Ok(wires)
 }
 
-#[tactic(auto, using(crate::proofs::GeneratedScript::generated_is_sound))]
 fn script(alloc: Global) -> Result<Script, NoMemory>
     ensures { IfOk result (λ made. made ≡ generated_plan) }
 {
     let tasks = tasks(alloc)?;
     let wires = wires(alloc)?;
-    Ok(Script { tasks, wires })
+    Ok(Script {
+        tasks,
+        wires,
+        templates: TaskPlans::new(alloc),
+    })
 }
 
 /// What the number becomes by an event: a linear congruence over 64 bits.
@@ -223,13 +228,15 @@ fn events_from(alloc: Global, seed: u64, count: u64) -> Result<Events, NoMemory>
 /// # Errors
 ///
 /// `NoMemory` where no memory was found.
-#[tactic(auto, using(crate::proofs::GeneratedScript::generated_on_tasks, crate::proofs::GeneratedScript::generated_events_count))]
+#[tactic(auto, using(crate::proofs::GeneratedScript::generated_on_tasks, crate::proofs::GeneratedScript::generated_may, crate::proofs::GeneratedScript::generated_events_count))]
 pub fn generate(alloc: Global, seed: u64, events: u64) -> Result<Generated, NoMemory>
     requires { events ≤ most_events }
     ensures script { IfOk result (λ made. made.script ≡ generated_plan) }
     ensures events { IfOk result (λ made. made.events ≡ generated_events seed events) }
     ensures count { IfOk result (λ made. length made.events ≡ events) }
     ensures tasks { IfOk result (λ made. All (IsOnTaskOf made.script) made.events) }
+    ensures may { IfOk result (λ made. MayAllCome (length made.script.tasks)
+        (length made.script.templates) made.events) }
 {
     let script = script(alloc)?;
     let events = events_from(alloc, seed, events)?;

@@ -15,16 +15,10 @@
 mod any;
 mod feed;
 mod generator;
-#[cfg(test)]
-mod generator_tests;
 mod machine;
 mod starting;
 mod streaming;
-#[cfg(test)]
-mod streaming_tests;
 mod system;
-#[cfg(test)]
-mod tests;
 mod text_buffer;
 
 pub use any::AnyProgram;

@@ -2,7 +2,7 @@
 ghost use Rattle.std.specs.Prelude.{◌≡◌, ◌+◌, ◌^◌, ◌<◌, ◌≤◌, ◌++◌, [], List, true, false};
 ghost use Rattle.std.specs.Prelude.{IfOk, OnOk, OnErr, IsErr};
 ghost use Rattle.ipc_ids.specs.declared.entry.Entry.{Entry};
-ghost use Rattle.schedule_replay.specs.Run.{start, turn, Tells, TellsPart};
+ghost use Rattle.schedule_replay.specs.Run.{start, turn, MayHappen, Tells, TellsPart};
 ghost use Rattle.schedule_replay.specs.RunHistory.{RunFits};
 
 use crate::system::System;
@@ -21,11 +21,15 @@ pub struct Replay {
 impl Model for Replay {
     ghost use Rattle.kernel_core.specs.contracts.kernel.Kernel as kernels;
     ghost use Rattle.schedule_replay.specs.contracts.any.AnyProgram as any_program;
+    ghost use Rattle.script_reader.specs.contracts.plan.TaskPlans as plans;
+    ghost use Rattle.ipc_ids.specs.contracts.numbers.TaskNo as task;
+    ghost use Rattle.std.specs.Coded.{coded_option};
     ghost use Rattle.schedule_replay.specs.Run.{ReplayState, replay_code};
 
     ghost Value = { ReplayState };
 
-    ghost coded = { replay_code kernels.the_row.coded any_program.the_row.coded };
+    ghost coded = { replay_code kernels.the_row.coded any_program.the_row.coded
+        plans.the_row.coded (coded_option task.the_row.coded) };
 
     ghost view = { λ a. record { state = a.system; lost = a.lost } };
 }
@@ -61,6 +65,7 @@ impl Replay {
     /// and every later event answers `NoMemory` and adds nothing.
     pub fn step(&mut self, event: &Event, out: &mut Trace) -> Result<(), NoMemory>
         requires few_events { self.old.state.kernel.events < 2 ^ 24 }
+        requires may { MayHappen self.old.state event.now }
         ensures state { OnOk result (self.new
             ≡ record { state = (turn self.old.state event.now).state; lost = false }) }
         ensures entries { OnOk result (Tells out.old out.new

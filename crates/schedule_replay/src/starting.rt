@@ -1,11 +1,12 @@
 //! The tasks of a script before the first event.
 ghost use Rattle.std.specs.Prelude.{◌≡◌, ◌+◌, ◌-◌, ◌≤◌, length, All, IfOk, OnOk};
 ghost use Rattle.script_reader.specs.Sound.{IsSoundTask, has_service};
-ghost use Rattle.schedule_replay.specs.Run.{with_tasks, ops_of, program_of, programs_from};
+ghost use Rattle.schedule_replay.specs.Run.{with_tasks, ops_of, program_of, programs_from, service_of};
 ghost use Rattle.schedule_replay.specs.Wiring.{service_wires, wires_to_service, with_wires, AreOpen};
 
 use crate::any::AnyProgram;
 use async_task::AsyncProgram;
+use block_server::BlockServer;
 use ipc_ids::{Body, NoMemory, Op, PhoneNo, TaskNo};
 use kernel_core::Kernel;
 use naming_service::NamingService;
@@ -40,13 +41,23 @@ pub fn add_service_wires(kernel: &mut Kernel, tasks: &[TaskPlan])
     }
 }
 
+/// The naming service, where there is one: the first task.
+pub fn service_of(tasks: &[TaskPlan]) -> Option<TaskNo>
+    ensures { result ≡ service_of tasks.now }
+{
+    match has_service(tasks) {
+        true => Some(TaskNo(1)),
+        false => None,
+    }
+}
+
 fn has_service(tasks: &[TaskPlan]) -> bool
     ensures { result ≡ has_service tasks.now }
 {
     match tasks {
         [first, ..] => match first.kind {
             Kind::Naming => true,
-            Kind::Raw | Kind::Async => false,
+            Kind::Raw | Kind::Async | Kind::Block => false,
         },
         [] => false,
     }
@@ -93,7 +104,7 @@ pub fn programs_of(alloc: Global, tasks: &[TaskPlan]) -> Result<Vec<AnyProgram>,
     Ok(programs)
 }
 
-fn program_of(alloc: Global, number: u64, task: &TaskPlan) -> Result<AnyProgram, NoMemory>
+pub fn program_of(alloc: Global, number: u64, task: &TaskPlan) -> Result<AnyProgram, NoMemory>
     requires sound { IsSoundTask task.now }
     ensures { IfOk result (λ program. program ≡ program_of number task.now) }
 {
@@ -107,6 +118,10 @@ fn program_of(alloc: Global, number: u64, task: &TaskPlan) -> Result<AnyProgram,
         Kind::Async => {
             let program = AsyncProgram::new(alloc, TaskNo(number), bodies)?;
             Ok(AnyProgram::Async(program))
+        }
+        Kind::Block => {
+            let program = BlockServer::new(alloc, task.blocks, task.service)?;
+            Ok(AnyProgram::Block(program))
         }
     }
 }

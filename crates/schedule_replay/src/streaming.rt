@@ -3,7 +3,9 @@ ghost use Rattle.std.specs.Prelude.{◌≡◌, ◌≤◌, ◌<◌, ◌⊎◌, []
 ghost use Rattle.std.specs.Io.KnownBytes.{Appends};
 ghost use Rattle.io_edge.specs.Edge.{AppendsStart, Rose};
 ghost use Rattle.trace_print.specs.Text.{text_of};
+ghost use Rattle.script_reader.specs.Schedule.{MayAllCome};
 ghost use Rattle.schedule_replay.specs.Run.{run};
+ghost use Rattle.schedule_replay.specs.LawfulRun.{IsLawfulRun};
 ghost use Rattle.schedule_replay.specs.Streaming.{KeepsUp};
 ghost use Rattle.schedule_replay.specs.declared.streaming.ReplayFault.TheVariants as fault;
 
@@ -58,6 +60,8 @@ pub fn replay<F: Feed, K: Sink>(
     sink: &mut K,
 ) -> Result<(), ReplayFault>
     requires few { length (F.left feed.old) ≤ 65536 }
+    requires may { MayAllCome (length script.now.tasks) (length script.now.templates)
+        (F.left feed.old) }
     // With Ok the whole text of the run was written, and no event is left; else a prefix of it.
     ensures ok { OnOk result (Appends (K.written sink.old) (K.written sink.new)
         (text_of (run script.now (F.left feed.old)))) }
@@ -76,7 +80,11 @@ pub fn replay<F: Feed, K: Sink>(
     ensures cause { IsErrOf result fault.Sink → Rose (K.faults sink.old) (K.faults sink.new) }
     ensures risen { K.faults sink.old < K.faults sink.new → IsErr result }
     ensures later { K.faults sink.old ≤ K.faults sink.new }
+    // The run keeps the laws, and no fibril of it loses a wake-up.
+    ensures lawful { IsLawfulRun script.now (F.left feed.old) }
 {
+    // The proof rests on what every script keeps.
+    let _tasks = &script.tasks;
     let mut buffer = TextBuffer::new(alloc)?;
     let mut replay = Replay::new(alloc, script)?;
     let mut trace = Trace::new(alloc);

@@ -1,6 +1,8 @@
 //! The kernel and the programs of a script's tasks.
-ghost use Rattle.std.specs.Prelude.{◌≡◌, ◌+◌, ◌^◌, ◌<◌, ◌≤◌, true, Some};
-ghost use Rattle.std.specs.Prelude.{IfOk, OnOk, OnErr, option_map};
+ghost use Rattle.std.specs.Prelude.{◌≡◌, ◌+◌, ◌^◌, ◌<◌, ◌≤◌, ◌++◌, ◌∷◌, [], true, Some};
+ghost use Rattle.script_reader.specs.Sound.{IsSoundTask};
+ghost use Rattle.std.specs.Prelude.{IfOk, OnOk, OnErr, option_map, vec_len};
+ghost use Rattle.std.specs.Vec.{vec_capacity};
 ghost use Rattle.std.specs.Option.{option_copied};
 ghost use Rattle.ipc_ids.specs.Program.{fits};
 ghost use Rattle.cleanup.specs.State.{is_alive};
@@ -10,37 +12,56 @@ ghost use Rattle.schedule_replay.specs.Any.{wanted};
 ghost use Rattle.schedule_replay.specs.Run.{Tells, TellsPart};
 
 use crate::any::AnyProgram;
-use crate::starting::{add_service_wires, add_tasks, add_wires, programs_of};
+use crate::starting::{
+    add_service_wires, add_tasks, add_wires, program_of, programs_of, service_of,
+};
 use ipc_ids::{Entry, Event, NoMemory, Outcome, Program, Request, TaskNo, Trace};
 use kernel_core::Kernel;
-use script_reader::Script;
+use script_reader::{Script, TaskPlan, TaskPlans, copies_of_plans};
 use std::alloc::Global;
 use std::marker::Model;
 
-/// The kernel, and the program of each task.
+/// The kernel, the program of each task, and what more tasks can be made from.
 #[derive(Drop)]
 pub struct System {
+    alloc: Global,
     kernel: Kernel,
     programs: Vec<AnyProgram>,
+    // What more tasks can be made from.
+    templates: TaskPlans,
+    // The naming service, where there is one.
+    names: Option<TaskNo>,
 }
 
 impl Model for System {
     ghost use Rattle.kernel_core.specs.contracts.kernel.Kernel as kernels;
     ghost use Rattle.schedule_replay.specs.contracts.any.AnyProgram as any_program;
+    ghost use Rattle.script_reader.specs.contracts.plan.TaskPlans as plans;
+    ghost use Rattle.ipc_ids.specs.contracts.numbers.TaskNo as task;
+    ghost use Rattle.std.specs.Coded.{coded_option};
+    ghost use Rattle.std.specs.Prelude.{All};
+    ghost use Rattle.script_reader.specs.Sound.{IsSoundTask};
     ghost use Rattle.schedule_replay.specs.Any.{TookFew};
     ghost use Rattle.schedule_replay.specs.Run.{RunState, run_code};
 
     ghost Value = { RunState };
 
-    ghost coded = { run_code kernels.the_row.coded any_program.the_row.coded };
+    ghost coded = { run_code kernels.the_row.coded any_program.the_row.coded
+        plans.the_row.coded (coded_option task.the_row.coded) };
 
-    ghost view = { λ a. record { kernel = a.kernel; programs = a.programs.items } };
+    ghost view = { λ a. record {
+      kernel = a.kernel;
+      programs = a.programs.items;
+      templates = a.templates;
+      names = a.names;
+    } };
 
-    ghost invariant = { λ a. TookFew a.kernel.events a.programs.items };
+    ghost invariant = { λ a. TookFew a.kernel.events a.programs.items
+        × All IsSoundTask a.templates };
 }
 
 impl System {
-    ghost use Rattle.schedule_replay.specs.Run.{start, program_at, turn, step, kill, hangup};
+    ghost use Rattle.schedule_replay.specs.Run.{start, program_at, turn, step, kill, hangup, spawn, MayHappen};
 
     /// The tasks of a script before the first event.
     ///
@@ -57,7 +78,14 @@ impl System {
         add_service_wires(&mut kernel, tasks);
         add_wires(&mut kernel, script.wires.as_slice());
         let programs = programs_of(alloc, tasks)?;
-        Ok(System { kernel, programs })
+        let templates = copies_of_plans(alloc, script.templates.as_slice())?;
+        Ok(System {
+            alloc,
+            kernel,
+            programs,
+            templates,
+            names: service_of(tasks),
+        })
     }
 
     /// One event, whose entries go to the end of `out`.
@@ -67,6 +95,7 @@ impl System {
     /// `NoMemory` where no memory was found. The event may be half done then.
     pub fn turn(&mut self, event: &Event, out: &mut Trace) -> Result<(), NoMemory>
         requires few_events { self.old.kernel.events < 2 ^ 24 }
+        requires may { MayHappen self.old event.now }
         ensures state { OnOk result (self.new ≡ (turn self.old event.now).state) }
         ensures entries { OnOk result (Tells out.old out.new (turn self.old event.now).entries) }
         ensures part { OnErr result (TellsPart out.old out.new (turn self.old event.now).entries) }
@@ -76,6 +105,7 @@ impl System {
             Event::Step(task) => self.step_task(*task, out),
             Event::Kill(task) => self.kill(*task, out),
             Event::Hangup(task, phone) => self.hang_up(*task, *phone, out),
+            Event::Spawn(place) => self.spawn(*place, out),
         }
     }
 
@@ -140,6 +170,30 @@ impl System {
         kill_task(&mut self.kernel, task, out)
     }
 
+    /// The next task is made from a template. All memory is taken first.
+    fn spawn(&mut self, place: u32, out: &mut Trace) -> Result<(), NoMemory>
+        requires few_events { self.old.kernel.events < 2 ^ 24 }
+        requires may { MayHappen self.old (Event.Spawn place) }
+        ensures state { OnOk result (self.new ≡ (spawn self.old place).state) }
+        ensures entries { OnOk result (Tells out.old out.new (spawn self.old place).entries) }
+        ensures events { self.new.kernel.events ≤ self.old.kernel.events + 1 }
+        ensures unchanged { OnErr result (self.new ≡ self.old) }
+        ensures trace_unchanged { OnErr result (out.new.entries ≡ out.old.entries) }
+    {
+        let Some(plan) = self.templates.as_slice().get(place as usize) else {
+            return Ok(());
+        };
+        let program = program_of(self.alloc, self.kernel.next_task().0, plan)?;
+        make_room(&mut self.programs)?;
+        match self.kernel.spawn(plan.limit, self.names, out) {
+            Ok(_) => {
+                self.programs.push_reserved(program);
+                Ok(())
+            }
+            Err(NoMemory) => Err(NoMemory),
+        }
+    }
+
     fn hang_up(&mut self, task: TaskNo, phone: u64, out: &mut Trace) -> Result<(), NoMemory>
         requires few_events { self.old.kernel.events < 2 ^ 24 }
         ensures state { OnOk result (self.new ≡ (hangup self.old task phone).state) }
@@ -156,6 +210,15 @@ impl System {
             Err(NoMemory) => Err(NoMemory),
         }
     }
+}
+
+/// Makes room for one program more.
+fn make_room(programs: &mut Vec<AnyProgram>) -> Result<(), NoMemory>
+    ensures items { programs.new.items ≡ programs.old.items }
+    ensures room { OnOk result (vec_len programs.new < vec_capacity programs.new) }
+{
+    programs.reserve(1)?;
+    Ok(())
 }
 
 /// The same request once more.

@@ -26,7 +26,7 @@ use Rattle.script_reader.proofs.Soundness.{op_sound, body_sound, with_service_so
 -- ---- the last task
 
 abbrev plan_with : List Wire → List TaskPlan → Plan
-plan_with wires tasks = record { tasks = tasks; wires = wires }
+plan_with wires tasks = record { tasks = tasks; wires = wires; templates = [] }
 
 put_front : {A : Type 0} (x : A) (xs : List A) (r : Result A Reason) → ((r >>= λ y. Ok (xs ++ y ∷ [])) >>= λ changed. Ok (x ∷ changed)) ≡ (r >>= λ y. Ok (x ∷ xs ++ y ∷ []))
 put_front x xs (Ok y) = refl
@@ -77,7 +77,7 @@ no_op_follows last op none whole =
 pub op_whole : (last : LastTask) (old new : Body) (op : Op) (r : Result ⊤ LineFault) → last.body ≡ Some old → IsSoundTask (last_plan last) → IfSome (taken_by last) (λ kind. IsOpOf kind op) → Follows r new (body_with_op op old)
     → OnOk r (IsSoundTask (last_plan (record last { body = Some new })) × HasLastBody (record last { body = Some new }))
 op_whole last old new op r is sound takes told =
-    let open_sound = subst (λ (body : Option Body). IsSoundTask (record { name = last.name; kind = last.kind; limit = last.limit; bodies = last.bodies ++ if_any body })) is sound in
+    let open_sound = subst (λ (body : Option Body). IsSoundTask (record { name = last.name; kind = last.kind; limit = last.limit; bodies = last.bodies ++ if_any body; blocks = last.blocks; service = last.service })) is sound in
     let taken = subst (λ (body : Option Body). IfSome (option_map (λ _. last.kind) body) (λ kind. IsOpOf kind op)) is takes in
     and_there r (op_sound (last_plan last) last.bodies old new op r open_sound told taken) where
       and_there : (r : Result ⊤ LineFault) → OnOk r (IsSoundTask (last_plan (record last { body = Some new }))) → OnOk r (IsSoundTask (last_plan (record last { body = Some new })) × HasLastBody (record last { body = Some new }))
@@ -88,7 +88,7 @@ pub new_body_whole : (old mid : LastTask) (connection : Bool) (ops : List Op) �
     → IsSoundTask (last_plan (record mid { body = Some (record { connection = connection; ops = ops }) })) × HasLastBody (record mid { body = Some (record { connection = connection; ops = ops }) })
 new_body_whole old mid connection ops sound async head bodies_is none room =
     let room_before = subst (λ (bodies : List Body). is_full connection bodies ≡ false) bodies_is room in
-    (rw (head.name, head.kind, head.limit, bodies_is, none) (body_sound (last_plan old) connection sound async room_before), tt)
+    (rw (head.name, head.kind, head.limit, bodies_is, none, head.blocks, head.service) (body_sound (last_plan old) connection sound async room_before), tt)
 
 -- a task that begins has no bodies before its last one
 pub none_before : {A B : Type 0} (last : Option A) (done : List B) → done ≡ [] → HasLast last done

@@ -1,25 +1,26 @@
 -- What a line of a schedule is at fault for is the first reason of its table.
 use Rattle.std.proofs.Common.{◌≡◌, ℕ, suc, ◌+◌, Bool, true, false, cond, not, ◌&&◌, List, [], ◌∷◌, length, Option, Some, None, Result, Ok, Err, refl, sym, ap, ◌∙◌, inl, inr, arith}
-use Rattle.std.specs.Prelude.{is_some, nat_eq, nat_le, nat_lt, codes, option_map, ◌↔◌}
+use Rattle.std.specs.Prelude.{is_some, nat_eq, nat_le, nat_lt, codes, option_map, ◌↔◌, ◌++◌}
 use Rattle.std.specs.List.{list_all}
 use Rattle.std.specs.Str.{bytes_eq}
 use Rattle.std.specs.Option.{option_or, option_and_then, option_map_or, ok_or}
 use Rattle.std.proofs.lemmas.Bool.{cases_eq, ne_eqb}
-use Rattle.ipc_ids.specs.Tables.{most_events}
+use Rattle.ipc_ids.specs.Tables.{most_events, most_tasks}
 use Rattle.ipc_ids.specs.declared.numbers.TaskNo.{TaskNo}
 use Rattle.ipc_ids.specs.declared.message.Event.{Event}
 use Rattle.ipc_ids.specs.declared.message.Event.TheVariants as events
 use Rattle.script_reader.specs.declared.fault.Reason.{Reason}
-use Rattle.script_reader.specs.declared.fault.Reason.TheVariants.{UnknownOperation, WrongCount, BadWord, UnknownName, TooManyEvents}
+use Rattle.script_reader.specs.declared.fault.Reason.TheVariants.{UnknownOperation, WrongCount, BadWord, UnknownName, NameTaken, TooMany, TooManyEvents}
 use Rattle.script_reader.specs.declared.schedule.EventVerb.{EventVerb}
-use Rattle.script_reader.specs.declared.schedule.EventVerb.TheVariants.{Step, Kill, Hangup}
+use Rattle.script_reader.specs.declared.schedule.EventVerb.TheVariants.{Step, Kill, Hangup, Spawn}
 use Rattle.script_reader.specs.Text.{is_allowed, words}
 use Rattle.script_reader.specs.Word.{number, is_name, name_of}
 use Rattle.script_reader.specs.Operation.{◌>>=◌, needed}
 use Rattle.script_reader.specs.Plan.{Plan}
 use Rattle.script_reader.specs.Names.{task_names, place_of, task_named}
-use Rattle.script_reader.specs.Schedule.{event_verb_of, count_of, step_with, step_of, kill_of, hangup_of, with_events, events_of, after_event_words, after_event_line, after_event}
-use Rattle.script_reader.specs.Reasons.{THE, UP_TO, event_forms, has_wrong_count, has_bad_word, event_names_unknown, passes_limit, are_too_many_events, is_unknown_operation, on_line, event_reasons}
+use Rattle.script_reader.specs.Schedule.{event_verb_of, count_of, step_with, step_of, kill_of, hangup_of, with_events}
+use Rattle.script_reader.specs.EventLine.{EventsAndNames, unless, is_taken, spawn_place, with_spawn, spawn_of, with_repeated, after_event_verb, after_event_words, after_event_line, after_event}
+use Rattle.script_reader.specs.Reasons.{THE, UP_TO, event_forms, has_wrong_count, has_bad_word, event_names_unknown, event_name_is_taken, are_too_many_tasks, passes_limit, are_too_many_events, is_unknown_operation, on_line, event_reasons}
 use Rattle.script_reader.specs.Rows.{Row, IsFirstReason, first_reason, fault_in}
 use Rattle.script_reader.proofs.FormFaults.{differ}
 use Rattle.script_reader.proofs.Faults.{bind_fault, rows_join, bytes_first, at_fault_both}
@@ -81,7 +82,7 @@ is_count times word = rw (flip (codes "x") times) (go (bytes_eq times (codes "x"
 -- the rows from the count of words up to the name
 abbrev name_rows : EventVerb → List (List ℕ) → List (List ℕ) → List Row
 name_rows verb names words =
-    (WrongCount, has_wrong_count (event_forms verb) words) ∷ (BadWord, has_bad_word (event_forms verb) words) ∷ (UnknownName, event_names_unknown names verb words) ∷ []
+    (WrongCount, has_wrong_count (event_forms verb) words) ∷ (BadWord, has_bad_word (event_forms verb) words) ∷ (UnknownName, event_names_unknown [] names verb words) ∷ []
 
 step_with_says : (names : List (List ℕ)) (name : List ℕ) (count : Option ℕ)
     → fault_in (step_with names name count) ≡ first_reason ((BadWord, not (is_name name && (is_some count && true)) && true) ∷ (UnknownName, not (is_some (place_of names name))) ∷ [])
@@ -200,51 +201,124 @@ hangup_rest names before (a ∷ b ∷ []) x e =
     rw one (with_events_fault before x.0 x.1)
 hangup_rest names before (a ∷ b ∷ c ∷ others) x e = absurd cc
 
+-- ---- a task that is made
+
+kept_fault : {A B : Type 0} (r : Result A Reason) (f : A → B) → fault_in (r >>= λ x. Ok (f x)) ≡ fault_in r
+kept_fault (Ok x) f = refl
+kept_fault (Err reason) f = refl
+
+join_row : (reason : Reason) (b : Bool) (rows rest : List Row) → option_or (first_reason rows) (first_reason rest) ≡ first_reason (rows ++ rest)
+    → option_or (cond b (Some reason) (first_reason rows)) (first_reason rest) ≡ cond b (Some reason) (first_reason (rows ++ rest))
+join_row reason true rows rest e = refl
+join_row reason false rows rest e = e
+
+join : (rows rest : List Row) → option_or (first_reason rows) (first_reason rest) ≡ first_reason (rows ++ rest)
+join [] rest = refl
+join (row ∷ rows) rest = join_row row.0 row.1 rows rest (join rows rest)
+
+module _ (templates : List (List ℕ)) (before : EventsAndNames) (a b : List ℕ) where
+  abbrev behind_names : List Row
+  behind_names = (UnknownName, not (is_some (place_of templates a))) ∷ (NameTaken, is_taken templates before.names b) ∷ (TooMany, nat_le most_tasks (length before.names)) ∷ []
+
+  abbrev found : Option ℕ → Bool → Bool → Result ℕ Reason
+  found p taken full = ok_or p UnknownName >>= λ place. unless taken NameTaken >>= λ free. unless full TooMany >>= λ room. Ok place
+
+  found_says : (p : Option ℕ) (taken full : Bool) → fault_in (found p taken full) ≡ first_reason ((UnknownName, not (is_some p)) ∷ (NameTaken, taken) ∷ (TooMany, full) ∷ [])
+  found_says None taken full = refl
+  found_says (Some place) true full = refl
+  found_says (Some place) false true = refl
+  found_says (Some place) false false = refl
+
+  place_says : fault_in (spawn_place templates before.names a b) ≡ first_reason ((BadWord, not (is_name a && (is_name b && true)) && true) ∷ behind_names)
+  unfolding spawn_place
+  place_says =
+      name_first a (λ t. needed (name_of b) >>= λ n. found (place_of templates t) (is_taken templates before.names n) (nat_le most_tasks (length before.names))) (is_name b && true) behind_names
+      (name_first b (λ n. found (place_of templates a) (is_taken templates before.names n) (nat_le most_tasks (length before.names))) true behind_names
+      (found_says (place_of templates a) (is_taken templates before.names b) (nat_le most_tasks (length before.names))))
+
+  spawn_says : fault_in (spawn_place templates before.names a b >>= λ place. with_spawn before place b)
+      ≡ first_reason ((BadWord, not (is_name a && (is_name b && true)) && true) ∷ behind_names ++ (TooManyEvents, passes_limit before.events 1) ∷ [])
+  spawn_says =
+      let rest : List Row = (TooManyEvents, passes_limit before.events 1) ∷ [] in
+      bind_fault (spawn_place templates before.names a b) (λ place. with_spawn before place b) rest
+      (λ place is. kept_fault (with_events before.events (events.Spawn place) 1) _ ∙ with_events_fault before.events (events.Spawn place) 1)
+      ∙ ap (λ (o : Option Reason). option_or o (first_reason rest)) place_says
+      ∙ join ((BadWord, not (is_name a && (is_name b && true)) && true) ∷ behind_names) rest
+
 -- ---- any line
 
-event_line : (names : List (List ℕ)) (before : List Event) (verb : EventVerb) (words : List (List ℕ)) (r : Result (Event × ℕ) Reason)
-    → fault_in r ≡ first_reason (name_rows verb names words)
-    → ((x : Event × ℕ) → r ≡ Ok x → fault_in (with_events before x.0 x.1) ≡ first_reason ((TooManyEvents, are_too_many_events before verb words) ∷ []))
-    → fault_in (r >>= λ (event, count). with_events before event count)
+-- the rows from the count of words on
+abbrev rows_of : List (List ℕ) → EventsAndNames → EventVerb → List (List ℕ) → List Row
+rows_of templates before verb words =
+    (WrongCount, has_wrong_count (event_forms verb) words)
+    ∷ (BadWord, has_bad_word (event_forms verb) words)
+    ∷ (UnknownName, event_names_unknown templates before.names verb words)
+    ∷ (NameTaken, event_name_is_taken templates before.names verb words)
+    ∷ (TooMany, are_too_many_tasks before.names verb words)
+    ∷ (TooManyEvents, are_too_many_events before.events verb words) ∷ []
+
+spawn_line : (templates : List (List ℕ)) (before : EventsAndNames) (words : List (List ℕ)) → fault_in (spawn_of templates before words) ≡ first_reason (rows_of templates before Spawn words)
+spawn_line templates before [] = refl
+spawn_line templates before (a ∷ []) = refl
+spawn_line templates before (a ∷ b ∷ []) = spawn_says templates before a b
+spawn_line templates before (a ∷ b ∷ c ∷ others) = rw (differ 2 (suc (suc (suc (length others)))) (omega arith)) refl
+
+event_line : (before : EventsAndNames) (verb : EventVerb) (words : List (List ℕ)) (r : Result (Event × ℕ) Reason)
+    → fault_in r ≡ first_reason (name_rows verb before.names words)
+    → ((x : Event × ℕ) → r ≡ Ok x → fault_in (with_events before.events x.0 x.1) ≡ first_reason ((TooManyEvents, are_too_many_events before.events verb words) ∷ []))
+    → fault_in (r >>= with_repeated before)
     ≡ first_reason (
     (WrongCount, has_wrong_count (event_forms verb) words) ∷ (BadWord, has_bad_word (event_forms verb) words)
-    ∷ (UnknownName, event_names_unknown names verb words) ∷ (TooManyEvents, are_too_many_events before verb words) ∷ [])
-event_line names before verb words r says h =
-    let rest : List Row = (TooManyEvents, are_too_many_events before verb words) ∷ [] in
-    bind_fault r (λ (x : Event × ℕ). with_events before x.0 x.1) rest h ∙ ap (λ (o : Option Reason). option_or o (first_reason rest)) says
-    ∙ rows_join (has_wrong_count (event_forms verb) words) (has_bad_word (event_forms verb) words) (event_names_unknown names verb words) WrongCount BadWord UnknownName rest
+    ∷ (UnknownName, event_names_unknown [] before.names verb words) ∷ (TooManyEvents, are_too_many_events before.events verb words) ∷ [])
+event_line before verb words r says h =
+    let rest : List Row = (TooManyEvents, are_too_many_events before.events verb words) ∷ [] in
+    bind_fault r (with_repeated before) rest (λ x is. kept_fault (with_events before.events x.0 x.1) _ ∙ h x is) ∙ ap (λ (o : Option Reason). option_or o (first_reason rest)) says
+    ∙ rows_join (has_wrong_count (event_forms verb) words) (has_bad_word (event_forms verb) words) (event_names_unknown [] before.names verb words) WrongCount BadWord UnknownName rest
 
-known_event : (names : List (List ℕ)) (before : List Event) (verb : Option EventVerb) (others : List (List ℕ))
-    → fault_in (events_of names verb others >>= λ (event, count). with_events before event count)
+-- an event on a task names no template
+same_names : (templates names : List (List ℕ)) (words : List (List ℕ))
+    → (event_names_unknown templates names Step words ≡ event_names_unknown [] names Step words)
+    × (event_names_unknown templates names Kill words ≡ event_names_unknown [] names Kill words)
+    × (event_names_unknown templates names Hangup words ≡ event_names_unknown [] names Hangup words)
+same_names templates names [] = (refl, refl, refl)
+same_names templates names (name ∷ others) = (refl, refl, refl)
+
+known_event : (templates : List (List ℕ)) (before : EventsAndNames) (verb : Option EventVerb) (others : List (List ℕ))
+    → fault_in (after_event_verb templates before verb others)
     ≡ first_reason (
     (UnknownOperation, not (is_some verb))
     ∷ (WrongCount, option_map_or (λ v. has_wrong_count (event_forms v) others) verb false)
     ∷ (BadWord, option_map_or (λ v. has_bad_word (event_forms v) others) verb false)
-    ∷ (UnknownName, option_map_or (λ v. event_names_unknown names v others) verb false)
-    ∷ (TooManyEvents, option_map_or (λ v. are_too_many_events before v others) verb false) ∷ [])
-known_event names before None others = refl
-known_event names before (Some Step) others = event_line names before Step others (step_of names others) (step_says names others) (step_rest names before others)
-known_event names before (Some Kill) others = event_line names before Kill others (kill_of names others) (kill_says names others) (kill_rest names before others)
-known_event names before (Some Hangup) others = event_line names before Hangup others (hangup_of names others) (hangup_says names others) (hangup_rest names before others)
+    ∷ (UnknownName, option_map_or (λ v. event_names_unknown templates before.names v others) verb false)
+    ∷ (NameTaken, option_map_or (λ v. event_name_is_taken templates before.names v others) verb false)
+    ∷ (TooMany, option_map_or (λ v. are_too_many_tasks before.names v others) verb false)
+    ∷ (TooManyEvents, option_map_or (λ v. are_too_many_events before.events v others) verb false) ∷ [])
+known_event templates before None others = refl
+known_event templates before (Some Step) others = rw ((same_names templates before.names others).0) (event_line before Step others (step_of before.names others) (step_says before.names others) (step_rest before.names before.events others))
+known_event templates before (Some Kill) others = rw ((same_names templates before.names others).1) (event_line before Kill others (kill_of before.names others) (kill_says before.names others) (kill_rest before.names before.events others))
+known_event templates before (Some Hangup) others = rw ((same_names templates before.names others).2) (event_line before Hangup others (hangup_of before.names others) (hangup_says before.names others) (hangup_rest before.names before.events others))
+known_event templates before (Some Spawn) others = spawn_line templates before others
 
-event_words : (names : List (List ℕ)) (before : List Event) (ws : List (List ℕ)) → fault_in (after_event_words names before ws)
+event_words : (templates : List (List ℕ)) (before : EventsAndNames) (ws : List (List ℕ)) → fault_in (after_event_words templates before ws)
     ≡ first_reason (
     (UnknownOperation, is_unknown_operation event_verb_of ws)
     ∷ (WrongCount, on_line event_verb_of (λ verb others. has_wrong_count (event_forms verb) others) ws)
     ∷ (BadWord, on_line event_verb_of (λ verb others. has_bad_word (event_forms verb) others) ws)
-    ∷ (UnknownName, on_line event_verb_of (event_names_unknown names) ws)
-    ∷ (TooManyEvents, on_line event_verb_of (are_too_many_events before) ws) ∷ [])
-event_words names before [] = refl
-event_words names before (first ∷ others) = known_event names before (event_verb_of first) others
+    ∷ (UnknownName, on_line event_verb_of (event_names_unknown templates before.names) ws)
+    ∷ (NameTaken, on_line event_verb_of (event_name_is_taken templates before.names) ws)
+    ∷ (TooMany, on_line event_verb_of (are_too_many_tasks before.names) ws)
+    ∷ (TooManyEvents, on_line event_verb_of (are_too_many_events before.events) ws) ∷ [])
+event_words templates before [] = refl
+event_words templates before (first ∷ others) = known_event templates before (event_verb_of first) others
 
 abbrev tail_of : List Row → List Row
 tail_of [] = []
 tail_of (row ∷ rows) = rows
 
-pub event_fault : (script : Plan) (before : List Event) (line : List ℕ) → fault_in (after_event script before line) ≡ first_reason (event_reasons script before line)
+pub event_fault : (script : Plan) (before : EventsAndNames) (line : List ℕ) → fault_in (after_event script before line) ≡ first_reason (event_reasons script before line)
 unfolding after_event_line
 event_fault script before line =
-    bytes_first (list_all is_allowed line) (after_event_words (task_names script.tasks) before (words line)) (tail_of (event_reasons script before line)) (event_words (task_names script.tasks) before (words line))
+    bytes_first (list_all is_allowed line) (after_event_words (task_names script.templates) before (words line)) (tail_of (event_reasons script before line)) (event_words (task_names script.templates) before (words line))
 
-pub event_told : (script : Plan) (before : List Event) (line : List ℕ) (reason : Reason) → (after_event script before line ≡ Err reason) ↔ IsFirstReason (event_reasons script before line) reason
+pub event_told : (script : Plan) (before : EventsAndNames) (line : List ℕ) (reason : Reason) → (after_event script before line ≡ Err reason) ↔ IsFirstReason (event_reasons script before line) reason
 event_told script before line = at_fault_both (after_event script before line) (event_reasons script before line) (event_fault script before line)

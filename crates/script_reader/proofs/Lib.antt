@@ -12,3 +12,5 @@ pub mod Readings
 pub mod Soundness
 pub mod TaskKinds
 pub mod Words
+pub mod KnownTasks
+pub mod Parts

@@ -10,10 +10,11 @@ use Rattle.script_reader.specs.declared.fault.Reason.TheVariants.{OutOfPlace, Un
 use Rattle.script_reader.specs.declared.fault.LineFault.{LineFault}
 use Rattle.script_reader.specs.declared.fault.LineFault.TheVariants.{Bad, NoMemory}
 use Rattle.script_reader.specs.declared.plan.Kind.{Kind}
-use Rattle.script_reader.specs.declared.plan.Kind.TheVariants.{Naming, Raw, Async}
+use Rattle.script_reader.specs.declared.plan.Kind.TheVariants.{Naming, Raw, Async, Block}
 use Rattle.script_reader.specs.declared.plan.TaskPlan.{TaskPlan}
 use Rattle.script_reader.specs.declared.plan.Wire.{Wire}
 use Rattle.script_reader.specs.declared.draft.LastTask.{LastTask}
+use Rattle.script_reader.specs.declared.draft.TaskHead.{TaskHead}
 use Rattle.script_reader.specs.declared.draft.Draft.{Draft}
 use Rattle.script_reader.specs.Names.{task_names, place_of, ns_name, is_ns}
 use Rattle.script_reader.specs.Operation.{◌>>=◌}
@@ -39,7 +40,7 @@ if_any (Some x) = x ∷ []
 
 -- the naming service has all phones and no body
 abbrev pub service : TaskPlan
-service = record { name = ns_name; kind = Naming; limit = most_phones; bodies = [] }
+service = record { name = ns_name; kind = Naming; limit = most_phones; bodies = []; blocks = 0; service = None }
 
 -- no line made a task yet
 unfoldable pub has_no_task : Plan → Bool
@@ -58,18 +59,31 @@ abbrev pub first_body : Kind → Option Body
 first_body Naming = None
 first_body Raw = Some (empty_body false)
 first_body Async = None
+first_body Block = None
 
 -- a task without operations
-abbrev pub new_task : List ℕ → Kind → ℕ → TaskPlan
-new_task name kind limit =
-    record { name = name; kind = kind; limit = limit; bodies = if_any (first_body kind) }
+abbrev pub new_task : TaskHead → TaskPlan
+new_task head =
+    record {
+      name = head.name;
+      kind = head.kind;
+      limit = head.limit;
+      bodies = if_any (first_body head.kind);
+      blocks = head.blocks;
+      service = head.service;
+    }
 
 -- one more task
-unfoldable pub with_task : Plan → List ℕ → Kind → ℕ → Result Plan Reason
-with_task plan name kind limit =
-    if is_ns name || is_some (place_of (task_names plan.tasks) name) then Err NameTaken
+unfoldable pub with_task : Plan → TaskHead → Result Plan Reason
+with_task plan head =
+    if is_ns head.name || is_some (place_of (task_names plan.tasks) head.name) then Err NameTaken
     else (if nat_le most_tasks (length plan.tasks) then Err TooMany
-    else Ok (record plan { tasks = plan.tasks ++ new_task name kind limit ∷ [] }))
+    else Ok (record plan { tasks = plan.tasks ++ new_task head ∷ [] }))
+
+-- one more task, or template, whose name is none of the others
+unfoldable pub with_new : List (List ℕ) → Plan → TaskHead → Result Plan Reason
+with_new others plan head =
+    if is_some (place_of others head.name) then Err NameTaken else with_task plan head
 
 -- the wire between the tasks at two places
 abbrev pub wire_between : ℕ → ℕ → ℕ → Wire
@@ -117,6 +131,7 @@ abbrev pub is_async : Kind → Bool
 is_async Naming = false
 is_async Raw = false
 is_async Async = true
+is_async Block = false
 
 -- the last task takes bodies
 unfoldable pub takes_bodies : Plan → Bool
@@ -143,6 +158,8 @@ pub record HasHeadOf (old new : TaskPlan) : Type 0 where
   pub name : new.name ≡ old.name
   pub kind : new.kind ≡ old.kind
   pub limit : new.limit ≡ old.limit
+  pub blocks : new.blocks ≡ old.blocks
+  pub service : new.service ≡ old.service
 
 -- one more operation of the last body of the last task
 unfoldable pub with_op : Plan → Op → Result Plan Reason
@@ -157,13 +174,20 @@ Follows (Err NoMemory) new said = ⊤
 -- the last task, with the bodies that it has so far
 abbrev pub last_plan : LastTask → TaskPlan
 last_plan last =
-    record { name = last.name; kind = last.kind; limit = last.limit; bodies = last.bodies ++ if_any last.body }
+    record {
+      name = last.name;
+      kind = last.kind;
+      limit = last.limit;
+      bodies = last.bodies ++ if_any last.body;
+      blocks = last.blocks;
+      service = last.service;
+    }
 
 abbrev pub last_plans : Option LastTask → List TaskPlan
 last_plans last = if_any (option_map last_plan last)
 
 abbrev pub plan_of : Draft → Plan
-plan_of draft = record { tasks = draft.done ++ last_plans draft.last; wires = draft.wires }
+plan_of draft = record { tasks = draft.done ++ last_plans draft.last; wires = draft.wires; templates = [] }
 
 -- the kind of a task that has a last body, which takes operations
 abbrev pub taken_by : LastTask → Option Kind

@@ -12,3 +12,5 @@ pub mod Schedule
 pub mod Sound
 pub mod Text
 pub mod Word
+pub mod EventLine
+pub mod ScriptParts

@@ -8,7 +8,7 @@ use Rattle.ipc_ids.specs.declared.op.Op.TheVariants as ops
 use Rattle.script_reader.specs.declared.fault.Reason.{Reason}
 use Rattle.script_reader.specs.declared.fault.Reason.TheVariants.{OutOfPlace, WrongCount, BadWord}
 use Rattle.script_reader.specs.declared.plan.Kind.{Kind}
-use Rattle.script_reader.specs.declared.plan.Kind.TheVariants.{Naming, Raw, Async}
+use Rattle.script_reader.specs.declared.plan.Kind.TheVariants.{Naming, Raw, Async, Block}
 use Rattle.script_reader.specs.declared.word.OpVerb.{OpVerb}
 use Rattle.script_reader.specs.declared.word.OpVerb.TheVariants as verbs
 use Rattle.script_reader.specs.Word.{value, register, mode_of, exchange_mode_of, number_below, bytes_of}
@@ -273,3 +273,4 @@ op_in None verb words = Err OutOfPlace
 op_in (Some Naming) verb words = Err OutOfPlace
 op_in (Some Raw) verb words = raw_op_of verb words
 op_in (Some Async) verb words = async_op_of verb words
+op_in (Some Block) verb words = Err OutOfPlace

@@ -10,9 +10,10 @@ use Rattle.script_reader.specs.declared.fault.ScriptFault.TheVariants as scripts
 use Rattle.script_reader.specs.declared.fault.ScheduleFault.{ScheduleFault}
 use Rattle.script_reader.specs.declared.fault.ScheduleFault.TheVariants as schedules
 use Rattle.script_reader.specs.Text.{lines}
-use Rattle.script_reader.specs.Plan.{Plan, nothing}
+use Rattle.script_reader.specs.Plan.{Plan}
+use Rattle.script_reader.specs.ScriptParts.{ScriptParts, no_parts, script_of_parts}
 use Rattle.script_reader.specs.Line.{after_line}
-use Rattle.script_reader.specs.Schedule.{after_event}
+use Rattle.script_reader.specs.EventLine.{EventsAndNames, no_events, after_event}
 
 -- the line with this number, and then the others
 abbrev pub at_line : {A : Type 0} → ℕ → Result A Reason → (A → Result A (ℕ × Reason)) → Result A (ℕ × Reason)
@@ -30,13 +31,23 @@ unfoldable pub reading : {A : Type 0} → (A → List ℕ → Result A Reason) �
 reading after nothing text =
     if nat_lt most_bytes (length text) then Err (0, TooLong) else lines_from after 1 nothing (lines text)
 
+-- the script of both parts
+abbrev pub plan_from_parts : Result ScriptParts (ℕ × Reason) → Result Plan (ℕ × Reason)
+plan_from_parts (Ok w) = Ok (script_of_parts w)
+plan_from_parts (Err fault) = Err fault
+
 -- the script that bytes spell, or their first fault
 abbrev pub script_of : List ℕ → Result Plan (ℕ × Reason)
-script_of text = reading after_line nothing text
+script_of text = plan_from_parts (reading after_line no_parts text)
+
+-- the events alone
+abbrev pub events_alone : Result EventsAndNames (ℕ × Reason) → Result (List Event) (ℕ × Reason)
+events_alone (Ok made) = Ok made.events
+events_alone (Err fault) = Err fault
 
 -- the events that bytes spell for the tasks of a script, or their first fault
 abbrev pub schedule_of : Plan → List ℕ → Result (List Event) (ℕ × Reason)
-schedule_of script text = reading (after_event script) [] text
+schedule_of script text = events_alone (reading (after_event script) (no_events script) text)
 
 -- a fault with its place; none where memory ran out
 abbrev pub fault_in_script : ScriptFault → Option (ℕ × Reason)

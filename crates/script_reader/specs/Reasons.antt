@@ -9,22 +9,24 @@ use Rattle.ipc_ids.specs.declared.op.Body.{Body}
 use Rattle.ipc_ids.specs.declared.message.Event.{Event}
 use Rattle.script_reader.specs.declared.fault.Reason.TheVariants.{BadByte, UnknownOperation, OutOfPlace, WrongCount, BadWord, UnknownName, NameTaken, BadPhone, TooMany, TooManyEvents}
 use Rattle.script_reader.specs.declared.plan.Kind.{Kind}
-use Rattle.script_reader.specs.declared.plan.Kind.TheVariants.{Naming, Raw, Async}
+use Rattle.script_reader.specs.declared.plan.Kind.TheVariants.{Naming, Raw, Async, Block}
 use Rattle.script_reader.specs.declared.plan.TaskPlan.{TaskPlan}
 use Rattle.script_reader.specs.declared.word.Verb.{Verb}
-use Rattle.script_reader.specs.declared.word.Verb.TheVariants.{Ns, Task, Fibril, Connection, Wire, Op}
+use Rattle.script_reader.specs.declared.word.Verb.TheVariants.{Ns, Task, Template, Fibril, Connection, Wire, Op}
 use Rattle.script_reader.specs.declared.word.OpVerb.{OpVerb}
 use Rattle.script_reader.specs.declared.word.OpVerb.TheVariants as verbs
 use Rattle.script_reader.specs.declared.schedule.EventVerb.{EventVerb}
-use Rattle.script_reader.specs.declared.schedule.EventVerb.TheVariants.{Step, Kill, Hangup}
+use Rattle.script_reader.specs.declared.schedule.EventVerb.TheVariants.{Step, Kill, Hangup, Spawn}
 use Rattle.script_reader.specs.Rows.{Row}
 use Rattle.script_reader.specs.Text.{is_allowed, words}
 use Rattle.script_reader.specs.Word.{number, number_below, value, register, bytes_of, is_name, mode_of, exchange_mode_of, verb_of}
 use Rattle.script_reader.specs.Names.{task_names, place_of, is_ns}
 use Rattle.script_reader.specs.Plan.{Plan}
-use Rattle.script_reader.specs.Sound.{most_fibrils, fibrils, connections}
+use Rattle.script_reader.specs.ScriptParts.{ScriptParts, part}
+use Rattle.script_reader.specs.Sound.{most_fibrils, most_blocks, fibrils, connections}
 use Rattle.script_reader.specs.Draft.{limit_at, is_wired, leads_to_service, last_of, has_no_task, present, takes_bodies}
 use Rattle.script_reader.specs.Schedule.{event_verb_of}
+use Rattle.script_reader.specs.EventLine.{EventsAndNames, is_taken}
 
 -- ---- kinds of words
 
@@ -124,20 +126,28 @@ op_forms None verb = []
 op_forms (Some Naming) verb = []
 op_forms (Some Raw) verb = raw_forms verb
 op_forms (Some Async) verb = async_forms verb
+op_forms (Some Block) verb = []
 
 -- a line of one word, where this is its place
 abbrev pub alone_where : Bool → List Form
 alone_where false = []
 alone_where true = [] ∷ []
 
--- a task of this kind
+-- a task or template of this kind, and maybe its number of phones
 abbrev pub task_forms : List ℕ → List Form
 task_forms kind = (NAME ∷ THE kind ∷ []) ∷ (NAME ∷ THE kind ∷ UP_TO most_phones ∷ []) ∷ []
+
+-- a block server: its number of blocks, and maybe that of its service
+abbrev pub block_forms : List Form
+block_forms =
+    (NAME ∷ THE (codes "block") ∷ UP_TO most_blocks ∷ [])
+    ∷ (NAME ∷ THE (codes "block") ∷ UP_TO most_blocks ∷ N ∷ []) ∷ []
 
 -- the forms of a first word after a script of the lines before; there is none where the line is out of place
 abbrev pub forms : Plan → Verb → List Form
 forms plan Ns = alone_where (has_no_task plan)
-forms plan Task = task_forms (codes "raw") ++ task_forms (codes "async")
+forms plan Task = task_forms (codes "raw") ++ task_forms (codes "async") ++ block_forms
+forms plan Template = task_forms (codes "raw") ++ task_forms (codes "async")
 forms plan Fibril = alone_where (takes_bodies plan)
 forms plan Connection = alone_where (takes_bodies plan)
 forms plan Wire = (NAME ∷ N ∷ NAME ∷ []) ∷ []
@@ -148,6 +158,7 @@ abbrev pub event_forms : EventVerb → List Form
 event_forms Step = (NAME ∷ []) ∷ (NAME ∷ THE (codes "x") ∷ UP_TO most_events ∷ []) ∷ []
 event_forms Kill = (NAME ∷ []) ∷ []
 event_forms Hangup = (NAME ∷ N ∷ []) ∷ []
+event_forms Spawn = (NAME ∷ NAME ∷ []) ∷ []
 
 -- each word is of its kind, and there are as many as kinds
 abbrev pub fits : Form → List (List ℕ) → Bool
@@ -196,6 +207,7 @@ names_unknown plan _ _ = false
 -- a task line repeats a name, or names `ns`
 abbrev pub name_is_taken : Plan → Verb → List (List ℕ) → Bool
 name_is_taken plan Task (name ∷ others) = is_ns name || is_known plan name
+name_is_taken plan Template (name ∷ others) = is_ns name || is_known plan name
 name_is_taken plan _ _ = false
 
 -- a phone of the task at a place is out of its range, or leads somewhere, be it to the naming service
@@ -222,36 +234,75 @@ of_last_task plan test = option_map_or test (last_of plan.tasks) false
 abbrev pub present_body : Plan → Option Body
 present_body plan = option_and_then (λ task. last_of task.bodies) (last_of plan.tasks)
 
--- a 65th task, a 17th fibril or a second body of connections of a task, or a 4,097th operation of a body
+-- a 65th task or template, a 17th fibril or a second body of connections of a task, or a 4,097th operation of a body
 abbrev pub is_too_many : Plan → Verb → List (List ℕ) → Bool
 is_too_many plan Ns words = false
 is_too_many plan Task words = nat_le most_tasks (length plan.tasks)
+is_too_many plan Template words = nat_le most_tasks (length plan.tasks)
 is_too_many plan Fibril words = of_last_task plan (λ task. nat_le most_fibrils (fibrils task.bodies))
 is_too_many plan Connection words = of_last_task plan (λ task. nat_le 1 (connections task.bodies))
 is_too_many plan Wire words = false
 is_too_many plan (Op verb) words =
     option_map_or (λ body. nat_le most_operations (length body.ops)) (present_body plan) false
 
+-- the part that a line of this first word is about
+abbrev pub subject : ScriptParts → Verb → Plan
+subject w Ns = w.tasks
+subject w Task = w.tasks
+subject w Template = w.templates
+subject w Fibril = part w
+subject w Connection = part w
+subject w Wire = w.tasks
+subject w (Op verb) = part w
+
+-- the first of these words is one of the names
+abbrev pub is_among : List (List ℕ) → List (List ℕ) → Bool
+is_among names [] = false
+is_among names (name ∷ others) = is_some (place_of names name)
+
+-- the name is that of a template, or that of a template is a task's
+abbrev pub is_taken_beside : ScriptParts → Verb → List (List ℕ) → Bool
+is_taken_beside w Ns words = false
+is_taken_beside w Task words = is_among (task_names w.templates.tasks) words
+is_taken_beside w Template words = is_among (task_names w.tasks.tasks) words
+is_taken_beside w Fibril words = false
+is_taken_beside w Connection words = false
+is_taken_beside w Wire words = false
+is_taken_beside w (Op verb) words = false
+
 -- the table for a line of a script, after a script of the lines before it
-abbrev pub line_reasons : Plan → List ℕ → List Row
-line_reasons plan line =
+abbrev pub line_reasons : ScriptParts → List ℕ → List Row
+line_reasons w line =
     (BadByte, has_bad_byte line)
     ∷ (UnknownOperation, is_unknown_operation verb_of (words line))
-    ∷ (OutOfPlace, on_line verb_of (λ verb others. is_out_of_place (forms plan verb)) (words line))
-    ∷ (WrongCount, on_line verb_of (λ verb others. has_wrong_count (forms plan verb) others) (words line))
-    ∷ (BadWord, on_line verb_of (λ verb others. has_bad_word (forms plan verb) others) (words line))
-    ∷ (UnknownName, on_line verb_of (names_unknown plan) (words line))
-    ∷ (NameTaken, on_line verb_of (name_is_taken plan) (words line))
-    ∷ (BadPhone, on_line verb_of (phone_is_bad plan) (words line))
-    ∷ (TooMany, on_line verb_of (is_too_many plan) (words line))
+    ∷ (OutOfPlace, on_line verb_of (λ verb others. is_out_of_place (forms (subject w verb) verb)) (words line))
+    ∷ (WrongCount, on_line verb_of (λ verb others. has_wrong_count (forms (subject w verb) verb) others) (words line))
+    ∷ (BadWord, on_line verb_of (λ verb others. has_bad_word (forms (subject w verb) verb) others) (words line))
+    ∷ (UnknownName, on_line verb_of (λ verb others. names_unknown (subject w verb) verb others) (words line))
+    ∷ (NameTaken, on_line verb_of (λ verb others. is_taken_beside w verb others || name_is_taken (subject w verb) verb others) (words line))
+    ∷ (BadPhone, on_line verb_of (λ verb others. phone_is_bad (subject w verb) verb others) (words line))
+    ∷ (TooMany, on_line verb_of (λ verb others. is_too_many (subject w verb) verb others) (words line))
     ∷ []
 
 -- ---- tests of a schedule's line
 
--- no task of the script has the name behind the first word
-abbrev pub event_names_unknown : List (List ℕ) → EventVerb → List (List ℕ) → Bool
-event_names_unknown names verb [] = false
-event_names_unknown names verb (name ∷ others) = not (is_some (place_of names name))
+-- no task so far has the name behind the first word; behind `spawn`, no template
+abbrev pub event_names_unknown : (templates names : List (List ℕ)) → EventVerb → List (List ℕ) → Bool
+event_names_unknown templates names verb [] = false
+event_names_unknown templates names Step (name ∷ others) = not (is_some (place_of names name))
+event_names_unknown templates names Kill (name ∷ others) = not (is_some (place_of names name))
+event_names_unknown templates names Hangup (name ∷ others) = not (is_some (place_of names name))
+event_names_unknown templates names Spawn (name ∷ others) = not (is_some (place_of templates name))
+
+-- the name of the new task is that of a task so far or of a template, or is `ns`
+abbrev pub event_name_is_taken : (templates names : List (List ℕ)) → EventVerb → List (List ℕ) → Bool
+event_name_is_taken templates names Spawn (template ∷ name ∷ []) = is_taken templates names name
+event_name_is_taken templates names _ _ = false
+
+-- a 65th task
+abbrev pub are_too_many_tasks : List (List ℕ) → EventVerb → List (List ℕ) → Bool
+are_too_many_tasks names Spawn words = nat_le most_tasks (length names)
+are_too_many_tasks names _ words = false
 
 -- with so many events more there are more than 65,536
 abbrev pub passes_limit : List Event → ℕ → Bool
@@ -262,13 +313,15 @@ abbrev pub are_too_many_events : List Event → EventVerb → List (List ℕ) �
 are_too_many_events before Step (name ∷ times ∷ count ∷ []) = option_map_or (passes_limit before) (number count) false
 are_too_many_events before _ _ = passes_limit before 1
 
--- the table for a line of a schedule, for the tasks of a script and after the events of the lines before it
-abbrev pub event_reasons : Plan → List Event → List ℕ → List Row
+-- the table for a line of a schedule, for the names of the script and after what the lines before it say
+abbrev pub event_reasons : Plan → EventsAndNames → List ℕ → List Row
 event_reasons script before line =
     (BadByte, has_bad_byte line)
     ∷ (UnknownOperation, is_unknown_operation event_verb_of (words line))
     ∷ (WrongCount, on_line event_verb_of (λ verb others. has_wrong_count (event_forms verb) others) (words line))
     ∷ (BadWord, on_line event_verb_of (λ verb others. has_bad_word (event_forms verb) others) (words line))
-    ∷ (UnknownName, on_line event_verb_of (event_names_unknown (task_names script.tasks)) (words line))
-    ∷ (TooManyEvents, on_line event_verb_of (are_too_many_events before) (words line))
+    ∷ (UnknownName, on_line event_verb_of (event_names_unknown (task_names script.templates) before.names) (words line))
+    ∷ (NameTaken, on_line event_verb_of (event_name_is_taken (task_names script.templates) before.names) (words line))
+    ∷ (TooMany, on_line event_verb_of (are_too_many_tasks before.names) (words line))
+    ∷ (TooManyEvents, on_line event_verb_of (are_too_many_events before.events) (words line))
     ∷ []

@@ -1,28 +1,46 @@
 -- What a line of a schedule says, for the tasks of a script, after the events so far.
-use Rattle.std.specs.Prelude.{ℕ, ◌+◌, List, [], ◌∷◌, ◌++◌, length, ◌&&◌, nat_le, nat_lt, Option, Some, None, Result, Ok, Err, replicate, if◌then◌else◌, codes}
-use Rattle.std.specs.List.{list_all}
+use Rattle.std.specs.Prelude.{ℕ, ◌+◌, ◌<◌, ⊤, List, [], ◌∷◌, ◌++◌, length, ◌&&◌, nat_le, nat_lt, Option, Some, None, Result, Ok, Err, replicate, if◌then◌else◌, codes}
 use Rattle.std.specs.Option.{option_and_then, ok_or}
 use Rattle.std.specs.Str.{bytes_eq}
-use Rattle.ipc_ids.specs.Tables.{most_events}
+use Rattle.ipc_ids.specs.Tables.{most_tasks, most_events}
 use Rattle.ipc_ids.specs.declared.numbers.TaskNo.{TaskNo}
 use Rattle.ipc_ids.specs.declared.message.Event.{Event}
 use Rattle.ipc_ids.specs.declared.message.Event.TheVariants as events
 use Rattle.script_reader.specs.declared.fault.Reason.{Reason}
-use Rattle.script_reader.specs.declared.fault.Reason.TheVariants.{BadByte, UnknownOperation, WrongCount, UnknownName, TooManyEvents}
+use Rattle.script_reader.specs.declared.fault.Reason.TheVariants.{WrongCount, UnknownName, TooManyEvents}
 use Rattle.script_reader.specs.declared.schedule.EventVerb.{EventVerb}
-use Rattle.script_reader.specs.declared.schedule.EventVerb.TheVariants.{Step, Kill, Hangup}
-use Rattle.script_reader.specs.Text.{is_allowed, words}
+use Rattle.script_reader.specs.declared.schedule.EventVerb.TheVariants.{Step, Kill, Hangup, Spawn}
 use Rattle.script_reader.specs.Word.{look_up, number, name_of}
 use Rattle.script_reader.specs.Operation.{◌>>=◌, needed}
 use Rattle.script_reader.specs.Plan.{Plan}
 use Rattle.script_reader.specs.Sound.{IsTask}
-use Rattle.script_reader.specs.Names.{task_names, task_named}
+use Rattle.script_reader.specs.Names.{task_named}
 
--- the task that an event is on
+-- the task that an event is on; one that makes a task is on none
 abbrev pub task_of_event : Event → TaskNo
 task_of_event (events.Step task) = task
 task_of_event (events.Kill task) = task
 task_of_event (events.Hangup task phone) = task
+task_of_event (events.Spawn place) = record { 0 = 0 }
+
+-- with so many tasks and templates, the event is on a task that was made, or makes one while there are few
+abbrev pub MayCome : (tasks templates : ℕ) → Event → Type 0
+MayCome tasks templates (events.Step task) = IsTask tasks task.0
+MayCome tasks templates (events.Kill task) = IsTask tasks task.0
+MayCome tasks templates (events.Hangup task phone) = IsTask tasks task.0
+MayCome tasks templates (events.Spawn place) = (place < templates) × (tasks < most_tasks)
+
+-- how many tasks there are after it
+abbrev pub tasks_after : ℕ → Event → ℕ
+tasks_after tasks (events.Step task) = tasks
+tasks_after tasks (events.Kill task) = tasks
+tasks_after tasks (events.Hangup task phone) = tasks
+tasks_after tasks (events.Spawn place) = tasks + 1
+
+-- each event may come after those before it
+abbrev pub MayAllCome : (tasks templates : ℕ) → List Event → Type 0
+MayAllCome tasks templates [] = ⊤
+MayAllCome tasks templates (event ∷ later) = MayCome tasks templates event × MayAllCome (tasks_after tasks event) templates later
 
 -- the event is on a task of the script
 abbrev pub IsOnTaskOf : Plan → Event → Type 0
@@ -30,7 +48,7 @@ IsOnTaskOf script event = IsTask (length script.tasks) (task_of_event event).0
 
 -- the first words of a schedule's lines
 abbrev pub event_verbs : List (List ℕ × EventVerb)
-event_verbs = (codes "step", Step) ∷ (codes "kill", Kill) ∷ (codes "hangup", Hangup) ∷ []
+event_verbs = (codes "step", Step) ∷ (codes "kill", Kill) ∷ (codes "hangup", Hangup) ∷ (codes "spawn", Spawn) ∷ []
 
 unfoldable pub event_verb_of : List ℕ → Option EventVerb
 event_verb_of word = look_up event_verbs word
@@ -77,24 +95,3 @@ hangup_of names _ = Err WrongCount
 unfoldable pub with_events : List Event → Event → ℕ → Result (List Event) Reason
 with_events before event count =
     if nat_lt most_events (length before + count) then Err TooManyEvents else Ok (before ++ replicate count event)
-
--- what a first word gives, and how often
-abbrev pub events_of : List (List ℕ) → Option EventVerb → List (List ℕ) → Result (Event × ℕ) Reason
-events_of names None words = Err UnknownOperation
-events_of names (Some Step) words = step_of names words
-events_of names (Some Kill) words = kill_of names words
-events_of names (Some Hangup) words = hangup_of names words
-
--- a line without words is passed over
-abbrev pub after_event_words : List (List ℕ) → List Event → List (List ℕ) → Result (List Event) Reason
-after_event_words names before [] = Ok before
-after_event_words names before (first ∷ others) =
-    events_of names (event_verb_of first) others >>= λ (event, count). with_events before event count
-
-unfoldable pub after_event_line : List (List ℕ) → List Event → List ℕ → Result (List Event) Reason
-after_event_line names before line =
-    if list_all is_allowed line then after_event_words names before (words line) else Err BadByte
-
--- the names are those of the script's tasks
-abbrev pub after_event : Plan → List Event → List ℕ → Result (List Event) Reason
-after_event script before line = after_event_line (task_names script.tasks) before line

@@ -1,11 +1,12 @@
 //! A script that is still read: its last task may get more operations.
-ghost use Rattle.std.specs.Prelude.{◌≡◌, ◌≢◌, ◌≤◌, ◌==◌, ◌++◌, length, true, None, Ok, IfOk, IfSome, OnOk};
+ghost use Rattle.std.specs.Prelude.{◌≡◌, ◌≢◌, ◌≤◌, ◌==◌, [], ◌++◌, length, true, None, Ok, IfOk, IfSome, OnOk};
 ghost use Rattle.script_reader.specs.declared.plan.Kind.TheVariants.{Naming};
-ghost use Rattle.script_reader.specs.Draft.{last_plan, last_plans, plan_of, IsStep, IsWhole, is_wired, limit_at, leads_to_service, if_any, first_body, is_async, is_full, has_no_task, present, last_is_async, takes_bodies, taken_by, taker, with_service, with_task, with_body, with_wire, with_op, task_with_body, task_with_op, body_with_op, HasHeadOf, HasLastBody, Follows};
+ghost use Rattle.script_reader.specs.Draft.{last_plan, last_plans, plan_of, IsStep, IsWhole, is_wired, limit_at, leads_to_service, if_any, first_body, new_task, is_async, is_full, has_no_task, present, last_is_async, takes_bodies, taken_by, taker, with_service, with_task, with_body, with_wire, with_op, task_with_body, task_with_op, body_with_op, HasHeadOf, HasLastBody, Follows};
 ghost use Rattle.script_reader.specs.Names.{is_ns};
 ghost use Rattle.script_reader.specs.Plan.{nothing};
+ghost use Rattle.script_reader.specs.ScriptParts.{no_parts, script_of_parts, PartsFit, parts_of, AreWhole};
 ghost use Rattle.script_reader.specs.Ranges.{IsOpOf};
-ghost use Rattle.script_reader.specs.Sound.{IsLimit, IsSoundTask, is_naming, has_service, fibrils, connections};
+ghost use Rattle.script_reader.specs.Sound.{IsSoundTask, HeadFits, is_naming, has_service, fibrils, connections};
 
 use crate::fault::{LineFault, Reason};
 use crate::name::Name;
@@ -14,9 +15,11 @@ use crate::plan::{Kind, Script, TaskPlan, TaskPlans, Wire, Wires};
 use ipc_ids::{Bodies, Body, NoMemory, Op, Ops, PhoneNo, TaskNo};
 use std::alloc::Global;
 
-const MOST_TASKS: usize = 64;
+/// How many tasks a run may have, and how many templates a script.
+pub const MOST_TASKS: usize = 64;
 
-const MOST_PHONES: u32 = 64;
+/// How many phones a task may have.
+pub const MOST_PHONES: u32 = 64;
 
 const MOST_OPERATIONS: usize = 4096;
 
@@ -24,8 +27,19 @@ const MOST_FIBRILS: usize = 16;
 
 const MOST_CONNECTIONS: usize = 1;
 
-/// The task whose operations are read: the bodies before its last one, and the last one, to which the
-/// operations go, if it has one.
+/// What the line of a task or template says: a block server has all phones and so many blocks, each
+/// other kind so many phones and no blocks.
+#[derive(Drop)]
+pub struct TaskHead {
+    pub name: Name,
+    pub kind: Kind,
+    pub limit: u32,
+    pub blocks: u64,
+    pub service: Option<u64>,
+}
+
+/// The task, or template, whose operations are read: the bodies before its last one, and the last
+/// one, to which the operations go, if it has one.
 #[derive(Drop)]
 pub struct LastTask {
     pub name: Name,
@@ -33,6 +47,8 @@ pub struct LastTask {
     pub limit: u32,
     pub bodies: Bodies,
     pub body: Option<Body>,
+    pub blocks: u64,
+    pub service: Option<u64>,
 }
 
 /// The tasks before the last one, the last one, the wires, and the names of all tasks.
@@ -44,7 +60,16 @@ pub struct Draft {
     pub names: Names,
 }
 
-fn is_ns(name: &[u8]) -> bool
+/// What is read of the tasks and their wires, and of the templates; operations go to the last task
+/// or, where a template came after it, to the last template.
+#[derive(Drop)]
+pub struct Drafts {
+    pub tasks: Draft,
+    pub templates: Draft,
+    pub on_template: bool,
+}
+
+pub(crate) fn is_ns(name: &[u8]) -> bool
     ensures { result ≡ is_ns name.now }
 {
     name == b"ns".as_slice()
@@ -55,7 +80,7 @@ fn is_naming(kind: Kind) -> bool
 {
     match kind {
         Kind::Naming => true,
-        Kind::Raw | Kind::Async => false,
+        Kind::Raw | Kind::Async | Kind::Block => false,
     }
 }
 
@@ -71,7 +96,7 @@ fn first_body(alloc: Global, kind: Kind) -> Option<Body>
     ensures { result ≡ first_body kind }
 {
     match kind {
-        Kind::Naming | Kind::Async => None,
+        Kind::Naming | Kind::Async | Kind::Block => None,
         Kind::Raw => Some(Body {
             connection: false,
             ops: Ops::new(alloc),
@@ -96,7 +121,7 @@ fn is_async(kind: Kind) -> bool
 {
     match kind {
         Kind::Async => true,
-        Kind::Naming | Kind::Raw => false,
+        Kind::Naming | Kind::Raw | Kind::Block => false,
     }
 }
 
@@ -196,6 +221,8 @@ impl LastTask {
             kind: last.kind,
             limit: last.limit,
             bodies: last.bodies,
+            blocks: last.blocks,
+            service: last.service,
         })
     }
 }
@@ -256,24 +283,23 @@ impl Draft {
             limit: MOST_PHONES,
             bodies: Bodies::new(alloc),
             body: None,
+            blocks: 0,
+            service: None,
         });
         Ok(())
     }
 
+    /// Adds a task, or a template, which may have no earlier one's name and is not named `ns`.
     #[tactic(auto, unfolding(crate::specs::Draft::with_task))]
-    pub fn add_task(
-        &mut self,
-        alloc: Global,
-        name: Name,
-        kind: Kind,
-        limit: u32,
-    ) -> Result<(), LineFault>
-        requires not_naming { kind ≢ Naming }
-        requires limit { IsLimit limit }
+    pub fn add_task(&mut self, alloc: Global, head: TaskHead) -> Result<(), LineFault>
+        requires not_naming { head.kind ≢ Naming }
+        requires fits { HeadFits head.kind head }
         requires whole { IsWhole self.old }
-        ensures value { IsStep result self.old self.new (λ plan. with_task plan name kind limit) }
+        ensures value { IsStep result self.old self.new (λ plan. with_task plan head) }
         ensures whole { OnOk result (IsWhole self.new) }
     {
+        let (kind, limit, blocks, service) = (head.kind, head.limit, head.blocks, head.service);
+        let name = head.name;
         if is_ns(name.as_slice()) || self.names.place_of(name.as_slice()).is_some() {
             return Err(LineFault::Bad(Reason::NameTaken));
         }
@@ -288,6 +314,8 @@ impl Draft {
             limit,
             bodies: Bodies::new(alloc),
             body: first_body(alloc, kind),
+            blocks,
+            service,
         });
         Ok(())
     }
@@ -326,6 +354,7 @@ impl Draft {
         self.has_service() && place != 0 && phone == 0
     }
 
+    /// Adds a wire between the tasks of two names.
     #[tactic(auto, unfolding(crate::specs::Draft::with_wire))]
     pub fn add_wire(&mut self, from: &[u8], phone: u64, to: &[u8]) -> Result<(), LineFault>
         requires whole { IsWhole self.old }
@@ -414,16 +443,42 @@ impl Draft {
         }
     }
 
-    /// The script of all the lines.
-    pub fn into_script(self) -> Result<Script, NoMemory>
+    /// The tasks and wires of all the lines.
+    fn into_parts(self) -> Result<(TaskPlans, Wires), NoMemory>
         requires { IsWhole self }
-        ensures { IfOk result (λ script. script ≡ plan_of self) }
+        ensures { IfOk result (λ parts.
+            record { tasks = parts.0; wires = parts.1; templates = [] } ≡ plan_of self) }
     {
         let mut draft = self;
         draft.end_task()?;
+        Ok((draft.done, draft.wires))
+    }
+}
+
+impl Drafts {
+    pub fn new(alloc: Global) -> Drafts
+        ensures nothing { parts_of result ≡ no_parts }
+        ensures whole { AreWhole result }
+    {
+        Drafts {
+            tasks: Draft::new(alloc),
+            templates: Draft::new(alloc),
+            on_template: false,
+        }
+    }
+
+    /// The script of all the lines.
+    pub fn into_script(self) -> Result<Script, NoMemory>
+        requires whole { AreWhole self }
+        requires fit { PartsFit (parts_of self) }
+        ensures { IfOk result (λ script. script ≡ script_of_parts (parts_of self)) }
+    {
+        let (tasks, wires) = self.tasks.into_parts()?;
+        let (templates, _) = self.templates.into_parts()?;
         Ok(Script {
-            tasks: draft.done,
-            wires: draft.wires,
+            tasks,
+            wires,
+            templates,
         })
     }
 }

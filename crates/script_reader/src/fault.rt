@@ -23,13 +23,15 @@ pub enum Reason {
     WrongCount,
     /// In each form with so many words some word is not of its kind.
     BadWord,
-    /// No task on an earlier line has this name; for a schedule, no task of the script.
+    /// No task on an earlier line has this name; in a schedule, no task of the script or of an
+    /// earlier line, and behind `spawn` no template.
     UnknownName,
-    /// An earlier line gives a task this name, or it is `ns`.
+    /// An earlier task or template has this name, or it is `ns`.
     NameTaken,
     /// The phone is out of its task's range, or leads somewhere already.
     BadPhone,
-    /// There are as many tasks, bodies of this kind or operations in the body as there may be.
+    /// There are as many tasks, templates, bodies of this kind or operations in the body as there
+    /// may be.
     TooMany,
     /// There is no room for so many events more.
     TooManyEvents,

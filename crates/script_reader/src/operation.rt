@@ -485,7 +485,7 @@ pub fn op_in(present: Option<Kind>, verb: OpVerb, words: &[&[u8]]) -> Result<Op,
 {
     match present {
         None => Err(Reason::OutOfPlace),
-        Some(Kind::Naming) => Err(Reason::OutOfPlace),
+        Some(Kind::Naming | Kind::Block) => Err(Reason::OutOfPlace),
         Some(Kind::Raw) => raw_op_of(verb, words),
         Some(Kind::Async) => async_op_of(verb, words),
     }

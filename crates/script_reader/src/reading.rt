@@ -2,32 +2,32 @@
 ghost use Rattle.std.specs.Prelude.{◌≡◌, ◌≢◌, ℕ, Ok, Err, OnOk};
 ghost use Rattle.script_reader.specs.declared.fault.Reason.{Reason};
 ghost use Rattle.script_reader.specs.Text.{lines};
-ghost use Rattle.script_reader.specs.Plan.{Plan, nothing};
-ghost use Rattle.script_reader.specs.Line.{after_line};
-ghost use Rattle.script_reader.specs.Draft.{plan_of, IsWhole};
-ghost use Rattle.script_reader.specs.Grammar.{Spells, IsFirstFault};
+ghost use Rattle.script_reader.specs.Plan.{Plan};
+ghost use Rattle.script_reader.specs.Line.{after_line, SpellsScript};
+ghost use Rattle.script_reader.specs.ScriptParts.{no_parts, parts_of, AreWhole};
+ghost use Rattle.script_reader.specs.Grammar.{IsFirstFault};
 ghost use Rattle.script_reader.specs.Reasons.{line_reasons};
 ghost use Rattle.script_reader.specs.Reading.{lines_from, script_of, fault_in_script, Reads, Agrees};
 
-use crate::draft::Draft;
+use crate::draft::Drafts;
 use crate::fault::{LineFault, Reason, ScriptFault};
 use crate::line::add_line;
 use crate::plan::Script;
 use crate::text::MOST_BYTES;
 use std::alloc::Global;
 
-fn add_lines(draft: &mut Draft, alloc: Global, text: &[u8]) -> Result<(), ScriptFault>
-    requires { IsWhole draft.old }
-    ensures value { Reads fault_in_script result (plan_of draft.new)
-        (lines_from after_line 1 (plan_of draft.old) (lines text.now)) }
-    ensures whole { OnOk result (IsWhole draft.new) }
+fn add_lines(drafts: &mut Drafts, alloc: Global, text: &[u8]) -> Result<(), ScriptFault>
+    requires { AreWhole drafts.old }
+    ensures value { Reads fault_in_script result (parts_of drafts.new)
+        (lines_from after_line 1 (parts_of drafts.old) (lines text.now)) }
+    ensures whole { OnOk result (AreWhole drafts.new) }
 {
     let mut words = Vec::new(alloc);
     let mut left = Some(text);
     let mut line = 0;
     while let Some(text) = left {
         line += 1;
-        match add_line(draft, alloc, &mut words, text) {
+        match add_line(drafts, alloc, &mut words, text) {
             Ok(others) => left = others,
             Err(LineFault::NoMemory) => return Err(ScriptFault::NoMemory),
             Err(LineFault::Bad(reason)) => return Err(ScriptFault::Bad { line, reason }),
@@ -46,9 +46,9 @@ fn read(alloc: Global, bytes: &[u8]) -> Result<Script, ScriptFault>
             reason: Reason::TooLong,
         });
     }
-    let mut draft = Draft::new(alloc);
-    add_lines(&mut draft, alloc, bytes)?;
-    let script = draft.into_script()?;
+    let mut drafts = Drafts::new(alloc);
+    add_lines(&mut drafts, alloc, bytes)?;
+    let script = drafts.into_script()?;
     Ok(script)
 }
 
@@ -60,14 +60,14 @@ fn read(alloc: Global, bytes: &[u8]) -> Result<Script, ScriptFault>
 /// come for any bytes.
 pub fn read_script(alloc: Global, bytes: &[u8]) -> Result<Script, ScriptFault>
     ensures value { Agrees fault_in_script result (script_of bytes.now) }
-    ensures read { (plan : Plan) → result ≡ Ok plan → Spells after_line nothing bytes.now plan }
-    ensures spelled { (plan : Plan) → Spells after_line nothing bytes.now plan
+    ensures read { (plan : Plan) → result ≡ Ok plan → SpellsScript bytes.now plan }
+    ensures spelled { (plan : Plan) → SpellsScript bytes.now plan
         → result ≢ Err ScriptFault.NoMemory → result ≡ Ok plan }
     ensures fault { (line : ℕ) (reason : Reason)
         → result ≡ Err (ScriptFault.Bad line reason)
-        → IsFirstFault after_line line_reasons nothing bytes.now line reason }
+        → IsFirstFault after_line line_reasons no_parts bytes.now line reason }
     ensures at_fault { (line : ℕ) (reason : Reason)
-        → IsFirstFault after_line line_reasons nothing bytes.now line reason
+        → IsFirstFault after_line line_reasons no_parts bytes.now line reason
         → result ≢ Err ScriptFault.NoMemory
         → result ≡ Err (ScriptFault.Bad line reason) }
 {

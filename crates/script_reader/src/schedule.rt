@@ -1,15 +1,18 @@
 //! Reads a schedule, line by line.
-ghost use Rattle.std.specs.Prelude.{◌≡◌, ◌≢◌, ◌≤◌, ℕ, List, [], ◌++◌, length, replicate, Ok, Err, All, IfOk, IsOkAnd};
+ghost use Rattle.std.specs.Prelude.{◌≡◌, ◌≢◌, ◌≤◌, ◌<◌, ℕ, List, [], ◌++◌, length, replicate, false, is_some, Ok, Err, IfOk, IsOkAnd};
 ghost use Rattle.std.specs.Option.{option_map};
 ghost use Rattle.ipc_ids.specs.declared.message.Event.{Event};
 ghost use Rattle.script_reader.specs.declared.fault.Reason.{Reason};
 ghost use Rattle.script_reader.specs.Text.{texts, lines, first_line, behind};
 ghost use Rattle.script_reader.specs.Draft.{Follows};
-ghost use Rattle.script_reader.specs.Schedule.{IsOnTaskOf, event_verb_of, count_of, with_events, step_with, step_of, kill_of, hangup_of, events_of, after_event_words, after_event_line, after_event};
-ghost use Rattle.script_reader.specs.Grammar.{Spells, IsFirstFault};
+ghost use Rattle.script_reader.specs.Schedule.{MayAllCome, event_verb_of, count_of, with_events, step_with, step_of, kill_of, hangup_of};
+ghost use Rattle.script_reader.specs.EventLine.{is_taken, spawn_place, with_spawn, with_repeated, spawn_of, after_event_verb, after_event_words, after_event_line, no_events, after_event, SpellsEvents};
+ghost use Rattle.script_reader.specs.Names.{task_names, place_of};
+ghost use Rattle.script_reader.specs.Grammar.{IsFirstFault};
 ghost use Rattle.script_reader.specs.Reasons.{event_reasons};
-ghost use Rattle.script_reader.specs.Reading.{lines_from, reading, schedule_of, events_in, fault_in_schedule, Reads, Agrees};
+ghost use Rattle.script_reader.specs.Reading.{lines_from, reading, events_alone, schedule_of, events_in, fault_in_schedule, Reads, Agrees};
 
+use crate::draft::{MOST_TASKS, is_ns};
 use crate::fault::{LineFault, Reason, ScheduleFault};
 use crate::name::is_name;
 use crate::names::{Names, names_of};
@@ -27,6 +30,7 @@ pub enum EventVerb {
     Step,
     Kill,
     Hangup,
+    Spawn,
 }
 
 #[tactic(auto, unfolding(crate::specs::Schedule::event_verb_of))]
@@ -37,6 +41,7 @@ fn event_verb_of(word: &[u8]) -> Option<EventVerb>
         [b's', b't', b'e', b'p'] => Some(EventVerb::Step),
         [b'k', b'i', b'l', b'l'] => Some(EventVerb::Kill),
         [b'h', b'a', b'n', b'g', b'u', b'p'] => Some(EventVerb::Hangup),
+        [b's', b'p', b'a', b'w', b'n'] => Some(EventVerb::Spawn),
         _ => None,
     }
 }
@@ -132,69 +137,172 @@ fn hangup_of(names: &Names, words: &[&[u8]]) -> Result<(Event, u64), Reason>
     }
 }
 
-/// The event that a line gives, and how often.
-fn events_of(
-    names: &Names,
-    verb: Option<EventVerb>,
-    words: &[&[u8]],
-) -> Result<(Event, u64), Reason>
-    ensures { result ≡ events_of names.now verb (texts words.now) }
+/// Whether a new task may not have this name.
+#[tactic(auto, unfolding(crate::specs::EventLine::is_taken))]
+fn is_taken(templates: &Names, names: &Names, name: &[u8]) -> bool
+    ensures { result ≡ is_taken templates.now names.now name.now }
 {
-    match verb {
-        None => Err(Reason::UnknownOperation),
-        Some(EventVerb::Step) => step_of(names, words),
-        Some(EventVerb::Kill) => kill_of(names, words),
-        Some(EventVerb::Hangup) => hangup_of(names, words),
+    names.place_of(name).is_some() || templates.place_of(name).is_some() || is_ns(name)
+}
+
+/// The place of the template that makes the next task, where it may have this name.
+#[tactic(auto, unfolding(crate::specs::EventLine::spawn_place, crate::specs::Word::name_of, crate::specs::EventLine::is_taken))]
+fn spawn_place(
+    templates: &Names,
+    names: &Names,
+    template: &[u8],
+    name: &[u8],
+) -> Result<usize, Reason>
+    ensures value { result ≡ spawn_place templates.now names.now template.now name.now }
+    ensures small { IfOk result (λ place. place < 64) }
+    ensures new { IfOk result (λ place. is_some (place_of names.now name.now) ≡ false) }
+    ensures room { IfOk result (λ place. length names.now < 64) }
+{
+    if !is_name(template) {
+        return Err(Reason::BadWord);
+    }
+    if !is_name(name) {
+        return Err(Reason::BadWord);
+    }
+    let place = templates.place_of(template).ok_or(Reason::UnknownName)?;
+    if is_taken(templates, names, name) {
+        return Err(Reason::NameTaken);
+    }
+    if names.len() >= MOST_TASKS {
+        return Err(Reason::TooMany);
+    }
+    Ok(place)
+}
+
+/// Adds the event that makes a task, and its name.
+fn add_spawn(
+    events: &mut Vec<Event>,
+    names: &mut Names,
+    alloc: Global,
+    place: usize,
+    name: &[u8],
+) -> Result<(), LineFault>
+    requires small { place < 64 }
+    requires new { is_some (place_of names.old name.now) ≡ false }
+    requires room { length names.old < 64 }
+    ensures { Follows result (record { events = events.new.items; names = names.new })
+        (with_spawn (record { events = events.old.items; names = names.old }) place name.now) }
+{
+    add_events(events, Event::Spawn(place as u32), 1)?;
+    names.push(alloc, name)?;
+    Ok(())
+}
+
+/// `TEMPLATE NAME`
+fn add_named(
+    events: &mut Vec<Event>,
+    names: &mut Names,
+    alloc: Global,
+    templates: &Names,
+    words: &[&[u8]],
+) -> Result<(), LineFault>
+    ensures { Follows result (record { events = events.new.items; names = names.new })
+        (spawn_of templates.now (record { events = events.old.items; names = names.old })
+        (texts words.now)) }
+{
+    match words {
+        [template, name] => {
+            let place = spawn_place(templates, names, *template, *name)?;
+            add_spawn(events, names, alloc, place, *name)
+        }
+        _ => Err(LineFault::Bad(Reason::WrongCount)),
     }
 }
 
-fn add_words(names: &Names, events: &mut Vec<Event>, words: &[&[u8]]) -> Result<(), LineFault>
-    ensures { Follows result events.new.items
-        (after_event_words names.now events.old.items (texts words.now)) }
+/// Adds what the words behind a first one say.
+fn add_others(
+    events: &mut Vec<Event>,
+    names: &mut Names,
+    alloc: Global,
+    templates: &Names,
+    verb: Option<EventVerb>,
+    words: &[&[u8]],
+) -> Result<(), LineFault>
+    ensures { Follows result (record { events = events.new.items; names = names.new })
+        (after_event_verb templates.now (record { events = events.old.items; names = names.old })
+        verb (texts words.now)) }
+{
+    let (event, count) = match verb {
+        None => return Err(LineFault::Bad(Reason::UnknownOperation)),
+        Some(EventVerb::Step) => step_of(names, words)?,
+        Some(EventVerb::Kill) => kill_of(names, words)?,
+        Some(EventVerb::Hangup) => hangup_of(names, words)?,
+        Some(EventVerb::Spawn) => return add_named(events, names, alloc, templates, words),
+    };
+    add_events(events, event, count)
+}
+
+fn add_words(
+    events: &mut Vec<Event>,
+    names: &mut Names,
+    alloc: Global,
+    templates: &Names,
+    words: &[&[u8]],
+) -> Result<(), LineFault>
+    ensures { Follows result (record { events = events.new.items; names = names.new })
+        (after_event_words templates.now (record { events = events.old.items; names = names.old })
+        (texts words.now)) }
 {
     let [first, others @ ..] = words else {
         return Ok(());
     };
-    let (event, count) = events_of(names, event_verb_of(*first), others)?;
-    add_events(events, event, count)
+    add_others(
+        events,
+        names,
+        alloc,
+        templates,
+        event_verb_of(*first),
+        others,
+    )
 }
 
 /// Adds what the first line of a text says, and returns what stands behind it; `None` where it is
 /// the last.
-#[tactic(auto, unfolding(crate::specs::Schedule::after_event_line))]
+#[tactic(auto, unfolding(crate::specs::EventLine::after_event_line))]
 fn add_line<'a>(
-    names: &Names,
     events: &mut Vec<Event>,
+    names: &mut Names,
+    alloc: Global,
+    templates: &Names,
     words: &mut Vec<&'a [u8]>,
     text: &'a [u8],
 ) -> Result<Option<&'a [u8]>, LineFault>
-    ensures value { Follows result events.new.items
-        (after_event_line names.now events.old.items (first_line text.now)) }
+    ensures value { Follows result (record { events = events.new.items; names = names.new })
+        (after_event_line templates.now (record { events = events.old.items; names = names.old })
+        (first_line text.now)) }
     ensures behind { IfOk result (λ others. option_map (λ t. t.now) others ≡ behind text.now) }
 {
     let (allowed, others) = split_line(text, words)?;
     if !allowed {
         return Err(LineFault::Bad(Reason::BadByte));
     }
-    add_words(names, events, words.as_slice())?;
+    add_words(events, names, alloc, templates, words.as_slice())?;
     Ok(others)
 }
 
 fn add_lines(
-    names: &Names,
     events: &mut Vec<Event>,
+    names: &mut Names,
     alloc: Global,
+    templates: &Names,
     text: &[u8],
 ) -> Result<(), ScheduleFault>
-    ensures { Reads fault_in_schedule result events.new.items
-        (lines_from (after_event_line names.now) 1 events.old.items (lines text.now)) }
+    ensures { Reads fault_in_schedule result
+        (record { events = events.new.items; names = names.new })
+        (lines_from (after_event_line templates.now) 1
+        (record { events = events.old.items; names = names.old }) (lines text.now)) }
 {
     let mut words = Vec::new(alloc);
     let mut left = Some(text);
     let mut line = 0;
     while let Some(text) = left {
         line += 1;
-        match add_line(names, events, &mut words, text) {
+        match add_line(events, names, alloc, templates, &mut words, text) {
             Ok(others) => left = others,
             Err(LineFault::NoMemory) => return Err(ScheduleFault::NoMemory),
             Err(LineFault::Bad(reason)) => return Err(ScheduleFault::Bad { line, reason }),
@@ -204,9 +312,15 @@ fn add_lines(
 }
 
 #[tactic(auto, unfolding(crate::specs::Reading::reading))]
-fn read(alloc: Global, bytes: &[u8], names: &Names) -> Result<Vec<Event>, ScheduleFault>
+fn read(
+    alloc: Global,
+    bytes: &[u8],
+    names: Names,
+    templates: &Names,
+) -> Result<Vec<Event>, ScheduleFault>
     ensures { Agrees fault_in_schedule (events_in result)
-        (reading (after_event_line names.now) [] bytes.now) }
+        (events_alone (reading (after_event_line templates.now)
+        (record { events = []; names = names }) bytes.now)) }
 {
     if bytes.len() > MOST_BYTES {
         return Err(ScheduleFault::Bad {
@@ -214,8 +328,9 @@ fn read(alloc: Global, bytes: &[u8], names: &Names) -> Result<Vec<Event>, Schedu
             reason: Reason::TooLong,
         });
     }
+    let mut names = names;
     let mut events = Vec::new(alloc);
-    add_lines(names, &mut events, alloc, bytes)?;
+    add_lines(&mut events, &mut names, alloc, templates, bytes)?;
     Ok(events)
 }
 
@@ -223,11 +338,12 @@ fn read_for(alloc: Global, bytes: &[u8], script: &Script) -> Result<Vec<Event>, 
     ensures { Agrees fault_in_schedule (events_in result) (schedule_of script.now bytes.now) }
 {
     let names = names_of(alloc, script.tasks.as_slice())?;
-    read(alloc, bytes, &names)
+    let templates = names_of(alloc, script.templates.as_slice())?;
+    read(alloc, bytes, names, &templates)
 }
 
-/// The events that the bytes of a file spell, for the tasks of a script: at most 65,536, each on a
-/// task of the script.
+/// The events that the bytes of a file spell, for the tasks and templates of a script: at most
+/// 65,536, each on a task of the script or one that an earlier event makes.
 ///
 /// # Errors
 ///
@@ -240,15 +356,18 @@ pub fn read_schedule(
 ) -> Result<Vec<Event>, ScheduleFault>
     ensures value { Agrees fault_in_schedule (events_in result) (schedule_of script.now bytes.now) }
     ensures few { IfOk result (λ events. length events.items ≤ 65536) }
-    ensures tasks { IfOk result (λ events. All (IsOnTaskOf script.now) events.items) }
-    ensures read { IfOk result (λ got. Spells (after_event script.now) [] bytes.now got.items) }
-    ensures spelled { (events : List Event) → Spells (after_event script.now) [] bytes.now events
+    ensures may { IfOk result (λ events. MayAllCome (length script.now.tasks)
+        (length script.now.templates) events.items) }
+    ensures read { IfOk result (λ got. SpellsEvents script.now bytes.now got.items) }
+    ensures spelled { (events : List Event) → SpellsEvents script.now bytes.now events
         → result ≢ Err ScheduleFault.NoMemory → IsOkAnd result (λ got. got.items ≡ events) }
     ensures fault { (line : ℕ) (reason : Reason)
         → result ≡ Err (ScheduleFault.Bad line reason)
-        → IsFirstFault (after_event script.now) (event_reasons script.now) [] bytes.now line reason }
+        → IsFirstFault (after_event script.now) (event_reasons script.now)
+        (no_events script.now) bytes.now line reason }
     ensures at_fault { (line : ℕ) (reason : Reason)
-        → IsFirstFault (after_event script.now) (event_reasons script.now) [] bytes.now line reason
+        → IsFirstFault (after_event script.now) (event_reasons script.now)
+        (no_events script.now) bytes.now line reason
         → result ≢ Err ScheduleFault.NoMemory
         → result ≡ Err (ScheduleFault.Bad line reason) }
 {

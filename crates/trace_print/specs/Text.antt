@@ -210,6 +210,7 @@ abbrev pub text_of_entry : Entry → List ℕ
 text_of_entry (entry.Head task request) = task_text task ++ codes " " ++ request_text request ++ codes "\n"
 text_of_entry (entry.Kill task) = codes "kill " ++ task_text task ++ codes "\n"
 text_of_entry (entry.Gone task) = task_text task ++ codes " ended\n"
+text_of_entry (entry.Spawn task) = codes "spawn " ++ task_text task ++ codes "\n"
 text_of_entry (entry.Outcome outcome) = codes "  = " ++ outcome_text outcome ++ codes "\n"
 text_of_entry effect = codes "  " ++ effect_text effect ++ codes "\n"
 

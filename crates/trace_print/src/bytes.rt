@@ -2,7 +2,7 @@
 ghost use Rattle.std.specs.Prelude.{◌≡◌, ◌+◌, ◌≤◌, ◌<◌, ◌++◌, length, vec_len, vec_capacity};
 ghost use Rattle.trace_print.specs.Text.{digit_text, digits_text, bytes_text};
 
-fn digit(value: u8) -> u8
+pub fn digit(value: u8) -> u8
     requires { value < 16 }
     ensures { result ≡ digit_text value }
 {

@@ -2,6 +2,7 @@
 //! caller gives, which take no memory but their own.
 #![tactic(auto)]
 
+mod array;
 mod bytes;
 mod count;
 mod effect;
@@ -14,4 +15,4 @@ mod pen;
 #[cfg(test)]
 mod tests;
 
-pub use line::{entry_length, entry_text};
+pub use line::{entry_is, entry_length, entry_text};

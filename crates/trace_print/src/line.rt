@@ -1,5 +1,5 @@
 //! The line of an entry.
-ghost use Rattle.std.specs.Prelude.{◌≡◌, ◌+◌, ◌≤◌, ◌++◌, length, map, OnOk, OnErr, IsOk, vec_len, vec_capacity};
+ghost use Rattle.std.specs.Prelude.{◌≡◌, ◌↔◌, ◌+◌, ◌≤◌, [], ◌∷◌, ◌++◌, length, map, OnOk, OnErr, IsOk, IsTrue, vec_len, vec_capacity};
 ghost use Rattle.trace_print.specs.Text.{text_of_entry};
 
 use crate::count::Count;
@@ -7,6 +7,7 @@ use crate::effect::push_effect;
 use crate::head::{push_outcome, push_request};
 use crate::part::push_task;
 use crate::pen::Pen;
+use arrayvec::ArrayVec;
 use ipc_ids::{Entry, NoMemory};
 
 #[tactic(auto, using(crate::proofs::Marks::map_append))]
@@ -31,6 +32,11 @@ fn push_line<P: Pen>(pen: &mut P, entry: &Entry)
         Entry::Gone(task) => {
             push_task(pen, *task);
             pen.word(b" ended\n");
+        }
+        Entry::Spawn(task) => {
+            pen.word(b"spawn ");
+            push_task(pen, *task);
+            pen.byte(b'\n');
         }
         Entry::Outcome(outcome) => {
             pen.word(b"  = ");
@@ -64,12 +70,26 @@ pub fn entry_text(entry: &Entry, into: &mut Vec<u8>) -> Result<(), NoMemory>
     Ok(())
 }
 
-/// How long the line of an entry is, in bytes, without the line.
+/// How long the line of an entry is, in bytes, without the line: at most 256.
 #[tactic(auto, using(crate::proofs::Counts::count_is))]
 pub fn entry_length(entry: &Entry) -> u64
-    ensures { result ≡ length (text_of_entry entry.now) }
+    ensures length { result ≡ length (text_of_entry entry.now) }
+    ensures short { length (text_of_entry entry.now) ≤ 256 }
 {
     let mut count = Count { length: 0 };
     push_line(&mut count, entry);
     count.length
+}
+
+/// Whether the line of the entry is these bytes and a line feed. It takes no memory.
+#[tactic(auto, using(crate::proofs::Marks::map_same))]
+pub fn entry_is(entry: &Entry, line: &[u8]) -> bool
+    ensures { IsTrue result ↔ (text_of_entry entry.now ≡ line.now ++ 10 ∷ []) }
+{
+    let mut bytes = ArrayVec::<u8, 256>::new();
+    push_line(&mut bytes, entry);
+    match bytes.as_slice().split_last() {
+        Some((last, text)) => *last == b'\n' && text == line,
+        None => false,
+    }
 }

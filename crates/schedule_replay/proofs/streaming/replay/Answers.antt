@@ -1,6 +1,8 @@
 use Rattle.std.proofs.Common.{◌≡◌, ◌≤◌, ◌+◌, ◌∙◌, ◌++◌, refl, sym, ap, length, take, arith, add-one}
 use Rattle.trace_print.specs.Text.{text_of}
 use Rattle.schedule_replay.specs.Run.{ReplayState, turn}
+use Rattle.schedule_replay.proofs.RunHistories.{may_from, may_now, may_on}
+use Rattle.schedule_replay.proofs.LawfulRuns.{lawful_of_script}
 use Rattle.schedule_replay.proofs.Sending.{on_error}
 use Rattle.schedule_replay.proofs.UnderWay.{begun, stepped, ended, part_waiting, part_stepped, keeps_up_at, keeps_up_ended, keeps_up_or}
 use Rattle.schedule_replay.proofs.streaming.replay.Goals as goal
@@ -9,6 +11,7 @@ pub loop-event-init : goal.loop-event-init
 loop-event-init g c = record {
   under_way = begun c.args.script.now (g.F.Feed.left c.args.feed.now) _ (g.K.Sink.written c.args.sink.now) _ (ap (λ (r : ReplayState). r.state) c.in_ok-replay.ensures.state) c.in_ok-buffer.ensures;
   few = omega (arith, c.in_ok-replay.ensures.no_event, c.requires.few);
+  may = may_from c.args.script.now (g.F.Feed.left c.args.feed.now) _ (ap (λ (r : ReplayState). r.state) c.in_ok-replay.ensures.state) c.requires.may;
   none = refl;
 }
 
@@ -20,8 +23,12 @@ loop-event-preserved g c =
     record {
       under_way = stepped _ _ _ _ _ _ _ _ _ _ _ _ _ c.loop-event.invariant.under_way c.in-Some.ensures (ap (λ (r : ReplayState). r.state) c.in-Ok.ensures.state) told c.in-Ok-write_entries.ensures.ok;
       few = omega (arith, c.loop-event.invariant.few, c.in-Ok.ensures.events);
+      may = may_on c.loop-event.replay.state _ c.in-Some.event (g.F.Feed.left c.loop-event.feed) (g.F.Feed.left c.next.new.self) c.in-Some.ensures (ap (λ (r : ReplayState). r.state) c.in-Ok.ensures.state) c.loop-event.invariant.may;
       none = c.in-Ok-write_entries.ensures.none ∙ c.loop-event.invariant.none;
     }
+
+pub step-requires-clause-may : goal.step-requires-clause-may
+step-requires-clause-may g c = may_now c.loop-event.replay.state c.in-Some.event (g.F.Feed.left c.loop-event.feed) (g.F.Feed.left c.next.new.self) c.in-Some.ensures c.loop-event.invariant.may
 
 -- want of memory in an event
 
@@ -70,3 +77,23 @@ returns-in_err-flush-clause-keeps_up g c =
 
 pub returns-clause-ok : goal.returns-clause-ok
 returns-clause-ok g c = ended _ _ _ _ _ (g.K.Sink.written c.loop-event.sink) (g.K.Sink.written c.flush.new.sink) _ c.loop-event.invariant.under_way c.in_default.ensures.0 c.in_ok-flush.ensures.ok
+
+-- the run keeps the laws, however the replay ends
+
+pub returns-in_err-buffer-clause-lawful : goal.returns-in_err-buffer-clause-lawful
+returns-in_err-buffer-clause-lawful g c = lawful_of_script _ c.args.script.now (g.F.Feed.left c.args.feed.now) c.script.view_is c.script.invariant c.requires.may
+
+pub returns-in_err-replay-clause-lawful : goal.returns-in_err-replay-clause-lawful
+returns-in_err-replay-clause-lawful g c = lawful_of_script _ c.args.script.now (g.F.Feed.left c.args.feed.now) c.script.view_is c.script.invariant c.requires.may
+
+pub returns-in-Err-clause-lawful : goal.returns-in-Err-clause-lawful
+returns-in-Err-clause-lawful g c = lawful_of_script _ c.args.script.now (g.F.Feed.left c.args.feed.now) c.script.view_is c.script.invariant c.requires.may
+
+pub returns-in-Err-write_entries-clause-lawful : goal.returns-in-Err-write_entries-clause-lawful
+returns-in-Err-write_entries-clause-lawful g c = lawful_of_script _ c.args.script.now (g.F.Feed.left c.args.feed.now) c.script.view_is c.script.invariant c.requires.may
+
+pub returns-in_err-flush-clause-lawful : goal.returns-in_err-flush-clause-lawful
+returns-in_err-flush-clause-lawful g c = lawful_of_script _ c.args.script.now (g.F.Feed.left c.args.feed.now) c.script.view_is c.script.invariant c.requires.may
+
+pub returns-clause-lawful : goal.returns-clause-lawful
+returns-clause-lawful g c = lawful_of_script _ c.args.script.now (g.F.Feed.left c.args.feed.now) c.script.view_is c.script.invariant c.requires.may

@@ -1,6 +1,6 @@
 use Rattle.std.proofs.Common.{◌+◌, sym, ◌∙◌, arith}
 use Rattle.script_reader.specs.Line.{after_line}
-use Rattle.script_reader.specs.Draft.{plan_of}
+use Rattle.script_reader.specs.ScriptParts.{parts_of}
 use Rattle.script_reader.proofs.Lines.{here, next_line, faulty_line, less_left}
 use Rattle.script_reader.proofs.reading.add_lines.Goals as goal
 
@@ -13,7 +13,7 @@ loop-left-preserved c =
     let told = rw c.in-Some.is at c.loop-left.invariant.told in
     let few = rw c.in-Some.is at c.loop-left.invariant.few in
     record {
-      told = sym (next_line after_line (c.loop-left.line + 1) (plan_of c.loop-left.draft) (plan_of c.add_line.new.draft) text (here c.in-Ok.others) c.in-Ok.ensures.behind c.in-Ok.ensures.value) ∙ told;
+      told = sym (next_line after_line (c.loop-left.line + 1) (parts_of c.loop-left.drafts) (parts_of c.add_line.new.drafts) text (here c.in-Ok.others) c.in-Ok.ensures.behind c.in-Ok.ensures.value) ∙ told;
       few = omega (arith, few, less_left text (here c.in-Ok.others) c.in-Ok.ensures.behind);
       whole = c.in-Ok.ensures.whole;
     }
@@ -21,4 +21,4 @@ loop-left-preserved c =
 pub returns-in-Err-Bad-clause-value : goal.returns-in-Err-Bad-clause-value
 returns-in-Err-Bad-clause-value c =
     let told = rw c.in-Some.is at c.loop-left.invariant.told in
-    rw c.in-Err-Bad.field-0-is (sym told ∙ faulty_line after_line (c.loop-left.line + 1) (plan_of c.loop-left.draft) c.in-Some.text.now c.in-Err-Bad.reason (rw c.in-Err-Bad.field-0-is at c.in-Err-Bad.ensures.value))
+    rw c.in-Err-Bad.field-0-is (sym told ∙ faulty_line after_line (c.loop-left.line + 1) (parts_of c.loop-left.drafts) c.in-Some.text.now c.in-Err-Bad.reason (rw c.in-Err-Bad.field-0-is at c.in-Err-Bad.ensures.value))

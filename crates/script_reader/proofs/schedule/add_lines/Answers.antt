@@ -1,5 +1,5 @@
 use Rattle.std.proofs.Common.{◌+◌, sym, ◌∙◌, arith}
-use Rattle.script_reader.specs.Schedule.{after_event_line}
+use Rattle.script_reader.specs.EventLine.{after_event_line}
 use Rattle.script_reader.proofs.Lines.{here, next_line, faulty_line, less_left}
 use Rattle.script_reader.proofs.schedule.add_lines.Goals as goal
 
@@ -12,11 +12,11 @@ loop-left-preserved c =
     let told = rw c.in-Some.is at c.loop-left.invariant.told in
     let few = rw c.in-Some.is at c.loop-left.invariant.few in
     record {
-      told = sym (next_line (after_event_line c.args.names.now) (c.loop-left.line + 1) c.loop-left.events.items c.add_line.new.events.items text (here c.in-Ok.others) c.in-Ok.ensures.behind c.in-Ok.ensures.value) ∙ told;
+      told = sym (next_line (after_event_line c.args.templates.now) (c.loop-left.line + 1) (record { events = c.loop-left.events.items; names = c.loop-left.names }) (record { events = c.add_line.new.events.items; names = c.add_line.new.names }) text (here c.in-Ok.others) c.in-Ok.ensures.behind c.in-Ok.ensures.value) ∙ told;
       few = omega (arith, few, less_left text (here c.in-Ok.others) c.in-Ok.ensures.behind);
     }
 
 pub returns-in-Err-Bad : goal.returns-in-Err-Bad
 returns-in-Err-Bad c =
     let told = rw c.in-Some.is at c.loop-left.invariant.told in
-    sym told ∙ faulty_line (after_event_line c.args.names.now) (c.loop-left.line + 1) c.loop-left.events.items c.in-Some.text.now c.in-Err-Bad.reason (rw c.in-Err-Bad.field-0-is at c.in-Err-Bad.ensures.value)
+    rw c.in-Err-Bad.field-0-is (sym told ∙ faulty_line (after_event_line c.args.templates.now) (c.loop-left.line + 1) (record { events = c.loop-left.events.items; names = c.loop-left.names }) c.in-Some.text.now c.in-Err-Bad.reason (rw c.in-Err-Bad.field-0-is at c.in-Err-Bad.ensures.value))

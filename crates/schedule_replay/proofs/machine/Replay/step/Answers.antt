@@ -8,4 +8,5 @@ returns-in-Ok-clause-history c = λ h told.
     kept_by h c.self.inside.system c.args.self.now.state c.turn.new.self c.args.event.now
     (ap (λ (r : ReplayState). r.state) c.self.view_is)
     c.in-Ok.ensures.state
+    c.requires.may
     told
