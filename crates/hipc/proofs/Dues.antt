@@ -10,7 +10,10 @@ use Rattle.script_reader.specs.declared.fault.Reason.{Reason}
 use Rattle.script_reader.specs.declared.fault.Reason.TheVariants.{TooLong}
 use Rattle.script_reader.specs.Text.{lines}
 use Rattle.script_reader.specs.Plan.{Plan}
-use Rattle.script_reader.specs.Reading.{reading, lines_from, script_of, schedule_of}
+use Rattle.script_reader.specs.Reading.{reading, lines_from, plan_from_parts, events_alone, script_of, schedule_of}
+use Rattle.script_reader.specs.Line.{after_line}
+use Rattle.script_reader.specs.ScriptParts.{no_parts}
+use Rattle.script_reader.specs.EventLine.{no_events, after_event}
 use Rattle.hipc.specs.Answer.{answer_of, answer_for_script, answer_for_events}
 use Rattle.hipc.specs.Command.{Command, command_of}
 use Rattle.hipc.specs.Due.{Files, Names, Answers, cannot_line, Due, DueForBytes, DueForNames, DueForCommand, Whole, Part}
@@ -59,7 +62,7 @@ SpellTheSame bytes all =
 cut : (all : List ℕ) → SpellTheSame (take 1048577 all) all
 cut all =
     let long = nat_lt 1048577 (length all) in
-    (cut_at _ _ all long refl, λ script. cut_at _ _ all long refl)
+    (ap plan_from_parts (cut_at after_line no_parts all long refl), λ script. ap events_alone (cut_at (after_event script) (no_events script) all long refl))
 
 taken : (x bytes : List ℕ) → Some x ≡ Some bytes → x ≡ bytes
 taken x bytes h = cc

@@ -1,5 +1,5 @@
 -- The texts of runs that keep the laws, from the bytes of two files to the words of a command line.
-use Rattle.std.proofs.Common.{◌≡◌, ◌≢◌, ℕ, List, sym, subst, ◌∙◌, Option, Some, Ok}
+use Rattle.std.proofs.Common.{◌≡◌, ◌≢◌, ℕ, List, sym, subst, ◌∙◌, Option, Ok}
 use Rattle.ipc_ids.specs.declared.message.Event.{Event}
 use Rattle.io_edge.specs.Edge.{Gives}
 use Rattle.script_reader.specs.Plan.{Plan}
@@ -9,7 +9,8 @@ use Rattle.schedule_replay.specs.Run.{run}
 use Rattle.std.specs.Io.KnownBytes.{Appends}
 use Rattle.trace_print.specs.Text.{text_of}
 use Rattle.schedule_replay.specs.Generator.{generated_plan, generated_events}
-use Rattle.schedule_replay.proofs.GeneratedScript.{generated_is_sound}
+use Rattle.schedule_replay.proofs.GeneratedScript.{generated_is_sound, generated_may}
+use Rattle.script_reader.proofs.KnownTasks.{read_may}
 use Rattle.hipc.specs.Command.{Command, command_of}
 use Rattle.hipc.specs.Due.{Files}
 use Rattle.hipc.specs.Summary.{summary_line}
@@ -17,7 +18,7 @@ use Rattle.hipc.specs.declared.status.Status.{Status}
 use Rattle.hipc.specs.declared.status.Status.TheVariants.{Done, WriteFailed, NoMemory}
 use Rattle.hipc.specs.LawfulRun.{IsLawfulText, WritesLawfulRun, WritesLawfulRunOfFiles, WritesLawfulSummary, WritesLawfulRunFor, WritesLawfulRunOf}
 use Rattle.hipc.proofs.Dues.{SpellTheSame, held}
-use Rattle.hipc.proofs.LawfulRuns.{run_keeps_laws}
+use Rattle.schedule_replay.proofs.LawfulRuns.{run_is_lawful}
 
 -- the text of the run of a script that was read
 pub text_is_lawful : (script schedule text : List ℕ) (plan : Plan) (events : List Event)
@@ -28,7 +29,8 @@ text_is_lawful script schedule text plan events sound first second is = record {
   events = events;
   spells_plan = first;
   spells_events = second;
-  laws = run_keeps_laws plan events sound;
+  laws = (run_is_lawful plan events sound (read_may plan schedule events second)).laws;
+  wakes = (run_is_lawful plan events sound (read_may plan schedule events second)).wakes;
   text_is = is;
 }
 
@@ -40,6 +42,7 @@ lawful_alike a b x y text h k is = record {
   spells_plan = sym h.0 ∙ is.spells_plan;
   spells_events = sym (k.1 is.plan) ∙ is.spells_events;
   laws = is.laws;
+  wakes = is.wakes;
   text_is = is.text_is;
 }
 
@@ -67,7 +70,7 @@ done_is_no_want s e h = cc
 pub summary_is_lawful : (seed events : ℕ) (old new : Option (List ℕ))
     → Appends old new (summary_line seed events) → WritesLawfulSummary seed events old new
 summary_is_lawful seed events old new h =
-    (run_keeps_laws generated_plan (generated_events seed events) generated_is_sound, h)
+    ((run_is_lawful generated_plan (generated_events seed events) generated_is_sound (generated_may seed events)).laws, h)
 
 -- the command that the words are
 pub lawful_for : (words : List (List ℕ)) (files : Files) (command : Option Command) (old new : Option (List ℕ))

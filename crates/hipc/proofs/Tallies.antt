@@ -5,9 +5,10 @@ use Rattle.std.proofs.lemmas.List.{drop_all}
 use Rattle.std.proofs.lemmas.Grind.{common_steps}
 use Rattle.ipc_ids.specs.declared.entry.Entry.{Entry}
 use Rattle.ipc_ids.specs.declared.message.Event.{Event}
-use Rattle.trace_print.specs.Text.{text_of_entry, text_of}
+use Rattle.trace_print.specs.Text.{text_of}
 use Rattle.script_reader.specs.Plan.{Plan}
-use Rattle.schedule_replay.specs.Run.{RunState, turn, run_from, run}
+use Rattle.schedule_replay.specs.Run.{RunState, turn, run_from, run, MayHappen, MayAllHappen}
+use Rattle.schedule_replay.proofs.RunHistories.{may_now, may_on}
 use Rattle.schedule_replay.specs.Generator.{generated_plan, generated_events}
 use Rattle.schedule_replay.proofs.Sending.{text_append}
 use Rattle.hipc.specs.declared.summary.Tally.{Tally}
@@ -67,6 +68,15 @@ one_more_event now events i d t all h so_far =
     let rest : List Entry = run_from (turn now e).state (drop (i + 1) events) in
     let split : drop i events ≡ e ∷ drop (i + 1) events = rw next (drop-cons events i d h) in
     sym (tally_append t (turn now e).entries rest) ∙ rw split at so_far
+
+-- what may come next, and what may come after it
+pub next_may : (now : RunState) (events : List Event) (i : ℕ) (d : Event) → i < length events → MayAllHappen now (drop i events)
+    → MayHappen now (slice_index_or events i d) × MayAllHappen (turn now (slice_index_or events i d)).state (drop (i + 1) events)
+next_may now events i d h may =
+    let e : Event = slice_index_or events i d in
+    let next : i + 1 ≡ suc i = omega arith in
+    let split : drop i events ≡ e ∷ drop (i + 1) events = rw next (drop-cons events i d h) in
+    (may_now now e (drop i events) (drop (i + 1) events) split may, may_on now (turn now e).state e (drop i events) (drop (i + 1) events) split refl may)
 
 -- no event is left
 pub no_more_events : (now : RunState) (events : List Event) (i : ℕ) (t all : Tally) → length events ≤ i

@@ -12,6 +12,7 @@ use Rattle.hipc.specs.declared.command.Command.TheVariants as form
 pub data Command : Type 0 where
   Replay : (script schedule : List ℕ) → Command
   Generate : (seed events : ℕ) → Command
+  Check : (trace : List ℕ) → Command
 
 -- words as bytes
 abbrev pub texts : List (String Global) → List (List ℕ)
@@ -28,14 +29,17 @@ abbrev pub command_of : List (List ℕ) → Option Command
 command_of (command ∷ first ∷ second ∷ []) =
     if bytes_eq command (codes "replay") then Some (Replay first second)
     else (if bytes_eq command (codes "gen") then generate (number first) (number second) else None)
+command_of (command ∷ trace ∷ []) = if bytes_eq command (codes "check") then Some (Check trace) else None
 command_of words = None
 
 -- the command as the code has it, which lends the words
 abbrev pub said : Said → Command
 said (form.Replay script schedule) = Replay script.now schedule.now
 said (form.Generate seed events) = Generate seed events
+said (form.Check trace) = Check trace.now
 
 -- a command asks for no more events than a run may have
 abbrev pub HasFewEvents : Said → Type 0
 HasFewEvents (form.Replay script schedule) = ⊤
 HasFewEvents (form.Generate seed events) = events ≤ most_events
+HasFewEvents (form.Check trace) = ⊤

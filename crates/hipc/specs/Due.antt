@@ -6,7 +6,8 @@ use Rattle.io_edge.specs.Edge.{times, Holds, AppendsStart}
 use Rattle.hipc.specs.declared.status.Status.{Status}
 use Rattle.hipc.specs.declared.status.Status.TheVariants.{Done, Usage, CannotRead, WriteFailed, NoMemory}
 use Rattle.hipc.specs.Answer.{answer_of}
-use Rattle.hipc.specs.Command.{Command, Replay, Generate, command_of}
+use Rattle.hipc.specs.Command.{Command, Replay, Generate, Check, command_of}
+use Rattle.hipc.specs.Check.{DueForTrace}
 use Rattle.hipc.specs.Summary.{summary_line}
 
 -- files, each a name and its bytes, where a shelf tells them
@@ -26,6 +27,7 @@ abbrev pub names_of : Option Command → Option (List ℕ × List ℕ)
 names_of None = None
 names_of (Some (Replay script schedule)) = Some (script, schedule)
 names_of (Some (Generate seed events)) = None
+names_of (Some (Check trace)) = Some (trace, trace)
 
 -- likewise of the words of a command line
 abbrev pub files_of : List (List ℕ) → Option (List ℕ × List ℕ)
@@ -68,12 +70,20 @@ DueForFiles files before after script schedule =
 abbrev pub DueForNumbers : ℕ → ℕ → Answers
 DueForNumbers seed events status text = (status ≡ Done) × (text ≡ summary_line seed events)
 
+-- due for the name of a trace, which was lost or not
+abbrev pub DueForTraceFile : Files → List ℕ → Bool → Answers
+DueForTraceFile files trace true status text = (status ≡ CannotRead) × (text ≡ cannot_line trace)
+DueForTraceFile files trace false status text =
+    (bytes : List ℕ) × Holds files trace bytes × DueForTrace bytes status text
+
 -- due for the command that the words are, or for words that are none
 abbrev pub DueForCommand : Files → Names → Names → Option Command → Answers
 DueForCommand files before after None status text = (status ≡ Usage) × (text ≡ usage_line)
 DueForCommand files before after (Some (Replay script schedule)) status text =
     DueForFiles files before after script schedule status text
 DueForCommand files before after (Some (Generate seed events)) status text = DueForNumbers seed events status text
+DueForCommand files before after (Some (Check trace)) status text =
+    DueForTraceFile files trace (lost before after trace) status text
 
 -- due for the words, by the files and the names whose load failed before and after the call
 abbrev pub Due : List (List ℕ) → Files → Names → Names → Answers

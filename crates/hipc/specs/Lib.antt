@@ -1,4 +1,5 @@
 pub mod Answer
+pub mod Check
 pub mod Command
 pub mod Due
 pub mod LawfulRun

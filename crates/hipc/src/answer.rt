@@ -3,11 +3,12 @@ ghost use Rattle.std.specs.Prelude.{◌≡◌, ◌≢◌, ◌≤◌, ◌<◌, �
 ghost use Rattle.std.specs.Io.KnownBytes.{Appends, Keeps};
 ghost use Rattle.io_edge.specs.Edge.{AppendsStart, Rose};
 ghost use Rattle.trace_print.specs.Text.{text_of};
+ghost use Rattle.script_reader.specs.Schedule.{MayAllCome};
 ghost use Rattle.schedule_replay.specs.Run.{run};
 ghost use Rattle.hipc.specs.Answer.{fault_line};
 ghost use Rattle.hipc.specs.Due.{DueForBytes, Whole, Part};
 ghost use Rattle.hipc.specs.LawfulRun.{WritesLawfulRun};
-ghost use Rattle.hipc.specs.declared.status.Status.TheVariants.{Done, WriteFailed, NoMemory as Memory};
+ghost use Rattle.hipc.specs.declared.status.Status.TheVariants.{Done, BadTrace, WriteFailed, NoMemory as Memory};
 
 use crate::Status;
 use io_edge::{PutFailed, Sink};
@@ -70,6 +71,7 @@ fn tell_fault<K: Sink>(
 // Runs the events of a schedule over a script, and writes the text of the run.
 fn replay_events<K: Sink>(alloc: Global, script: &Script, events: &[Event], sink: &mut K) -> Status
     requires few { length events.now ≤ 65536 }
+    requires may { MayAllCome (length script.now.tasks) (length script.now.templates) events.now }
     ensures ok { result ≢ WriteFailed → result ≢ Memory → (result ≡ Done)
         × Appends (K.written sink.old) (K.written sink.new) (text_of (run script.now events.now)) }
     ensures part { (result ≡ WriteFailed) ⊎ (result ≡ Memory) →
@@ -105,9 +107,10 @@ pub fn replay_bytes<K: Sink>(alloc: Global, script: &[u8], schedule: &[u8], sink
     ensures risen { K.faults sink.old < K.faults sink.new →
         (result ≡ WriteFailed) ⊎ (result ≡ Memory) }
     ensures later { K.faults sink.old ≤ K.faults sink.new }
-    // With Done, what was written is the text of a run that keeps the six laws.
+    // With Done, what was written is the text of a run that keeps the laws.
     ensures laws { result ≡ Done → WritesLawfulRun script.now schedule.now
         (K.written sink.old) (K.written sink.new) }
+    ensures other { result ≢ BadTrace }
 {
     let script = match read_script(alloc, script) {
         Ok(script) => script,

@@ -15,6 +15,8 @@ pub enum Command<'a> {
     Replay(&'a str, &'a str),
     /// Run generated input: the seed, and how many events, at most 65,536.
     Generate(u64, u64),
+    /// Check a trace, by the name of its file.
+    Check(&'a str),
 }
 
 // The command of these two words behind `gen`, if they are one.
@@ -43,6 +45,7 @@ pub fn command_of(words: &[String]) -> Option<Command<'_>>
         [command, seed, events] if command.as_str() == "gen" => {
             generate(seed.as_str(), events.as_str())
         }
+        [command, trace] if command.as_str() == "check" => Some(Command::Check(trace.as_str())),
         _ => None,
     }
 }

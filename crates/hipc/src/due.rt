@@ -3,12 +3,13 @@ ghost use Rattle.std.specs.Prelude.{◌≡◌, ◌≢◌, ◌≤◌, ◌<◌, �
 ghost use Rattle.std.specs.Io.KnownBytes.{Appends, Keeps};
 ghost use Rattle.io_edge.specs.Edge.{AppendsStart, Rose};
 ghost use Rattle.hipc.specs.Command.{texts};
-ghost use Rattle.hipc.specs.Due.{files_of, cannot_line, Due, DueForFiles, Whole, Part, LosesOneAtMost};
-ghost use Rattle.hipc.specs.LawfulRun.{WritesLawfulRunOf, WritesLawfulRunOfFiles};
-ghost use Rattle.hipc.specs.declared.status.Status.TheVariants.{Done, CannotRead, WriteFailed, NoMemory as Memory};
+ghost use Rattle.hipc.specs.Due.{files_of, cannot_line, Due, DueForFiles, DueForTraceFile, lost, Whole, Part, LosesOneAtMost};
+ghost use Rattle.hipc.specs.LawfulRun.{WritesLawfulRunOf, WritesLawfulRunOfFiles, RefusesTraceOf, HasLawfulTrace, HasNoLawfulTrace};
+ghost use Rattle.hipc.specs.declared.status.Status.TheVariants.{Done, CannotRead, BadTrace, WriteFailed, NoMemory as Memory};
 
 use crate::Status;
 use crate::answer::{replay_bytes, tell};
+use crate::check::check_bytes;
 use crate::command::{Command, command_of};
 use crate::summary::tell_summary;
 use io_edge::{LoadFault, Shelf, Sink};
@@ -17,6 +18,9 @@ use std::alloc::Global;
 
 // One more byte than a file may have, so that a longer one shows.
 const MOST: usize = 1_048_577;
+
+// The same of a trace.
+const MOST_TRACE: usize = 16_777_217;
 
 const USAGE: &[u8] = b"usage: hipc replay SCRIPT SCHEDULE\n";
 
@@ -74,6 +78,7 @@ fn replay_files<S: Shelf, K: Sink>(
         (S.failed shelf.old) (S.failed shelf.new) }
     ensures laws { result ≡ Done → WritesLawfulRunOfFiles (S.files shelf.old)
         script.now schedule.now (K.written sink.old) (K.written sink.new) }
+    ensures other { result ≢ BadTrace }
 {
     let first = match shelf.load(alloc, script, MOST) {
         Ok(bytes) => bytes,
@@ -86,6 +91,31 @@ fn replay_files<S: Shelf, K: Sink>(
         Err(LoadFault::NoMemory) => return Status::NoMemory,
     };
     replay_bytes(alloc, &first, &second, sink)
+}
+
+// Loads the file of a trace, and checks it.
+fn check_file<S: Shelf, K: Sink>(alloc: Global, trace: &str, shelf: &mut S, sink: &mut K) -> Status
+    ensures whole { Whole (DueForTraceFile (S.files shelf.old) trace.now
+        (lost (S.failed shelf.old) (S.failed shelf.new) trace.now))
+        (K.written sink.old) (K.written sink.new) result }
+    ensures part { result ≡ WriteFailed → Part (DueForTraceFile (S.files shelf.old) trace.now
+        (lost (S.failed shelf.old) (S.failed shelf.new) trace.now))
+        (K.written sink.old) (K.written sink.new) }
+    ensures memory { result ≡ Memory → Keeps (K.written sink.old) (K.written sink.new) }
+    ensures write_failed { result ≡ WriteFailed → Rose (K.faults sink.old) (K.faults sink.new) }
+    ensures risen { K.faults sink.old < K.faults sink.new → result ≡ WriteFailed }
+    ensures later { K.faults sink.old ≤ K.faults sink.new }
+    ensures files { S.files shelf.new ≡ S.files shelf.old }
+    ensures failed { LosesOneAtMost (Some (trace.now, trace.now))
+        (S.failed shelf.old) (S.failed shelf.new) }
+    ensures done { result ≡ Done → HasLawfulTrace (S.files shelf.old) trace.now }
+    ensures bad { result ≡ BadTrace → HasNoLawfulTrace (S.files shelf.old) trace.now }
+{
+    match shelf.load(alloc, trace, MOST_TRACE) {
+        Ok(bytes) => check_bytes(alloc, &bytes, sink),
+        Err(LoadFault::Failed) => tell_cannot(alloc, trace, sink),
+        Err(LoadFault::NoMemory) => Status::NoMemory,
+    }
 }
 
 /// Does what the words of a command line ask: `replay SCRIPT SCHEDULE` loads the two files from the
@@ -119,15 +149,19 @@ pub fn run<S: Shelf, K: Sink>(
     ensures files { S.files shelf.new ≡ S.files shelf.old }
     ensures failed { LosesOneAtMost (files_of (texts words.now))
         (S.failed shelf.old) (S.failed shelf.new) }
-    // With Done, what was written is the text of a run that keeps the six laws, or sums one up.
+    // With Done, what was written is the text of a run that keeps the laws, or sums one up.
     ensures laws { result ≡ Done → WritesLawfulRunOf (texts words.now) (S.files shelf.old)
         (K.written sink.old) (K.written sink.new) }
+    // A trace is refused only where its file has no text of entries that satisfy the laws.
+    ensures refused { result ≡ BadTrace →
+        RefusesTraceOf (texts words.now) (S.files shelf.old) }
 {
     match command_of(words) {
         Some(Command::Replay(script, schedule)) => {
             replay_files(alloc, script, schedule, shelf, sink)
         }
         Some(Command::Generate(seed, events)) => tell_summary(alloc, seed, events, sink),
+        Some(Command::Check(trace)) => check_file(alloc, trace, shelf, sink),
         None => tell(Status::Usage, USAGE, sink),
     }
 }

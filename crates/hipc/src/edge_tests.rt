@@ -1,5 +1,6 @@
 //! Loads and puts that fail, each with what is answered and what was written by then.
-use crate::tests::{SCHEDULE, SCRIPT, files, words};
+use crate::rows::{FIRST_CALL_SCHEDULE, FIRST_CALL_SCRIPT};
+use crate::tests::{files, words};
 use crate::{Status, run};
 use io_edge::MemSink;
 use schedule_replay::{ReplayFault, SliceFeed, replay};
@@ -34,7 +35,7 @@ struct FaultRow {
 const FAULTS: [FaultRow; 5] = [
     FaultRow {
         shows: "the script is loaded first, and its load fails",
-        script: SCRIPT,
+        script: FIRST_CALL_SCRIPT,
         load: 1,
         put: (0, 0),
         status: Status::CannotRead,
@@ -42,7 +43,7 @@ const FAULTS: [FaultRow; 5] = [
     },
     FaultRow {
         shows: "the schedule is loaded next, and its load fails",
-        script: SCRIPT,
+        script: FIRST_CALL_SCRIPT,
         load: 2,
         put: (0, 0),
         status: Status::CannotRead,
@@ -50,7 +51,7 @@ const FAULTS: [FaultRow; 5] = [
     },
     FaultRow {
         shows: "the first put fails, and keeps nothing",
-        script: SCRIPT,
+        script: FIRST_CALL_SCRIPT,
         load: 0,
         put: (1, 0),
         status: Status::WriteFailed,
@@ -58,7 +59,7 @@ const FAULTS: [FaultRow; 5] = [
     },
     FaultRow {
         shows: "the first put fails, and keeps the start of its text",
-        script: SCRIPT,
+        script: FIRST_CALL_SCRIPT,
         load: 0,
         put: (1, 5),
         status: Status::WriteFailed,
@@ -74,33 +75,33 @@ const FAULTS: [FaultRow; 5] = [
     },
 ];
 
-/// What a replay of the first lesson answers over a sink.
-fn replay_into(alloc: Global, sink: &mut MemSink) -> Result<Option<ReplayFault>, Fail> {
-    let script = read_script(alloc, SCRIPT)?;
-    let events = read_schedule(alloc, SCHEDULE, &script)?;
-    Ok(replay(alloc, &script, &mut SliceFeed::new(&events), sink).err())
+/// Whether a replay whose files or output fail so comes to the status and the text of the row.
+fn fails_so(alloc: Global, row: FaultRow) -> Result<bool, Fail> {
+    let words = words(alloc, &["replay", "script", "schedule"])?;
+    let mut shelf = files(alloc, row.script, FIRST_CALL_SCHEDULE)?;
+    shelf.fail_at(row.load)?;
+    let mut sink = MemSink::new(alloc, 1000)?;
+    sink.fail_at(row.put.0, row.put.1)?;
+    let status = run(alloc, &words, &mut shelf, &mut sink);
+    Ok(status == row.status && sink.written() == row.text)
+}
+
+/// Whether a replay tells of a put that fails, and five bytes of it stand.
+fn tells_of_the_sink(alloc: Global) -> Result<bool, Fail> {
+    let script = read_script(alloc, FIRST_CALL_SCRIPT)?;
+    let events = read_schedule(alloc, FIRST_CALL_SCHEDULE, &script)?;
+    let mut sink = MemSink::new(alloc, 1000)?;
+    sink.fail_at(1, 5)?;
+    let fault = replay(alloc, &script, &mut SliceFeed::new(&events), &mut sink).err();
+    Ok(fault == Some(ReplayFault::Sink) && sink.written() == b"t1 ca".as_slice())
 }
 
 #[test]
 fn each_file_that_fails_has_its_status(rt: HostRuntime) -> Result<(), Fail> {
-    let alloc = rt.alloc();
-    let words = words(alloc, &["replay", "script", "schedule"])?;
     for row in FAULTS {
         let shows = row.shows;
-        let mut shelf = files(alloc, row.script, SCHEDULE)?;
-        shelf.fail_at(row.load)?;
-        let mut sink = MemSink::new(alloc, 1000)?;
-        sink.fail_at(row.put.0, row.put.1)?;
-        assert_eq!(rt;
-            run(alloc, &words, &mut shelf, &mut sink),
-            row.status,
-            "{shows}"
-        );
-        assert_eq!(rt; sink.written(), row.text, "{shows}");
+        assert!(rt; fails_so(rt.alloc(), row)?, "{shows}");
     }
-    let mut sink = MemSink::new(alloc, 1000)?;
-    sink.fail_at(1, 5)?;
-    assert_eq!(rt; replay_into(alloc, &mut sink)?, Some(ReplayFault::Sink));
-    assert_eq!(rt; sink.written(), b"t1 ca".as_slice());
+    assert!(rt; tells_of_the_sink(rt.alloc())?);
     Ok(())
 }

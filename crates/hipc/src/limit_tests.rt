@@ -1,20 +1,30 @@
 //! Files as large as they may be, and the kill that touches the most phones.
 use crate::Status;
-use crate::malformed_tests::raw_tasks;
-use crate::tests::answer;
-use io_edge::MemSink;
+use crate::tests::answers;
 use std::alloc::Global;
 use std::test::Fail;
 
+/// Whether a script of the most bytes, all of them spaces, prints nothing.
+fn says_nothing(alloc: Global) -> Result<bool, Fail> {
+    let script = vec![in alloc; b' '; 1_048_576]?;
+    answers(alloc, (&script, b""), Status::Done, b"")
+}
+
 #[test]
 fn the_longest_script_says_nothing(rt: HostRuntime) -> Result<(), Fail> {
-    let alloc = rt.alloc();
-    let script = vec![in alloc; b' '; 1_048_576]?;
-    let mut sink = MemSink::new(alloc, 1000)?;
-    let status = answer(alloc, &script, b"", &mut sink)?;
-    assert_eq!(rt; status, Status::Done);
-    assert_eq!(rt; sink.written().len(), 0);
+    assert!(rt; says_nothing(rt.alloc())?);
     Ok(())
+}
+
+/// So many raw tasks, `t1` and so on.
+fn raw_tasks(alloc: Global, count: u32) -> Result<Vec<u8>, Fail> {
+    let mut text = Vec::new(alloc);
+    for index in 0..count {
+        let task = index + 1;
+        let line = format!(in alloc; "task t{task} raw\n")?;
+        text.extend_from_slice(line.as_bytes())?;
+    }
+    Ok(text)
 }
 
 /// 64 tasks, and a wire from each phone of each of them to the first.
@@ -57,16 +67,16 @@ fn add_losses(alloc: Global, text: &mut Vec<u8>) -> Result<(), Fail> {
     Ok(())
 }
 
+/// Whether the kill of the first task has a line for each phone and each call.
+fn kill_is_whole(alloc: Global) -> Result<bool, Fail> {
+    let script = most_wires(alloc)?;
+    let mut text = hangups(alloc)?;
+    add_losses(alloc, &mut text)?;
+    Ok(text.len() == 96_684 && answers(alloc, (&script, b"kill t1\n"), Status::Done, &text)?)
+}
+
 #[test]
 fn a_kill_reaches_each_phone_of_64_tasks(rt: HostRuntime) -> Result<(), Fail> {
-    let alloc = rt.alloc();
-    let script = most_wires(alloc)?;
-    let mut wanted = hangups(alloc)?;
-    add_losses(alloc, &mut wanted)?;
-    let mut sink = MemSink::new(alloc, 100_000)?;
-    let status = answer(alloc, &script, b"kill t1\n", &mut sink)?;
-    assert_eq!(rt; status, Status::Done);
-    assert_eq!(rt; sink.written().len(), 96_684);
-    assert!(rt; sink.written() == wanted.as_slice());
+    assert!(rt; kill_is_whole(rt.alloc())?);
     Ok(())
 }

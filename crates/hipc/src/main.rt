@@ -1,8 +1,9 @@
 //! Replays a schedule over a script of tasks that call each other, and writes what happened; or runs
-//! generated input, and sums it up.
+//! generated input, and sums it up; or checks a trace.
 #![tactic(auto)]
 
 mod answer;
+mod check;
 mod command;
 mod due;
 #[cfg(test)]
@@ -10,7 +11,7 @@ mod edge_tests;
 #[cfg(test)]
 mod limit_tests;
 #[cfg(test)]
-mod malformed_tests;
+mod rows;
 mod status;
 mod summary;
 #[cfg(test)]

@@ -15,6 +15,9 @@ pub enum Status {
     BadScript,
     /// The schedule is outside its grammar; a line with its first fault was written.
     BadSchedule,
+    /// A trace that is checked is too long, cannot be read or breaks a law; a line that says so was
+    /// written.
+    BadTrace,
     /// The text could not be written whole; a prefix of it was.
     WriteFailed,
     /// Memory was wanted and not found; nothing or a prefix of the text was written.
@@ -34,6 +37,7 @@ impl Status {
             Status::BadSchedule => 5,
             Status::WriteFailed => 6,
             Status::NoMemory => 7,
+            Status::BadTrace => 8,
         }
     }
 }

@@ -2,6 +2,7 @@
 ghost use Rattle.std.specs.Prelude.{◌≡◌, ◌≢◌, ◌≤◌, ◌<◌, ◌+◌, ◌∷◌, [], length, IfOk, OnOk};
 ghost use Rattle.std.specs.Io.KnownBytes.{Appends, Keeps};
 ghost use Rattle.io_edge.specs.Edge.{AppendsStart, Rose};
+ghost use Rattle.script_reader.specs.Schedule.{MayAllCome};
 ghost use Rattle.schedule_replay.specs.Run.{run};
 ghost use Rattle.hipc.specs.Summary.{no_tally, with_entries, tally_of, first_half, second_half, tally_line, summary_line};
 ghost use Rattle.hipc.specs.declared.status.Status.TheVariants.{Done, WriteFailed, NoMemory as Memory};
@@ -70,6 +71,7 @@ impl Tally {
 // What the run of a script under events comes to.
 fn tally_run(alloc: Global, script: &Script, events: &[Event]) -> Result<Tally, NoMemory>
     requires few { length events.now ≤ 65536 }
+    requires may { MayAllCome (length script.now.tasks) (length script.now.templates) events.now }
     ensures { IfOk result (λ tally. tally ≡ tally_of (run script.now events.now)) }
 {
     let mut replay = Replay::new(alloc, script)?;

@@ -1,8 +1,8 @@
-use Rattle.std.proofs.Common.{rules, ◌≡◌, ◌≢◌, inl, inr, codes, subst, ap, refl}
+use Rattle.std.proofs.Common.{rules, inl, inr, codes, subst, ap}
 use Rattle.trace_print.specs.Text.{text_of}
 use Rattle.script_reader.specs.Sound.{IsSound}
 use Rattle.schedule_replay.specs.Run.{run}
-use Rattle.hipc.specs.Answer.{answer_of, fault_line}
+use Rattle.hipc.specs.Answer.{fault_line}
 use Rattle.hipc.specs.Due.{DueForBytes}
 use Rattle.hipc.specs.declared.status.Status.TheVariants.{Done, BadScript, BadSchedule}
 use Rattle.hipc.proofs.LawfulTexts.{text_is_lawful, done_is_no_fault, done_is_no_want}

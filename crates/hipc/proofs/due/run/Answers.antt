@@ -1,6 +1,6 @@
 use Rattle.std.proofs.Common.{Some, None, refl, sym, ap, ◌∙◌}
-use Rattle.hipc.specs.Command.{texts, said, Replay, Generate}
-use Rattle.hipc.specs.Due.{usage_line, DueForFiles, DueForNumbers}
+use Rattle.hipc.specs.Command.{texts, said, Replay, Generate, Check}
+use Rattle.hipc.specs.Due.{usage_line, lost, DueForFiles, DueForTraceFile}
 use Rattle.hipc.specs.Summary.{summary_line}
 use Rattle.hipc.specs.declared.status.Status.TheVariants.{Done, Usage}
 use Rattle.hipc.proofs.Dues.{due_for, part_on, kept_or_part_on}
@@ -54,3 +54,14 @@ returns-in-None-clause-part g c = λ w.
     let failed = g.S.Shelf.failed c.args.shelf.now in
     let due = due_for (texts c.args.words.now) files failed failed None c.in-None.ensures.command Usage usage_line (refl, refl) in
     (Usage, usage_line, due, c.tell.ensures.part w)
+
+pub returns-in-Some-Check-clause-part : goal.returns-in-Some-Check-clause-part
+returns-in-Some-Check-clause-part g c = λ w.
+    let files = g.S.Shelf.files c.args.shelf.now in
+    let before = g.S.Shelf.failed c.args.shelf.now in
+    let after = g.S.Shelf.failed c.check_file.new.shelf in
+    let named = c.in-Some-Check in
+    let is = sym (ap (λ asked. Some (said asked)) named.field-0-is) ∙ named.ensures.command in
+    part_on (DueForTraceFile files named.trace.now (lost before after named.trace.now)) _ _ _
+    (due_for (texts c.args.words.now) files before after (Some (Check named.trace.now)) is)
+    (c.check_file.ensures.part w)

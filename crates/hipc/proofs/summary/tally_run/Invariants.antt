@@ -1,5 +1,5 @@
 use Rattle.std.proofs.Common.{◌≡◌, ◌≤◌, drop}
-use Rattle.schedule_replay.specs.Run.{run, run_from}
+use Rattle.schedule_replay.specs.Run.{run, run_from, MayAllHappen}
 use Rattle.hipc.specs.Summary.{with_entries, tally_of}
 use Rattle.hipc.proofs.summary.tally_run.Given as goal
 
@@ -7,5 +7,6 @@ use Rattle.hipc.proofs.summary.tally_run.Given as goal
 abbrev pub invariant-loop-event : goal.invariant-loop-event
 invariant-loop-event l = record {
   tally : with_entries l.tally (run_from l.replay.state (drop l.event-index l.events)) ≡ tally_of (run l.fn.script l.events);
+  may : MayAllHappen l.replay.state (drop l.event-index l.events);
   few : l.replay.state.kernel.events ≤ l.event-index;
 }

@@ -1,0 +1,9 @@
+pub mod Lives
+pub mod Passing
+pub mod Kills
+pub mod KillState
+pub mod AreaSteps
+pub mod AreaState
+pub mod Held
+pub mod Allowed
+pub mod Verdict

@@ -1,0 +1,262 @@
+//! The law of a kill, over a list of entries whose calls live lawfully.
+ghost use Rattle.std.specs.Prelude.{◌≡◌, ◌↔◌, ◌<◌, ◌≤◌, ◌+◌, ◌-◌, ◌^◌, ℕ, List, [], ◌∷◌, Some, IfOk, OnOk, IsTrue, false};
+ghost use Rattle.ipc_ids.specs.Tales.{Tale, tale};
+ghost use Rattle.ipc_ids.specs.Laws.{LivesAreLawful, KillEndsHeldCalls, IsAllowed};
+ghost use Rattle.ipc_ids.specs.Lawful.{Follows};
+ghost use Rattle.law_check.specs.Lives.{life_at};
+ghost use Rattle.law_check.specs.KillState.{KnowsKills, TakesKill, kill_at, kill_by_end, number_at, is_late, is_dead, kind, since_put};
+
+use crate::lives::{KnownCall, Lives, Place, PresentEvent};
+use ipc_ids::{Entry, NoMemory};
+use std::alloc::Global;
+use std::collections::BTreeMap;
+
+/// What the entries so far say of kills: since which event call `n` is at its place, at `n - 1`;
+/// how many events there were; and the last earlier event that killed a task.
+#[derive(Drop)]
+pub struct Kills {
+    lives: Lives,
+    since: Vec<u64>,
+    events: u64,
+    killed: BTreeMap<u64, u64>,
+}
+
+/// What an entry is: the head of an event, one on this call, or another.
+pub enum Kind {
+    Head,
+    On(u64),
+    Other,
+}
+
+fn kind_of(entry: &Entry) -> Kind
+    ensures { result ≡ kind (tale entry.now) }
+{
+    match entry {
+        Entry::Head(_, _) => Kind::Head,
+        Entry::Kill(_) => Kind::Head,
+        Entry::Gone(_) => Kind::Head,
+        Entry::Spawn(_) => Kind::Head,
+        Entry::Accepted { call, .. } => Kind::On(call.0),
+        Entry::Received { call, .. } => Kind::On(call.0),
+        Entry::Forwarded { call, .. } => Kind::On(call.0),
+        Entry::Answered { call, .. } => Kind::On(call.0),
+        Entry::Vanished(call) => Kind::On(call.0),
+        Entry::Delivered { call, .. } => Kind::On(call.0),
+        Entry::Dropped { call, .. } => Kind::On(call.0),
+        Entry::Forgotten(call) => Kind::On(call.0),
+        _ => Kind::Other,
+    }
+}
+
+impl Kills {
+    fn new(alloc: Global) -> Kills
+        ensures knows { KnowsKills [] result }
+        ensures events { result.events ≡ 0 }
+    {
+        Kills {
+            lives: Lives::new(alloc),
+            since: Vec::new(alloc),
+            events: 0,
+            killed: BTreeMap::new(alloc),
+        }
+    }
+
+    fn kill_at(&self, task: u64) -> u64
+        ensures { result ≡ kill_at self.now.killed task }
+    {
+        self.killed.get(&task).copied().unwrap_or(0)
+    }
+
+    fn since_at(&self, call: u64) -> u64
+        ensures { result ≡ number_at self.now.since.items call }
+    {
+        if call == 0 {
+            return 0;
+        }
+        self.since.get(call as usize - 1).copied().unwrap_or(0)
+    }
+
+    /// An earlier kill should have taken the call from its place.
+    fn is_late(&self, call: u64) -> bool
+        ensures { result ≡ is_late (life_at self.now.lives.calls.items call)
+            (number_at self.now.since.items call) (kill_at self.now.killed) }
+    {
+        match self.lives.known(call) {
+            Some(
+                KnownCall {
+                    place: Place::Incoming(holder),
+                    ..
+                },
+            ) => self.since_at(call) <= self.kill_at(holder),
+            Some(
+                KnownCall {
+                    place: Place::Dispatched(holder),
+                    ..
+                },
+            ) => self.since_at(call) <= self.kill_at(holder),
+            Some(
+                KnownCall {
+                    place: Place::Answers,
+                    caller,
+                },
+            ) => self.since_at(call) < self.kill_at(caller),
+            _ => false,
+        }
+    }
+
+    /// The call stands at a task that was killed in an earlier event.
+    fn is_dead(&self, call: u64) -> bool
+        ensures { result ≡ is_dead (life_at self.now.lives.calls.items call)
+            (kill_at self.now.killed) }
+    {
+        match self.lives.known(call) {
+            Some(
+                KnownCall {
+                    place: Place::Incoming(holder),
+                    ..
+                },
+            ) => 0 < self.kill_at(holder),
+            Some(
+                KnownCall {
+                    place: Place::Dispatched(holder),
+                    ..
+                },
+            ) => 0 < self.kill_at(holder),
+            Some(
+                KnownCall {
+                    place: Place::Answers,
+                    caller,
+                },
+            ) => 0 < self.kill_at(caller),
+            _ => false,
+        }
+    }
+
+    /// The present event is over.
+    fn end(&mut self) -> Result<(), NoMemory>
+        ensures killed { OnOk result ((t : ℕ)
+            → kill_at self.new.killed t ≡ kill_by_end self.old t) }
+        ensures lives { self.new.lives ≡ self.old.lives }
+        ensures since { self.new.since ≡ self.old.since }
+        ensures events { self.new.events ≡ self.old.events }
+    {
+        if let PresentEvent::Kill(task) = self.lives.event {
+            self.killed.insert(task, self.events)?;
+        }
+        Ok(())
+    }
+
+    /// No call is late.
+    fn none_is_late(&self) -> bool
+        ensures { IsTrue result ↔ ((n : ℕ)
+            → is_late (life_at self.now.lives.calls.items n) (number_at self.now.since.items n)
+            (kill_at self.now.killed) ≡ false) }
+    {
+        for i in 0..self.lives.calls.len() {
+            if self.is_late(i as u64 + 1) {
+                return false;
+            }
+        }
+        true
+    }
+
+    /// The call comes to a place in this event, if the entry moves it.
+    fn come(&mut self, call: u64, entry: &Entry) -> Result<(), NoMemory>
+        ensures since { OnOk result (self.new.since.items
+            ≡ since_put (tale entry.now) call self.old.events self.old.since.items) }
+        ensures lives { self.new.lives ≡ self.old.lives }
+        ensures killed { self.new.killed ≡ self.old.killed }
+        ensures events { self.new.events ≡ self.old.events }
+    {
+        match entry {
+            Entry::Accepted { .. } => self.since.push(self.events)?,
+            Entry::Forgotten(_) => (),
+            _ => {
+                if 0 < call && call <= self.since.len() as u64 {
+                    self.since[call as usize - 1] = self.events;
+                }
+            }
+        }
+        Ok(())
+    }
+
+    /// Takes a lawful entry on a call.
+    fn note(&mut self, call: u64, entry: &Entry) -> Result<(), NoMemory>
+        ensures knows { (p : List Tale) → KnowsKills p self.old → Follows p (tale entry.now)
+            → IsAllowed p (tale entry.now) → kind (tale entry.now) ≡ Kind.On call
+            → OnOk result (KnowsKills (tale entry.now ∷ p) self.new) }
+        ensures killed { self.new.killed ≡ self.old.killed }
+        ensures events { self.new.events ≡ self.old.events }
+    {
+        self.come(call, entry)?;
+        self.lives.note(entry)?;
+        Ok(())
+    }
+
+    /// Takes a head.
+    fn begin(&mut self, entry: &Entry) -> Result<(), NoMemory>
+        requires { self.old.events < 2 ^ 63 }
+        ensures knows { (p : List Tale) → KnowsKills p self.old → Follows p (tale entry.now)
+            → IsAllowed p (tale entry.now) → kind (tale entry.now) ≡ Kind.Head
+            → OnOk result (KnowsKills (tale entry.now ∷ p) self.new) }
+        ensures events { self.new.events ≤ self.old.events + 1 }
+    {
+        self.end()?;
+        self.events += 1;
+        self.lives.note(entry)?;
+        Ok(())
+    }
+
+    /// Takes a lawful entry of another kind.
+    fn pass(&mut self, entry: &Entry) -> Result<(), NoMemory>
+        ensures knows { (p : List Tale) → KnowsKills p self.old → Follows p (tale entry.now)
+            → IsAllowed p (tale entry.now) → kind (tale entry.now) ≡ Kind.Other
+            → OnOk result (KnowsKills (tale entry.now ∷ p) self.new) }
+        ensures events { self.new.events ≡ self.old.events }
+    {
+        self.lives.note(entry)?;
+        Ok(())
+    }
+
+    /// Takes the next entry, unless the law is broken.
+    fn take(&mut self, entry: &Entry) -> Result<bool, NoMemory>
+        requires { self.old.events < 2 ^ 63 }
+        ensures takes { (p : List Tale) → KnowsKills p self.old → Follows p (tale entry.now)
+            → IsAllowed p (tale entry.now)
+            → IfOk result (λ yes. TakesKill p (tale entry.now) self.new yes) }
+        ensures events { self.new.events ≤ self.old.events + 1 }
+    {
+        match kind_of(entry) {
+            Kind::Head => {
+                self.begin(entry)?;
+                Ok(true)
+            }
+            Kind::On(call) => {
+                if self.is_late(call) {
+                    return Ok(false);
+                }
+                self.note(call, entry)?;
+                Ok(!self.is_dead(call))
+            }
+            Kind::Other => {
+                self.pass(entry)?;
+                Ok(true)
+            }
+        }
+    }
+}
+
+/// The entries, whose calls live lawfully, satisfy the law of a kill.
+pub fn kills_are_lawful(alloc: Global, entries: &[Entry]) -> Result<bool, NoMemory>
+    requires { LivesAreLawful entries.now }
+    ensures { IfOk result (λ yes. IsTrue yes ↔ KillEndsHeldCalls entries.now) }
+{
+    let mut kills = Kills::new(alloc);
+    for entry in entries {
+        if !kills.take(entry)? {
+            return Ok(false);
+        }
+    }
+    kills.end()?;
+    Ok(kills.none_is_late())
+}

@@ -1,0 +1,60 @@
+//! What is found of short traces. `examples/laws` has one for each sentence of the laws.
+
+use crate::{check_trace, finding_text};
+use std::alloc::Global;
+use std::test::Fail;
+
+/// The line of what is found in the text is this one.
+fn is_found(alloc: Global, trace: &str, line: &str) -> Result<bool, Fail> {
+    let finding = check_trace(alloc, trace.as_bytes())?;
+    let text = finding_text(alloc, finding)?;
+    Ok(text.as_slice() == line.as_bytes())
+}
+
+const CALL: &str = "t1 call 0 512 7 0 0 0 0\n  \
+    call 1 accepted t1.0 method 512 to t2\n  \
+    = call 1\n\
+    t2 receive\n  \
+    call 1 received t2\n\
+    t2 answer 1 EOK 8 0 0 0 0\n  \
+    call 1 answered EOK 8 0 0 0 0 by t2\n";
+
+const TWICE: &str = "t1 call 0 512 7 0 0 0 0\n  \
+    call 1 accepted t1.0 method 512 to t2\n\
+    t2 receive\n  \
+    call 1 received t2\n  \
+    call 1 received t2\n";
+
+const KILL: &str = "t1 call 0 512 7 0 0 0 0\n  \
+    call 1 accepted t1.0 method 512 to t2\n\
+    kill t2\n";
+
+#[test]
+fn each_finding_has_its_line(rt: HostRuntime) -> Result<(), Fail> {
+    assert!(rt; is_found(rt.alloc(), "", "trace ok entries 0 calls 0\n")?);
+    assert!(rt; is_found(rt.alloc(), CALL, "trace ok entries 7 calls 1\n")?);
+    assert!(rt; is_found(rt.alloc(), TWICE, "trace breaks L1\n")?);
+    assert!(rt; is_found(rt.alloc(), KILL, "trace breaks L3\n")?);
+    assert!(rt;
+        is_found(
+            rt.alloc(),
+            "t1 poke 0 aa\n  write t1 0 1 store 1\n",
+            "trace breaks L4\n"
+        )?
+    );
+    assert!(rt;
+        is_found(
+            rt.alloc(),
+            "t1 call 0 512 07 0 0 0 0\n",
+            "trace line 1: unreadable\n"
+        )?
+    );
+    assert!(rt;
+        is_found(
+            rt.alloc(),
+            "t1 nothing\nt1 nothing",
+            "trace line 2: unreadable\n"
+        )?
+    );
+    Ok(())
+}

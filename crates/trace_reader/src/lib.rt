@@ -1,0 +1,11 @@
+//! Reads the text of a trace back into its entries. Something is read in any line, and its own text
+//! is compared with the line: so a line counts only where it is the text of an entry, to the byte.
+#![tactic(auto)]
+
+mod asked;
+mod line;
+mod part;
+mod trace;
+
+pub use line::read_entry;
+pub use trace::{TraceFault, read_trace};
