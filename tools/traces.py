@@ -1,17 +1,21 @@
-"""Reads traces and the names of a script's tasks, for the tools beside it."""
+"""Reads traces, for the tools beside it."""
+from __future__ import annotations
+
 import re
 import signal
 import sys
+from functools import lru_cache
+from typing import Tuple
 
-# A reader of the output who has enough of it, as head does, ends the tool without a word.
+# A reader of the output who has enough of it, as head does, ends the tool without a word, and so does Ctrl-C.
 signal.signal(signal.SIGPIPE, signal.SIG_DFL)
+signal.signal(signal.SIGINT, signal.SIG_DFL)
 
 NUMBER = r"\d+"
 TASK = r"t[1-9]\d*"
 PHONE = TASK + r"\.\d+"
 FIBRIL = TASK + r"/[1-9]\d*"
 CODE = r"(?:EOK|ENOENT|EPERM|EEXIST|EINVAL|ELIMIT|EHANGUP|EFORWARD|EBUSY|ENOMEM|[1-9]\d+)"
-NAME = re.compile(r"[a-z][a-z0-9_]{0,14}\Z")
 FIVE = NUMBER + f"(?: {NUMBER})" + "{4}"
 BYTES = r"(?:(?:[0-9a-f]{2})+|-)"
 AREA = f"(?P<base>{NUMBER}) (?P<pages>{NUMBER}) (?P<rights>{NUMBER})"
@@ -32,6 +36,7 @@ HEADS = {
     "peek": f"(?P<task>{TASK}) peek {RANGE}",
     "nothing": f"(?P<task>{TASK}) nothing",
     "kill": f"kill (?P<task>{TASK})",
+    "spawn": f"spawn (?P<task>{TASK})",
     "ended": f"(?P<task>{TASK}) ended",
 }
 EFFECTS = {
@@ -72,8 +77,11 @@ OWN = {
 }
 
 
-def compiled(forms, before=""):
-    return [(kind, re.compile(before + form + r"\Z", re.ASCII)) for kind, form in forms.items()]
+Forms = Tuple["tuple[str, re.Pattern[str]]", ...]
+
+
+def compiled(forms: dict[str, str], before: str = "") -> Forms:
+    return tuple((kind, re.compile(before + form + r"\Z", re.ASCII)) for kind, form in forms.items())
 
 
 HEAD_FORMS = compiled(HEADS)
@@ -83,69 +91,74 @@ OWN_FORMS = compiled(OWN, "  ")
 
 
 class Line:
-    """A line of a trace: its kind and its parts, each None where the form lacks it."""
+    """A line of a trace: its text, its kind and its parts, each of which is empty where the form lacks it."""
 
-    def __init__(self, kind, parts):
-        self.kind, self.parts = kind, parts
+    def __init__(self, text: str, kind: str, parts: dict[str, str | None]) -> None:
+        self.text, self.kind, self.parts = text, kind, parts
 
-    def __getattr__(self, name):
-        return self.parts.get(name)
+    def __getattr__(self, name: str) -> str:
+        return self.parts.get(name) or ""
 
 
 class Event:
     """A head with its effects, its outcome, which is None where there is none, and what the task tells of its fibrils."""
 
-    def __init__(self, head):
-        self.head, self.effects, self.outcome, self.own = head, [], None, []
+    def __init__(self, head: Line) -> None:
+        self.head = head
+        self.effects: list[Line] = []
+        self.outcome: Line | None = None
+        self.own: list[Line] = []
+
+    def is_empty(self) -> bool:
+        """Whether it is a receive that found nothing and changed nothing."""
+        return self.outcome is not None and self.outcome.kind == "empty" and not self.effects
 
 
 class Unreadable(Exception):
     """A line that is none of a trace: its number, from 1, and what it is."""
 
-    def __init__(self, number, text):
+    def __init__(self, number: int, text: str) -> None:
         super().__init__(f"line {number}: this is no line of a trace here: {text!r}")
 
 
-def read_as(forms, text):
+@lru_cache(maxsize=4096)  # long traces repeat their lines
+def read_as(forms: Forms, text: str) -> Line | None:
     for kind, form in forms:
         found = form.match(text)
         if found:
-            return Line(kind, found.groupdict())
+            return Line(text, kind, found.groupdict())
     return None
 
 
-def events_of(text):
+def add_line(event: Event | None, text: str) -> bool:
+    """Adds a line below a head to its event; False where it is none that may stand there."""
+    if event is None or event.head.kind == "ended":
+        return False
+    if text.startswith("  = "):
+        is_told = event.head.kind not in ("kill", "spawn") and not event.outcome
+        event.outcome = read_as(OUTCOME_FORMS, text) if is_told else None
+        return event.outcome is not None
+    own = read_as(OWN_FORMS, text) if event.outcome else None
+    effect = None if event.outcome else read_as(EFFECT_FORMS, text)
+    event.own += [own] if own else []
+    event.effects += [effect] if effect else []
+    return bool(own or effect)
+
+
+def events_of(text: str) -> list[Event]:
     """The events of a trace's text; raises Unreadable for the first line that is none, or that stands out of place."""
-    events, lines = [], text.split("\n")
+    events: list[Event] = []
+    lines = text.split("\n")
     for number, line in enumerate(lines[:-1] if not lines[-1] else lines, 1):
-        head = read_as(HEAD_FORMS, line)
+        head = None if line.startswith(" ") else read_as(HEAD_FORMS, line)
         if head:
             events.append(Event(head))
-            continue
-        last = events[-1] if events else None
-        event = last if last and last.head.kind != "ended" and not last.outcome else None
-        effect, outcome = read_as(EFFECT_FORMS, line), read_as(OUTCOME_FORMS, line)
-        own = read_as(OWN_FORMS, line)
-        if event and effect:
-            event.effects.append(effect)
-        elif event and outcome and event.head.kind != "kill":
-            event.outcome = outcome
-        elif last and last.outcome and own:
-            last.own.append(own)
-        else:
+        elif not add_line(events[-1] if events else None, line):
             raise Unreadable(number, line)
     return events
 
 
-def names_of(script):
-    """The names of a script's tasks by their words in a trace, as t1."""
-    words = [line.partition("#")[0].split() for line in script.split("\n")]
-    names = [line[-1] if line == ["ns"] else line[1] for line in words
-             if line == ["ns"] or len(line) > 1 and line[0] == "task"]
-    return {f"t{number}": name for number, name in enumerate(names, 1) if NAME.match(name)}
-
-
-def text_of(tool, name):
+def text_of(tool: str, name: str) -> str:
     """The text of a file; ends the tool where it cannot be read."""
     try:
         with open(name, encoding="ascii", errors="backslashreplace", newline="\n") as file:

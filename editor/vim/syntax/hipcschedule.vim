@@ -6,7 +6,7 @@ syntax case match
 syntax iskeyword @,48-57,_
 syntax match hipcComment /#.*$/
 syntax match hipcBadByte /[^\x20-\x7e\t]/
-syntax match hipcOperation /^\s*\zs\(step\|hangup\)\>/
+syntax match hipcOperation /^\s*\zs\(step\|hangup\|spawn\)\>/
 syntax match hipcKill /^\s*\zskill\>/
 syntax match hipcTimes /\s\zsx\ze\s\+[0-9]/
 syntax match hipcNumber /\<\([0-9]\{1,20\}\|0x[0-9A-Fa-f]\{1,16\}\)\>/

@@ -6,15 +6,15 @@ syntax case match
 syntax iskeyword @,48-57,_
 syntax match hipcComment /#.*$/
 syntax match hipcBadByte /[^\x20-\x7e\t]/
-syntax match hipcStructure /^\s*\zs\(ns\|task\|fibril\|connection\|wire\)\>/
+syntax match hipcStructure /^\s*\zs\(ns\|task\|template\|fibril\|connection\|wire\)\>/
 syntax match hipcOperation /^\s*\zs\(call\|receive\|answer\|forward\|hangup\|area\|unarea\|poke\|peek\|set\|jump\|jumpeq\|jumpne\|wait\|next\|yield\|open\|send\|begin\|end\|close\)\>/
-syntax keyword hipcKind raw async plain route atomic serialize parallel
+syntax keyword hipcKind raw async block plain route atomic serialize parallel
 syntax match hipcRegister /\<r\([12]\?[0-9]\|3[01]\)\>/
 syntax match hipcNumber /\<\([0-9]\{1,20\}\|0x[0-9A-Fa-f]\{1,16\}\)\>/
 syntax match hipcBytes /\(^\s*poke\s\+\S\+\s\+\)\@<=\(\x\x\)\{1,64\}\ze\(\s\|#\|$\)/
 syntax keyword hipcMethod PHONE_HUNGUP CONNECT_TO_ME CONNECT_ME_TO DATA_WRITE DATA_READ SHARE_OUT SHARE_IN
 syntax keyword hipcCode EOK ENOENT EPERM EEXIST EINVAL ELIMIT EHANGUP EFORWARD EBUSY ENOMEM
-syntax keyword hipcRights R W RW
+syntax keyword hipcRights R W RW RESTRICT
 
 highlight default link hipcComment Comment
 highlight default link hipcBadByte Error

@@ -12,6 +12,7 @@ syntax match hipcTask /\<t[0-9]\+\([./][0-9]\+\)\?\>/
 syntax match hipcNumber /\<[0-9]\{1,20\}\>/
 syntax match hipcBytes /\(^t[0-9]\+ poke [0-9]\+ \|^  = bytes \)\@<=\(\x\+\|-\)$/
 syntax match hipcHead /^t[0-9]\+ \(call\|receive\|answer\|forward\|hangup\|area\|unarea\|poke\|peek\|nothing\)\>/ contains=hipcTask
+syntax match hipcHead /^spawn\ze t[0-9]\+$/
 syntax match hipcKill /^kill t[0-9]\+$/
 syntax match hipcEnded /^t[0-9]\+ ended$/
 syntax keyword hipcCode EOK ENOENT EPERM EEXIST EINVAL ELIMIT EHANGUP EFORWARD EBUSY ENOMEM

@@ -1,0 +1,400 @@
+// Tries the page in headless Chromium: the pages of lessons and of a long run, and editing by tools/serve.
+// Usage: node browser.mjs CHROMIUM TOP FOLDER [SHOTS]     FOLDER takes what the check makes, SHOTS the screenshots
+import fs from "fs";
+import path from "path";
+import {execFileSync, spawn} from "child_process";
+import {performance} from "perf_hooks";
+
+const [, , CHROMIUM, TOP, FOLDER, SHOTS] = process.argv;
+const MOST_WAIT = 30000; // milliseconds for an answer of the browser
+const MOST_OPEN = 3000; // of the long run
+const MOST_STEP = 50;
+const STEPS = 10; // that are timed together
+const LONGEST = 65536; // events
+const CLIENTS = 6; // of the long run
+
+/** A browser that is told by messages over two pipes, each ended by a byte 0. */
+class Browser {
+  constructor() {
+    const words = ["--headless=new", "--remote-debugging-pipe", "--no-first-run", "--disable-gpu", "--disable-extensions",
+      "--disable-background-networking", "--hide-scrollbars", `--user-data-dir=${path.join(FOLDER, "profile")}`];
+    if (process.getuid && process.getuid() === 0) words.push("--no-sandbox");
+    this.child = spawn(CHROMIUM, words, {stdio: ["ignore", "ignore", "ignore", "pipe", "pipe"]});
+    this.last = 0;
+    this.session = "";
+    /** @type {Map<number, (told: any) => void>} */
+    this.waiting = new Map();
+    /** @type {Map<string, (told: any) => void>} */
+    this.events = new Map();
+    /** @type {string[]} */
+    this.thrown = [];
+    /** @type {string[]} */
+    this.asked = []; // the addresses that pages asked for
+    let rest = "";
+    /** @type {any} */ (this.child.stdio[4]).on("data", (/** @type {Buffer} */ piece) => {
+      const messages = (rest + piece.toString("utf8")).split("\0");
+      rest = messages.pop() || "";
+      messages.forEach(text => this.hear(JSON.parse(text)));
+    });
+  }
+
+  /** @param {any} message */
+  hear(message) {
+    const take = message.id ? this.waiting.get(message.id) : this.events.get(message.method);
+    if (take) take(message);
+    if (message.method === "Runtime.exceptionThrown") this.thrown.push(message.params.exceptionDetails.exception.description);
+    if (message.method === "Network.requestWillBeSent") this.asked.push(message.params.request.url);
+  }
+
+  /** @param {string} method @param {any} [params] @returns {Promise<any>} */
+  tell(method, params = {}) {
+    const id = this.last += 1;
+    return new Promise((resolve, reject) => {
+      const timer = setTimeout(() => reject(new Error(`no answer to ${method} in time`)), MOST_WAIT);
+      this.waiting.set(id, told => {
+        clearTimeout(timer);
+        if (told.error) reject(new Error(`${method}: ${told.error.message}`));
+        else resolve(told.result);
+      });
+      const message = this.session ? {id, method, params, sessionId: this.session} : {id, method, params};
+      /** @type {any} */ (this.child.stdio[3]).write(JSON.stringify(message) + "\0");
+    });
+  }
+
+  async open() {
+    const {targetId} = await this.tell("Target.createTarget", {url: "about:blank"});
+    const {sessionId} = await this.tell("Target.attachToTarget", {targetId, flatten: true});
+    this.session = sessionId;
+    await this.tell("Page.enable");
+    await this.tell("Runtime.enable");
+    await this.tell("Network.enable");
+    await this.tell("Performance.enable", {timeDomain: "threadTicks"});
+    await this.tell("Emulation.setDeviceMetricsOverride", {width: 1500, height: 950, deviceScaleFactor: 1, mobile: false});
+  }
+
+  /** Opens an address; gives the milliseconds until its page stood there.
+   * @param {string} address */
+  async go(address) {
+    const from = performance.now();
+    const loaded = new Promise(resolve => this.events.set("Page.loadEventFired", resolve));
+    await this.tell("Page.navigate", {url: "about:blank"});
+    await loaded;
+    const there = new Promise(resolve => this.events.set("Page.loadEventFired", resolve)), begun = performance.now();
+    await this.tell("Page.navigate", {url: address});
+    await there;
+    await this.run("new Promise(done => requestAnimationFrame(() => setTimeout(done)))");
+    return performance.now() - Math.max(from, begun);
+  }
+
+  /** The value of an expression in the page.
+   * @param {string} expression */
+  async run(expression) {
+    const told = await this.tell("Runtime.evaluate", {expression, returnByValue: true, awaitPromise: true});
+    if (told.exceptionDetails) throw new Error(`${expression}: ${told.exceptionDetails.exception.description}`);
+    return told.result.value;
+  }
+
+  /** The milliseconds of a processor that the page's own thread has taken. */
+  async taken() {
+    const {metrics} = await this.tell("Performance.getMetrics");
+    return 1000 * metrics.find((/** @type {any} */ it) => it.name === "ThreadTime").value;
+  }
+
+  /** @param {string} key @param {number} [times] */
+  async press(key, times = 1) {
+    for (let i = 0; i < times; i++) {
+      await this.tell("Input.dispatchKeyEvent", {type: "keyDown", key});
+      await this.tell("Input.dispatchKeyEvent", {type: "keyUp", key});
+    }
+  }
+
+  /** Clicks in the middle of the first element that a selector finds.
+   * @param {string} selector */
+  async click(selector) {
+    const where = await this.run(`(() => { const it = document.querySelector(${JSON.stringify(selector)}); if (!it) return null;
+      it.scrollIntoView({block: "nearest"}); const box = it.getBoundingClientRect(); return [box.x + box.width / 2, box.y + box.height / 2]; })()`);
+    if (!where) throw new Error(`nothing to click at ${selector}`);
+    for (const type of ["mousePressed", "mouseReleased"]) {
+      await this.tell("Input.dispatchMouseEvent", {type, x: where[0], y: where[1], button: "left", clickCount: 1});
+    }
+  }
+
+  /** @param {string} name */
+  async shot(name) {
+    if (!SHOTS) return;
+    await this.run("new Promise(done => requestAnimationFrame(() => requestAnimationFrame(done)))");
+    const {data} = await this.tell("Page.captureScreenshot", {format: "png"});
+    fs.writeFileSync(path.join(SHOTS, `${name}.png`), Buffer.from(data, "base64"));
+  }
+
+  async close() {
+    this.session = "";
+    const ended = new Promise(resolve => this.child.once("exit", resolve));
+    await this.tell("Browser.close");
+    await ended;
+  }
+}
+
+/** @type {string[]} */
+const wrong = [];
+
+/** @param {boolean} isRight @param {string} text */
+function expect(isRight, text) {
+  if (!isRight) wrong.push(text);
+}
+
+/** @param {string} name */
+function textOf(name) {
+  return fs.readFileSync(path.join(TOP, name), "utf8");
+}
+
+/** The events of a trace, each as its text.
+ * @param {string} trace */
+function eventsOf(trace) {
+  return trace.split(/\n(?! )/).filter(Boolean);
+}
+
+/** Writes the page of a run into the folder; gives its address.
+ * @param {string} name @param {string[]} files */
+function pageOf(name, files) {
+  const file = path.join(FOLDER, `${name}.html`);
+  fs.writeFileSync(file, execFileSync(path.join(TOP, "tools/page"), files, {maxBuffer: 1 << 28}));
+  return `file://${file}`;
+}
+
+/** The lines of the present event, as the page shows them. */
+const LINES = `[...document.querySelectorAll("#event pre .line")].map(it => it.textContent).join("\\n")`;
+
+/** Steps through a lesson by keys, there and back, and compares each event with the trace.
+ * @param {Browser} browser @param {string} name */
+async function stepThrough(browser, name) {
+  const events = eventsOf(textOf(`examples/${name}/trace`));
+  for (let at = 1; at <= events.length; at++) {
+    await browser.press("ArrowRight");
+    const shown = await browser.run(LINES);
+    expect(shown === events[at - 1], `${name}: event ${at} is shown as ${shown}`);
+  }
+  await browser.press("ArrowLeft", events.length - 1);
+  expect(await browser.run(LINES) === events[0], `${name}: ${events.length - 1} events back is not the first`);
+  await browser.press("End");
+  expect(await browser.run(LINES) === events[events.length - 1], `${name}: the key End leads to another event`);
+  await browser.click("#first");
+  expect((await browser.run(`document.querySelector("#event").textContent`)).startsWith("before the first"), `${name}: the first button leads elsewhere`);
+}
+
+/** Filters of a lesson: one task, and no idle events.
+ * @param {Browser} browser @param {string} name */
+async function filter(browser, name) {
+  const events = eventsOf(textOf(`examples/${name}/trace`)), idle = events.filter(text => /= EMPTY$|ended$/.test(text)).length;
+  const numbers = `document.querySelectorAll("#numbers text").length`;
+  expect(await browser.run(numbers) === events.length, `${name}: the chart has not ${events.length} events`);
+  await browser.click("#idle");
+  expect(await browser.run(numbers) === events.length - idle, `${name}: ${idle} idle events are not hidden`);
+  await browser.click("#idle");
+  await browser.run(`(() => { const box = document.querySelector("#task"); box.value = "1"; box.onchange(); })()`);
+  const own = await browser.run(`[...document.querySelectorAll("#numbers text")].map(it => Number(it.textContent))`);
+  const named = events.filter(text => /\bt1\b/.test(text)).length;
+  expect(own.length >= named && own.length <= events.length, `${name}: ${own.length} events are shown of task 1, which ${named} name`);
+  await browser.run(`(() => { const box = document.querySelector("#task"); box.value = "0"; box.onchange(); })()`);
+}
+
+/** Clicks a call in the chart, and reads its story.
+ * @param {Browser} browser @param {string} name @param {number} call @param {string} place */
+async function story(browser, name, call, place) {
+  await browser.press("End");
+  await browser.click(`#chart [data-call="${call}"] text`);
+  const told = await browser.run(`document.querySelector("#story").innerText`);
+  const own = textOf(`examples/${name}/trace`).split("\n").filter(line => line.startsWith(`  call ${call} `));
+  expect(own.length > 0 && own.every(line => told.includes(line.trim())), `${name}: the story of call ${call} lacks one of its lines: ${told}`);
+  expect(told.includes(place), `${name}: call ${call} is not told as "${place}": ${told}`);
+  await browser.run(`document.querySelector("#only").click()`);
+  const shown = await browser.run(`document.querySelectorAll("#numbers text").length`);
+  expect(shown === await browser.run(`document.querySelectorAll("#story .at").length`), `${name}: ${shown} events are shown of call ${call} alone`);
+  await browser.run(`document.querySelector("#only").click()`);
+  await browser.press("p");
+  const link = await browser.run(`document.querySelector("#link").getAttribute("href")`), lines = await browser.run(LINES);
+  const at = await browser.run("location.href.split('#')[0]");
+  await browser.go(at + link);
+  expect(await browser.run(LINES) === lines, `${name}: the link ${link} opens another place`);
+  await browser.press("Escape");
+}
+
+// A place of each lesson, with what its cards must say there.
+const LESSONS = [
+  {name: "kill", at: 8, call: 4, end: "over, its caller was killed", place: "waits for t2 server, its caller was killed",
+    says: ["4 515 from third.0, forgotten", "0 \u2192 t1 client, 1 active", "receive"]},
+  {name: "killed-server", at: 9, call: 3, end: "over", place: "waits for t1 server",
+    says: ["1 waits: answer 3", "0 parallel, phone 0", "1 session 0, phone 1, fibril 1"]},
+  {name: "share-out", at: 6, call: 1, end: "over", place: "answered; the answer waits for t1 client",
+    says: ["8192 1 page, RW, store 1, shared with client", "1 EOK (0)"]},
+];
+
+/** @param {Browser} browser */
+async function tryLessons(browser) {
+  for (const {name, at, call, end, place, says} of LESSONS) {
+    const address = pageOf(name, ["script", "schedule", "trace"].map(file => path.join(TOP, "examples", name, file)));
+    await browser.go(address);
+    await stepThrough(browser, name);
+    await filter(browser, name);
+    await story(browser, name, call, end);
+    await browser.go(`${address}#at=${at}&call=${call}`);
+    const cards = await browser.run(`document.querySelector("#tasks").innerText.replace(/\\s+/g, " ")`);
+    for (const text of says) expect(cards.includes(text), `${name}: no card says "${text}" at event ${at}: ${cards}`);
+    const told = await browser.run(`document.querySelector("#story").innerText`);
+    expect(told.includes(place), `${name}: call ${call} is not told as "${place}" at event ${at}: ${told}`);
+    await browser.shot(name);
+  }
+  const own = browser.asked.filter(address => !/^(?:file|about|data):/.test(address));
+  expect(!own.length, `a page of a lesson asks for ${own}`);
+}
+
+/** A page of texts that try to be more than texts: none of them becomes an element, or runs.
+ * @param {Browser} browser */
+async function tryHostileTexts(browser) {
+  const evil = "</script><img src=x onerror=document.title='evil'>", files = ["script", "schedule", "trace"].map(name => path.join(FOLDER, name));
+  fs.writeFileSync(files[0], `# ${evil}\ntask a ${evil}\n`);
+  fs.writeFileSync(files[1], `step a # ${evil}\nstep a\n`);
+  fs.writeFileSync(files[2], `t1 ${evil}\n  phone t1.0 "${evil}\n  = ${evil}\nt1 nothing\n  = EOK\n  t1/1 ${evil}\n`);
+  await browser.go(`${pageOf("hostile", files)}#at=1&call=1"${evil}`);
+  await browser.press("End");
+  expect((await browser.run("document.body.innerText")).includes(evil), "a page does not show a text that tries to be an element");
+  expect(await browser.run("document.images.length === 0 && document.title !== 'evil'"), "a text of a run became an element of its page");
+}
+
+/** A script in which clients call one server again and again, and a schedule of rounds. */
+function longRun() {
+  const clients = Array.from({length: CLIENTS}, (_, i) => `client${i + 1}`);
+  const forAll = (/** @type {(name: string) => string} */ lines) => clients.map(lines).join("");
+  const script = "task server raw\nreceive\nanswer r2 EOK\njump 0\n" + forAll(name => `task ${name} raw\ncall 0 600 1\nreceive\njump 0\n`)
+    + forAll(name => `wire ${name} 0 server\n`);
+  const round = forAll(name => `step ${name}\n`) + "step server x 3\n".repeat(CLIENTS) + forAll(name => `step ${name} x 2\n`);
+  const rounds = Math.floor(LONGEST / (6 * CLIENTS)), rest = LONGEST - 6 * CLIENTS * rounds;
+  return {script, schedule: round.repeat(rounds) + (rest ? `step server x ${rest}\n` : "")};
+}
+
+/** The milliseconds of a step from a place, with its layout and painting: of the page's thread, and of the clock.
+ * @param {Browser} browser @param {number} at @param {string} key */
+async function stepsFrom(browser, at, key) {
+  await browser.run(`location.hash = "#at=${at}"; new Promise(done => setTimeout(done, 300))`);
+  const before = await browser.taken(), begun = performance.now();
+  await browser.run(`(async () => {
+    for (let i = 0; i < ${STEPS}; i++) {
+      window.dispatchEvent(new KeyboardEvent("keydown", {key: "${key}"}));
+      await new Promise(done => requestAnimationFrame(() => setTimeout(done)));
+    }
+  })()`);
+  return {thread: (await browser.taken() - before) / STEPS, clock: (performance.now() - begun) / STEPS};
+}
+
+/** Opens the longest run, and steps there. The shortest of three times to open it is compared with its limit, and of the
+ * steps the time of the page's own thread: the clock counts the other work of the machine too.
+ * @param {Browser} browser */
+async function tryLongRun(browser) {
+  const {script, schedule} = longRun(), files = [path.join(FOLDER, "script"), path.join(FOLDER, "schedule")];
+  fs.writeFileSync(files[0], script);
+  fs.writeFileSync(files[1], schedule);
+  const address = pageOf("long", files), opened = [], steps = [];
+  for (let i = 0; i < 3; i++) opened.push(await browser.go(`${address}#at=40000`));
+  for (const at of [100, 40000, 65500]) for (const key of ["ArrowRight", "ArrowLeft"]) steps.push(await stepsFrom(browser, at, key));
+  const open = Math.min(...opened), middle = steps.sort((a, b) => a.thread - b.thread)[steps.length >> 1];
+  expect(open <= MOST_OPEN, `the run of ${LONGEST} events opens in ${Math.round(open)} ms`);
+  expect(middle.thread <= MOST_STEP, `a step takes ${middle.thread} ms`);
+  await browser.press("End");
+  const shown = await browser.run(`document.querySelector("#event").innerText`);
+  expect(shown.includes(`event ${LONGEST} of ${LONGEST}`), `the last event is shown as ${shown}`);
+  await browser.go(`${address}#at=40001&call=6667`);
+  await browser.shot("long");
+  return `${LONGEST} events open in ${Math.round(open)} ms and a step takes ${middle.thread.toFixed(1)} ms, ${middle.clock.toFixed(1)} ms by the clock`;
+}
+
+/** The line of the editor's text is put in the place of a field, as a reader types.
+ * @param {Browser} browser @param {string} field @param {string} text */
+function type(browser, field, text) {
+  return browser.run(`(() => { const it = document.querySelector("${field}"); it.value = ${JSON.stringify(text)}; it.oninput(); })()`);
+}
+
+/** Waits until an expression is true in the page.
+ * @param {Browser} browser @param {string} expression */
+async function until(browser, expression) {
+  for (let i = 0; i < 200; i++) {
+    if (await browser.run(`Boolean(${expression})`)) return;
+    await new Promise(done => setTimeout(done, 100));
+  }
+  throw new Error(`it never holds: ${expression}`);
+}
+
+/** Opens a lesson from the list, runs a script with a fault, and then a schedule with a kill.
+ * @param {Browser} browser @param {string} address */
+async function edit(browser, address) {
+  await browser.go(address);
+  await browser.run(`(() => { const box = document.querySelector("#lessons"); box.value = "first-call"; box.onchange(); })()`);
+  await until(browser, `document.querySelector("#title") && document.querySelector("#title").textContent === "first-call"`);
+  const script = textOf("examples/first-call/script");
+  await browser.click("#edit");
+  await type(browser, "#newscript", script.replace("receive", "recieve"));
+  await browser.click("#run");
+  await until(browser, `document.querySelector("#told b")`);
+  const told = await browser.run(`document.querySelector("#told").innerText`), line = script.split("\n").indexOf("receive") + 1;
+  expect(told.includes(`script line ${line}: unknown operation`) && told.includes("begins no line of a script"), `the fault is told as ${told}`);
+  expect(await browser.run(`document.querySelector("#scriptnumbers .fault").textContent`) === String(line), "the fault marks another line");
+  await browser.shot("fault");
+  await type(browser, "#newscript", script);
+  await type(browser, "#newschedule", textOf("examples/first-call/schedule").replace("\n", "\nkill b\n"));
+  await browser.click("#run");
+  await until(browser, `document.querySelector("#editor").hidden`);
+  await browser.press("ArrowRight", 2);
+  const shown = await browser.run(LINES);
+  expect(shown === "kill t2\n  phone t1.0 slammed\n  call 1 answered EHANGUP 0 0 0 0 0 by kernel", `the kill is shown as ${shown}`);
+  await browser.shot("edited");
+}
+
+/** @param {Browser} browser */
+async function tryServer(browser) {
+  const server = spawn(path.join(TOP, "tools/serve"), ["0"], {stdio: ["ignore", "pipe", "inherit"]});
+  try {
+    const line = await new Promise(resolve => server.stdout.once("data", piece => resolve(String(piece))));
+    const found = line.match(/http:\/\/127\.0\.0\.1:\d+\//);
+    if (!found) throw new Error(`tools/serve says ${line}`);
+    await edit(browser, found[0]);
+  } finally {
+    server.kill("SIGINT");
+    await new Promise(resolve => server.once("close", resolve));
+  }
+}
+
+/** Whether the built program is as new as its sources. */
+function isBuilt() {
+  try {
+    execFileSync(path.join(TOP, "tools/is-fresh"));
+    return true;
+  } catch (error) {
+    return false;
+  }
+}
+
+async function main() {
+  const browser = new Browser(), told = [];
+  try {
+    await browser.open();
+    await tryLessons(browser);
+    await tryHostileTexts(browser);
+    told.push(`${LESSONS.length} lessons`);
+    if (isBuilt()) {
+      told.push(await tryLongRun(browser));
+      await tryServer(browser);
+      told.push("editing by tools/serve");
+    } else console.log("tools/browser-check: the long run and editing were NOT tried, since no fresh program is built");
+  } finally {
+    await browser.close();
+  }
+  wrong.push(...browser.thrown);
+  for (const text of wrong) console.error(`tools/browser-check: ${text}`);
+  if (wrong.length) process.exit(1);
+  console.log(`tools/browser-check: ${told.join("; ")}`);
+  process.exit(0);
+}
+
+main().catch(error => {
+  console.error(`tools/browser-check: ${error.stack}`);
+  process.exit(1);
+});

@@ -1,0 +1,721 @@
+// The page: where one stands in a run, what is drawn of it, and what keys, buttons and links do.
+import {CODES, METHODS, RIGHTS, Run, copyOfState, lineOf, nextHead, numberOf} from "./fold.mjs";
+import {LEFT, ROW, codeText, drawRow, escaped, methodText, nameOf, rowsOf} from "./chart.mjs";
+
+/** @typedef {import("./fold.mjs").State} State */
+/** @typedef {import("./fold.mjs").Task} Task */
+/** @typedef {import("./fold.mjs").Event} RunEvent */
+/** @typedef {{lines: string[], from: number, to: number, above: number, marked: any[]}} Listing the lines of a text that are drawn, and
+ *   the elements of those that are marked; `above` is 1 where a line says how many there are above */
+/** @typedef {{name: string, script: string, schedule: string, trace: string, lessons: [string, string][],
+ *   isServed: boolean, about: string}} Data */
+
+const MOST_CHIPS = 24; // of one row of a task's card
+const MOST_LINES = 300; // of a listing
+const NARROWEST = 150, WIDEST = 320; // pixels of a column
+const BESIDE = 0.2; // of a column, beside the last one
+const OVER = 12; // rows that are drawn above and below those in view
+const BEHIND = 150; // milliseconds until the address follows
+
+/** @param {string} id @returns {any} */
+const $ = id => document.getElementById(id);
+
+const data = /** @type {Data} */ (JSON.parse($("data").textContent));
+const view = {
+  run: new Run(data.script, data.schedule, data.trace),
+  at: 0,
+  now: /** @type {any} */ (null), // the state behind event `at`, and the one before that event
+  before: /** @type {any} */ (null),
+  picked: 0, // a call
+  task: 0, // the one task whose events are shown, or 0
+  isOnly: false, // whether the events of the picked call alone are shown
+  isQuiet: false, // whether idle events are hidden
+  shown: /** @type {number[]} */ ([]), // the events that are shown, and where each begins in the chart
+  tops: /** @type {number[]} */ ([]),
+  columns: /** @type {number[]} */ ([]), // the tasks that have a column, the place of each, and the width of each
+  place: /** @type {number[]} */ ([]),
+  column: 200,
+  cards: /** @type {string[]} */ ([]), // what is drawn of the tasks, and of the chart
+  drawn: {key: "", events: /** @type {string[]} */ ([]), numbers: /** @type {string[]} */ ([])},
+  scroll: {top: 0, left: 0, height: 0, width: 0}, // of the chart, kept so that drawing it need not wait for a layout
+  listings: /** @type {Record<string, Listing>} */ ({}),
+};
+
+/** The name of a task beside its number.
+ * @param {number} task */
+function who(task) {
+  return `t${task} ${nameOf(view.run, task)}`;
+}
+
+/** A label or phone by the name of its task.
+ * @param {string} word */
+function byName(word) {
+  const [task, phone] = word.split(".");
+  return `${nameOf(view.run, numberOf(task))}.${phone}`;
+}
+
+// Where one stands
+
+/** Folds the states before and behind an event; one step on takes one event alone.
+ * @param {number} at */
+function stand(at) {
+  const run = view.run;
+  if (view.now && at === view.at + 1) view.before = view.now;
+  else view.before = run.stateAt(Math.max(0, at - 1));
+  view.now = copyOfState(view.before);
+  if (at > 0) run.apply(view.now, run.event(at));
+  view.at = at;
+}
+
+/** Goes to an event, and draws.
+ * @param {number} at */
+function go(at) {
+  const place = Math.max(0, Math.min(view.run.length, Math.floor(at) || 0));
+  if (!view.now || place !== view.at) stand(place);
+  bringIntoView();
+  draw();
+}
+
+/** The place of the first shown event behind one.
+ * @param {number} at */
+function placeBehind(at) {
+  let low = 0, high = view.shown.length;
+  while (low < high) {
+    const middle = (low + high) >> 1;
+    if (view.shown[middle] <= at) low = middle + 1;
+    else high = middle;
+  }
+  return low;
+}
+
+/** One shown event on, or one back.
+ * @param {number} by */
+function step(by) {
+  const place = placeBehind(view.at);
+  if (by > 0) return go(place < view.shown.length ? view.shown[place] : view.at);
+  const back = placeBehind(view.at - 1) - 1;
+  go(back >= 0 ? view.shown[back] : 0);
+}
+
+/** One event of the picked call on, or one back.
+ * @param {number} by */
+function stepCall(by) {
+  const call = view.run.calls[view.picked];
+  if (!call) return;
+  const more = by > 0 ? call.events.filter(it => it > view.at) : call.events.filter(it => it < view.at).reverse();
+  if (more.length) go(more[0]);
+}
+
+/** Picks a call, or none, and draws.
+ * @param {number} call */
+function pick(call) {
+  view.picked = view.run.calls[call] ? call : 0;
+  if (view.isOnly) sift();
+  if (view.isOnly) layOut();
+  draw();
+}
+
+/** Finds the events that are shown, and where each begins. */
+function sift() {
+  const {run, task, isQuiet} = view, call = view.isOnly ? run.calls[view.picked] : undefined;
+  const all = call ? call.events : Array.from({length: run.length}, (_, i) => i + 1);
+  view.shown = all.filter(at => at <= run.length && (!task || run.isNamed(at, task)) && !(isQuiet && run.isIdle[at]));
+  let top = 0;
+  view.tops = view.shown.map(at => {
+    top += run.rows[at] * ROW;
+    return top - run.rows[at] * ROW;
+  });
+  view.tops.push(top);
+  view.drawn.key = "";
+  const isWhole = !task && !call, tasks = run.names.map((_, i) => i).slice(1);
+  view.columns = isWhole ? tasks : tasks.filter(it => it === task || view.shown.some(at => run.isNamed(at, it)));
+  view.place = [];
+  view.columns.forEach((it, place) => { view.place[it] = place; });
+}
+
+// The chart
+
+/** The columns: all tasks that there ever are, or those that the shown events name, each as wide as the room gives. */
+function layOut() {
+  const chart = $("chart"), tasks = view.columns.length, room = (chart.clientWidth || 700) - LEFT - 8;
+  view.scroll = {top: chart.scrollTop, left: chart.scrollLeft, height: chart.clientHeight, width: chart.clientWidth};
+  view.column = Math.max(NARROWEST, Math.min(WIDEST, Math.floor(room / (tasks + BESIDE))));
+  const width = widthOfAll();
+  $("heads").style.width = $("space").style.width = `${width}px`;
+  $("space").style.height = `${view.tops[view.tops.length - 1] + 20}px`;
+  const heads = view.columns.map(task => `<text x="${x(task)}" y="19" text-anchor="middle" font-weight="600">${escaped(who(task))}</text>`);
+  $("heads").innerHTML = `<svg width="${width}" height="27">${heads.join("")}</svg>`;
+}
+
+/** The columns and, beside the last one, room for the texts of its loops. */
+function widthOfAll() {
+  return LEFT + Math.floor(view.column * (view.columns.length + BESIDE));
+}
+
+/** The middle of a task's column.
+ * @param {number} task */
+function x(task) {
+  return LEFT + view.column * (view.place[task] || 0) + view.column / 2;
+}
+
+/** The lines of the tasks between two heights, each from the event that made its task to the one that ended it.
+ * @param {number} from @param {number} to @param {number} first @param {number} last */
+function lifelines(from, to, first, last) {
+  const {run, shown, tops} = view;
+  return view.columns.map(task => {
+    const born = run.born[task] || 0, died = run.died[task] || Infinity;
+    let top = 0, end = to - from;
+    for (let place = first; place < last; place++) {
+      if (shown[place] < born) top = tops[place + 1] - from;
+      if (shown[place] === died) end = tops[place] + ROW - 4 - from;
+    }
+    if (first < last && shown[first] > died) end = top;
+    return end > top ? `<line x1="${x(task)}" x2="${x(task)}" y1="${top}" y2="${end}" stroke="#9aa6b4"/>` : "";
+  }).join("");
+}
+
+/** One event in the chart.
+ * @param {number} place @param {number} from @param {number} width */
+function drawEvent(place, from, width) {
+  const {run, shown, tops, at, picked, scroll} = view;
+  const way = {column: view.column, width, picked, from: scroll.left + LEFT, to: scroll.left + scroll.width};
+  const number = shown[place], top = tops[place] - from, high = tops[place + 1] - tops[place];
+  const rows = rowsOf(run, run.event(number)).map((row, i) => drawRow(row, x, top + i * ROW, {...way, isLater: number > at})).join("");
+  const back = number === at ? `<rect x="0" y="${top}" width="${width}" height="${high}" fill="#fff2cc"/>` : "";
+  return `<g>${back}<rect class="hit" data-at="${number}" x="0" y="${top}" width="${width}" height="${high}"/>`
+    + `${rows}</g>`;
+}
+
+/** The number of an event, which stays in view where the columns are scrolled.
+ * @param {number} number @param {number} top @param {number} end */
+function drawNumber(number, top, end) {
+  const back = number === view.at ? `<rect x="0" y="${top}" width="${LEFT}" height="${end - top}" fill="#fff2cc"/>` : "";
+  return `<g>${back}<text x="${LEFT - 10}" y="${top + 15}" text-anchor="end" fill="#6a7785">${number}</text></g>`;
+}
+
+/** The places of the first event in view, and of the first behind those in view. */
+function inView() {
+  const {shown, tops, scroll} = view, above = scroll.top - OVER * ROW, below = scroll.top + scroll.height + OVER * ROW;
+  let first = 0, high = shown.length;
+  while (first < high) {
+    const middle = (first + high) >> 1;
+    if (tops[middle + 1] <= above) first = middle + 1;
+    else high = middle;
+  }
+  let last = first;
+  while (last < shown.length && tops[last] < below) last += 1;
+  return {first, last};
+}
+
+/** Draws the rows in view, and no others; of the same ones, those alone that look otherwise than before. */
+function drawChart() {
+  const {shown, tops, scroll, drawn} = view, width = widthOfAll(), {first, last} = inView();
+  const from = tops[first] || 0, to = Math.max(tops[last], from + 20), size = (/** @type {number} */ it) => `<svg width="${it}" height="${to - from + 10}">`;
+  const key = `${first} ${last} ${from} ${to} ${width}`, events = [], numbers = [];
+  for (let place = first; place < last; place++) {
+    events.push(drawEvent(place, from, width));
+    numbers.push(drawNumber(shown[place], tops[place] - from, tops[place + 1] - from));
+  }
+  $("numbers").style.left = `${scroll.left}px`;
+  if (drawn.key === key) {
+    renew($("rows").firstChild.lastChild.children, events, drawn.events);
+    renew($("numbers").firstChild.children, numbers, drawn.numbers);
+  } else {
+    $("rows").style.top = $("numbers").style.top = `${from}px`;
+    $("numbers").innerHTML = `${size(LEFT - 4)}${numbers.join("")}</svg>`;
+    $("rows").innerHTML = `${size(width)}<g>${lifelines(from, to + 10, first, last)}</g><g>${events.join("")}</g></svg>`;
+  }
+  view.drawn = {key, events, numbers};
+}
+
+/** Draws those elements anew whose text is another than the one that they have.
+ * @param {any} elements @param {string[]} texts @param {string[]} old */
+function renew(elements, texts, old) {
+  texts.forEach((text, i) => {
+    if (text !== old[i]) elements[i].outerHTML = text;
+  });
+}
+
+/** Finds where the chart must stand so that the present event is in view. */
+function bringIntoView() {
+  const {scroll, tops} = view, place = Math.max(0, placeBehind(view.at) - 1), top = tops[place] || 0, end = tops[place + 1] || 0;
+  const highest = Math.max(0, tops[tops.length - 1] + 20 - scroll.height + 28), widest = Math.max(0, widthOfAll() - scroll.width);
+  const isAbove = top < scroll.top, isBelow = end > scroll.top + scroll.height - 60;
+  if (isAbove || isBelow) scroll.top = Math.min(highest, Math.max(0, Math.floor(top - scroll.height / 3)));
+  if (view.at === 0) return;
+  const middle = x(view.run.event(view.at).task), half = view.column / 2;
+  const isBefore = middle - half < scroll.left + LEFT, isBehind = middle + half > scroll.left + scroll.width;
+  if (isBefore || isBehind) scroll.left = Math.min(widest, Math.max(0, Math.floor(middle - scroll.width / 2)));
+}
+
+/** Draws the chart anew where it was scrolled by a reader. */
+function onScroll() {
+  const chart = $("chart"), {scroll} = view;
+  if (Math.abs(chart.scrollTop - scroll.top) < 1 && Math.abs(chart.scrollLeft - scroll.left) < 1) return;
+  scroll.top = chart.scrollTop;
+  scroll.left = chart.scrollLeft;
+  requestAnimationFrame(drawChart);
+}
+
+// The lines of an event
+
+/** What stands beside a word of a trace's line: names of tasks, methods and rights, numbers of codes.
+ * @param {string[]} words @param {number} place */
+function noteOf(words, place) {
+  const word = words[place], isNumber = /^\d+$/.test(word), [first, second] = words;
+  if (/^t\d+(?:[./]\d+)?$/.test(word)) return nameOf(view.run, numberOf(word.split(/[./]/)[0]));
+  if (CODES.includes(word)) return String(CODES.indexOf(word));
+  if (!isNumber) return "";
+  const isMethod = words[place - 1] === "method" || second === "call" && place === 3 && /^t/.test(first)
+    || second === "forward" && place === 5 || first === "=" && second === "received" && place === 3;
+  if (isMethod) return METHODS[Number(word)] || "";
+  return (second === "area" || first === "area") && place === 4 ? RIGHTS[Number(word)] || "" : "";
+}
+
+/** A line of the trace with its notes, which are no part of its text.
+ * @param {string} line */
+function noted(line) {
+  const before = line.startsWith("  ") ? "  " : "", words = line.slice(before.length).split(" ");
+  return before + words.map((word, place) => {
+    const note = noteOf(words, place), kind = /^t\d/.test(word) ? "note near" : "note";
+    return note ? `<span class="${kind}" data-note="${escaped(note)}">${escaped(word)}</span>` : escaped(word);
+  }).join(" ");
+}
+
+/** @param {string} line */
+function kindOf(line) {
+  if (!line.startsWith("  ")) return "head";
+  return line.startsWith("  = ") ? "outcome" : /^ {2}t\d+\//.test(line) ? "own" : "effect";
+}
+
+/** @param {string[]} lines */
+function listed(lines) {
+  return lines.map(line => `<span class="line ${kindOf(line)}">${noted(line)}</span>`).join("");
+}
+
+/** Which of its line's events one is, as 2 of 5.
+ * @param {number} at */
+function turnOf(at) {
+  const {turns} = view.run, turn = turns[at - 1];
+  let first = at;
+  while (first > 1 && turns[first - 2] === turn) first -= 1;
+  return turn.of > 1 ? `, ${at - first + 1} of ${turn.of}` : "";
+}
+
+function drawLines() {
+  const {run, at} = view, turn = at > 0 ? run.turns[at - 1] : undefined;
+  const of = turn ? `line ${turn.line} of the schedule: <code>${escaped(turn.words.join(" "))}</code>${turnOf(at)}` : "";
+  const title = turn ? `event ${at} of ${run.length}, ${of}` : `before the first of ${run.length} events`;
+  $("event").innerHTML = `<div class="box"><h2>${title}</h2>${turn ? `<pre>${listed(run.event(at).lines)}</pre>` : ""}</div>`;
+}
+
+// A call's story
+
+/** Where a call stands behind the present event.
+ * @param {number} number */
+function placeOf(number) {
+  const call = view.run.calls[number];
+  if (call.events[0] > view.at) return "not made yet";
+  for (const task of view.now.tasks) {
+    if (task && task.incoming.includes(number)) return `waits for ${who(task.number)}`;
+    if (task && task.held.includes(number)) return `held by ${who(task.number)}`;
+    if (task && task.answers.includes(number)) return `answered; the answer waits for ${who(task.number)}`;
+  }
+  return "over";
+}
+
+function drawStory() {
+  const {run, picked, at} = view, call = run.calls[picked];
+  $("story").hidden = !call;
+  if (!call) return;
+  const message = run.message(picked, at), forgotten = call.forgotten && call.forgotten <= at ? ", its caller was killed" : "";
+  const origin = `made by ${who(call.caller)} over ${call.over}, label ${message.label}`;
+  const head = `call ${picked}: ${methodText(message.method)}, ${origin}; ${placeOf(picked)}${forgotten}`;
+  const parts = run.story(picked).filter(it => it.at <= run.length).map(it => {
+    const when = it.at === at ? "now" : it.at > at ? "later" : "";
+    return `<span class="at ${when}" data-at="${it.at}"><b>event ${it.at}</b>${listed(it.lines)}</span>`;
+  });
+  $("story").innerHTML = `<div class="box"><h2>${escaped(head)}</h2><div class="lines">${parts.join("")}</div></div>`;
+}
+
+// The tasks
+
+/** A part of a card: which one it is, and its text with that in front.
+ * @typedef {{key: string | number, text: string, kind: string, call?: number}} Chip */
+
+/** @param {Chip} chip @param {string} mark @param {Chip} [old] the same part before the event, where it was another text */
+function drawChip(chip, mark, old) {
+  const call = chip.call ? ` data-call="${chip.call}"` : "", picked = chip.call && chip.call === view.picked ? " picked" : "";
+  const was = old ? ` title="before: ${escaped(`${old.key} ${old.text}`)}"` : "";
+  return `<span class="chip ${escaped(chip.kind)}${mark}${picked}"${call}${was}><b>${escaped(chip.key)}</b> ${escaped(chip.text)}</span>`;
+}
+
+/** A row of a card: what is new or another is marked, and what is gone is struck out.
+ * @param {string} title @param {Chip[]} now @param {Chip[]} before @param {string} none */
+function drawParts(title, now, before, none) {
+  const old = new Map(before.map(it => [it.key, it])), kept = new Set(now.map(it => it.key));
+  const gone = before.filter(it => !kept.has(it.key)).slice(0, MOST_CHIPS).map(it => drawChip(it, " gone")).join("");
+  const more = now.length > MOST_CHIPS ? `<span class="quiet">and ${now.length - MOST_CHIPS} more</span>` : "";
+  const chips = gone + now.slice(0, MOST_CHIPS).map(it => {
+    const was = old.get(it.key);
+    return was && was.text === it.text ? drawChip(it, "") : drawChip(it, " new", was);
+  }).join("") + more;
+  const text = chips || (none ? `<span class="quiet">${none}</span>` : "");
+  return text ? `<div class="row"><b>${title}</b><div>${text}</div></div>` : "";
+}
+
+/** @param {number[]} queue @param {number} at @param {boolean} isAnswer @returns {Chip[]} */
+function callChips(queue, at, isAnswer) {
+  return queue.map(number => {
+    const call = view.run.calls[number], message = view.run.message(number, at), forgotten = call.forgotten && call.forgotten <= at;
+    const text = isAnswer && call.answer ? codeText(call.answer.code) : `${methodText(message.method)} from ${byName(message.label)}`;
+    return {key: number, call: number, kind: "", text: text + (forgotten ? ", forgotten" : "")};
+  });
+}
+
+/** @param {Task} task @returns {Chip[]} */
+function phoneChips(task) {
+  return [...task.phones].sort((a, b) => a[0] - b[0]).map(([phone, it]) => {
+    const active = task.active.get(phone), count = active ? `, ${active} active` : "";
+    const leads = it.state === "connected" ? `\u2192 ${who(it.to)}` : it.state;
+    return {key: phone, kind: it.state, text: leads + count};
+  });
+}
+
+/** @param {Task} task @param {State} state @returns {Chip[]} */
+function areaChips(task, state) {
+  const others = state.tasks.filter(it => it && it !== task);
+  return [...task.areas.values()].map(area => {
+    const shared = others.filter(it => [...it.areas.values()].some(other => other.store === area.store)).map(it => it.name);
+    const text = `${area.pages} page${area.pages === "1" ? "" : "s"}, ${RIGHTS[Number(area.rights)]}, store ${area.store}`;
+    return {key: area.base, kind: "", text: text + (shared.length ? `, shared with ${shared.join(", ")}` : "")};
+  });
+}
+
+/** @param {Task} task @returns {Chip[][]} */
+function fibrilChips(task) {
+  const fibrils = [...task.fibrils].map(([key, it]) => {
+    const label = it.label ? `, for ${byName(it.label)}` : "";
+    return {key, kind: it.is, text: (it.is === "waits" ? `waits: ${it.why}` : it.is) + label};
+  });
+  const sessions = [...task.sessions].map(([key, it]) => ({key, kind: "", text: it.mode + (it.phone ? `, phone ${it.phone}` : "")}));
+  const exchanges = [...task.exchanges].map(([key, it]) =>
+    ({key, kind: "", text: `session ${it.session}, phone ${it.phone}, ${it.fibril ? `fibril ${it.fibril}` : "idle"}`}));
+  return [fibrils, sessions, exchanges];
+}
+
+/** The registers that are not 0, or are not in the other state.
+ * @param {Task} task @param {Task} other @returns {Chip[]} */
+function registerChips(task, other) {
+  const chips = task.registers.map((value, i) => ({key: `r${i}`, kind: "", text: value}));
+  return chips.filter((_, i) => task.registers[i] !== "0" || other.registers[i] !== "0");
+}
+
+/** @param {Task} task @param {Task} old */
+function drawRegisters(task, old) {
+  if (task.plan.kind !== "raw") return "";
+  const line = lineOf(task), text = line ? view.run.script.lines[line - 1].replace(/#.*/, "").trim() : "past the last operation";
+  const head = line ? nextHead(task).replace(/^t\d+ /, "").replace(/( 0)+$/, "") : "";
+  const asks = ["nothing", text].includes(head) ? "" : `, as ${escaped(head)}`, where = line ? `<span class="quiet">line ${line}${asks}</span>` : "";
+  const next = `<div class="row"><b>next</b><div><span class="lines">${escaped(text)}</span>${where}</div></div>`;
+  return drawParts("registers", registerChips(task, old), registerChips(old, task), "all 0") + (task.ended ? "" : next);
+}
+
+/** The rows of a card for calls, and for phones.
+ * @param {Task} task @param {Task} old */
+function drawCalls(task, old) {
+  const {at} = view, free = task.plan.phones - task.phones.size;
+  const queue = (/** @type {string} */ title, /** @type {number[]} */ now, /** @type {number[]} */ before) =>
+    drawParts(title, callChips(now, at, title === "answers"), callChips(before, at - 1, title === "answers"), "none");
+  return queue("incoming", task.incoming, old.incoming) + queue("held", task.held, old.held) + queue("answers", task.answers, old.answers)
+    + drawParts("phones", phoneChips(task), phoneChips(old), "")
+    + (task.phones.size ? "" : `<div class="row"><b>phones</b><div><span class="quiet">all ${free} free</span></div></div>`);
+}
+
+/** @param {Task} task @param {Task} old the same task before the event */
+function drawTask(task, old) {
+  const {now, before, at, run} = view, isOn = at > 0 && run.event(at).task === task.number, ended = task.ended ? ", ended" : "";
+  const [fibrils, sessions, exchanges] = fibrilChips(task), [oldFibrils, oldSessions, oldExchanges] = fibrilChips(old);
+  const kind = {ns: "naming service", block: "block server"}[task.plan.kind] || task.plan.kind;
+  return `<div class="task${isOn ? " on" : ""}${task.ended ? " ended" : ""}" data-task="${task.number}">`
+    + `<h3>${escaped(who(task.number))} <span>${escaped(kind)}${ended}</span></h3>${drawCalls(task, old)}`
+    + drawParts("areas", areaChips(task, now), areaChips(old, before), "") + drawParts("fibrils", fibrils, oldFibrils, "")
+    + drawParts("sessions", sessions, oldSessions, "") + drawParts("exchanges", exchanges, oldExchanges, "")
+    + drawRegisters(task, old) + "</div>";
+}
+
+/** Draws the cards of the tasks; one that is the same as before stays as it is. */
+function drawTasks() {
+  const box = $("tasks"), {run, at} = view;
+  const isNamed = (/** @type {number} */ task) => !view.task || task === view.task || at > 0 && run.isNamed(at, task);
+  const tasks = view.now.tasks.filter((/** @type {Task} */ task) => task && isNamed(task.number));
+  const cards = tasks.map((/** @type {Task} */ task) => drawTask(task, view.before.tasks[task.number] || emptyOf(task)));
+  if (cards.length !== view.cards.length) box.innerHTML = cards.join("");
+  else renew(box.children, cards, view.cards);
+  view.cards = cards;
+}
+
+/** A task that was not there before the event, as one that has nothing.
+ * @param {Task} task @returns {Task} */
+function emptyOf(task) {
+  return {...task, incoming: [], held: [], answers: [], phones: new Map(), active: new Map(), areas: new Map(), fibrils: new Map(),
+    connections: new Map(), sessions: new Map(), exchanges: new Map(), registers: task.registers.map(() => "0")};
+}
+
+// Script and schedule
+
+/** Draws the lines of a text with their numbers: all, or those round one of them where they are many.
+ * @param {string} name @param {string[]} lines @param {number} focus @returns {Listing} */
+function listing(name, lines, focus) {
+  const kept = view.listings[name], edge = MOST_LINES / 10;
+  const isNear = kept && (kept.from === 0 || focus > kept.from + edge) && (kept.to === kept.lines.length || focus < kept.to - edge);
+  if (kept && kept.lines === lines && isNear) return kept;
+  const count = lines[lines.length - 1] ? lines.length : lines.length - 1;
+  const from = Math.max(0, Math.min(Math.floor(focus - MOST_LINES / 2), count - MOST_LINES)), to = Math.min(count, from + MOST_LINES);
+  const more = (/** @type {number} */ many, /** @type {string} */ where) =>
+    many > 0 ? `<span class="line quiet"><i></i>${many} lines ${where}</span>` : "";
+  const part = lines.slice(from, to).map((line, i) => `<span class="line"><i>${from + i + 1}</i>${escaped(line)}</span>`);
+  $(name).innerHTML = more(from, "above") + part.join("") + more(count - to, "below");
+  return view.listings[name] = {lines, from, to, above: from ? 1 : 0, marked: []};
+}
+
+/** Marks lines of a text; `marks` says how each is marked, and what stands behind it.
+ * @param {string} name @param {string[]} lines @param {Map<number, string[]>} marks @param {number} focus */
+function drawListing(name, lines, marks, focus) {
+  const drawn = listing(name, lines, focus), children = $(name).children;
+  for (const element of drawn.marked) element.className = "line";
+  drawn.marked = [];
+  for (const [line, [kind, note]] of marks) {
+    const element = line > drawn.from && line <= drawn.to ? children[line - 1 - drawn.from + drawn.above] : undefined;
+    if (!element) continue;
+    element.className = `line ${kind}`;
+    element.dataset.who = note;
+    drawn.marked.push(element);
+  }
+}
+
+function drawTexts() {
+  const {run, at, now, before} = view, marks = new Map(), turn = at > 0 ? run.turns[at - 1] : undefined;
+  for (const task of now.tasks) {
+    const line = task ? lineOf(task) : 0, [, others] = marks.get(line) || ["", ""];
+    if (line) marks.set(line, ["next", others ? `${others}, ${task.name}` : `next of ${task.name}`]);
+  }
+  const event = at > 0 ? run.event(at) : undefined, old = event ? before.tasks[event.task] : undefined;
+  const isStep = turn && turn.words[0] === "step" && event && event.kind !== "ended", done = old && isStep ? lineOf(old) : 0;
+  if (done) marks.set(done, ["now", (marks.get(done) || ["", ""])[1]]);
+  const focus = done || (event && now.tasks[event.task] ? lineOf(now.tasks[event.task]) || now.tasks[event.task].plan.line : 1);
+  drawListing("script", run.script.lines, marks, focus);
+  drawListing("schedule", run.schedule, new Map(turn ? [[turn.line, ["now", ""]]] : []), turn ? turn.line : 1);
+}
+
+// The whole, and the address
+
+let later = 0;
+
+/** The address of the place where one stands. */
+function address() {
+  const {at, picked, task, isOnly, isQuiet} = view;
+  const parts = [picked ? `call=${picked}` : "", task ? `task=${task}` : "", isOnly ? "only=1" : "", isQuiet ? "idle=0" : ""];
+  return [`#at=${at}`, ...parts.filter(Boolean)].join("&");
+}
+
+/** Scrolls a box where one of its elements is out of view.
+ * @param {string} name of the box @param {string} selector */
+function scrollTo(name, selector) {
+  const box = document.querySelector(name), element = box && box.querySelector(selector);
+  if (!box || !(element instanceof HTMLElement)) return;
+  const top = element.offsetTop, isIn = top >= box.scrollTop && top + element.offsetHeight <= box.scrollTop + box.clientHeight;
+  if (!isIn) box.scrollTop = Math.max(0, element.offsetHeight > box.clientHeight ? top - 6 : top - box.clientHeight / 3);
+}
+
+/** Draws all; what must know where things stand comes last, so that the page is laid out once. */
+function draw() {
+  drawLines();
+  drawStory();
+  drawTasks();
+  drawTexts();
+  drawChart();
+  drawControls();
+  $("chart").scrollTop = view.scroll.top;
+  $("chart").scrollLeft = view.scroll.left;
+  scrollTo("#story .lines", ".now");
+  scrollTo("#tasks", ".on");
+  scrollTo("#script", ".now");
+  if (!document.querySelector("#script .now")) scrollTo("#script", ".next");
+  scrollTo("#schedule", ".now");
+}
+
+function drawControls() {
+  const {run, at} = view;
+  if (document.activeElement !== $("number")) $("number").value = at;
+  if (document.activeElement !== $("call")) $("call").value = view.picked || "";
+  $("slider").value = at;
+  $("of").textContent = `of ${run.length}`;
+  $("only").checked = view.isOnly;
+  $("idle").checked = view.isQuiet;
+  $("task").value = String(view.task);
+  $("callsteps").hidden = !view.picked;
+  $("link").href = address();
+  clearTimeout(later);
+  later = setTimeout(() => history.replaceState(null, "", address()), BEHIND);
+}
+
+/** Opens the place that the address names. */
+function openAddress() {
+  const wanted = new URLSearchParams(location.hash.slice(1)), number = (/** @type {string} */ name) => Number(wanted.get(name)) || 0;
+  view.picked = view.run.calls[number("call")] ? number("call") : 0;
+  view.task = view.run.names[number("task")] ? number("task") : 0;
+  view.isOnly = wanted.get("only") === "1";
+  view.isQuiet = wanted.get("idle") === "0";
+  sift();
+  layOut();
+  go(number("at"));
+}
+
+/** Shows a run from its start, or from the place that the address names.
+ * @param {Data} texts @param {boolean} isNew */
+function openRun(texts, isNew) {
+  if (isNew) view.run = new Run(texts.script, texts.schedule, texts.trace);
+  view.now = null;
+  view.cards = [];
+  view.listings = {};
+  $("tasks").innerHTML = "";
+  $("title").textContent = texts.name;
+  $("slider").max = $("number").max = view.run.length;
+  $("faults").hidden = !view.run.faults.length;
+  $("faults").textContent = view.run.faults.join("; ");
+  const tasks = view.run.names.slice(1).map((_, i) => `<option value="${i + 1}">${escaped(who(i + 1))}</option>`);
+  $("task").innerHTML = `<option value="0">all</option>${tasks.join("")}`;
+  if (isNew) history.replaceState(null, "", "#at=0");
+  openAddress();
+}
+
+// What is served: lessons from a list, and texts that are changed and run
+
+/** The numbers of a text's lines, with one marked.
+ * @param {string} which @param {number} fault */
+function drawNumbers(which, fault) {
+  const count = $("new" + which).value.split("\n").length;
+  const numbers = Array.from({length: count}, (_, i) => i + 1 === fault ? `<span class="fault">${i + 1}</span>` : String(i + 1));
+  $(which + "numbers").innerHTML = numbers.join("\n") + "\n\n";
+  $(which + "numbers").scrollTop = $("new" + which).scrollTop;
+}
+
+/** Marks the line of a fault, with what the manual says of its reason.
+ * @param {{text: string, file: string, line: number, meaning: string, hints: string[]}} fault */
+function tellFault(fault) {
+  const parts = [fault.meaning ? `<p>${escaped(fault.meaning)}</p>` : "", ...fault.hints.map(hint => `<p>${escaped(hint)}</p>`)];
+  $("told").innerHTML = `<b>${escaped(fault.text)}</b>${parts.join("").replace(/`([^`]*)`/g, "<code>$1</code>")}`;
+  if (!fault.file) return;
+  drawNumbers(fault.file, fault.line);
+  const box = $("new" + fault.file), lines = box.value.split("\n");
+  const from = lines.slice(0, fault.line - 1).join("\n").length + (fault.line > 1 ? 1 : 0);
+  box.focus();
+  box.setSelectionRange(from, from + (lines[fault.line - 1] || "").length);
+  box.scrollTop = Math.max(0, (fault.line - 8) * 19);
+}
+
+/** Runs the texts of the editor, and opens the run or marks the fault. */
+async function runTexts() {
+  const script = $("newscript").value, schedule = $("newschedule").value, bytes = new TextEncoder();
+  $("told").textContent = "runs ..";
+  drawNumbers("script", 0);
+  drawNumbers("schedule", 0);
+  try {
+    const first = bytes.encode(script), body = new Blob([first, bytes.encode(schedule)]), headers = {"Content-Type": "application/octet-stream"};
+    const answer = await fetch(`/run?script=${first.length}`, {method: "POST", headers, body});
+    const told = await answer.json();
+    if (told.text) return tellFault(told);
+    $("told").textContent = "";
+    $("editor").hidden = true;
+    openRun({...data, name: `${data.name}, changed`, script, schedule, trace: told.trace}, true);
+    data.script = script;
+    data.schedule = schedule;
+  } catch (error) {
+    $("told").innerHTML = `<b>the server does not answer: ${escaped(String(error))}</b>`;
+  }
+}
+
+function openEditor() {
+  $("newscript").value = data.script;
+  $("newschedule").value = data.schedule;
+  $("told").textContent = "";
+  $("editor").hidden = !$("editor").hidden;
+  drawNumbers("script", 0);
+  drawNumbers("schedule", 0);
+}
+
+function serve() {
+  $("lessons").hidden = $("edit").hidden = !data.isServed;
+  $("about").hidden = !data.about;
+  $("lesson").textContent = data.about;
+  const lessons = data.lessons.map(([name, title]) => `<option value="${name}">${escaped(title)}</option>`);
+  $("lessons").innerHTML = `<option value="">lessons ..</option>${lessons.join("")}`;
+  $("lessons").value = data.lessons.some(([name]) => name === data.name) ? data.name : "";
+  $("lessons").onchange = () => location.assign(`/lesson/${$("lessons").value}`);
+  $("edit").onclick = openEditor;
+  $("close").onclick = openEditor;
+  $("run").onclick = runTexts;
+  for (const which of ["script", "schedule"]) {
+    $("new" + which).oninput = () => drawNumbers(which, 0);
+    $("new" + which).onscroll = () => { $(which + "numbers").scrollTop = $("new" + which).scrollTop; };
+  }
+  $("editor").onkeydown = (/** @type {KeyboardEvent} */ press) => {
+    if (press.key === "Enter" && press.ctrlKey) runTexts();
+  };
+}
+
+// Keys, buttons and clicks
+
+const KEYS = /** @type {Record<string, () => void>} */ ({
+  ArrowRight: () => step(1), ArrowLeft: () => step(-1), j: () => step(1), k: () => step(-1), " ": () => step(1),
+  Home: () => go(0), End: () => go(view.run.length), n: () => stepCall(1), p: () => stepCall(-1), Escape: () => pick(0),
+});
+
+/** @param {KeyboardEvent} press */
+function onKey(press) {
+  const target = press.target instanceof Element ? press.target : document.body;
+  const isTyping = target.matches("textarea, select, input:not([type=checkbox]):not([type=range])");
+  const isOwn = press.key === " " && target.matches("button, input, summary");
+  if (isTyping || isOwn || press.ctrlKey || press.metaKey || press.altKey || !KEYS[press.key]) return;
+  press.preventDefault();
+  KEYS[press.key]();
+}
+
+/** @param {MouseEvent} click */
+function onClick(click) {
+  const target = click.target instanceof Element ? click.target : document.body;
+  const call = target.closest("[data-call]"), event = target.closest("[data-at]"), number = call ? Number(call.getAttribute("data-call")) : 0;
+  if (call) pick(number === view.picked && !target.closest("#chart") ? 0 : number);
+  else if (event) go(Number(event.getAttribute("data-at")));
+}
+
+function start() {
+  const sifted = (/** @type {() => void} */ change) => () => {
+    change();
+    sift();
+    layOut();
+    go(view.at);
+  };
+  $("first").onclick = KEYS.Home;
+  $("last").onclick = KEYS.End;
+  $("on").onclick = KEYS.ArrowRight;
+  $("back").onclick = KEYS.ArrowLeft;
+  $("callon").onclick = KEYS.n;
+  $("callback").onclick = KEYS.p;
+  $("slider").oninput = () => go(Number($("slider").value));
+  $("number").onchange = () => go(Number($("number").value));
+  $("call").onchange = () => pick(Number($("call").value));
+  $("task").onchange = sifted(() => { view.task = Number($("task").value); });
+  $("only").onchange = sifted(() => { view.isOnly = $("only").checked; });
+  $("idle").onchange = sifted(() => { view.isQuiet = $("idle").checked; });
+  $("chart").onscroll = onScroll;
+  addEventListener("keydown", onKey);
+  addEventListener("click", onClick);
+  addEventListener("hashchange", openAddress);
+  addEventListener("resize", () => { layOut(); drawChart(); });
+  serve();
+  openRun(data, false);
+}
+
+start();

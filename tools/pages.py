@@ -1,0 +1,41 @@
+"""Puts a run into a page of one file, for tools/page and tools/serve."""
+import html
+import json
+import re
+from pathlib import Path
+from typing import Sequence, Tuple
+
+PARTS = Path(__file__).resolve().parent / "page-parts"
+MODULES = ("fold", "chart", "view")
+EXPORT = re.compile(r"^export (?=(?:class|function|const) (\w+))", re.M)
+IMPORT = re.compile(r"^import (\{[^}]*\}) from \"\./(\w+)\.mjs\";$", re.M)
+
+
+def part(name: str) -> str:
+    return (PARTS / name).read_text(encoding="utf-8")
+
+
+def module(name: str) -> str:
+    """A module as a function that is called at once and gives what the module exports: one script then holds them all."""
+    text = part(f"{name}.mjs")
+    exports = ", ".join(EXPORT.findall(text))
+    body = IMPORT.sub(r"const \1 = \2;", EXPORT.sub("", text))
+    return f"const {name} = (() => {{\n{body}\nreturn {{{exports}}};\n}})();\n"
+
+
+def page(name: str, texts: Sequence[str], lessons: Sequence[Tuple[str, str]] = (), about: str = "") -> str:
+    """The page of a run: its name, and the texts of script, schedule and trace. One that is served has names and titles of
+    the lessons, for its list, and the text of the one that it shows."""
+    script, schedule, trace = texts
+    is_served = bool(lessons)
+    data = {"name": name, "script": script, "schedule": schedule, "trace": trace, "lessons": list(lessons),
+            "isServed": is_served, "about": about}
+    values = {
+        "@TITLE@": html.escape(f"{name}: a run of hipc"),
+        "@CONNECT@": "'self'" if is_served else "'none'",
+        "@STYLE@": part("page.css"),
+        "@SCRIPT@": "".join(map(module, MODULES)),
+        # no text of the run can end the element in which it stands
+        "@DATA@": json.dumps(data).replace("<", "\\u003c"),
+    }
+    return re.sub("|".join(values), lambda found: values[found[0]], part("page.html"))

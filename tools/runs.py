@@ -1,0 +1,37 @@
+"""Finds the program and runs it over a script and a schedule, for the tools beside it."""
+from __future__ import annotations
+
+import os
+import subprocess
+import sys
+
+TOP = os.path.dirname(os.path.dirname(os.path.realpath(__file__)))
+MOST_EVENTS = 65_536
+
+
+class Refused(Exception):
+    """What the program says instead of a trace."""
+
+
+def program_of(tool: str) -> str:
+    """The program that the variable HIPC names, else the built one; ends the tool where it is older than a source."""
+    named = os.environ.get("HIPC")
+    if not named and subprocess.run([os.path.join(TOP, "tools", "is-fresh")], check=False).returncode:
+        sys.exit(f"{tool}: there is no program that is as new as the sources: run ./build, or name one in HIPC")
+    return named or os.path.join(TOP, "crates", "hipc", "out", "hipc")
+
+
+def trace_of(program: str, script: str, steps: list[str]) -> str:
+    """The trace of a script, which is a file, under a schedule of such lines; raises Refused where there is none."""
+    with os.fdopen(os.memfd_create("schedule"), "w") as schedule:
+        schedule.writelines(f"{step}\n" for step in steps)
+        schedule.flush()
+        handle = schedule.fileno()
+        words = [program, "replay", script, f"/proc/self/fd/{handle}"]
+        try:
+            ran = subprocess.run(words, stdout=subprocess.PIPE, pass_fds=(handle,), text=True, check=False)
+        except OSError as error:
+            raise Refused(f"cannot run {program}: {error.strerror}") from error
+    if ran.returncode:
+        raise Refused(ran.stdout.strip() or f"{program} ended with status {ran.returncode}")
+    return ran.stdout
