@@ -1,6 +1,8 @@
 //! Each status with its text, over a shelf and a sink in memory.
-use crate::rows::{FIRST_CALL_SCHEDULE, FIRST_CALL_SCRIPT, FIRST_CALL_TEXT};
-use crate::{Status, replay_bytes, rows, run};
+use crate::rows::{
+    CALLS, FIBRILS, FIRST_CALL_SCHEDULE, FIRST_CALL_SCRIPT, FIRST_CALL_TEXT, MEMORY, Row, SERVICES,
+};
+use crate::{Status, replay_bytes, run};
 use io_edge::{MemShelf, MemSink};
 use std::alloc::{AllocError, Global};
 use std::test::Fail;
