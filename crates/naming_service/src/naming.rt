@@ -71,13 +71,9 @@ impl Program for NamingService {
     }
 
     fn take(&mut self, got: &Outcome, _out: &mut Trace) -> Result<(), NoMemory> {
-        match self.take_outcome(got) {
-            Ok(()) => {
-                self.taken += 1;
-                Ok(())
-            }
-            Err(NoMemory) => Err(NoMemory),
-        }
+        self.take_outcome(got)?;
+        self.taken += 1;
+        Ok(())
     }
 
     fn taken(&self) -> u64 {
@@ -153,10 +149,8 @@ impl NamingService {
         ensures state { OnOk result (self.new ≡ answered self.old call code) }
         ensures unchanged { OnErr result (self.new ≡ self.old) }
     {
-        match self.work.push(Work::answering(call, code)) {
-            Ok(()) => Ok(()),
-            Err(_) => Err(NoMemory),
-        }
+        self.work.push(Work::answering(call, code))?;
+        Ok(())
     }
 
     fn phone_of(&self, service: u64) -> Option<u64>
@@ -171,10 +165,10 @@ impl NamingService {
         ensures unchanged { OnErr result (self.new ≡ self.old) }
     {
         match self.phone_of(received.service()) {
-            Some(phone) => match self.work.push(Work::forwarding(received, phone)) {
-                Ok(()) => Ok(()),
-                Err(_) => Err(NoMemory),
-            },
+            Some(phone) => {
+                self.work.push(Work::forwarding(received, phone))?;
+                Ok(())
+            }
             None => self.wait_or_refuse(received),
         }
     }
@@ -187,10 +181,8 @@ impl NamingService {
         if !received.is_blocking() {
             return self.answer(received.number, Code::ENOENT);
         }
-        match self.pending.push(*received) {
-            Ok(()) => Ok(()),
-            Err(_) => Err(NoMemory),
-        }
+        self.pending.push(*received)?;
+        Ok(())
     }
 
     /// Makes the caller a service, and passes the calls that wait for it on.
@@ -200,23 +192,19 @@ impl NamingService {
     {
         let (service, phone) = (received.service(), received.phone_given());
         let call = received.number;
-        match reserve_for_one(&mut self.registry, &mut self.work, self.pending.as_slice()) {
-            Ok(()) => {
-                keep_elsewhere(&mut self.registry, phone);
-                if phone == NO_PHONE {
-                    self.work.push_reserved(Work::answering(call, Code::ELIMIT));
-                } else if self.registry.contains_key(&service) {
-                    self.work.push_reserved(Work::answering(call, Code::EEXIST));
-                } else {
-                    insert_reserved(&mut self.registry, service, phone);
-                    self.work.push_reserved(Work::answering(call, Code::EOK));
-                    forward_pending(&mut self.work, self.pending.as_slice(), service, phone);
-                    keep_others(&mut self.pending, service);
-                }
-                Ok(())
-            }
-            Err(NoMemory) => Err(NoMemory),
+        reserve_for_one(&mut self.registry, &mut self.work, self.pending.as_slice())?;
+        keep_elsewhere(&mut self.registry, phone);
+        if phone == NO_PHONE {
+            self.work.push_reserved(Work::answering(call, Code::ELIMIT));
+        } else if self.registry.contains_key(&service) {
+            self.work.push_reserved(Work::answering(call, Code::EEXIST));
+        } else {
+            insert_reserved(&mut self.registry, service, phone);
+            self.work.push_reserved(Work::answering(call, Code::EOK));
+            forward_pending(&mut self.work, self.pending.as_slice(), service, phone);
+            keep_others(&mut self.pending, service);
         }
+        Ok(())
     }
 
     /// The caller's task introduces itself, unless it is in the list.
@@ -225,20 +213,13 @@ impl NamingService {
         ensures unchanged { OnErr result (self.new ≡ self.old) }
     {
         let call = received.number;
-        match self.work.reserve(1) {
-            Ok(()) => match self.ends.introduce(received.label) {
-                Ok(true) => {
-                    self.work.push_reserved(Work::answering(call, Code::EOK));
-                    Ok(())
-                }
-                Ok(false) => {
-                    self.work.push_reserved(Work::answering(call, Code::EEXIST));
-                    Ok(())
-                }
-                Err(NoMemory) => Err(NoMemory),
-            },
-            Err(_) => Err(NoMemory),
+        self.work.reserve(1)?;
+        if self.ends.introduce(received.label)? {
+            self.work.push_reserved(Work::answering(call, Code::EOK));
+        } else {
+            self.work.push_reserved(Work::answering(call, Code::EEXIST));
         }
+        Ok(())
     }
 
     /// The caller's task leaves a value.
@@ -247,17 +228,13 @@ impl NamingService {
         ensures unchanged { OnErr result (self.new ≡ self.old) }
     {
         let call = received.number;
-        match self.work.reserve(1) {
-            Ok(()) => {
-                if self.ends.set_value(received.label, received.service()) {
-                    self.work.push_reserved(Work::answering(call, Code::EOK));
-                } else {
-                    self.work.push_reserved(Work::answering(call, Code::ENOENT));
-                }
-                Ok(())
-            }
-            Err(_) => Err(NoMemory),
+        self.work.reserve(1)?;
+        if self.ends.set_value(received.label, received.service()) {
+            self.work.push_reserved(Work::answering(call, Code::EOK));
+        } else {
+            self.work.push_reserved(Work::answering(call, Code::ENOENT));
         }
+        Ok(())
     }
 
     /// Tells the caller of the end of a task, or keeps its call until that ends.
@@ -266,21 +243,13 @@ impl NamingService {
         ensures unchanged { OnErr result (self.new ≡ self.old) }
     {
         let call = received.number;
-        match self.work.reserve(1) {
-            Ok(()) => match self.ends.wait(call, received.service()) {
-                Ok(Waited::Ended(end)) => {
-                    self.work.push_reserved(Work::telling(end, call));
-                    Ok(())
-                }
-                Ok(Waited::Pending) => Ok(()),
-                Ok(Waited::Unknown) => {
-                    self.work.push_reserved(Work::answering(call, Code::ENOENT));
-                    Ok(())
-                }
-                Err(NoMemory) => Err(NoMemory),
-            },
-            Err(_) => Err(NoMemory),
+        self.work.reserve(1)?;
+        match self.ends.wait(call, received.service())? {
+            Waited::Ended(end) => self.work.push_reserved(Work::telling(end, call)),
+            Waited::Pending => {}
+            Waited::Unknown => self.work.push_reserved(Work::answering(call, Code::ENOENT)),
         }
+        Ok(())
     }
 
     /// The task that introduced itself over this phone ends, and who waits for it learns of it.
@@ -289,16 +258,10 @@ impl NamingService {
         ensures unchanged { OnErr result (self.new ≡ self.old) }
     {
         let call = received.number;
-        match reserve_for_waits(&mut self.work, self.ends.waits()) {
-            Ok(()) => match self.ends.end(received.label) {
-                Ok(freed) => {
-                    self.work.push_reserved(Work::answering(call, Code::EOK));
-                    tell_all(&mut self.work, freed.end, freed.waits.as_slice());
-                    Ok(())
-                }
-                Err(NoMemory) => Err(NoMemory),
-            },
-            Err(NoMemory) => Err(NoMemory),
-        }
+        reserve_for_waits(&mut self.work, self.ends.waits())?;
+        let freed = self.ends.end(received.label)?;
+        self.work.push_reserved(Work::answering(call, Code::EOK));
+        tell_all(&mut self.work, freed.end, freed.waits.as_slice());
+        Ok(())
     }
 }

@@ -39,7 +39,7 @@ abbrev Tells : ℕ → List Doing → Option Introduced → Type 0
 Tells w p None = HasNone (IsIntroductionOf w) p
 Tells w p (Some x) = TellsBy w p x x.ended
 
-label_is : (a b : Label) → same_label a b ≡ true → a ≡ b
+pub label_is : (a b : Label) → same_label a b ≡ true → a ≡ b
 label_is a b h =
     let parts = and_parts (a.task.0 == b.task.0) (a.phone.0 == b.phone.0) h in
     both (eqb-true a.task.0 b.task.0 parts.0) (eqb-true a.phone.0 b.phone.0 parts.1)
@@ -139,7 +139,7 @@ unknown_step w p n msg label false is none = rw is (λ h. not_both (and_from (ms
   not_both : ((msg.method == introduce_self) && (label.task.0 == w)) ≡ true → ⊥
   not_both h = absurd (cc (h, is))
 
-closed_stays : (msg : Msg) (label : Label) (x : Introduced) → x.ended ≡ true → entry_after msg label x ≡ x
+pub closed_stays : (msg : Msg) (label : Label) (x : Introduced) → x.ended ≡ true → entry_after msg label x ≡ x
 closed_stays msg label x done = grind (arith, done)
 
 present_step :
