@@ -11,6 +11,7 @@ pub mod HeldCalls
 pub mod StepsFit
 pub mod EventsFit
 pub mod OwnEntries
+pub mod Deliveries
 pub mod Linking
 pub mod NewTasks
 pub mod QuietTasks

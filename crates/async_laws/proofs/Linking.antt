@@ -34,6 +34,8 @@ use Rattle.async_laws.specs.Links.{EventKeepsOthers, KillKeeps, HangupKeeps, Gon
 use Rattle.async_laws.proofs.EventsFit.{facts_append, each_fits, others_fit, kills_fit, spawns_fit}
 use Rattle.async_laws.proofs.EventsFit.{hangups_fit, gone_fits}
 use Rattle.async_laws.proofs.OwnEntries.{own_entries}
+use Rattle.async_laws.proofs.Deliveries.{step_delivered, others_delivered, hangup_delivered}
+use Rattle.async_laws.proofs.Deliveries.{unasked_delivered}
 
 -- the tales of these entries, which come after those
 abbrev pub then : List Entry → List Tale → List Tale
@@ -299,6 +301,7 @@ event_keeps_me h es a o kept law honest fit =
       each_fits h es a.me.0 a o kept.0
           (promises_follow h es a.me (wanted a) o kept.1 before honest) fit,
       link_stays h es own a.me (wanted a) o kept.1 law honest (own_entries a o),
+      step_delivered h es own a.me (wanted a) o kept.2 law honest (own_entries a o),
     )
 
 pub event_keeps : EventKeeps
@@ -333,6 +336,7 @@ event_keeps_others h es own t a u request o kept other law effects owns =
     (refl, owns_foreign t u.0 own other owns) in (
       others_fit h rest t a u request kept.0 other foreign,
       link_stays_for_others h rest t u request kept.1 other law foreign,
+      others_delivered h rest t u request kept.2 other foreign,
     )
 
 pub kill_keeps : KillKeeps
@@ -345,6 +349,7 @@ kill_keeps h es t a u kept law effects =
       both_append t h (entry.Kill u ∷ es)
           (linked_effects t es p l effects lawful
           (linked_entry t (entry.Kill u) (facts t h) (past h) refl first kept.1)),
+      unasked_delivered h es t (entry.Kill u) kept.2 refl tt law effects,
     )
 
 pub spawn_keeps : SpawnKeeps
@@ -357,6 +362,7 @@ spawn_keeps h es t a u kept law effects =
       both_append t h (entry.Spawn u ∷ es)
           (linked_effects t es p l effects lawful
           (linked_entry t (entry.Spawn u) (facts t h) (past h) refl first kept.1)),
+      unasked_delivered h es t (entry.Spawn u) kept.2 refl tt law effects,
     )
 
 pub gone_keeps : GoneKeeps
@@ -366,6 +372,7 @@ gone_keeps h t a u kept law =
       gone_fits h t a u kept.0,
       both_append t h (entry.Gone u ∷ [])
           (linked_entry t (entry.Gone u) (facts t h) (past h) refl lawful kept.1),
+      unasked_delivered h [] t (entry.Gone u) kept.2 refl tt law tt,
     )
 
 no_reply : (o : Outcome) (n : CallNo) (reply : Reply) → is_done_or_refused o ≡ true →
@@ -373,7 +380,7 @@ no_reply : (o : Outcome) (n : CallNo) (reply : Reply) → is_done_or_refused o �
 no_reply o n reply h i = absurd (grind (arith, i, h))
 
 pub hangup_keeps : HangupKeeps
-hangup_keeps h es t a u request o kept law effects plain =
+hangup_keeps h es t a u request o kept law honest plain =
     let rest : List Entry = es ++ (entry.Outcome o ∷ []) in
     let l : List Tale = tale (entry.Head u request) ∷ past h in
     let p : List Fact = fact t (entry.Head u request) ∷ facts t h in
@@ -382,15 +389,16 @@ hangup_keeps h es t a u request o kept law effects plain =
     let last : Lawful (told.Other ∷ then es l) = subst Lawful parts whole in
     let first : Lawful l = lawful_before (tales es) l last.0 in
     let two : Linked (facts_onto t es p) (then es l) =
-    linked_effects t es p l effects last.0
+    linked_effects t es p l honest.effects last.0
     (linked_entry t (entry.Head u request) (facts t h) (past h) refl first kept.1) in
     let three : Linked (outcome_fact o ∷ facts_onto t es p) (told.Other ∷ then es l) =
     linked_outcome o (facts_onto t es p) (then es l)
     (λ n reply i. absurd (no_reply o n reply plain i)) two in (
-      hangups_fit h es t a u request o kept.0 effects plain,
+      hangups_fit h es t a u request o kept.0 honest.effects plain,
       both_append t h (asked u request rest)
           (subst (λ (x : List Fact). Linked x (then rest l))
           (sym (facts_append t es (entry.Outcome o ∷ []) p))
           (subst (λ (y : List Tale). Linked (outcome_fact o ∷ facts_onto t es p) y) (sym parts)
           three)),
+      hangup_delivered h es t u request o kept.2 law honest,
     )

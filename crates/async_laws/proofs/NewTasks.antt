@@ -22,6 +22,7 @@ use Rattle.async_laws.specs.QuietTasks.{HasNoFibril, TellsOfNoFibril}
 use Rattle.async_laws.proofs.QuietTasks.{head_quiet, other_quiet, effect_quiet, start_quiet}
 use Rattle.async_laws.proofs.EventsFit.{head_fits, foreign_fits, start_fits}
 use Rattle.async_laws.proofs.Linking.{then, over_stays, known_later}
+use Rattle.async_laws.proofs.Deliveries.{strange_delivered}
 
 -- what an entry says that does not tell of the task
 abbrev pub IsStrangeFact : Fact → Type 0
@@ -86,6 +87,7 @@ new_fits h me bodies strange law =
       },
       linked_strange me.0 h [] [] strange refl law
           (record { over = λ n i. absurd (cc i); known = λ n i. absurd (cc i) }),
+      strange_delivered me.0 h strange,
     )
 
 -- the entries of other tasks tell of no fibril of this one

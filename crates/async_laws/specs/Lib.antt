@@ -5,5 +5,6 @@ pub mod NoLostWakes
 pub mod OrderLaws
 pub mod HeldCalls
 pub mod TaskHistory
+pub mod Deliveries
 pub mod Links
 pub mod QuietTasks

@@ -19,6 +19,7 @@ use Rattle.async_task.specs.Steps.{step}
 use Rattle.async_task.specs.Program.{started}
 use Rattle.async_laws.specs.KeptAnswers.{given, accepted}
 use Rattle.async_laws.specs.TaskHistory.{Promises, is_foreign, AreForeign, TaskHistoryFits, event}
+use Rattle.async_laws.specs.Deliveries.{AnswersAreDelivered}
 
 -- a call whose answer the task was given is over, and no number above the last was accepted
 pub record Linked (p : List Fact) (l : List tales.Tale) : Type 0 where
@@ -28,9 +29,10 @@ pub record Linked (p : List Fact) (l : List tales.Tale) : Type 0 where
 abbrev pub IsLinked : List Entry → ℕ → Type 0
 IsLinked h t = Linked (facts t h) (tales.past h)
 
--- the entries fit the state of the task, and are linked to the lives of calls
+-- the entries fit the state of the task, are linked to the lives of calls, and have the answer of a
+-- call as the outcome of an event of the task exactly where it is delivered to the task in that event
 abbrev pub IsHistoryOf : List Entry → ℕ → AsyncState → Type 0
-IsHistoryOf h t a = TaskHistoryFits h t a × IsLinked h t
+IsHistoryOf h t a = TaskHistoryFits h t a × IsLinked h t × AnswersAreDelivered t h
 
 -- the entries of an event from its head on
 abbrev pub asked : TaskNo → Request → List Entry → List Entry
@@ -106,7 +108,7 @@ abbrev pub HangupKeeps : Type 0
 HangupKeeps =
     (h es : List Entry) (t : ℕ) (a : AsyncState) (u : TaskNo) (request : Request) (o : Outcome) →
     IsHistoryOf h t a →
-    Lawful (tales.past (h ++ asked u request (es ++ (entry.Outcome o ∷ [])))) → AreEffects es →
+    Lawful (tales.past (h ++ asked u request (es ++ (entry.Outcome o ∷ [])))) → IsHonest es o →
     is_done_or_refused o ≡ true →
     IsHistoryOf (h ++ asked u request (es ++ (entry.Outcome o ∷ []))) t a
 

@@ -1,2 +1,4 @@
 pub mod Served
+pub mod Waits
 pub mod Bounds
+mod RegisterExamples

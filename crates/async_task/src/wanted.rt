@@ -116,9 +116,10 @@ impl Machine {
     pub(crate) fn any_waits(&self, session: u32) -> bool
         ensures { result ≡ any_waits (length self.now.state.contexts) self.now.state session }
     {
+        let live = self.fibrils.live();
         let mut found = false;
-        for i in 0..self.contexts.len() {
-            found = found || self.waits_for(session, FibrilNo(i as u64 + 1));
+        for fibril in live {
+            found = found || self.waits_for(session, fibril.number);
         }
         found
     }

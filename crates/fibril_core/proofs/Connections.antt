@@ -2,7 +2,7 @@
 use Rattle.std.proofs.Common.{◌≡◌, ◌≢◌, ℕ, zero, suc, ◌+◌, ◌<◌, ◌⊎◌, inl, inr, Bool, true, false, ◌&&◌, List, [], ◌∷◌, ◌++◌, length, map, Option, Some, None, refl, ap, sym, ◌∙◌, subst, arith}
 use Rattle.std.specs.Prelude.{if◌then◌else◌, slice_get, slice_set, position, ◌==◌}
 use Rattle.std.specs.List.{find, remove}
-use Rattle.std.proofs.lemmas.Bool.Decides.{nat_tests}
+use Rattle.std.proofs.lemmas.Bool.{eq-eqb, ne_eqb, eqb-true, and_parts}
 use Rattle.ipc_ids.specs.declared.numbers.CallNo.{CallNo}
 use Rattle.ipc_ids.specs.declared.numbers.Code.{Code}
 use Rattle.ipc_ids.specs.declared.numbers.FibrilNo.{FibrilNo}
@@ -17,18 +17,6 @@ use Rattle.fibril_core.specs.ConnLaws.{IsOpenOrClosed, IsSound, Finds, after_los
 use Rattle.fibril_core.proofs.Places.{set_here, which, which_pushed, within}
 use Rattle.fibril_core.proofs.Searches.{find_is, found_place, find_one, find_none, none_found, find_set, find_removed, find_pushed, find_unpushed, skip, skip_other, skip_one, removed_at}
 
-same_number : (n m : ℕ) → (n == m) ≡ true → n ≡ m
-same_number n m e = grind (arith, nat_tests)
-
-is_same_number : (n m : ℕ) → n ≡ m → (n == m) ≡ true
-is_same_number n m e = grind (arith, nat_tests)
-
-other_number : (n m : ℕ) → n ≢ m → (n == m) ≡ false
-other_number n m e = bool_by (n == m) refl where
-  bool_by : (b : Bool) → (n == m) ≡ b → b ≡ false
-  bool_by true h = absurd (e (same_number n m h))
-  bool_by false h = refl
-
 -- both searches by find
 pub by_fibril : (f : FibrilNo) (cs : List Conn) → conn_of_fibril f cs ≡ find (serves f) cs
 by_fibril f cs = find_is (serves f) cs conn_at (λ ys. refl) (λ ys i. refl)
@@ -36,27 +24,23 @@ by_fibril f cs = find_is (serves f) cs conn_at (λ ys. refl) (λ ys i. refl)
 pub by_label : (label : Label) (cs : List Conn) → conn_of_label label cs ≡ find (leads_to label) cs
 by_label label cs = find_is (leads_to label) cs conn_at (λ ys. refl) (λ ys i. refl)
 
-both_true : (a b : Bool) → (a && b) ≡ true → (a ≡ true) × (b ≡ true)
-both_true true b e = (refl, e)
-both_true false b e = absurd (cc e)
-
 -- labels that are one
 
 same_label_is : (a b : Label) → same_label a b ≡ true → (a.task.0 ≡ b.task.0) × (a.phone.0 ≡ b.phone.0)
-same_label_is a b e = let h = both_true (a.task.0 == b.task.0) (a.phone.0 == b.phone.0) e in (same_number a.task.0 b.task.0 h.0, same_number a.phone.0 b.phone.0 h.1)
+same_label_is a b e = let h = and_parts (a.task.0 == b.task.0) (a.phone.0 == b.phone.0) e in (eqb-true a.task.0 b.task.0 h.0, eqb-true a.phone.0 b.phone.0 h.1)
 
 own_label : (a : Label) → same_label a a ≡ true
-own_label a = rw (is_same_number a.task.0 a.task.0 refl, is_same_number a.phone.0 a.phone.0 refl) refl
+own_label a = rw (eq-eqb a.task.0 a.task.0 refl, eq-eqb a.phone.0 a.phone.0 refl) refl
 
 -- where one label leads no other does
 same_as : (a b c : Label) → same_label a b ≡ true → same_label a c ≡ same_label b c
 same_as a b c e = let h = same_label_is a b e in rw (h.0, h.1) refl
 
 turned : (a b : Label) → same_label a b ≡ true → same_label b a ≡ true
-turned a b e = let h = same_label_is a b e in rw (h.0, h.1, is_same_number b.task.0 b.task.0 refl, is_same_number b.phone.0 b.phone.0 refl) refl
+turned a b e = let h = same_label_is a b e in rw (h.0, h.1, eq-eqb b.task.0 b.task.0 refl, eq-eqb b.phone.0 b.phone.0 refl) refl
 
 leads : (label : Label) (c : Conn) → leads_to label c ≡ true → (c.routes ≡ true) × (same_label c.label label ≡ true)
-leads label c e = both_true c.routes (same_label c.label label) e
+leads label c e = and_parts c.routes (same_label c.label label) e
 
 same_leads : (a b : Label) (c : Conn) → same_label a b ≡ true → leads_to a c ≡ leads_to b c
 same_leads a b c e = let h = same_label_is a b e in rw (h.0, h.1) refl
@@ -77,15 +61,15 @@ keeps_serves : (f : FibrilNo) (c d : Conn) → c.fibril ≡ d.fibril → serves 
 keeps_serves f c d e = rw e refl
 
 serves_own : (c : Conn) → serves c.fibril c ≡ true
-serves_own c = is_same_number c.fibril.0 c.fibril.0 refl
+serves_own c = eq-eqb c.fibril.0 c.fibril.0 refl
 
 serves_no_other : (g : FibrilNo) (c : Conn) → g.0 ≢ c.fibril.0 → serves g c ≡ false
-serves_no_other g c e = other_number c.fibril.0 g.0 (λ h. e (sym h))
+serves_no_other g c e = ne_eqb c.fibril.0 g.0 (λ h. e (sym h))
 
 -- in sound connections a search for a fibril or a label that is there finds it
 
 pub fibril_there : (cs : List Conn) (i : ℕ) (c : Conn) → IsSound cs → slice_get cs i ≡ Some c → conn_of_fibril c.fibril cs ≡ Some c
-fibril_there cs i c sound there = by_fibril c.fibril cs ∙ find_one (serves c.fibril) cs i c (λ j d that h. sound.fibrils j i d c that there (same_number d.fibril.0 c.fibril.0 h)) there (serves_own c)
+fibril_there cs i c sound there = by_fibril c.fibril cs ∙ find_one (serves c.fibril) cs i c (λ j d that h. sound.fibrils j i d c that there (eqb-true d.fibril.0 c.fibril.0 h)) there (serves_own c)
 
 pub label_there : (cs : List Conn) (i : ℕ) (c : Conn) (label : Label) → IsSound cs → slice_get cs i ≡ Some c → leads_to label c ≡ true → conn_of_label label cs ≡ Some c
 label_there cs i c label sound there h = by_label label cs ∙ find_one (leads_to label) cs i c (λ j d that g. sound.labels j i d c label that there g h) there h
@@ -259,7 +243,7 @@ ends_at : (cs : List Conn) (i : ℕ) (c : Conn) → IsSound cs → slice_get cs 
 ends_at cs i c sound there =
     let h = within cs i c there in
     record {
-      by_fibril = by_fibril c.fibril (remove cs i) ∙ find_none (serves c.fibril) (remove cs i) (λ j d that. not_true (serves c.fibril d) (λ e. skip_other i j (sound.fibrils (skip i j) i d c (sym (removed_at cs i j h) ∙ that) there (same_number d.fibril.0 c.fibril.0 e))));
+      by_fibril = by_fibril c.fibril (remove cs i) ∙ find_none (serves c.fibril) (remove cs i) (λ j d that. not_true (serves c.fibril d) (λ e. skip_other i j (sound.fibrils (skip i j) i d c (sym (removed_at cs i j h) ∙ that) there (eqb-true d.fibril.0 c.fibril.0 e))));
       by_label = λ label g. by_label label (remove cs i) ∙ find_none (leads_to label) (remove cs i) (λ j d that. not_true (leads_to label d) (λ e. skip_other i j (sound.labels (skip i j) i d c label (sym (removed_at cs i j h) ∙ that) there e g)));
       other_labels = λ label g. by_label label (remove cs i) ∙ find_removed (leads_to label) cs i c there g ∙ sym (by_label label cs);
       other_fibrils = λ g e. by_fibril g (remove cs i) ∙ find_removed (serves g) cs i c there (serves_no_other g c e) ∙ sym (by_fibril g cs);
@@ -369,7 +353,7 @@ sound_started cs label f sound none = record {
   its_fibril j x l = ap (λ (n : FibrilNo). n.0) (sym (lost_fibril label l.conn) ∙ ap (λ (d : Conn). d.fibril) l.is)
 
   no_own : (j : ℕ) (x : Conn) → Lost label cs j x → x.fibril.0 ≡ f.0 → ⊥
-  no_own j x l e = let no = none_found (serves f) cs (sym (by_fibril f cs) ∙ none) j l.conn l.there in let is = is_same_number l.conn.fibril.0 f.0 (its_fibril j x l ∙ e) in cc
+  no_own j x l e = let no = none_found (serves f) cs (sym (by_fibril f cs) ∙ none) j l.conn l.there in let is = eq-eqb l.conn.fibril.0 f.0 (its_fibril j x l ∙ e) in cc
 
   fibrils_by : (j k : ℕ) (a b : Conn) → ((j ≡ length (lose_labels label cs)) × (new_conn label f ≡ a)) ⊎ Lost label cs j a → ((k ≡ length (lose_labels label cs)) × (new_conn label f ≡ b)) ⊎ Lost label cs k b → a.fibril.0 ≡ b.fibril.0 → j ≡ k
   fibrils_by j k a b (inl g) (inl h) e = g.0 ∙ sym h.0

@@ -1,4 +1,5 @@
 pub mod Fibrils
 pub mod Conns
 pub mod FibrilLaws
+pub mod LiveFibrils
 pub mod ConnLaws

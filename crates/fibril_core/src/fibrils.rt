@@ -1,10 +1,15 @@
 //! Fibrils by number, and since when each is ready or blocked.
 ghost use Rattle.std.specs.Prelude.{◌≡◌, ◌+◌, ◌^◌, ◌<◌, ◌≤◌, OnOk, OnErr, IfOk, IsSome, length};
+ghost use Rattle.std.specs.Prelude.{IfSome, true, map, vec_len};
+ghost use Rattle.std.specs.List.{filter};
+ghost use Rattle.std.specs.Vec.{vec_capacity};
 ghost use Rattle.std.specs.Option.{option_copied};
 ghost use Rattle.fibril_core.specs.Fibrils.{no_fibrils, first_with, current, first_blocked};
 ghost use Rattle.fibril_core.specs.Fibrils.{next_number, why_in, why_of, IsWithinBounds, spawned};
-ghost use Rattle.fibril_core.specs.Fibrils.{put_fibril, with_status, block_on, yield_now};
+ghost use Rattle.fibril_core.specs.Fibrils.{with_status, block_on, yield_now};
 ghost use Rattle.fibril_core.specs.Fibrils.{end_current, make_ready, wake_first, wake_all};
+ghost use Rattle.fibril_core.specs.Fibrils.{fibril_at, number_of};
+ghost use Rattle.fibril_core.specs.LiveFibrils.{AreLive, goes_on, GoesOn, put_in, replaced, is_other};
 
 use ipc_ids::{CallNo, FibrilNo, NoMemory, Why};
 use std::alloc::Global;
@@ -30,6 +35,8 @@ pub struct Fibril {
 #[derive(Drop)]
 pub struct Fibrils {
     fibrils: Vec<Fibril>,
+    /// Those that have not ended, by rising number. No search goes over the others.
+    live: Vec<Fibril>,
     next_stamp: u64,
 }
 
@@ -37,13 +44,17 @@ impl Model for Fibrils {
     ghost use Rattle.std.specs.Prelude.{◌-◌, vec_len};
     ghost use Rattle.std.specs.Vec.{vec_capacity};
     ghost use Rattle.fibril_core.specs.Fibrils.{FibrilsState};
+    ghost use Rattle.fibril_core.specs.LiveFibrils.{AreLive, lesser};
 
     ghost Value = { FibrilsState };
 
     ghost view = { λ a. record {
       order = record { fibrils = a.fibrils.items; next_stamp = a.next_stamp };
-      spare = vec_capacity a.fibrils - vec_len a.fibrils;
+      spare = lesser (vec_capacity a.fibrils - vec_len a.fibrils)
+          (vec_capacity a.live - vec_len a.live);
     } };
+
+    ghost invariant = { λ a. AreLive a.live.items a.fibrils.items };
 }
 
 impl Fibrils {
@@ -53,6 +64,7 @@ impl Fibrils {
     {
         Fibrils {
             fibrils: Vec::new(alloc),
+            live: Vec::new(alloc),
             next_stamp: 1,
         }
     }
@@ -68,6 +80,9 @@ impl Fibrils {
         ensures full { OnErr result (self.old.spare ≡ 0) }
         ensures spare { self.old.spare ≤ self.new.spare }
     {
+        if self.live.reserve(1).is_err() {
+            return Err(NoMemory);
+        }
         match self.fibrils.reserve(1) {
             Ok(()) => Ok(()),
             Err(_) => Err(NoMemory),
@@ -92,11 +107,13 @@ impl Fibrils {
         ensures spare { self.old.spare ≤ self.new.spare + 1 }
     {
         let number = FibrilNo(self.fibrils.len() as u64 + 1);
-        self.fibrils.push_reserved(Fibril {
+        let fibril = Fibril {
             number,
             status: Status::Ready,
             stamp: self.next_stamp,
-        });
+        };
+        self.fibrils.push_reserved(fibril);
+        self.live.push_reserved(fibril);
         self.next_stamp += 1;
         number
     }
@@ -119,14 +136,18 @@ impl Fibrils {
         }
     }
 
+    /// Those that have not ended, by rising number. Takes no memory.
+    pub fn live(&self) -> &[Fibril]
+        ensures { AreLive result.now self.now.order.fibrils }
+    {
+        self.live.as_slice()
+    }
+
     /// The fibril that has been ready longest. Takes no memory.
     pub fn current(&self) -> Option<FibrilNo>
         ensures { result ≡ current self.now.order }
     {
-        match first_with(&self.fibrils, Status::Ready) {
-            Some(fibril) => Some(fibril.number),
-            None => None,
-        }
+        self.first(Status::Ready)
     }
 
     /// What the fibril is blocked on, if it is. Takes no memory.
@@ -149,7 +170,7 @@ impl Fibrils {
         ensures order { self.new.order ≡ block_on self.old.order why }
         ensures spare { self.new.spare ≡ self.old.spare }
     {
-        if let Some(f) = self.current() {
+        if let Some(f) = self.first(Status::Ready) {
             self.stamp(f, Status::Blocked(why));
         }
     }
@@ -161,21 +182,23 @@ impl Fibrils {
         ensures order { self.new.order ≡ yield_now self.old.order }
         ensures spare { self.new.spare ≡ self.old.spare }
     {
-        if let Some(f) = self.current() {
+        if let Some(f) = self.first(Status::Ready) {
             self.stamp(f, Status::Ready);
         }
     }
 
     /// The present fibril ends. It keeps its stamp.
+    #[tactic(auto, using(crate::proofs::Live::first_live))]
     pub fn end_current(&mut self)
         requires current { IsSome (current self.old.order) }
         ensures order { self.new.order ≡ end_current self.old.order }
-        ensures spare { self.new.spare ≡ self.old.spare }
+        ensures spare { self.old.spare ≤ self.new.spare }
     {
-        if let Some(fibril) = first_with(&self.fibrils, Status::Ready) {
+        if let Some(fibril) = first_with(&self.live, Status::Ready) {
             let mut over = *fibril;
             over.status = Status::Ended;
-            self.put(over);
+            forget(&mut self.live, over.number);
+            put(&mut self.fibrils, over);
         }
     }
 
@@ -196,7 +219,7 @@ impl Fibrils {
         ensures order { self.new.order ≡ wake_first self.old.order (Why.Answer call) }
         ensures spare { self.new.spare ≡ self.old.spare }
     {
-        let first = self.first_blocked(Why::Answer(call));
+        let first = self.first(Status::Blocked(Why::Answer(call)));
         if let Some(f) = first {
             self.stamp(f, Status::Ready);
         }
@@ -228,47 +251,79 @@ impl Fibrils {
         ensures spare { self.new.spare ≡ self.old.spare }
     {
         for _ in 0..self.fibrils.len() {
-            match self.first_blocked(why) {
+            match self.first(Status::Blocked(why)) {
                 Some(f) => self.stamp(f, Status::Ready),
                 None => break,
             }
         }
     }
 
-    fn first_blocked(&self, why: Why) -> Option<FibrilNo>
-        ensures { result ≡ first_blocked self.now.order why }
+    /// The fibril that has had this status longest.
+    #[tactic(auto, using(crate::proofs::Live::first_live))]
+    fn first(&self, status: Status) -> Option<FibrilNo>
+        requires status { goes_on status ≡ true }
+        ensures number { result ≡ number_of (first_with status self.now.order.fibrils) }
+        ensures goes_on { IfSome result (λ f. GoesOn (fibril_at self.now.order f.0)) }
     {
-        match first_with(&self.fibrils, Status::Blocked(why)) {
+        match first_with(&self.live, status) {
             Some(fibril) => Some(fibril.number),
             None => None,
         }
     }
 
-    /// The fibril has this status from now on.
+    /// The fibril, which has not ended, has this status from now on.
     fn stamp(&mut self, f: FibrilNo, status: Status)
         requires few_stamps { self.old.order.next_stamp < 2 ^ 63 }
+        requires goes_on { GoesOn (fibril_at self.old.order f.0) }
+        requires status { goes_on status ≡ true }
         ensures order { self.new.order ≡ with_status self.old.order f status }
         ensures spare { self.new.spare ≡ self.old.spare }
     {
         let stamp = self.next_stamp;
-        self.put(Fibril {
+        let fibril = Fibril {
             number: f,
             status,
             stamp,
-        });
+        };
+        replace(&mut self.live, fibril);
+        put(&mut self.fibrils, fibril);
         self.next_stamp = stamp + 1;
     }
+}
 
-    /// The record stands under its number, where there is a fibril of this number.
-    fn put(&mut self, fibril: Fibril)
-        ensures order { self.new.order ≡ put_fibril self.old.order fibril }
-        ensures spare { self.new.spare ≡ self.old.spare }
-    {
-        let i = (fibril.number.0 as usize).saturating_sub(1);
-        if i < self.fibrils.len() {
-            self.fibrils[i] = fibril;
-        }
+/// The record stands under its number, where there is a fibril of this number.
+fn put(fibrils: &mut [Fibril], fibril: Fibril)
+    ensures { fibrils.new ≡ put_in fibrils.old fibril }
+{
+    let i = (fibril.number.0 as usize).saturating_sub(1);
+    if i < fibrils.len() {
+        fibrils[i] = fibril;
     }
+}
+
+/// The record stands in the place of the one with its number.
+fn replace(fibrils: &mut [Fibril], fibril: Fibril)
+    ensures { fibrils.new ≡ map (replaced fibril) fibrils.old }
+{
+    for x in fibrils.iter_mut() {
+        *x = replaced(*x, fibril);
+    }
+}
+
+/// The record with this number is gone.
+fn forget(fibrils: &mut Vec<Fibril>, f: FibrilNo)
+    ensures items { fibrils.new.items ≡ filter (is_other f) fibrils.old.items }
+    ensures fewer { vec_len fibrils.new ≤ vec_len fibrils.old }
+    ensures capacity { vec_capacity fibrils.new ≡ vec_capacity fibrils.old }
+{
+    fibrils.retain(|x| x.number.0 != f.0);
+}
+
+/// The one record, or the other where both have one number.
+fn replaced(x: Fibril, fibril: Fibril) -> Fibril
+    ensures { result ≡ replaced fibril x }
+{
+    if x.number == fibril.number { fibril } else { x }
 }
 
 /// What this status is blocked on.
