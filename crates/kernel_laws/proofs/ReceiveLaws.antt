@@ -65,7 +65,7 @@ note_drops_none t k (Some l) s = (tt, tt)
 -- how a call is told
 
 -- each user's method is of one kind
-user_kind : (method : ℕ) → first_user_method ≤ method → kind_of method ≡ User
+pub user_kind : (method : ℕ) → first_user_method ≤ method → kind_of method ≡ User
 user_kind method user = rw (ne_eqb method 0 (λ e. omega arith), ne_eqb method 1 (λ e. omega arith), ne_eqb method 2 (λ e. omega arith), ne_eqb method 3 (λ e. omega arith), ne_eqb method 4 (λ e. omega arith), ne_eqb method 5 (λ e. omega arith), ne_eqb method 6 (λ e. omega arith), not_below) refl where
   not_below : nat_lt method first_user_method ≡ false
   not_below = grind (arith, nat_tests)
@@ -109,7 +109,7 @@ delivered_reply k c t user =
 
 -- places and tests
 
-at_answers : (t : TaskNo) (place : Place) → same_place place (Answers t) ≡ true → place ≡ Answers t
+pub at_answers : (t : TaskNo) (place : Place) → same_place place (Answers t) ≡ true → place ≡ Answers t
 at_answers t (Incoming u) h = absurd (false≢true h)
 at_answers t (Dispatched u) h = absurd (false≢true h)
 at_answers t (Answers u) h = ap (λ n. let r : TaskNo = record { 0 = n } in Answers r) (eqb-true u.0 t.0 h)
