@@ -12,6 +12,7 @@ mod sink;
 mod stream;
 #[cfg(test)]
 mod tests;
+mod words;
 
 pub use file_shelf::FileShelf;
 pub use mem_shelf::MemShelf;
@@ -20,3 +21,4 @@ pub use out_sink::OutSink;
 pub use shelf::{LoadFault, Shelf};
 pub use sink::{PutFailed, Sink};
 pub use stream::{read_most, write_whole};
+pub use words::words_behind_name;

@@ -1,10 +1,13 @@
 //! The calls that want memory where there is enough of it, and reads and writes that are cut short.
-use crate::{FileShelf, LoadFault, MemShelf, MemSink, OutSink, Shelf, Sink, read_most};
+use crate::{
+    FileShelf, LoadFault, MemShelf, MemSink, OutSink, Shelf, Sink, read_most, words_behind_name,
+};
 use ipc_ids::NoMemory;
 use std::alloc::Global;
+use std::env::FillError;
 use std::io;
 use std::io::{ErrorKind, Read, Write};
-use std::rt::Files;
+use std::rt::{Env, Files};
 
 /// A name, how many bytes are asked for at most, and the bytes that come; none where the load
 /// fails.
@@ -89,9 +92,10 @@ fn a_sink_in_memory_keeps_what_fits(rt: HostRuntime) {
 
 const TEXT: &[u8] = b"seven b";
 
-// Gives TEXT in pieces of 2 bytes; each second call is interrupted.
+// Gives TEXT in pieces of so many bytes; each second call is interrupted.
 #[derive(Drop)]
 struct SlowReader {
+    piece: usize,
     given: usize,
     calls: u32,
     // the call that fails, if it comes
@@ -108,30 +112,31 @@ impl Read for SlowReader {
             return Err(io::Error::from(ErrorKind::Interrupted));
         }
         let left = &TEXT[self.given.min(TEXT.len())..];
-        let count = left.len().min(into.len()).min(2);
+        let count = left.len().min(into.len()).min(self.piece);
         into[..count].copy_from_slice(&left[..count]);
         self.given = self.given.saturating_add(count);
         Ok(count)
     }
 }
 
-fn slow_reader(broken: u32) -> SlowReader {
+fn slow_reader(piece: usize, broken: u32) -> SlowReader {
     SlowReader {
+        piece,
         given: 0,
         calls: 0,
         broken,
     }
 }
 
-fn reads(alloc: Global, most: usize, wanted: &[u8]) -> bool {
-    match read_most(alloc, slow_reader(0), most) {
+fn reads(alloc: Global, piece: usize, most: usize, wanted: &[u8]) -> bool {
+    match read_most(alloc, slow_reader(piece, 0), most) {
         Ok(bytes) => bytes.as_slice() == wanted,
         Err(_) => false,
     }
 }
 
 fn tells_the_fault(alloc: Global) -> bool {
-    match read_most(alloc, slow_reader(3), 100) {
+    match read_most(alloc, slow_reader(2, 3), 100) {
         Ok(_) => false,
         Err(e) => e.kind() == ErrorKind::TimedOut,
     }
@@ -140,17 +145,19 @@ fn tells_the_fault(alloc: Global) -> bool {
 #[test]
 fn an_interrupted_read_is_tried_again(rt: HostRuntime) {
     let alloc = rt.alloc();
-    assert!(rt; reads(alloc, 100, TEXT));
-    assert!(rt; reads(alloc, 7, TEXT));
-    assert!(rt; reads(alloc, 3, b"sev"));
-    assert!(rt; reads(alloc, 0, b""));
+    assert!(rt; reads(alloc, 2, 100, TEXT));
+    assert!(rt; reads(alloc, 1, 100, TEXT));
+    assert!(rt; reads(alloc, 2, 7, TEXT));
+    assert!(rt; reads(alloc, 2, 3, b"sev"));
+    assert!(rt; reads(alloc, 2, 0, b""));
     assert!(rt; tells_the_fault(alloc));
 }
 
-// Takes pieces of 2 bytes; each second call is interrupted. With no room left it takes 0 bytes.
+// Takes pieces of so many bytes; each second call is interrupted. With no room left it takes 0 bytes.
 #[derive(Drop)]
 struct SlowWriter {
     bytes: Vec<u8>,
+    piece: usize,
     room: usize,
     calls: u32,
 }
@@ -162,7 +169,7 @@ impl Write for SlowWriter {
             return Err(io::Error::from(ErrorKind::Interrupted));
         }
         let left = self.room.saturating_sub(self.bytes.len());
-        let count = piece.len().min(left).min(2);
+        let count = piece.len().min(left).min(self.piece);
         self.bytes.extend_from_slice(&piece[..count])?;
         Ok(count)
     }
@@ -172,9 +179,10 @@ impl Write for SlowWriter {
     }
 }
 
-fn writer_takes(alloc: Global, puts: &[Put], written: &[u8]) -> bool {
+fn writer_takes(alloc: Global, piece: usize, puts: &[Put], written: &[u8]) -> bool {
     let mut writer = SlowWriter {
         bytes: Vec::new(alloc),
+        piece,
         room: 7,
         calls: 0,
     };
@@ -185,7 +193,8 @@ fn writer_takes(alloc: Global, puts: &[Put], written: &[u8]) -> bool {
 #[test]
 fn a_short_write_goes_on(rt: HostRuntime) {
     let puts: [Put; 4] = [(b"abcde", true), (b"", true), (b"fghi", false), (b"", true)];
-    assert!(rt; writer_takes(rt.alloc(), &puts, b"abcdefg"));
+    assert!(rt; writer_takes(rt.alloc(), 2, &puts, b"abcdefg"));
+    assert!(rt; writer_takes(rt.alloc(), 1, &puts, b"abcdefg"));
 }
 
 fn files_give<R: Files + Drop>(rt: R, alloc: Global, loads: &[Load]) -> bool {
@@ -202,4 +211,57 @@ fn a_real_file_is_loaded_or_fails(rt: HostRuntime) {
         ("/", 5000, None),
     ];
     assert!(rt; files_give(&rt, rt.alloc(), &loads));
+}
+
+/// A program that is called with these words, the first of which is its name.
+#[derive(Drop)]
+struct Called<'a> {
+    words: &'a [&'a [u8]],
+}
+
+impl<'a> Env for Called<'a> {
+    fn arg(&self, i: usize, buf: &mut [u8]) -> Result<usize, FillError> {
+        match self.words.get(i) {
+            Some(word) if word.len() <= buf.len() => {
+                buf[..word.len()].copy_from_slice(word);
+                Ok(word.len())
+            }
+            Some(_) => Err(FillError::TooLong),
+            None => Err(FillError::NotPresent),
+        }
+    }
+
+    fn var(&self, _name: &str, _buf: &mut [u8]) -> Result<usize, FillError> {
+        Err(FillError::NotPresent)
+    }
+
+    fn var_at(&self, _i: usize, _buf: &mut [u8]) -> Result<usize, FillError> {
+        Err(FillError::NotPresent)
+    }
+}
+
+fn called_with(alloc: Global, words: &[&[u8]], wanted: &[&str]) -> bool {
+    match words_behind_name(Called { words }, alloc) {
+        Ok(words) => words.len() == wanted.len() && are_all(&words, wanted),
+        Err(NoMemory) => false,
+    }
+}
+
+fn are_all(words: &[String], wanted: &[&str]) -> bool {
+    for (word, text) in words.iter().zip(wanted) {
+        if word.as_str() != *text {
+            return false;
+        }
+    }
+    true
+}
+
+#[test]
+fn a_name_may_be_no_text(rt: HostRuntime) {
+    let alloc = rt.alloc();
+    assert!(rt; called_with(alloc, &[b"hipc", b"gen", b"1", b"23"], &["gen", "1", "23"]));
+    assert!(rt; called_with(alloc, &[b"\xff", b"gen", b"", b"2"], &["gen", "", "2"]));
+    assert!(rt; called_with(alloc, &[b"hipc", b"gen", b"\xff", b"2"], &[]));
+    assert!(rt; called_with(alloc, &[b"hipc"], &[]));
+    assert!(rt; called_with(alloc, &[], &[]));
 }

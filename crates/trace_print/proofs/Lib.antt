@@ -2,3 +2,5 @@ pub mod Counts
 pub mod Digits
 pub mod Lasts
 pub mod Marks
+pub mod Pairs
+mod TextExamples

@@ -10,7 +10,30 @@ pub struct Count {
     pub length: u64,
 }
 
+#[tactic(auto, using(crate::proofs::Digits::length_one, crate::proofs::Digits::length_two, crate::proofs::Digits::length_three, crate::proofs::Digits::length_four, crate::proofs::Digits::length_five))]
+#[inline]
 fn number_length(number: u64) -> u64
+    ensures length { result ≡ length (decimal number) }
+    ensures most { result ≤ 20 }
+{
+    if number < 10 {
+        1
+    } else if number < 100 {
+        2
+    } else if number < 1_000 {
+        3
+    } else if number < 10_000 {
+        4
+    } else if number < 100_000 {
+        5
+    } else {
+        long_length(number)
+    }
+}
+
+/// How many digits a number has, counted one by one.
+#[inline(never)]
+fn long_length(number: u64) -> u64
     ensures length { result ≡ length (decimal number) }
     ensures most { result ≤ 20 }
 {

@@ -12,7 +12,5 @@ mod line;
 mod number;
 mod part;
 mod pen;
-#[cfg(test)]
-mod tests;
 
 pub use line::{entry_is, entry_length, entry_text};

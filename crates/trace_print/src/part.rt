@@ -1,5 +1,5 @@
 //! The parts that the lines of entries share.
-ghost use Rattle.std.specs.Prelude.{◌≡◌, ◌+◌, ◌≤◌, ◌++◌, length, decimal, map};
+ghost use Rattle.std.specs.Prelude.{◌≡◌, ◌+◌, ◌≤◌, ◌++◌, IsTrue, length, decimal, map, slice_index};
 ghost use Rattle.trace_print.specs.Text.{task_text, label_text, code_text, spaced_text, args_text, msg_text, reply_text};
 
 use crate::pen::Pen;
@@ -75,6 +75,15 @@ pub fn push_spaced<P: Pen>(pen: &mut P, number: u64)
     pen.number(number);
 }
 
+/// Whether all arguments but the first are 0, as in most messages and replies.
+#[inline(always)]
+fn ends_in_zeros(args: &[u64; 5]) -> bool
+    ensures { IsTrue result → (slice_index args.now 1 ≡ 0) × (slice_index args.now 2 ≡ 0)
+        × (slice_index args.now 3 ≡ 0) × (slice_index args.now 4 ≡ 0) }
+{
+    args[1] == 0 && args[2] == 0 && args[3] == 0 && args[4] == 0
+}
+
 #[tactic(auto, using(crate::proofs::Marks::map_append))]
 fn push_args<P: Pen>(pen: &mut P, args: &[u64; 5])
     requires room { P.count pen.old + 105 ≤ P.capacity pen.old }
@@ -83,6 +92,10 @@ fn push_args<P: Pen>(pen: &mut P, args: &[u64; 5])
     ensures capacity { P.capacity pen.old ≤ P.capacity pen.new }
 {
     push_spaced(pen, args[0]);
+    if ends_in_zeros(args) {
+        pen.word(b" 0 0 0 0");
+        return;
+    }
     push_spaced(pen, args[1]);
     push_spaced(pen, args[2]);
     push_spaced(pen, args[3]);

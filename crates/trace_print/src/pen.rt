@@ -58,10 +58,12 @@ impl Pen for Vec<u8> {
 
     ghost mark = { λ byte. byte };
 
+    #[inline(always)]
     fn byte(&mut self, byte: u8) {
         self.push_reserved(byte);
     }
 
+    #[inline(always)]
     fn word(&mut self, word: &[u8]) {
         self.extend_from_slice(word).unwrap();
     }

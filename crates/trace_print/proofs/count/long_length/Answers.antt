@@ -1,6 +1,6 @@
 use Rattle.std.proofs.Common.{arith}
 use Rattle.trace_print.proofs.Digits.{length_20, length_step, length_one}
-use Rattle.trace_print.proofs.count.number_length.Goals as goal
+use Rattle.trace_print.proofs.count.long_length.Goals as goal
 
 pub overflow_add-length : goal.overflow_add-length
 overflow_add-length c =

@@ -1,5 +1,5 @@
 use Rattle.std.proofs.Common.{◌≡◌, ◌+◌, length, decimal}
-use Rattle.trace_print.proofs.count.number_length.Given as goal
+use Rattle.trace_print.proofs.count.long_length.Given as goal
 
 -- the digits that are counted and those of what is left, which has one at least
 abbrev pub invariant-loop-left : goal.invariant-loop-left
