@@ -7,3 +7,4 @@ pub mod AreaState
 pub mod Held
 pub mod Allowed
 pub mod Verdict
+pub mod Judging

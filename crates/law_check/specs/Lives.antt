@@ -75,11 +75,6 @@ pub record Knows (p : List Tale) (s : Lives) : Type 0 where
   pub back : back_of p ≡ (if s.back then Some (last_number p) else None)
   pub first : is_nothing (event_of s.event) ≡ is_first p
 
--- the entry was taken, or it was not allowed
-abbrev pub Takes : List Tale → Tale → Lives → Bool → Type 0
-Takes p e s true = Follows p e × IsAllowed p e × Knows (e ∷ p) s
-Takes p e s false = Follows p e → IsAllowed p e → ⊥
-
 -- call n is one of those that are kept
 abbrev pub IsLive : {X : Type 0} → ℕ → List X → Type 0
 IsLive n calls = (0 < n) × (n ≤ length calls)

@@ -1,40 +1,50 @@
--- How far a pass over entries has come.
-use Rattle.std.specs.Prelude.{ℕ, ◌≡◌, ◌↔◌, ◌≤◌, Option, List, drop}
+-- How far entries have come that are taken one by one.
+use Rattle.std.specs.Prelude.{ℕ, ◌↔◌, Bool, true, false, List, [], ◌∷◌}
 use Rattle.ipc_ids.specs.declared.entry.Entry.{Entry}
-use Rattle.ipc_ids.specs.Tales.{Tale, tales}
+use Rattle.ipc_ids.specs.Tales.{tales}
 use Rattle.ipc_ids.specs.Laws.{AllAllowed, LivesAreLawful, KillEndsHeldCalls}
-use Rattle.law_check.specs.declared.lives.Lives.{Lives}
+use Rattle.ipc_ids.specs.AreaLaw.{AreasAreLawful}
 use Rattle.law_check.specs.declared.kills.Kills.{Kills}
+use Rattle.law_check.specs.declared.areas.Areas.{Areas}
 use Rattle.law_check.specs.Lives.{Knows}
 use Rattle.law_check.specs.Kills.{KillsFoundLate}
 use Rattle.law_check.specs.KillState.{KnowsKills}
-use Rattle.ipc_ids.specs.Holdings.{present}
-use Rattle.ipc_ids.specs.AreaLaw.{AreasAreLawful}
-use Rattle.law_check.specs.declared.areas.Areas.{Areas}
-use Rattle.law_check.specs.Allowed.{WasAllowed}
 use Rattle.law_check.specs.AreaSteps.{AreasFrom}
-use Rattle.law_check.specs.AreaState.{KnowsAreas, newest}
+use Rattle.law_check.specs.AreaState.{KnowsAreas}
 
--- the first entries, so many, were taken, and it is left to the others whether all are lawful
-pub record Passes (h : List Entry) (i : ℕ) (s : Lives) : Type 0 where
-  pub past : List Tale
-  pub knows : Knows past s
-  pub left : AllAllowed past (tales (drop i h)) ↔ LivesAreLawful h
+-- the entries of a past, which has the newest first, in their order, and then these
+abbrev pub in_order : List Entry → List Entry → List Entry
+in_order [] es = es
+in_order (e ∷ p) es = in_order p (e ∷ es)
 
--- likewise of the law of a kill
-pub record PassesKills (h : List Entry) (i : ℕ) (s : Kills) : Type 0 where
-  pub past : List Tale
-  pub knows : KnowsKills past s
-  pub allowed : AllAllowed past (tales (drop i h))
-  pub left : KillsFoundLate past (tales (drop i h)) ↔ KillEndsHeldCalls h
-  pub few : s.events ≤ i
+-- what comes says whether all calls live lawfully
+abbrev pub LivesLeft : List Entry → Type 0
+LivesLeft p = (es : List Entry) → AllAllowed (tales p) (tales es) ↔ LivesAreLawful (in_order p es)
 
--- likewise of the law of shared areas, with the head of the present event and the last entry
-pub record PassesAreas (h : List Entry) (i : ℕ) (s : Areas) (now last : Option Entry) : Type 0 where
-  pub before : List Entry
-  pub knows : KnowsAreas before s
-  pub now_is : now ≡ present before
-  pub last_is : last ≡ newest before
-  pub was : WasAllowed (tales before)
-  pub allowed : AllAllowed (tales before) (tales (drop i h))
-  pub left : AreasFrom before (drop i h) ↔ AreasAreLawful h
+-- what comes says whether the law of a kill holds, where calls live lawfully
+abbrev pub KillsLeft : List Entry → Type 0
+KillsLeft p = (es : List Entry) → LivesAreLawful (in_order p es)
+    → KillsFoundLate (tales p) (tales es) ↔ KillEndsHeldCalls (in_order p es)
+
+-- whatever comes, the law of a kill is broken, where calls live lawfully
+abbrev pub NoKillsLeft : List Entry → Type 0
+NoKillsLeft p = (es : List Entry) → LivesAreLawful (in_order p es) → KillEndsHeldCalls (in_order p es) → ⊥
+
+-- what comes says whether the law of shared areas holds, where calls live lawfully
+abbrev pub AreasLeft : List Entry → Type 0
+AreasLeft p = (es : List Entry) → LivesAreLawful (in_order p es)
+    → AreasFrom p es ↔ AreasAreLawful (in_order p es)
+
+-- whatever comes, the law of shared areas is broken, where calls live lawfully
+abbrev pub NoAreasLeft : List Entry → Type 0
+NoAreasLeft p = (es : List Entry) → LivesAreLawful (in_order p es) → AreasAreLawful (in_order p es) → ⊥
+
+-- after a past the law of a kill may still hold, or not
+abbrev pub KillsStand : List Entry → Bool → Kills → Type 0
+KillsStand p true s = KnowsKills (tales p) s × KillsLeft p
+KillsStand p false s = Knows (tales p) s.lives × NoKillsLeft p
+
+-- likewise the law of shared areas
+abbrev pub AreasStand : List Entry → Bool → Areas → Type 0
+AreasStand p true s = KnowsAreas p s × AreasLeft p
+AreasStand p false s = NoAreasLeft p

@@ -1,7 +1,7 @@
-//! The law of shared areas, over a list of entries whose calls live lawfully.
+//! The law of shared areas, as entries come whose calls live lawfully.
 ghost use Rattle.std.specs.Prelude.{◌≡◌, ◌↔◌, ◌<◌, ◌≤◌, ◌+◌, ◌-◌, ℕ, length, List, [], ◌∷◌, Option, Some, None, IfOk, OnOk, IsTrue, ◌⊎◌, ◌++◌, ◌==◌, ◌&&◌, max, if◌then◌else◌, true};
 ghost use Rattle.ipc_ids.specs.Tales.{tale, tales};
-ghost use Rattle.ipc_ids.specs.Laws.{LivesAreLawful, IsAllowed};
+ghost use Rattle.ipc_ids.specs.Laws.{IsAllowed, LivesAreLawful};
 ghost use Rattle.ipc_ids.specs.Holdings.{present, making, held};
 ghost use Rattle.ipc_ids.specs.AreaLaw.{AreasAreLawful, IsMade, IsShared, Pokes, AcceptsWrite, SharesFrom, SharesMade};
 ghost use Rattle.ipc_ids.specs.Methods.{data_read};
@@ -11,6 +11,7 @@ ghost use Rattle.law_check.specs.Allowed.{WasAllowed};
 ghost use Rattle.law_check.specs.AreaSteps.{wants, wants_in, IsServed, Receives, MayCome};
 ghost use Rattle.law_check.specs.AreaState.{KnowsAreas, holding, entry_of, newest, made_in, has_method, read_after, is_head_entry};
 ghost use Rattle.law_check.specs.Held.{area_at, AreByStore};
+ghost use Rattle.law_check.specs.Passing.{AreasStand, in_order};
 
 use crate::held::{Area, Held};
 use ipc_ids::{Code, Entry, NoMemory, Request, TaskNo, methods};
@@ -37,7 +38,8 @@ pub struct Areas {
     read: Option<u64>,
 }
 
-fn is_head(entry: &Entry) -> bool
+/// The entry is the head of an event.
+pub fn is_head(entry: &Entry) -> bool
     ensures { result ≡ is_head_entry entry.now }
 {
     matches!(
@@ -47,7 +49,7 @@ fn is_head(entry: &Entry) -> bool
 }
 
 impl Areas {
-    fn new(alloc: Global) -> Areas
+    pub fn new(alloc: Global) -> Areas
         ensures { KnowsAreas [] result }
     {
         Areas {
@@ -377,25 +379,36 @@ impl Areas {
         }
         Ok(())
     }
-}
 
-/// The entries, whose calls live lawfully, satisfy the law of shared areas.
-pub fn areas_are_lawful(alloc: Global, entries: &[Entry]) -> Result<bool, NoMemory>
-    requires { LivesAreLawful entries.now }
-    ensures { IfOk result (λ yes. IsTrue yes ↔ AreasAreLawful entries.now) }
-{
-    let mut areas = Areas::new(alloc);
-    let mut now = None;
-    let mut last = None;
-    for entry in entries {
-        if !areas.may_come(now, last, entry) {
+    /// Takes a lawful entry, in the event with this head, after this last entry, and tells whether
+    /// the law still holds, as it did before or not.
+    pub fn go_on(
+        &mut self,
+        holds: bool,
+        now: Option<&Entry>,
+        last: Option<&Entry>,
+        entry: &Entry,
+    ) -> Result<bool, NoMemory>
+        ensures { (p : List Entry) → AreasStand p holds self.old → entry_of now.entry ≡ present p
+            → entry_of last.entry ≡ newest p → WasAllowed (tales p)
+            → IsAllowed (tales p) (tale entry.now)
+            → IfOk result (λ yes. AreasStand (entry.now ∷ p) yes self.new) }
+    {
+        if !holds {
             return Ok(false);
         }
-        areas.take(now, entry)?;
-        if is_head(entry) {
-            now = Some(entry);
+        if !self.may_come(now, last, entry) {
+            return Ok(false);
         }
-        last = Some(entry);
+        self.take(now, entry)?;
+        Ok(true)
     }
-    Ok(areas.is_served())
+
+    /// The entries that were taken satisfy the law of shared areas, which held so far or not.
+    pub fn hold(&self, holds: bool) -> bool
+        ensures { (p : List Entry) → AreasStand p holds self.now → LivesAreLawful (in_order p [])
+            → (IsTrue result ↔ AreasAreLawful (in_order p [])) }
+    {
+        holds && self.is_served()
+    }
 }

@@ -1,9 +1,11 @@
-//! The law of a kill, over a list of entries whose calls live lawfully.
+//! The law of a kill, as entries come whose calls live lawfully.
 ghost use Rattle.std.specs.Prelude.{◌≡◌, ◌↔◌, ◌<◌, ◌≤◌, ◌+◌, ◌-◌, ◌^◌, ℕ, List, [], ◌∷◌, Some, IfOk, OnOk, IsTrue, false};
-ghost use Rattle.ipc_ids.specs.Tales.{Tale, tale};
-ghost use Rattle.ipc_ids.specs.Laws.{LivesAreLawful, KillEndsHeldCalls, IsAllowed};
+ghost use Rattle.ipc_ids.specs.Tales.{Tale, tale, tales};
+ghost use Rattle.ipc_ids.specs.Laws.{IsAllowed, LivesAreLawful, KillEndsHeldCalls};
+ghost use Rattle.ipc_ids.specs.declared.entry.Entry.{Entry};
 ghost use Rattle.ipc_ids.specs.Lawful.{Follows};
-ghost use Rattle.law_check.specs.Lives.{life_at};
+ghost use Rattle.law_check.specs.Lives.{Knows, life_at};
+ghost use Rattle.law_check.specs.Passing.{KillsStand, in_order};
 ghost use Rattle.law_check.specs.KillState.{KnowsKills, TakesKill, kill_at, kill_by_end, number_at, is_late, is_dead, kind, since_put};
 
 use crate::lives::{KnownCall, Lives, Place, PresentEvent};
@@ -15,7 +17,7 @@ use std::collections::BTreeMap;
 /// how many events there were; and the last earlier event that killed a task.
 #[derive(Drop)]
 pub struct Kills {
-    lives: Lives,
+    pub lives: Lives,
     since: Vec<u64>,
     events: u64,
     killed: BTreeMap<u64, u64>,
@@ -49,7 +51,7 @@ fn kind_of(entry: &Entry) -> Kind
 }
 
 impl Kills {
-    fn new(alloc: Global) -> Kills
+    pub fn new(alloc: Global) -> Kills
         ensures knows { KnowsKills [] result }
         ensures events { result.events ≡ 0 }
     {
@@ -187,6 +189,8 @@ impl Kills {
             → OnOk result (KnowsKills (tale entry.now ∷ p) self.new) }
         ensures killed { self.new.killed ≡ self.old.killed }
         ensures events { self.new.events ≡ self.old.events }
+        ensures lives { (p : List Tale) → Knows p self.old.lives → Follows p (tale entry.now)
+            → IsAllowed p (tale entry.now) → OnOk result (Knows (tale entry.now ∷ p) self.new.lives) }
     {
         self.come(call, entry)?;
         self.lives.note(entry)?;
@@ -200,6 +204,8 @@ impl Kills {
             → IsAllowed p (tale entry.now) → kind (tale entry.now) ≡ Kind.Head
             → OnOk result (KnowsKills (tale entry.now ∷ p) self.new) }
         ensures events { self.new.events ≤ self.old.events + 1 }
+        ensures lives { (p : List Tale) → Knows p self.old.lives → Follows p (tale entry.now)
+            → IsAllowed p (tale entry.now) → OnOk result (Knows (tale entry.now ∷ p) self.new.lives) }
     {
         self.end()?;
         self.events += 1;
@@ -213,6 +219,8 @@ impl Kills {
             → IsAllowed p (tale entry.now) → kind (tale entry.now) ≡ Kind.Other
             → OnOk result (KnowsKills (tale entry.now ∷ p) self.new) }
         ensures events { self.new.events ≡ self.old.events }
+        ensures lives { (p : List Tale) → Knows p self.old.lives → Follows p (tale entry.now)
+            → IsAllowed p (tale entry.now) → OnOk result (Knows (tale entry.now ∷ p) self.new.lives) }
     {
         self.lives.note(entry)?;
         Ok(())
@@ -225,6 +233,8 @@ impl Kills {
             → IsAllowed p (tale entry.now)
             → IfOk result (λ yes. TakesKill p (tale entry.now) self.new yes) }
         ensures events { self.new.events ≤ self.old.events + 1 }
+        ensures lives { (p : List Tale) → Knows p self.old.lives → Follows p (tale entry.now)
+            → IsAllowed p (tale entry.now) → OnOk result (Knows (tale entry.now ∷ p) self.new.lives) }
     {
         match kind_of(entry) {
             Kind::Head => {
@@ -232,10 +242,11 @@ impl Kills {
                 Ok(true)
             }
             Kind::On(call) => {
-                if self.is_late(call) {
+                let late = self.is_late(call);
+                self.note(call, entry)?;
+                if late {
                     return Ok(false);
                 }
-                self.note(call, entry)?;
                 Ok(!self.is_dead(call))
             }
             Kind::Other => {
@@ -244,19 +255,33 @@ impl Kills {
             }
         }
     }
-}
 
-/// The entries, whose calls live lawfully, satisfy the law of a kill.
-pub fn kills_are_lawful(alloc: Global, entries: &[Entry]) -> Result<bool, NoMemory>
-    requires { LivesAreLawful entries.now }
-    ensures { IfOk result (λ yes. IsTrue yes ↔ KillEndsHeldCalls entries.now) }
-{
-    let mut kills = Kills::new(alloc);
-    for entry in entries {
-        if !kills.take(entry)? {
+    /// Takes a lawful entry, and tells whether the law still holds, as it did before or not.
+    pub fn go_on(&mut self, holds: bool, entry: &Entry) -> Result<bool, NoMemory>
+        requires { self.old.events < 2 ^ 63 }
+        ensures stand { (p : List Entry) → KillsStand p holds self.old
+            → Follows (tales p) (tale entry.now) → IsAllowed (tales p) (tale entry.now)
+            → IfOk result (λ yes. KillsStand (entry.now ∷ p) yes self.new) }
+        ensures events { self.new.events ≤ self.old.events + 1 }
+    {
+        if holds {
+            return self.take(entry);
+        }
+        self.lives.note(entry)?;
+        Ok(false)
+    }
+
+    /// The entries that were taken satisfy the law of a kill, which held so far or not.
+    pub fn hold(&mut self, holds: bool) -> Result<bool, NoMemory>
+        ensures lawful { (p : List Entry) → KillsStand p holds self.old
+            → LivesAreLawful (in_order p [])
+            → IfOk result (λ yes. IsTrue yes ↔ KillEndsHeldCalls (in_order p [])) }
+        ensures lives { self.new.lives ≡ self.old.lives }
+    {
+        if !holds {
             return Ok(false);
         }
+        self.end()?;
+        Ok(self.none_is_late())
     }
-    kills.end()?;
-    Ok(kills.none_is_late())
 }

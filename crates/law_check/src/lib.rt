@@ -1,5 +1,6 @@
-//! Tells whether a list of entries satisfies the laws of calls and of shared areas. Each law is
-//! tested in one pass, in a time that is linear in the list up to a logarithm. A write passes over
+//! Tells whether a list of entries satisfies the laws of calls and of shared areas. All laws are
+//! tested in one pass, which keeps no entry, in a time that is linear in the list up to a logarithm.
+//! A write passes over
 //! those areas of its task, over its store, that begin between the area around it and the address:
 //! where no areas of a task over one store overlap, that is at most one.
 #![tactic(auto)]
@@ -10,7 +11,5 @@ mod kills;
 mod lives;
 mod verdict;
 
-pub use areas::areas_are_lawful;
-pub use kills::kills_are_lawful;
-pub use lives::lives_are_lawful;
-pub use verdict::{Verdict, check_laws};
+pub use areas::is_head;
+pub use verdict::{Laws, Verdict, check_laws};

@@ -1,12 +1,12 @@
-//! The law of a call's life, over a list of entries from the first to the last.
-ghost use Rattle.std.specs.Prelude.{◌≡◌, ◌↔◌, ℕ, suc, List, [], ◌∷◌, Some, IfOk, OnOk, IsSome, IsTrue};
+//! The law of a call's life, as entries come.
+ghost use Rattle.std.specs.Prelude.{◌≡◌, ◌↔◌, ℕ, suc, length, List, [], ◌∷◌, Some, OnOk, IsSome, IsTrue};
 ghost use Rattle.std.specs.Ordering.{nat_cmp};
 ghost use Rattle.std.specs.BTreeSet.{contains};
 ghost use Rattle.ipc_ids.specs.Tales.{Event, Step, Tale, Head, On, Note, Way, Accepted, Received, Forwarded, Answered, Vanished, Forgotten, Delivered, Dropped, Kernel, Task, ask, author, way, tale};
 ghost use Rattle.ipc_ids.specs.Life.{Allowed, IsOf, event, after, life, last_number, task_of};
-ghost use Rattle.ipc_ids.specs.Laws.{LivesAreLawful, IsAllowed};
-ghost use Rattle.ipc_ids.specs.Lawful.{Follows};
-ghost use Rattle.law_check.specs.Lives.{Knows, life_at, at, known, Takes, IsOfTask, event_of, IsLive, Puts, Pushes, BringsTo};
+ghost use Rattle.ipc_ids.specs.Laws.{IsAllowed};
+ghost use Rattle.ipc_ids.specs.Lawful.{Follows, IsRound};
+ghost use Rattle.law_check.specs.Lives.{Knows, life_at, at, known, IsOfTask, event_of, IsLive, Puts, Pushes, BringsTo};
 
 use ipc_ids::{Code, Entry, NoMemory, Request, TaskNo};
 use std::alloc::Global;
@@ -325,6 +325,28 @@ impl Lives {
             Entry::Head(_, _) | Entry::Kill(_) | Entry::Gone(_) | Entry::Spawn(_)
         )
     }
+
+    /// The entry may come next.
+    pub fn allows(&self, entry: &Entry) -> bool
+        ensures { (p : List Tale) → Knows p self.now
+            → (IsTrue result ↔ (Follows p (tale entry.now) × IsAllowed p (tale entry.now))) }
+    {
+        self.follows(entry) && self.may(entry)
+    }
+
+    /// So many calls were accepted.
+    pub fn count(&self) -> u64
+        ensures { result ≡ length self.now.calls.items }
+    {
+        self.calls.len() as u64
+    }
+
+    /// No call that goes back still wants its answer.
+    pub fn is_round(&self) -> bool
+        ensures { (p : List Tale) → Knows p self.now → (IsTrue result ↔ IsRound p) }
+    {
+        !self.back
+    }
 }
 
 fn now_of(task: TaskNo, request: &Request) -> PresentEvent
@@ -416,32 +438,4 @@ impl Lives {
             _ => Ok(()),
         }
     }
-
-    /// Takes the next entry, unless it is not allowed.
-    fn take(&mut self, entry: &Entry) -> Result<bool, NoMemory>
-        ensures { (p : List Tale) → Knows p self.old
-            → IfOk result (λ yes. Takes p (tale entry.now) self.new yes) }
-    {
-        if !self.follows(entry) {
-            return Ok(false);
-        }
-        if !self.may(entry) {
-            return Ok(false);
-        }
-        self.note(entry)?;
-        Ok(true)
-    }
-}
-
-/// The entries satisfy the law of a call's life.
-pub fn lives_are_lawful(alloc: Global, entries: &[Entry]) -> Result<bool, NoMemory>
-    ensures { IfOk result (λ yes. IsTrue yes ↔ LivesAreLawful entries.now) }
-{
-    let mut lives = Lives::new(alloc);
-    for entry in entries {
-        if !lives.take(entry)? {
-            return Ok(false);
-        }
-    }
-    Ok(!lives.back)
 }

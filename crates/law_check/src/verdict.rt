@@ -1,10 +1,15 @@
 //! The verdict on a list of entries.
-ghost use Rattle.std.specs.Prelude.{◌≡◌, IfOk};
-ghost use Rattle.law_check.specs.Verdict.{accepted, IsVerdict};
+ghost use Rattle.std.specs.Prelude.{◌≡◌, ◌<◌, ◌≤◌, ◌+◌, ◌^◌, ◌↔◌, List, [], ◌∷◌, IfOk, OnOk, IsTrue};
+ghost use Rattle.ipc_ids.specs.Holdings.{present};
+ghost use Rattle.ipc_ids.specs.Laws.{LivesAreLawful};
+ghost use Rattle.ipc_ids.specs.declared.entry.Entry.{Entry};
+ghost use Rattle.law_check.specs.AreaState.{entry_of, newest};
+ghost use Rattle.law_check.specs.Passing.{in_order};
+ghost use Rattle.law_check.specs.Judging.{Judges, Stands, events_of};
+ghost use Rattle.law_check.specs.Verdict.{IsVerdict};
 
-use crate::areas::areas_are_lawful;
-use crate::kills::kills_are_lawful;
-use crate::lives::lives_are_lawful;
+use crate::areas::{Areas, is_head};
+use crate::kills::Kills;
 use ipc_ids::{Entry, NoMemory};
 use std::alloc::Global;
 
@@ -17,16 +22,95 @@ pub enum Verdict {
     Breaks(u32),
 }
 
-fn count_accepted(entries: &[Entry]) -> u64
-    ensures { result ≡ accepted entries.now }
-{
-    let mut calls = 0;
-    for entry in entries {
-        if matches!(entry, Entry::Accepted { .. }) {
-            calls += 1;
+/// What the entries so far say of the laws. It keeps what it has to know of calls, tasks and areas,
+/// and no entry.
+#[derive(Drop)]
+pub struct Laws {
+    kills: Kills,
+    areas: Areas,
+    /// The law of a call's life may still hold; where it is broken, nothing else counts.
+    lives_hold: bool,
+    kills_hold: bool,
+    areas_hold: bool,
+}
+
+impl Laws {
+    /// Before any entry. It takes no memory.
+    pub fn new(alloc: Global) -> Laws
+        ensures judges { Judges [] result }
+        ensures events { events_of result ≡ 0 }
+    {
+        let kills = Kills::new(alloc);
+        let areas = Areas::new(alloc);
+        Laws {
+            kills,
+            areas,
+            lives_hold: true,
+            kills_hold: true,
+            areas_hold: true,
         }
     }
-    calls
+
+    /// Takes the next entry, in the event with this head, after this last entry. Any entry may be
+    /// given.
+    ///
+    /// # Errors
+    ///
+    /// `NoMemory` where memory ran out; then nothing is known.
+    pub fn take(
+        &mut self,
+        now: Option<&Entry>,
+        last: Option<&Entry>,
+        entry: &Entry,
+    ) -> Result<(), NoMemory>
+        requires few { events_of self.old < 2 ^ 63 }
+        ensures judges { (p : List Entry) → Judges p self.old → entry_of now.entry ≡ present p
+            → entry_of last.entry ≡ newest p → OnOk result (Judges (entry.now ∷ p) self.new) }
+        ensures events { events_of self.new ≤ events_of self.old + 1 }
+    {
+        if !self.lives_hold {
+            return Ok(());
+        }
+        if !self.kills.lives.allows(entry) {
+            self.lives_hold = false;
+            return Ok(());
+        }
+        self.kills_hold = self.kills.go_on(self.kills_hold, entry)?;
+        self.areas_hold = self.areas.go_on(self.areas_hold, now, last, entry)?;
+        Ok(())
+    }
+
+    /// The entries that were taken satisfy the law of a call's life.
+    fn lives_are_lawful(&self) -> bool
+        ensures lawful { (p : List Entry) → Judges p self.now
+            → (IsTrue result ↔ LivesAreLawful (in_order p [])) }
+        ensures stand { (p : List Entry) → Judges p self.now → IsTrue result → Stands p self.now }
+    {
+        self.lives_hold && self.kills.lives.is_round()
+    }
+
+    /// The verdict on the entries that were taken. None may be taken after it.
+    ///
+    /// # Errors
+    ///
+    /// `NoMemory` where memory ran out.
+    pub fn verdict(&mut self) -> Result<Verdict, NoMemory>
+        ensures { (p : List Entry) → Judges p self.old
+            → IfOk result (λ verdict. IsVerdict (in_order p []) verdict) }
+    {
+        if !self.lives_are_lawful() {
+            return Ok(Verdict::Breaks(1));
+        }
+        if !self.kills.hold(self.kills_hold)? {
+            return Ok(Verdict::Breaks(3));
+        }
+        if !self.areas.hold(self.areas_hold) {
+            return Ok(Verdict::Breaks(4));
+        }
+        Ok(Verdict::Lawful {
+            calls: self.kills.lives.count(),
+        })
+    }
 }
 
 /// Tells whether the entries satisfy the law of a call's life, of one answer, of a kill and of
@@ -38,16 +122,15 @@ fn count_accepted(entries: &[Entry]) -> u64
 pub fn check_laws(alloc: Global, entries: &[Entry]) -> Result<Verdict, NoMemory>
     ensures { IfOk result (λ verdict. IsVerdict entries.now verdict) }
 {
-    if !lives_are_lawful(alloc, entries)? {
-        return Ok(Verdict::Breaks(1));
+    let mut laws = Laws::new(alloc);
+    let mut now = None;
+    let mut last = None;
+    for entry in entries {
+        laws.take(now, last, entry)?;
+        if is_head(entry) {
+            now = Some(entry);
+        }
+        last = Some(entry);
     }
-    if !kills_are_lawful(alloc, entries)? {
-        return Ok(Verdict::Breaks(3));
-    }
-    if !areas_are_lawful(alloc, entries)? {
-        return Ok(Verdict::Breaks(4));
-    }
-    Ok(Verdict::Lawful {
-        calls: count_accepted(entries),
-    })
+    laws.verdict()
 }

@@ -2,10 +2,11 @@
 ghost use Rattle.std.specs.Prelude.{◌≡◌, ◌↔◌, IfOk};
 ghost use Rattle.trace_check.specs.Finding.{IsFinding, IsLawfulTrace, IsLawfulFinding, line_of, unreadable_line, entries_part, calls_part, lawful_line, breaks_line};
 
+use crate::reading::Reading;
 use ipc_ids::NoMemory;
-use law_check::{Verdict, check_laws};
+use law_check::Verdict;
 use std::alloc::Global;
-use trace_reader::{TraceFault, read_trace};
+use trace_reader::first_entry;
 
 const MOST: usize = 16_777_216;
 
@@ -22,7 +23,8 @@ pub enum Finding {
     Breaks(u32),
 }
 
-/// Whether the bytes are a trace, and one that keeps the laws.
+/// Whether the bytes are a trace, and one that keeps the laws. Each line is read and judged before
+/// the next one, so that the entries never stand in memory together.
 ///
 /// # Errors
 ///
@@ -34,16 +36,25 @@ pub fn check_trace(alloc: Global, bytes: &[u8]) -> Result<Finding, NoMemory>
     if bytes.len() > MOST {
         return Ok(Finding::TooLong);
     }
-    match read_trace(alloc, bytes) {
-        Ok(trace) => match check_laws(alloc, trace.entries())? {
-            Verdict::Lawful { calls } => Ok(Finding::Lawful {
-                entries: trace.entries().len() as u64,
-                calls,
-            }),
-            Verdict::Breaks(law) => Ok(Finding::Breaks(law)),
-        },
-        Err(TraceFault::Bad { line }) => Ok(Finding::Unreadable { line }),
-        Err(TraceFault::NoMemory) => Err(NoMemory),
+    let mut reading = Reading::new(alloc);
+    let mut rest = bytes;
+    while !rest.is_empty() {
+        match first_entry(rest) {
+            Some((entry, behind)) => {
+                reading.take(entry)?;
+                rest = behind;
+            }
+            None => {
+                return Ok(Finding::Unreadable {
+                    line: reading.entries + 1,
+                })
+            }
+        }
+    }
+    let entries = reading.entries;
+    match reading.laws.verdict()? {
+        Verdict::Lawful { calls } => Ok(Finding::Lawful { entries, calls }),
+        Verdict::Breaks(law) => Ok(Finding::Breaks(law)),
     }
 }
 

@@ -2,6 +2,7 @@
 #![tactic(auto)]
 
 mod finding;
+mod reading;
 #[cfg(test)]
 mod tests;
 

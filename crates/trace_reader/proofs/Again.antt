@@ -3,41 +3,65 @@ use Rattle.std.proofs.Common.{ℕ, get_or, zero, suc, drop, ◌-◌, ◌≡◌, 
 use native.Mathlib.Numerals.{unary_clauses}
 use Rattle.std.specs.Prelude.{unwrap_or, nat_eq}
 use Rattle.std.specs.List.{list_all}
-use Rattle.std.specs.Char.{is_digit}
-use Rattle.std.specs.Str.Parse.{digits_value, AllDigits}
+use Rattle.std.specs.Char.{digit_value}
+use Rattle.std.specs.Str.Parse.{digits_value, digits_value_after, AllDigits}
 use Rattle.std.proofs.lemmas.Bool.{cond-true, and_from, lt-ltb, le-leb, cases_eq, cases_lt}
 use Rattle.std.specs.Cmp.Lexicographic.{pointwise}
 use Rattle.std.proofs.lemmas.Fmt.{decimal_is_IsNumeral, length-decimal-le}
 use Rattle.std.proofs.lemmas.Grind.{common_steps}
+use Rattle.std.proofs.Math.Nat.{mod-eq_of_lt}
 use Rattle.ipc_ids.specs.declared.numbers.TaskNo.{TaskNo}
 use Rattle.ipc_ids.specs.declared.numbers.Label.{Label}
 use Rattle.ipc_ids.specs.declared.numbers.Code.{Code}
 use Rattle.ipc_ids.specs.Tables.{code_names, name_of}
 use Rattle.trace_print.specs.Text.{task_text, label_text, code_text, digit_text, digits_text, bytes_text, fibril_text}
-use Rattle.ipc_ids.specs.Digits.{in_base}
-use Rattle.trace_reader.specs.Words.{part, before, number_of, small_of, task_of, label_of, named, code_or, code_of, digit_of, bytes_from, bytes_of, owner_of, fibril_of}
+use Rattle.trace_reader.specs.Words.{part, before, number_after, number_of, small_of, task_of, label_of, named, code_or, code_of, digit_of, bytes_from, bytes_of, owner_of, fibril_of}
 use Rattle.trace_reader.specs.Words.{lacks}
 use Rattle.trace_reader.specs.Line.{AreBytes}
 use Rattle.ipc_ids.specs.declared.numbers.FibrilNo.{FibrilNo}
 use Rattle.trace_reader.proofs.Parts.{lacks-append, before_mark, before_all, behind_mark}
-
-all_digits : (radix : ℕ) (ds : List ℕ) → AllDigits radix ds → list_all (λ c. is_digit c radix) ds ≡ true
-all_digits radix [] h = refl
-all_digits radix (d ∷ ds) h = grind (arith, all_digits radix ds h.1, h.0)
 
 -- digits have no mark that is no digit
 lacks_digits : (mark : ℕ) (ds : List ℕ) → mark < 48 → AllDigits 10 ds → lacks mark ds ≡ true
 lacks_digits mark [] low h = refl
 lacks_digits mark (d ∷ ds) low h = grind (arith, lacks_digits mark ds low h.1, h.0)
 
+grows : (n : ℕ) (ds : List ℕ) → n ≤ digits_value_after 10 n ds
+grows n [] = omega arith
+grows n (d ∷ ds) = more n (digit_value d) _ (grows (n * 10 + digit_value d) ds) where
+  more : (n d k : ℕ) → n * 10 + d ≤ k → n ≤ k
+  more n d k h = omega (arith, h)
+
+-- digits that write a number of 64 bits are read as that
+number_of_digits :
+    (n : ℕ) (ds : List ℕ) → AllDigits 10 ds → digits_value_after 10 n ds < 2 ^ 64 →
+    number_after n ds ≡ digits_value_after 10 n ds
+number_of_digits n [] own small = refl
+number_of_digits n (d ∷ ds) own small =
+    ap (λ (m : ℕ). number_after m ds) (no_wrap n d own.0 (fits n (digit_value d) _ (grows (n * 10 + digit_value d) ds) small))
+    ∙ number_of_digits (n * 10 + digit_value d) ds own.1 small
+  where
+    fits : (n d k : ℕ) → n * 10 + d ≤ k → k < 2 ^ 64 → n * 10 + d < 2 ^ 64
+    fits n d k h s = omega (arith, h, s)
+
+    digit_is : (d : ℕ) → digit_value d < 10 → d - 48 ≡ digit_value d
+    digit_is d h = grind (arith, h)
+
+    tens : (n e : ℕ) → n * 10 + e < 2 ^ 64 → n * 10 < 2 ^ 64
+    tens n e h = omega (arith, h)
+
+    wrapped : (n d e : ℕ) → d ≡ e → n * 10 + e < 2 ^ 64 → (n * 10 % 2 ^ 64 + d) % 2 ^ 64 ≡ n * 10 + e
+    wrapped n d e is h = rw (mod-eq_of_lt (tens n e h), is, mod-eq_of_lt h) refl
+
+    no_wrap : (n d : ℕ) → digit_value d < 10 → n * 10 + digit_value d < 2 ^ 64 → (n * 10 % 2 ^ 64 + (d - 48)) % 2 ^ 64 ≡ n * 10 + digit_value d
+    no_wrap n d own h = wrapped n (d - 48) (digit_value d) (digit_is d own) h
+
 pub number_again : (n : ℕ) → n < 2 ^ 64 → number_of (decimal n) ≡ n
-unfolding number_of in_base
+unfolding number_of
 number_again n h =
     let own = decimal_is_IsNumeral n h in
-    let few : length (decimal n) ≤ 20 = length-decimal-le 20 n (omega arith) (omega (arith, h)) h in
     let small : digits_value 10 (decimal n) < 2 ^ 64 = rw (own.1) h in
-    ap (λ (o : Option ℕ). unwrap_or o 0) (cond-true _ _ _ (and_from _ _ (and_from _ _ (and_from _ _ (lt-ltb 0 (length (decimal n)) own.0.0) (le-leb (length (decimal n)) 20 few)) (all_digits 10 (decimal n) own.0.1)) (lt-ltb (digits_value 10 (decimal n)) (2 ^ 64) small)))
-    ∙ own.1
+    number_of_digits 0 (decimal n) own.0.1 small ∙ own.1
 
 pub lacks_decimal : (mark n : ℕ) → mark < 48 → n < 2 ^ 64 → lacks mark (decimal n) ≡ true
 lacks_decimal mark n low h = lacks_digits mark (decimal n) low (decimal_is_IsNumeral n h).0.1

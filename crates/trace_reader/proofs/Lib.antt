@@ -6,3 +6,4 @@ pub mod Joined
 pub mod ReadAgain
 pub mod Only
 pub mod Ranges
+pub mod Words

@@ -1,8 +1,8 @@
 -- What is read is in the range of its types.
-use Rattle.std.proofs.Common.{ℕ, zero, suc, ◌≡◌, ◌<◌, ◌≤◌, ◌+◌, ◌-◌, ◌^◌, ◌&&◌, Bool, true, false, cond, List, [], ◌∷◌, length, Option, Some, None, refl, ap, arith, nat_lt}
+use Rattle.std.proofs.Common.{ℕ, zero, suc, ◌≡◌, ◌<◌, ◌≤◌, ◌+◌, ◌-◌, ◌*◌, ◌%◌, ◌^◌, ◌&&◌, Bool, true, false, cond, List, [], ◌∷◌, length, Option, Some, None, refl, ap, arith, nat_lt}
 use Rattle.std.proofs.lemmas.Bool.{ltb-true}
+use Rattle.std.proofs.Math.Nat.{mod-lt}
 use Rattle.std.specs.Prelude.{⊤, unwrap_or, codes, slice_index}
-use Rattle.std.specs.Str.Parse.{digits_value}
 use Rattle.std.specs.Cmp.Lexicographic.{pointwise}
 use Rattle.std.specs.Prelude.{nat_eq}
 use Rattle.ipc_ids.specs.Tables.{Names, code_names}
@@ -15,8 +15,7 @@ use Rattle.ipc_ids.specs.declared.message.Outcome.{Outcome}
 use Rattle.ipc_ids.specs.declared.message.Outcome.TheVariants as got
 use Rattle.ipc_ids.specs.declared.entry.Entry.{Entry}
 use Rattle.ipc_ids.specs.declared.entry.Entry.TheVariants as entry
-use Rattle.ipc_ids.specs.Digits.{in_base}
-use Rattle.trace_reader.specs.Words.{part, number_of, small_of, task_of, label_of, find, code_or, code_of, digit_of, bytes_from, owner_of, fibril_of}
+use Rattle.trace_reader.specs.Words.{part, number_after, number_of, small_of, task_of, label_of, find, code_or, code_of, digit_of, bytes_from, owner_of, fibril_of}
 use Rattle.trace_reader.specs.Line.{AreArgs, AreBytes, IsBuilt}
 use Rattle.trace_reader.specs.Read.{is, args_in, msg_in, reply_in, state_in, change_in, request_in, outcome_in, call_effect_in, gets_in, fibril_effect_in, effect_in, head_in, entry_in, nth, parts, read, IsPlain}
 
@@ -26,17 +25,15 @@ pick P true x y h k = h
 pick P false x y h k = k
 
 -- ---- numbers
-some_small : (b : Bool) (n : ℕ) → unwrap_or (cond (b && nat_lt n (2 ^ 64)) (Some n) None) 0 < 2 ^ 64
-some_small b n = small b (nat_lt n (2 ^ 64)) n (λ h. ltb-true n (2 ^ 64) h) where
-  small : (b c : Bool) (n : ℕ) → (c ≡ true → n < 2 ^ 64) → unwrap_or (cond (b && c) (Some n) None) 0 < 2 ^ 64
-  small true true n h = h refl
-  small true false n h = omega arith
-  small false true n h = omega arith
-  small false false n h = omega arith
+after_fits : (n : ℕ) (w : List ℕ) → n < 2 ^ 64 → number_after n w < 2 ^ 64
+after_fits n [] h = h
+after_fits n (c ∷ w) h = after_fits ((n * 10 % 2 ^ 64 + (c - 48)) % 2 ^ 64) w (wraps (n * 10 % 2 ^ 64 + (c - 48))) where
+  wraps : (m : ℕ) → m % 2 ^ 64 < 2 ^ 64
+  wraps m = mod-lt m (omega arith)
 
 number_fits : (w : List ℕ) → number_of w < 2 ^ 64
-unfolding number_of in_base
-number_fits w = some_small _ (digits_value 10 w)
+unfolding number_of
+number_fits w = after_fits 0 w (omega arith)
 
 small_fits : (w : List ℕ) → small_of w < 2 ^ 32
 small_fits w = fits (nat_lt (number_of w) 4294967296) (number_of w) (λ h. ltb-true (number_of w) 4294967296 h) where

@@ -216,34 +216,41 @@ not_read rest line is none e more b h =
     let same : line ≡ join (words_of e) = is ∙ ap (before 10) at ∙ before_mark 10 (join (words_of e)) more (lacks_join (words_of e) (words_lack e b).1) in
     none e b (is_joined e ∙ ap (λ (l : List ℕ). l ++ 10 ∷ []) (sym same))
 
-text_of-append : (xs ys : List Entry) → text_of (xs ++ ys) ≡ text_of xs ++ text_of ys
+pub text_of-append : (xs ys : List Entry) → text_of (xs ++ ys) ≡ text_of xs ++ text_of ys
 text_of-append [] ys = refl
 text_of-append (x ∷ xs) ys = ap (λ t. text_of_entry x ++ t) (text_of-append xs ys) ∙ sym (append_assoc (text_of_entry x) (text_of xs) (text_of ys))
 
-built_push : (es : List Entry) (e : Entry) → AreBuilt es → IsBuilt e → AreBuilt (es ++ e ∷ [])
+pub built_push : (es : List Entry) (e : Entry) → AreBuilt es → IsBuilt e → AreBuilt (es ++ e ∷ [])
 built_push [] e h k = (k, tt)
 built_push (x ∷ es) e h k = (h.0, built_push es e h.1 k)
 
+-- a line whose text was found, and what stands behind it
+pub first_line :
+    (e : Entry) (bytes line : List ℕ) → line ≡ before 10 bytes → length (before 10 bytes) < length bytes →
+    text_of_entry e ≡ line ++ 10 ∷ [] → bytes ≡ text_of_entry e ++ behind 10 bytes
+first_line e bytes line is low here =
+    whole_cut 10 bytes low
+    ∙ sym (append_assoc (before 10 bytes) (10 ∷ []) (behind 10 bytes))
+    ∙ ap (λ (t : List ℕ). t ++ behind 10 bytes) (ap (λ (l : List ℕ). l ++ 10 ∷ []) (sym is) ∙ sym here)
+
+pub behind_is_shorter : (bytes : List ℕ) → length (before 10 bytes) < length bytes → length (behind 10 bytes) < length bytes
+behind_is_shorter [] low = absurd (omega (arith, low))
+behind_is_shorter (b ∷ bytes) low = grind (arith, behind_is_shorter bytes)
+
 -- one more line
 pub read_on :
-    (es : List Entry) (e : Entry) (bytes rest line : List ℕ) → text_of es ++ rest ≡ bytes → AreBuilt es → IsBuilt e →
-    line ≡ before 10 rest → length (before 10 rest) < length rest → text_of_entry e ≡ line ++ 10 ∷ [] →
-    (text_of (es ++ e ∷ []) ++ behind 10 rest ≡ bytes) × AreBuilt (es ++ e ∷ [])
-read_on es e bytes rest line text built own is low here =
-    let cut : text_of_entry e ++ behind 10 rest ≡ rest =
-    ap (λ (t : List ℕ). t ++ behind 10 rest) (here ∙ ap (λ (l : List ℕ). l ++ 10 ∷ []) is)
-    ∙ append_assoc (before 10 rest) (10 ∷ []) (behind 10 rest)
-    ∙ sym (whole_cut 10 rest low) in (
-      ap (λ (t : List ℕ). t ++ behind 10 rest) (text_of-append es (e ∷ []) ∙ ap (λ (t : List ℕ). text_of es ++ t) (append_nil (text_of_entry e)))
-          ∙ append_assoc (text_of es) (text_of_entry e) (behind 10 rest)
-          ∙ ap (λ (t : List ℕ). text_of es ++ t) cut
-          ∙ text,
-      built_push es e built own,
-    )
-  where
-    append_nil : (xs : List ℕ) → xs ++ [] ≡ xs
-    append_nil [] = refl
-    append_nil (x ∷ xs) = ap (λ l. x ∷ l) (append_nil xs)
+    (es : List Entry) (e : Entry) (bytes rest more : List ℕ) → text_of es ++ rest ≡ bytes → AreBuilt es → IsBuilt e →
+    rest ≡ text_of_entry e ++ more → (text_of (es ++ e ∷ []) ++ more ≡ bytes) × AreBuilt (es ++ e ∷ [])
+read_on es e bytes rest more text built own line = (
+  ap (λ (t : List ℕ). t ++ more) (text_of-append es (e ∷ []) ∙ ap (λ (t : List ℕ). text_of es ++ t) (append_nil (text_of_entry e)))
+      ∙ append_assoc (text_of es) (text_of_entry e) more
+      ∙ ap (λ (t : List ℕ). text_of es ++ t) (sym line)
+      ∙ text,
+  built_push es e built own,
+) where
+  append_nil : (xs : List ℕ) → xs ++ [] ≡ xs
+  append_nil [] = refl
+  append_nil (x ∷ xs) = ap (λ l. x ∷ l) (append_nil xs)
 
 same_line : {A : Type 0} (a b : ℕ) → (let x : Result A TraceFault = Err (Bad a) in x ≡ Err (Bad b)) → a ≡ b
 same_line a b h = cc

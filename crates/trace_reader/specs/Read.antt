@@ -1,5 +1,6 @@
 -- What the words of a line are read as. It counts only where the text of that entry is the line.
-use Rattle.std.specs.Prelude.{ℕ, zero, suc, ◌≡◌, ◌+◌, nat_eq, unwrap_or, slice_get, Bool, if◌then◌else◌, codes, List, [], ◌∷◌, Option, None, Some}
+use Rattle.std.specs.Prelude.{ℕ, zero, suc, ◌≡◌, ◌+◌, map, nat_eq, unwrap_or, slice_get, Bool, if◌then◌else◌, codes, List, [], ◌∷◌, Option, None, Some}
+use Rattle.std.specs.Borrow.{Bor}
 use Rattle.std.specs.Cmp.Lexicographic.{pointwise}
 use Rattle.ipc_ids.specs.declared.numbers.TaskNo.{TaskNo}
 use Rattle.ipc_ids.specs.declared.message.Msg.{Msg}
@@ -187,6 +188,10 @@ entry_in w = if is (w 0) [] then effect_in w else head_in w
 abbrev pub parts : ℕ → ℕ → List ℕ → List (List ℕ)
 parts zero i line = []
 parts (suc k) i line = part 32 i line ∷ parts k (suc i) line
+
+-- the words that are referred to
+abbrev pub texts : List (Bor (List ℕ)) → List (List ℕ)
+texts words = map (λ w. w.now) words
 
 -- the word with this index; no bytes where there is none
 abbrev pub nth : List (List ℕ) → ℕ → List ℕ

@@ -1,14 +1,11 @@
 -- What is read in a word of a line. Each reader gives something for any bytes.
-use Rattle.std.specs.Prelude.{Bool, true, false, ℕ, zero, suc, map, ◌+◌, ◌*◌, ◌-◌, ◌==◌, nat_lt, nat_eq, if◌then◌else◌, unwrap_or, List, [], ◌∷◌, Option, Some, None}
+use Rattle.std.specs.Prelude.{Bool, true, false, ℕ, zero, suc, map, ◌+◌, ◌*◌, ◌-◌, ◌%◌, ◌^◌, ◌==◌, nat_lt, nat_eq, if◌then◌else◌, unwrap_or, List, [], ◌∷◌, Option, Some, None}
 use Rattle.std.specs.Borrow.{Bor}
 use Rattle.std.specs.Cmp.Lexicographic.{pointwise}
 use Rattle.ipc_ids.specs.declared.numbers.TaskNo.{TaskNo}
 use Rattle.ipc_ids.specs.declared.numbers.Label.{Label}
 use Rattle.ipc_ids.specs.declared.numbers.Code.{Code}
 use Rattle.ipc_ids.specs.declared.numbers.FibrilNo.{FibrilNo}
-use Rattle.ipc_ids.specs.declared.message.Msg.{Msg}
-use Rattle.ipc_ids.specs.declared.message.Reply.{Reply}
-use Rattle.ipc_ids.specs.Digits.{in_base}
 use Rattle.ipc_ids.specs.Tables.{Names, code_names}
 
 -- what stands before the first mark, or all
@@ -31,15 +28,16 @@ abbrev pub part : ℕ → ℕ → List ℕ → List ℕ
 part mark zero text = before mark text
 part mark (suc index) text = part mark index (behind mark text)
 
--- the word with this index
-abbrev pub word : ℕ → List ℕ → List ℕ
-word index line = part 32 index line
+-- the number that these digits write when they follow those of n, as far as 64 bits have it
+abbrev pub number_after : ℕ → List ℕ → ℕ
+number_after n [] = n
+number_after n (c ∷ word) = number_after ((n * 10 % 2 ^ 64 + (c - 48)) % 2 ^ 64) word
 
--- a number in decimal; 0 where the word is none
+-- a number in decimal
 unfoldable pub number_of : List ℕ → ℕ
-number_of word = unwrap_or (in_base 10 20 word) 0
+number_of word = number_after 0 word
 
--- a number of 32 bits; 0 where the word is none
+-- a number of 32 bits; 0 where it is larger
 abbrev pub small_of : List ℕ → ℕ
 small_of word = if nat_lt (number_of word) 4294967296 then number_of word else 0
 
@@ -74,16 +72,6 @@ code_or None word = record { 0 = number_of word }
 abbrev pub code_of : List ℕ → Code
 code_of word = code_or (named word) word
 
--- five arguments, from this word on
-abbrev pub args_at : ℕ → List ℕ → List ℕ
-args_at first line =
-    number_of (word first line)
-    ∷ number_of (word (first + 1) line)
-    ∷ number_of (word (first + 2) line)
-    ∷ number_of (word (first + 3) line)
-    ∷ number_of (word (first + 4) line)
-    ∷ []
-
 -- the task of a fibril, before the stroke
 abbrev pub owner_of : List ℕ → TaskNo
 owner_of word = task_of (part 47 0 word)
@@ -91,14 +79,6 @@ owner_of word = task_of (part 47 0 word)
 -- the number of a fibril, behind the stroke
 abbrev pub fibril_of : List ℕ → FibrilNo
 fibril_of word = record { 0 = number_of (part 47 1 word) }
-
--- a message, from this word on
-abbrev pub msg_at : ℕ → List ℕ → Msg
-msg_at first line = record { method = number_of (word first line); args = args_at (first + 1) line }
-
--- a reply, from this word on
-abbrev pub reply_at : ℕ → List ℕ → Reply
-reply_at first line = record { code = code_of (word first line); args = args_at (first + 1) line }
 
 -- what a digit is worth
 abbrev pub digit_of : ℕ → ℕ

@@ -1,9 +1,9 @@
 //! What a line says that a task asks, is told or waits for.
 ghost use Rattle.std.specs.Prelude.{◌≡◌};
-ghost use Rattle.trace_reader.specs.Read.{answerer_in, change_in, exchange_mode_in, memory_request_in, mode_in, nth, outcome_in, parts, request_in, slot_in, state_in, way_in, why_in};
+ghost use Rattle.trace_reader.specs.Read.{answerer_in, change_in, exchange_mode_in, memory_request_in, mode_in, nth, outcome_in, request_in, slot_in, state_in, texts, way_in, why_in};
 
 use crate::part::{
-    bytes_of, code_of, label_of, msg_at, number_of, reply_at, small_of, task_of, word,
+    Words, bytes_of, code_of, label_of, msg_at, number_of, reply_at, small_of, task_of, word,
 };
 use ipc_ids::{CallNo, ExchangeMode, Mode, Msg, Outcome, PhoneState, Request, TaskNo, Why};
 
@@ -59,8 +59,8 @@ pub fn exchange_mode_in(word: &[u8]) -> ExchangeMode
     ExchangeMode::Parallel
 }
 
-pub fn state_in(line: &[u8]) -> PhoneState
-    ensures { result ≡ state_in (nth (parts 13 0 line.now)) }
+pub fn state_in(line: &Words) -> PhoneState
+    ensures { result ≡ state_in (nth (texts line.now.items)) }
 {
     let state = word(line, 4);
     if state == b"free".as_slice() {
@@ -78,8 +78,8 @@ pub fn state_in(line: &[u8]) -> PhoneState
     PhoneState::Connected(task_of(word(line, 5)))
 }
 
-pub fn why_in(line: &[u8]) -> Why
-    ensures { result ≡ why_in (nth (parts 13 0 line.now)) }
+pub fn why_in(line: &Words) -> Why
+    ensures { result ≡ why_in (nth (texts line.now.items)) }
 {
     let why = word(line, 4);
     if why == b"answer".as_slice() {
@@ -94,8 +94,8 @@ pub fn why_in(line: &[u8]) -> Why
     Why::Message
 }
 
-fn change_in(line: &[u8]) -> Option<Msg>
-    ensures { result ≡ change_in (nth (parts 13 0 line.now)) }
+fn change_in(line: &Words) -> Option<Msg>
+    ensures { result ≡ change_in (nth (texts line.now.items)) }
 {
     if word(line, 5).is_empty() {
         None
@@ -104,8 +104,8 @@ fn change_in(line: &[u8]) -> Option<Msg>
     }
 }
 
-fn memory_request_in(line: &[u8]) -> Request
-    ensures { result ≡ memory_request_in (nth (parts 13 0 line.now)) }
+fn memory_request_in(line: &Words) -> Request
+    ensures { result ≡ memory_request_in (nth (texts line.now.items)) }
 {
     let kind = word(line, 1);
     if kind == b"area".as_slice() {
@@ -135,8 +135,8 @@ fn memory_request_in(line: &[u8]) -> Request
     Request::Nothing
 }
 
-pub fn request_in(line: &[u8]) -> Request
-    ensures { result ≡ request_in (nth (parts 13 0 line.now)) }
+pub fn request_in(line: &Words) -> Request
+    ensures { result ≡ request_in (nth (texts line.now.items)) }
 {
     let kind = word(line, 1);
     if kind == b"call".as_slice() {
@@ -170,8 +170,8 @@ pub fn request_in(line: &[u8]) -> Request
     memory_request_in(line)
 }
 
-pub fn outcome_in(line: &[u8]) -> Outcome
-    ensures { result ≡ outcome_in (nth (parts 13 0 line.now)) }
+pub fn outcome_in(line: &Words) -> Outcome
+    ensures { result ≡ outcome_in (nth (texts line.now.items)) }
 {
     let kind = word(line, 3);
     if kind == b"EOK".as_slice() {

@@ -1,7 +1,7 @@
 //! What a line is read as.
 ghost use Rattle.std.specs.Prelude.{◌≡◌, ◌++◌, ◌∷◌, [], IfSome, IfNone};
 ghost use Rattle.trace_reader.specs.Line.{IsBuilt};
-ghost use Rattle.trace_reader.specs.Read.{read, effect_in, fibril_effect_in, exchange_effect_in, gets_in, ends_in, call_effect_in, call_end_in, head_in, nth, parts};
+ghost use Rattle.trace_reader.specs.Read.{read, entry_in, effect_in, fibril_effect_in, exchange_effect_in, gets_in, ends_in, call_effect_in, call_end_in, head_in, nth, texts};
 ghost use Rattle.trace_print.specs.Text.{text_of_entry};
 ghost use Rattle.ipc_ids.specs.declared.entry.Entry.{Entry};
 
@@ -9,13 +9,14 @@ use crate::asked::{
     answerer_in, exchange_mode_in, outcome_in, request_in, slot_in, state_in, way_in, why_in,
 };
 use crate::part::{
-    code_of, fibril_of, label_of, number_of, owner_of, reply_at, small_of, task_of, word,
+    Words, code_of, fibril_of, label_of, number_of, owner_of, reply_at, small_of, task_of, word,
+    words_of,
 };
 use ipc_ids::{CallNo, Entry, ExchangeNo, Reply, StoreNo};
 use trace_print::entry_is;
 
-fn call_end_in(line: &[u8]) -> Entry
-    ensures { result ≡ call_end_in (nth (parts 13 0 line.now)) }
+fn call_end_in(line: &Words) -> Entry
+    ensures { result ≡ call_end_in (nth (texts line.now.items)) }
 {
     let call = CallNo(number_of(word(line, 3)));
     let kind = word(line, 4);
@@ -37,8 +38,8 @@ fn call_end_in(line: &[u8]) -> Entry
     Entry::Forgotten(call)
 }
 
-fn call_effect_in(line: &[u8]) -> Entry
-    ensures { result ≡ call_effect_in (nth (parts 13 0 line.now)) }
+fn call_effect_in(line: &Words) -> Entry
+    ensures { result ≡ call_effect_in (nth (texts line.now.items)) }
 {
     let call = CallNo(number_of(word(line, 3)));
     let kind = word(line, 4);
@@ -74,8 +75,8 @@ fn call_effect_in(line: &[u8]) -> Entry
     call_end_in(line)
 }
 
-fn gets_in(line: &[u8]) -> Reply
-    ensures { result ≡ gets_in (nth (parts 13 0 line.now)) }
+fn gets_in(line: &Words) -> Reply
+    ensures { result ≡ gets_in (nth (texts line.now.items)) }
 {
     if word(line, 5) == b"slot".as_slice() {
         reply_at(line, 7)
@@ -84,8 +85,8 @@ fn gets_in(line: &[u8]) -> Reply
     }
 }
 
-fn ends_in(line: &[u8]) -> Entry
-    ensures { result ≡ ends_in (nth (parts 13 0 line.now)) }
+fn ends_in(line: &Words) -> Entry
+    ensures { result ≡ ends_in (nth (texts line.now.items)) }
 {
     let task = owner_of(word(line, 2));
     let fibril = fibril_of(word(line, 2));
@@ -99,8 +100,8 @@ fn ends_in(line: &[u8]) -> Entry
     }
 }
 
-fn exchange_effect_in(line: &[u8]) -> Entry
-    ensures { result ≡ exchange_effect_in (nth (parts 13 0 line.now)) }
+fn exchange_effect_in(line: &Words) -> Entry
+    ensures { result ≡ exchange_effect_in (nth (texts line.now.items)) }
 {
     let task = owner_of(word(line, 2));
     let fibril = fibril_of(word(line, 2));
@@ -132,8 +133,8 @@ fn exchange_effect_in(line: &[u8]) -> Entry
     }
 }
 
-fn fibril_effect_in(line: &[u8]) -> Entry
-    ensures { result ≡ fibril_effect_in (nth (parts 13 0 line.now)) }
+fn fibril_effect_in(line: &Words) -> Entry
+    ensures { result ≡ fibril_effect_in (nth (texts line.now.items)) }
 {
     let task = owner_of(word(line, 2));
     let fibril = fibril_of(word(line, 2));
@@ -172,8 +173,8 @@ fn fibril_effect_in(line: &[u8]) -> Entry
     exchange_effect_in(line)
 }
 
-fn effect_in(line: &[u8]) -> Entry
-    ensures { result ≡ effect_in (nth (parts 13 0 line.now)) }
+fn effect_in(line: &Words) -> Entry
+    ensures { result ≡ effect_in (nth (texts line.now.items)) }
 {
     let kind = word(line, 2);
     if kind == b"=".as_slice() {
@@ -214,8 +215,8 @@ fn effect_in(line: &[u8]) -> Entry
     fibril_effect_in(line)
 }
 
-fn head_in(line: &[u8]) -> Entry
-    ensures { result ≡ head_in (nth (parts 13 0 line.now)) }
+fn head_in(line: &Words) -> Entry
+    ensures { result ≡ head_in (nth (texts line.now.items)) }
 {
     if word(line, 0) == b"kill".as_slice() {
         return Entry::Kill(task_of(word(line, 1)));
@@ -229,15 +230,21 @@ fn head_in(line: &[u8]) -> Entry
     Entry::Head(task_of(word(line, 0)), request_in(line))
 }
 
-/// What the line is read as. It counts only where the text of that entry is the line.
-fn read(line: &[u8]) -> Entry
-    ensures { result ≡ read line.now }
+fn entry_in(line: &Words) -> Entry
+    ensures { result ≡ entry_in (nth (texts line.now.items)) }
 {
     if word(line, 0).is_empty() {
         effect_in(line)
     } else {
         head_in(line)
     }
+}
+
+/// What the line is read as. It counts only where the text of that entry is the line.
+fn read(line: &[u8]) -> Entry
+    ensures { result ≡ read line.now }
+{
+    entry_in(&words_of(line))
 }
 
 /// The entry whose text is this line and a line feed; `None` where the line is the text of no entry

@@ -1,10 +1,11 @@
 //! The parts of a line. Each reader gives something for any bytes; what it gives counts only where
 //! the entry's own text is the line.
-ghost use Rattle.std.specs.Prelude.{◌≡◌, ◌≤◌, ◌<◌, ◌==◌, length};
-ghost use Rattle.trace_reader.specs.Words.{part, number_of, small_of, task_of, label_of, code_of, args_at, word, named, find, rows, before, behind, owner_of, fibril_of, msg_at, reply_at, digit_of, bytes_of};
+ghost use Rattle.std.specs.Prelude.{◌≡◌, ◌≤◌, ◌<◌, ◌==◌, ℕ, length};
+ghost use Rattle.trace_reader.specs.Words.{part, number_of, small_of, task_of, label_of, code_of, named, find, rows, before, behind, owner_of, fibril_of, digit_of, bytes_of};
+ghost use Rattle.trace_reader.specs.Read.{args_in, msg_in, reply_in, nth, parts, texts};
 
 use arrayvec::ArrayVec;
-use ipc_ids::{Code, FibrilNo, Label, Msg, PhoneNo, Reply, Short, TaskNo, in_base};
+use ipc_ids::{Code, FibrilNo, Label, Msg, PhoneNo, Reply, Short, TaskNo};
 
 /// How many bytes stand before the first mark.
 pub fn length_before(text: &[u8], mark: u8) -> usize
@@ -21,23 +22,17 @@ pub fn length_before(text: &[u8], mark: u8) -> usize
     count
 }
 
-/// What stands before the first mark.
+/// What stands before the first mark, and what stands behind it: no bytes where there is none.
 #[tactic(auto, using(crate::proofs::Parts::take_before))]
-fn before(text: &[u8], mark: u8) -> &[u8]
-    ensures { result.now ≡ before mark text.now }
-{
-    &text[..length_before(text, mark)]
-}
-
-/// What stands behind the first mark; no bytes where there is none.
-fn behind(text: &[u8], mark: u8) -> &[u8]
-    ensures { result.now ≡ behind mark text.now }
+fn cut(text: &[u8], mark: u8) -> (&[u8], &[u8])
+    ensures before { result.0.now ≡ before mark text.now }
+    ensures behind { result.1.now ≡ behind mark text.now }
 {
     let count = length_before(text, mark);
     if count < text.len() {
-        &text[count + 1..]
+        (&text[..count], &text[count + 1..])
     } else {
-        &[]
+        (text, &[])
     }
 }
 
@@ -48,27 +43,52 @@ pub fn part(text: &[u8], mark: u8, index: usize) -> &[u8]
     let mut rest = text;
     let mut left = index;
     while left > 0 {
-        rest = behind(rest, mark);
+        rest = cut(rest, mark).1;
         left -= 1;
     }
-    before(rest, mark)
+    cut(rest, mark).0
 }
 
-/// The word of the line with this index.
-pub fn word(line: &[u8], index: usize) -> &[u8]
-    ensures { result.now ≡ word index line.now }
+/// The first words of a line, as it is cut at each space. No entry has more than thirteen.
+pub type Words<'a> = ArrayVec<&'a [u8], 13>;
+
+pub fn words_of(line: &[u8]) -> Words
+    ensures { (i : ℕ) → nth (texts result.items) i ≡ nth (parts 13 0 line.now) i }
 {
-    part(line, b' ', index)
+    let mut words = ArrayVec::new();
+    let mut rest = line;
+    let mut left = 13u64;
+    while left > 0 && !rest.is_empty() {
+        let (word, behind) = cut(rest, b' ');
+        words.push(word);
+        rest = behind;
+        left -= 1;
+    }
+    words
 }
 
+/// The word with this index; no bytes where there is none.
+pub fn word<'a>(line: &Words<'a>, index: usize) -> &'a [u8]
+    ensures { result.now ≡ nth (texts line.now.items) index }
+{
+    match line.as_slice().get(index) {
+        Some(word) => word,
+        None => &[],
+    }
+}
+
+/// The number that digits spell, as far as 64 bits have it; something for any other bytes.
 #[tactic(auto, unfolding(crate::specs::Words::number_of))]
 pub fn number_of(word: &[u8]) -> u64
     ensures { result ≡ number_of word.now }
 {
-    match in_base(word, 10, 20) {
-        Some(number) => number,
-        None => 0,
+    let mut number = 0u64;
+    for byte in word {
+        number = number
+            .wrapping_mul(10)
+            .wrapping_add(u64::from(byte.saturating_sub(b'0')));
     }
+    number
 }
 
 pub fn small_of(word: &[u8]) -> u32
@@ -140,9 +160,9 @@ pub fn code_of(word: &[u8]) -> Code
 }
 
 /// Five numbers, in the words from this one on.
-fn args_at(line: &[u8], first: usize) -> [u64; 5]
+fn args_at(line: &Words, first: usize) -> [u64; 5]
     requires { first ≤ 17 }
-    ensures { result ≡ args_at first line.now }
+    ensures { result ≡ args_in (nth (texts line.now.items)) first }
 {
     [
         number_of(word(line, first)),
@@ -153,9 +173,9 @@ fn args_at(line: &[u8], first: usize) -> [u64; 5]
     ]
 }
 
-pub fn msg_at(line: &[u8], first: usize) -> Msg
+pub fn msg_at(line: &Words, first: usize) -> Msg
     requires { first ≤ 16 }
-    ensures { result ≡ msg_at first line.now }
+    ensures { result ≡ msg_in (nth (texts line.now.items)) first }
 {
     Msg {
         method: number_of(word(line, first)),
@@ -163,9 +183,9 @@ pub fn msg_at(line: &[u8], first: usize) -> Msg
     }
 }
 
-pub fn reply_at(line: &[u8], first: usize) -> Reply
+pub fn reply_at(line: &Words, first: usize) -> Reply
     requires { first ≤ 16 }
-    ensures { result ≡ reply_at first line.now }
+    ensures { result ≡ reply_in (nth (texts line.now.items)) first }
 {
     Reply {
         code: code_of(word(line, first)),

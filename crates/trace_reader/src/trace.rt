@@ -1,12 +1,13 @@
 //! Reads a whole trace.
-ghost use Rattle.std.specs.Prelude.{◌≡◌, ◌≢◌, List, ℕ, Ok, Err, IfOk};
+ghost use Rattle.std.specs.Prelude.{◌≡◌, ◌≢◌, ◌<◌, ◌++◌, List, ℕ, Ok, Err, IfOk, IfSome, IfNone, length};
 ghost use Rattle.ipc_ids.specs.declared.entry.Entry.{Entry};
-ghost use Rattle.trace_print.specs.Text.{text_of};
-ghost use Rattle.trace_reader.specs.Trace.{IsFirstBad, IsTrace, AreBuilt, IsOnly};
+ghost use Rattle.trace_print.specs.Text.{text_of, text_of_entry};
+ghost use Rattle.trace_reader.specs.Line.{IsBuilt};
+ghost use Rattle.trace_reader.specs.Trace.{IsFirstBad, IsTrace, AreBuilt, IsNoLine, IsOnly};
 
 use crate::line::read_entry;
 use crate::part::length_before;
-use ipc_ids::{NoMemory, Trace};
+use ipc_ids::{Entry, NoMemory, Trace};
 use std::alloc::Global;
 
 /// Why bytes are no trace.
@@ -16,6 +17,24 @@ pub enum TraceFault {
     Bad { line: u64 },
     /// Memory ran out.
     NoMemory,
+}
+
+/// The entry whose text the bytes begin with, and the bytes behind it; `None` where they begin with
+/// that of none, as no bytes do. It takes no memory.
+pub fn first_entry(bytes: &[u8]) -> Option<(Entry, &[u8])>
+    ensures some { IfSome result (λ first. bytes.now ≡ text_of_entry first.0 ++ first.1.now) }
+    ensures built { IfSome result (λ first. IsBuilt first.0) }
+    ensures shorter { IfSome result (λ first. length first.1.now < length bytes.now) }
+    ensures none { IfNone result (IsNoLine bytes.now) }
+{
+    let count = length_before(bytes, b'\n');
+    if count == bytes.len() {
+        return None;
+    }
+    match read_entry(&bytes[..count]) {
+        Some(entry) => Some((entry, &bytes[count + 1..])),
+        None => None,
+    }
 }
 
 /// The entries whose text the bytes are: no other entries without a refusal that says EOK have it.
@@ -32,18 +51,13 @@ pub fn read_trace(alloc: Global, bytes: &[u8]) -> Result<Trace, TraceFault>
     let mut trace = Trace::new(alloc);
     let mut rest = bytes;
     while !rest.is_empty() {
-        let count = length_before(rest, b'\n');
-        if count == rest.len() {
-            return Err(TraceFault::Bad {
-                line: trace.entries().len() as u64 + 1,
-            });
-        }
-        match read_entry(&rest[..count]) {
-            Some(entry) => {
+        match first_entry(rest) {
+            Some((entry, behind)) => {
                 if trace.reserve(1).is_err() {
                     return Err(TraceFault::NoMemory);
                 }
                 trace.push(entry);
+                rest = behind;
             }
             None => {
                 return Err(TraceFault::Bad {
@@ -51,7 +65,6 @@ pub fn read_trace(alloc: Global, bytes: &[u8]) -> Result<Trace, TraceFault>
                 })
             }
         }
-        rest = &rest[count + 1..];
     }
     Ok(trace)
 }
