@@ -55,7 +55,8 @@ fn tell_fault<K: Sink>(
     ensures ok { result ≢ WriteFailed → result ≢ Memory → (result ≡ status)
         × Appends (K.written sink.old) (K.written sink.new) (fault_line file.now (line, reason)) }
     ensures part { result ≡ WriteFailed →
-        AppendsStart (K.written sink.old) (K.written sink.new) (fault_line file.now (line, reason)) }
+        AppendsStart (K.written sink.old) (K.written sink.new)
+        (fault_line file.now (line, reason)) }
     ensures memory { result ≡ Memory → status ≢ Memory →
         Keeps (K.written sink.old) (K.written sink.new) }
     ensures cause { result ≡ WriteFailed → Rose (K.faults sink.old) (K.faults sink.new) }

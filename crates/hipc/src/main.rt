@@ -11,6 +11,10 @@ mod edge_tests;
 #[cfg(test)]
 mod limit_tests;
 #[cfg(test)]
+mod line_tests;
+#[cfg(test)]
+mod reading_tests;
+#[cfg(test)]
 mod rows;
 mod status;
 mod summary;
@@ -19,28 +23,14 @@ mod tests;
 
 pub use answer::replay_bytes;
 pub use due::run;
-use io_edge::{FileShelf, OutSink};
+use io_edge::{FileShelf, OutSink, words_behind_name};
 use ipc_ids::NoMemory;
 pub use status::Status;
-use std::env;
-use std::io::ErrorKind;
 use std::process::ExitCode;
 use std::rt::Env;
 
-// The words after the program's name. Words that are no text are no words, and so no command.
-fn words_of(rt: &HostRuntime) -> Result<Vec<String>, NoMemory> {
-    match env::args(rt) {
-        Ok(mut words) => {
-            let _program = words.next();
-            Ok(words.collect(rt.alloc())?)
-        }
-        Err(e) if e.kind() == ErrorKind::OutOfMemory => Err(NoMemory),
-        Err(_) => Ok(Vec::new(rt.alloc())),
-    }
-}
-
 fn main(rt: HostRuntime) -> ExitCode {
-    let status = match words_of(&rt) {
+    let status = match words_behind_name(&rt, rt.alloc()) {
         Ok(words) => {
             let mut shelf = FileShelf::new(&rt, rt.alloc());
             let mut sink = OutSink::new(rt.stdout());
@@ -48,5 +38,5 @@ fn main(rt: HostRuntime) -> ExitCode {
         }
         Err(NoMemory) => Status::NoMemory,
     };
-    ExitCode::from(status.number())
+    status.exit_code()
 }

@@ -1,6 +1,9 @@
 //! How the program ends.
 ghost use Rattle.std.specs.Prelude.{◌≡◌};
+ghost use Rattle.std.specs.Process.{exit_status};
 ghost use Rattle.hipc.specs.Status.{number_of};
+
+use std::process::ExitCode;
 
 /// How a command ended. All but the last two say that the text that is due was written whole.
 #[derive(Clone, Copy, Debug, PartialEq, Eq, Drop)]
@@ -39,5 +42,12 @@ impl Status {
             Status::NoMemory => 7,
             Status::BadTrace => 8,
         }
+    }
+
+    /// How the process ends.
+    pub fn exit_code(self) -> ExitCode
+        ensures { exit_status result ≡ number_of self }
+    {
+        ExitCode::from(self.number())
     }
 }

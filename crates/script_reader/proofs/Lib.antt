@@ -5,7 +5,6 @@ pub mod EventTasks
 pub mod Faults
 pub mod FormFaults
 pub mod Lines
-pub mod Numbers
 pub mod Places
 pub mod ReaderAnswers
 pub mod Readings
@@ -14,3 +13,6 @@ pub mod TaskKinds
 pub mod Words
 pub mod KnownTasks
 pub mod Parts
+mod WordExamples
+mod OperationExamples
+pub mod ReadingExamples

@@ -39,8 +39,8 @@ pub fn faults_are_the_first_reasons()
     ensures script_good { (before : ScriptParts) (line : List ℕ)
         → ((made : ScriptParts) × (after_line before line ≡ Ok made))
         ↔ NoReason (line_reasons before line) }
-    ensures schedule_fault { (script : Plan) (before : EventsAndNames) (line : List ℕ) (reason : Reason)
-        → (after_event script before line ≡ Err reason)
+    ensures schedule_fault { (script : Plan) (before : EventsAndNames) (line : List ℕ)
+        (reason : Reason) → (after_event script before line ≡ Err reason)
         ↔ IsFirstReason (event_reasons script before line) reason }
     ensures schedule_good { (script : Plan) (before : EventsAndNames) (line : List ℕ)
         → ((made : EventsAndNames) × (after_event script before line ≡ Ok made))

@@ -31,6 +31,3 @@ pub use plan::{Kind, Script, TaskPlan, TaskPlans, Wire, Wires};
 pub use reading::read_script;
 pub use schedule::read_schedule;
 pub use word::number;
-
-#[cfg(test)]
-mod tests;

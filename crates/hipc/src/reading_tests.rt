@@ -1,0 +1,445 @@
+//! What scripts and schedules say: the tables of what is at fault are in faults/, at the top.
+use ipc_ids::{Body, Event, ExchangeMode, Mode, Op, TaskNo, Value};
+use script_reader::{Kind, TaskPlan, Wire, read_schedule, read_script};
+use std::alloc::Global;
+
+/// A task: its name, kind and phones, for each body whether it is one of connections and how many
+/// operations it has, its blocks and its service.
+type Task<'a> = (&'a [u8], Kind, u32, &'a [(bool, usize)], u64, Option<u64>);
+
+/// A script, with its tasks, its templates, and its wires: task, phone, task.
+type Whole<'a> = (
+    &'a [u8],
+    &'a [Task<'a>],
+    &'a [Task<'a>],
+    &'a [(u64, u32, u64)],
+);
+
+fn is_task(plan: &TaskPlan, task: &Task) -> bool {
+    let (name, kind, limit, bodies, blocks, service) = task;
+    let plans = plan.bodies.as_slice();
+    for (body, (connection, count)) in plans.iter().zip(bodies.iter()) {
+        if body.connection != *connection || body.ops.as_slice().len() != *count {
+            return false;
+        }
+    }
+    plan.name.as_slice() == *name
+        && (plan.kind, plan.limit, plans.len()) == (*kind, *limit, bodies.len())
+        && (plan.blocks, plan.service) == (*blocks, *service)
+}
+
+fn are_tasks(plans: &[TaskPlan], tasks: &[Task]) -> bool {
+    for (plan, task) in plans.iter().zip(tasks.iter()) {
+        if !is_task(plan, task) {
+            return false;
+        }
+    }
+    plans.len() == tasks.len()
+}
+
+fn are_wires(plans: &[Wire], wires: &[(u64, u32, u64)]) -> bool {
+    for (plan, wire) in plans.iter().zip(wires.iter()) {
+        if (plan.from.0, plan.phone.0, plan.to.0) != *wire {
+            return false;
+        }
+    }
+    plans.len() == wires.len()
+}
+
+fn is_whole(alloc: Global, whole: &Whole) -> bool {
+    let (bytes, tasks, templates, wires) = whole;
+    match read_script(alloc, *bytes) {
+        Err(_) => false,
+        Ok(script) => {
+            are_tasks(script.tasks.as_slice(), *tasks)
+                && are_tasks(script.templates.as_slice(), *templates)
+                && are_wires(script.wires.as_slice(), *wires)
+        }
+    }
+}
+
+const RAW: &[u8] = b"# two tasks and two wires
+task client raw 2
+\twire client 0x1 client
+
+  call 0 PHONE_HUNGUP r31 EOK 1
+receive
+answer r2 ENOMEM 1 2 3 4 5 # five arguments
+forward r2 1 route
+forward r2 1 plain 512 RW
+task s_9 raw
+wire client 0 s_9
+hangup 63
+set r0 0xfFFFffffFFFFffff
+set r10 18446744073709551615
+jump 65535
+jumpeq r1 R 0
+jumpne r1 W 0x2
+area 4096 0x1 RW
+area r1 r2 R
+unarea r31
+peek SHARE_IN 64
+poke 4096 0aFf";
+
+const FIBRILS: &[u8] = b"task s async 3
+connection
+next
+fibril
+call 7 1 512 r1
+wire s 0 s
+wait 0
+yield
+answer r2 EOK
+open 15 r1 serialize
+begin 7 15
+send 7 6 512 r31 2 3 4 5
+end 7
+close 15
+open 0 63 atomic
+open 1 2 parallel
+fibril
+task c async
+";
+
+/// Operations go to the last task or template, with other lines between.
+const TEMPLATES: &[u8] = b" ns # the service
+
+task a raw
+template w raw 2
+call 0 512
+wire a 1 ns
+receive
+template v async
+fibril
+next
+wire ns 0 a
+task b raw
+receive
+";
+
+const BLOCKS: &[u8] = b"task d block 2
+task e block 64 0x7
+task c raw
+wire d 63 e
+wire c 0 d";
+
+/// Scripts, and what they say.
+const WHOLES: [Whole; 5] = [
+    (
+        RAW,
+        &[
+            (b"client", Kind::Raw, 2, &[(false, 5)], 0, None),
+            (b"s_9", Kind::Raw, 64, &[(false, 11)], 0, None),
+        ],
+        &[],
+        &[(1, 1, 1), (1, 0, 2)],
+    ),
+    (
+        FIBRILS,
+        &[
+            (
+                b"s",
+                Kind::Async,
+                3,
+                &[(true, 1), (false, 11), (false, 0)],
+                0,
+                None,
+            ),
+            (b"c", Kind::Async, 64, &[], 0, None),
+        ],
+        &[],
+        &[(1, 0, 1)],
+    ),
+    (
+        TEMPLATES,
+        &[
+            (b"ns", Kind::Naming, 64, &[], 0, None),
+            (b"a", Kind::Raw, 64, &[(false, 0)], 0, None),
+            (b"b", Kind::Raw, 64, &[(false, 1)], 0, None),
+        ],
+        &[
+            (b"w", Kind::Raw, 2, &[(false, 2)], 0, None),
+            (b"v", Kind::Async, 64, &[(false, 1)], 0, None),
+        ],
+        &[(2, 1, 1), (1, 0, 2)],
+    ),
+    (
+        BLOCKS,
+        &[
+            (b"d", Kind::Block, 64, &[], 2, None),
+            (b"e", Kind::Block, 64, &[], 64, Some(7)),
+            (b"c", Kind::Raw, 64, &[(false, 0)], 0, None),
+        ],
+        &[],
+        &[(1, 63, 2), (3, 0, 1)],
+    ),
+    (b"\n # nothing", &[], &[], &[]),
+];
+
+/// Where the first script stands that says something else.
+fn other_whole(alloc: Global, wholes: &[Whole]) -> Option<usize> {
+    for (index, whole) in wholes.iter().enumerate() {
+        if !is_whole(alloc, whole) {
+            return Some(index);
+        }
+    }
+    None
+}
+
+#[test]
+fn scripts_say_their_tasks_templates_and_wires(rt: HostRuntime) {
+    assert_eq!(rt; other_whole(rt.alloc(), &WHOLES), None);
+}
+
+/// The operations of the first task of `RAW`.
+const MESSAGES: [Op; 5] = [
+    Op::Call {
+        phone: Value::Number(0),
+        method: Value::Number(0),
+        args: [
+            Value::Register(31),
+            Value::Number(0),
+            Value::Number(1),
+            Value::Number(0),
+            Value::Number(0),
+        ],
+    },
+    Op::Receive,
+    Op::Answer {
+        call: Value::Register(2),
+        code: Value::Number(9),
+        args: [
+            Value::Number(1),
+            Value::Number(2),
+            Value::Number(3),
+            Value::Number(4),
+            Value::Number(5),
+        ],
+    },
+    Op::Forward {
+        call: Value::Register(2),
+        phone: Value::Number(1),
+        mode: Mode::Route,
+    },
+    Op::ForwardWith {
+        call: Value::Register(2),
+        phone: Value::Number(1),
+        mode: Mode::Plain,
+        method: Value::Number(512),
+        args: [
+            Value::Number(3),
+            Value::Number(0),
+            Value::Number(0),
+            Value::Number(0),
+            Value::Number(0),
+        ],
+    },
+];
+
+/// Those of the second task of `RAW`, but the last.
+const OTHERS: [Op; 10] = [
+    Op::Hangup(Value::Number(63)),
+    Op::Set {
+        register: 0,
+        value: Value::Number(u64::MAX),
+    },
+    Op::Set {
+        register: 10,
+        value: Value::Number(u64::MAX),
+    },
+    Op::Jump(65535),
+    Op::JumpEqual {
+        left: Value::Register(1),
+        right: Value::Number(1),
+        to: 0,
+    },
+    Op::JumpDiffer {
+        left: Value::Register(1),
+        right: Value::Number(2),
+        to: 2,
+    },
+    Op::Area {
+        base: Value::Number(4096),
+        pages: Value::Number(1),
+        rights: Value::Number(3),
+    },
+    Op::Area {
+        base: Value::Register(1),
+        pages: Value::Register(2),
+        rights: Value::Number(1),
+    },
+    Op::Unarea(Value::Register(31)),
+    Op::Peek {
+        at: Value::Number(6),
+        count: Value::Number(64),
+    },
+];
+
+/// Those of the connections of `FIBRILS`.
+const CONNECTION: [Op; 1] = [Op::Next];
+
+/// Those of its first fibril.
+const FIBRIL: [Op; 11] = [
+    Op::CallSlot {
+        slot: 7,
+        phone: Value::Number(1),
+        method: Value::Number(512),
+        args: [
+            Value::Register(1),
+            Value::Number(0),
+            Value::Number(0),
+            Value::Number(0),
+            Value::Number(0),
+        ],
+    },
+    Op::Wait(0),
+    Op::Yield,
+    Op::Answer {
+        call: Value::Register(2),
+        code: Value::Number(0),
+        args: [Value::Number(0); 5],
+    },
+    Op::OpenSession {
+        session: 15,
+        phone: Value::Register(1),
+        mode: ExchangeMode::Serialize,
+    },
+    Op::Begin {
+        handle: 7,
+        session: 15,
+    },
+    Op::Send {
+        slot: 7,
+        handle: 6,
+        method: Value::Number(512),
+        args: [
+            Value::Register(31),
+            Value::Number(2),
+            Value::Number(3),
+            Value::Number(4),
+            Value::Number(5),
+        ],
+    },
+    Op::End(7),
+    Op::Close(15),
+    Op::OpenSession {
+        session: 0,
+        phone: Value::Number(63),
+        mode: ExchangeMode::Atomic,
+    },
+    Op::OpenSession {
+        session: 1,
+        phone: Value::Number(2),
+        mode: ExchangeMode::Parallel,
+    },
+];
+
+/// Whether a body begins with these operations.
+fn begins_with(body: &Body, wanted: &[Op]) -> bool {
+    for (op, want) in body.ops.as_slice().iter().zip(wanted.iter()) {
+        if op != want {
+            return false;
+        }
+    }
+    body.ops.as_slice().len() >= wanted.len()
+}
+
+/// Whether a body of a task of a script begins with these operations.
+fn has_ops(alloc: Global, script: &[u8], task: usize, body: usize, wanted: &[Op]) -> bool {
+    match read_script(alloc, script) {
+        Err(_) => false,
+        Ok(script) => match script.tasks.as_slice().get(task) {
+            None => false,
+            Some(plan) => match plan.bodies.as_slice().get(body) {
+                None => false,
+                Some(body) => begins_with(body, wanted),
+            },
+        },
+    }
+}
+
+/// Whether the last operation of a body pokes these bytes there.
+fn ends_in_poke(body: &Body, at: Value, bytes: &[u8]) -> bool {
+    match body.ops.as_slice() {
+        [
+            ..,
+            Op::Poke {
+                at: place,
+                bytes: poked,
+            },
+        ] => *place == at && poked.as_slice() == bytes,
+        _ => false,
+    }
+}
+
+/// Whether the last task of a script, a raw one, ends so.
+fn ends_with_poke(alloc: Global, script: &[u8], at: Value, bytes: &[u8]) -> bool {
+    match read_script(alloc, script) {
+        Err(_) => false,
+        Ok(script) => match script.tasks.as_slice() {
+            [.., last] => match last.bodies.as_slice() {
+                [body] => ends_in_poke(body, at, bytes),
+                _ => false,
+            },
+            [] => false,
+        },
+    }
+}
+
+/// A poke of 64 bytes.
+const LONG_POKE: &[u8] = b"task a raw
+poke r0 7777777777777777777777777777777777777777777777777777777777777777\
+7777777777777777777777777777777777777777777777777777777777777777";
+
+#[test]
+fn scripts_say_their_operations(rt: HostRuntime) {
+    assert!(rt; has_ops(rt.alloc(), RAW, 0, 0, &MESSAGES));
+    assert!(rt; has_ops(rt.alloc(), RAW, 1, 0, &OTHERS));
+    assert!(rt; ends_with_poke(rt.alloc(), RAW, Value::Number(4096), &[10, 255]));
+    assert!(rt; ends_with_poke(rt.alloc(), LONG_POKE, Value::Register(0), &[0x77; 64]));
+    assert!(rt; has_ops(rt.alloc(), FIBRILS, 0, 0, &CONNECTION));
+    assert!(rt; has_ops(rt.alloc(), FIBRILS, 0, 1, &FIBRIL));
+}
+
+/// Whether a schedule over a script says just these events.
+fn says_events(alloc: Global, script: &[u8], schedule: &[u8], wanted: &[Event]) -> bool {
+    match read_script(alloc, script) {
+        Err(_) => false,
+        Ok(script) => match read_schedule(alloc, schedule, &script) {
+            Err(_) => false,
+            Ok(events) => events.as_slice() == wanted,
+        },
+    }
+}
+
+const STEPS: &[u8] =
+    b"step client#once\n\nstep s_9 x 2\nkill s_9\n\thangup s_9 18446744073709551615 \n";
+
+/// The events of `STEPS`.
+const STEP_EVENTS: [Event; 5] = [
+    Event::Step(TaskNo(1)),
+    Event::Step(TaskNo(2)),
+    Event::Step(TaskNo(2)),
+    Event::Kill(TaskNo(2)),
+    Event::Hangup(TaskNo(2), u64::MAX),
+];
+
+const SPAWNS: &[u8] = b"spawn v x\nstep x\nkill ns\nspawn w y\nspawn v z\nhangup z 0\nstep b";
+
+/// The events of `SPAWNS`.
+const SPAWN_EVENTS: [Event; 7] = [
+    Event::Spawn(1),
+    Event::Step(TaskNo(4)),
+    Event::Kill(TaskNo(1)),
+    Event::Spawn(0),
+    Event::Spawn(1),
+    Event::Hangup(TaskNo(6), 0),
+    Event::Step(TaskNo(3)),
+];
+
+#[test]
+fn schedules_say_their_events(rt: HostRuntime) {
+    assert!(rt; says_events(rt.alloc(), RAW, STEPS, &STEP_EVENTS));
+    assert!(rt; says_events(rt.alloc(), TEMPLATES, SPAWNS, &SPAWN_EVENTS));
+    assert!(rt; says_events(rt.alloc(), RAW, b"#", &[]));
+}
