@@ -14,3 +14,21 @@ mod Refusals
 mod ServiceHistories
 pub mod ServiceRuns
 pub mod LawfulRuns
+pub mod KnownMaps
+pub mod RunWords
+pub mod RunCall
+mod RunForward
+mod RunConnect
+mod RunCallback
+mod RunDataWrite
+mod RunDataRead
+mod RunShareOut
+mod RunShareIn
+mod RunKill
+mod RunDeadPhones
+mod RunRefusedForward
+mod RunService
+mod RunConnection
+mod RunAtomic
+mod RunSerialize
+mod RunParallel

@@ -243,7 +243,7 @@ hangup_fits h k u phone t (any.Async p) told fits now =
     let served : Served = serve k u (ask.Hangup phone) in
     hangup_keeps h served.entries t p.state u (ask.Hangup phone) served.outcome fits
     (lawful_now (h ++ served_entries u (ask.Hangup phone) served) served.state now)
-    (serve_is_honest k u (ask.Hangup phone)).effects
+    (serve_is_honest k u (ask.Hangup phone))
     (outcome_fits k u (ask.Hangup phone) told.sound)
 
 -- a kill, of its own task or of another
