@@ -23,13 +23,13 @@ def module(name: str) -> str:
     return f"const {name} = (() => {{\n{body}\nreturn {{{exports}}};\n}})();\n"
 
 
-def page(name: str, texts: Sequence[str], lessons: Sequence[Tuple[str, str]] = (), about: str = "") -> str:
+def page(name: str, texts: Sequence[str], lessons: Sequence[Tuple[str, str]] = (), told: Tuple[str, str] = ("", "")) -> str:
     """The page of a run: its name, and the texts of script, schedule and trace. One that is served has names and titles of
-    the lessons, for its list, and the text of the one that it shows."""
+    the lessons, for its list, and what the one that it shows says, with its answer."""
     script, schedule, trace = texts
     is_served = bool(lessons)
     data = {"name": name, "script": script, "schedule": schedule, "trace": trace, "lessons": list(lessons),
-            "isServed": is_served, "about": about}
+            "isServed": is_served, "about": told[0], "answer": told[1]}
     values = {
         "@TITLE@": html.escape(f"{name}: a run of hipc"),
         "@CONNECT@": "'self'" if is_served else "'none'",

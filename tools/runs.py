@@ -4,6 +4,7 @@ from __future__ import annotations
 import os
 import subprocess
 import sys
+from itertools import groupby
 
 TOP = os.path.dirname(os.path.dirname(os.path.realpath(__file__)))
 MOST_EVENTS = 65_536
@@ -19,6 +20,12 @@ def program_of(tool: str) -> str:
     if not named and subprocess.run([os.path.join(TOP, "tools", "is-fresh")], check=False).returncode:
         sys.exit(f"{tool}: there is no program that is as new as the sources: run ./build, or name one in HIPC")
     return named or os.path.join(TOP, "crates", "hipc", "out", "hipc")
+
+
+def schedule_of(steps: list[str]) -> str:
+    """The text of a schedule with a line for each event, where steps of one task that follow each other are one line."""
+    runs = [(step, len(list(run))) for step, run in groupby(steps)]
+    return "".join(f"{step} x {count}\n" if count > 1 and step.startswith("step ") else f"{step}\n" * count for step, count in runs)
 
 
 def trace_of(program: str, script: str, steps: list[str]) -> str:

@@ -9,6 +9,8 @@ import {CODES, METHODS, RIGHTS, endOf, isShown, numberOf} from "./fold.mjs";
 export const ROW = 22; // pixels
 export const LEFT = 58; // pixels before the first column, for the numbers of events
 const WIDE = 7.9, MIDDLE = 6.5, NARROW = 4; // pixels of capitals and digits, of small letters, and of points and spaces, about
+// What a narrow column leaves out, in this order: the numbers beside names of codes and methods, and words that are plain.
+const SHORTER = /** @type {[RegExp, string][]} */ ([[/ \(\d+\)/, ""], [/\b(gets|receives|drops) (?:answer|call) /, "$1 "]]);
 const BLACK = "#1c2530", RED = "#b00020", GREY = "#8a94a0", LATER = "#bcc4cd";
 
 /** @param {string | number} text */
@@ -158,10 +160,12 @@ function widthOf(text) {
   return width;
 }
 
-/** A text that fits into so many pixels.
- * @param {string} text @param {number} room */
+/** A text that fits into so many pixels: where it must, without what is known anyway, and else it is cut off.
+ * @param {string} text @param {number} room @returns {string} */
 function fitted(text, room) {
   if (widthOf(text) <= room) return text;
+  const shorter = SHORTER.map(([long, short]) => text.replace(long, short)).find(it => it !== text);
+  if (shorter) return fitted(shorter, room);
   let end = Math.min(text.length, Math.floor(room / NARROW));
   while (end > 3 && widthOf(text.slice(0, end)) + WIDE > room) end -= 1;
   return text.slice(0, end) + "\u2026";
@@ -177,7 +181,7 @@ function textAt(x, y, text, more, whole) {
  * @param {Row} row @param {number} x @param {number} y @param {number} column its width @param {string} colour */
 function drawBox(row, x, y, column, colour) {
   if (row.kind === "small") return textAt(x + 8, y + 15, fitted(row.text, column - 20), `fill="${colour === LATER ? LATER : GREY}"`, row.text);
-  const text = fitted(row.text, column - 16), width = column - 10;
+  const text = fitted(row.text, column - 20), width = column - 10;
   return `<rect x="${x - width / 2}" y="${y + 2}" width="${width}" height="${ROW - 4}" rx="3" fill="#fff" stroke="${colour}"/>`
     + textAt(x, y + 15, text, `text-anchor="middle" fill="${colour}"`, row.text);
 }

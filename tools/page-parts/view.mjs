@@ -1,6 +1,6 @@
 // The page: where one stands in a run, what is drawn of it, and what keys, buttons and links do.
 import {CODES, METHODS, RIGHTS, Run, copyOfState, lineOf, nextHead, numberOf} from "./fold.mjs";
-import {LEFT, ROW, codeText, drawRow, escaped, methodText, nameOf, rowsOf} from "./chart.mjs";
+import {LEFT, ROW, codeText, drawRow, escaped, methodText, nameOf, rowsOf, trimmed} from "./chart.mjs";
 
 /** @typedef {import("./fold.mjs").State} State */
 /** @typedef {import("./fold.mjs").Task} Task */
@@ -8,13 +8,14 @@ import {LEFT, ROW, codeText, drawRow, escaped, methodText, nameOf, rowsOf} from 
 /** @typedef {{lines: string[], from: number, to: number, above: number, marked: any[]}} Listing the lines of a text that are drawn, and
  *   the elements of those that are marked; `above` is 1 where a line says how many there are above */
 /** @typedef {{name: string, script: string, schedule: string, trace: string, lessons: [string, string][],
- *   isServed: boolean, about: string}} Data */
+ *   isServed: boolean, about: string, answer: string}} Data */
 
 const MOST_CHIPS = 24; // of one row of a task's card
 const MOST_LINES = 300; // of a listing
 const NARROWEST = 150, WIDEST = 320; // pixels of a column
 const BESIDE = 0.2; // of a column, beside the last one
 const OVER = 12; // rows that are drawn above and below those in view
+const PRESENT = "fill=\"#ffd84d\" fill-opacity=\".28\""; // behind the present event, with the lines of the tasks to be seen through it
 const BEHIND = 150; // milliseconds until the address follows
 
 /** @param {string} id @returns {any} */
@@ -181,7 +182,7 @@ function drawEvent(place, from, width) {
   const way = {column: view.column, width, picked, from: scroll.left + LEFT, to: scroll.left + scroll.width};
   const number = shown[place], top = tops[place] - from, high = tops[place + 1] - tops[place];
   const rows = rowsOf(run, run.event(number)).map((row, i) => drawRow(row, x, top + i * ROW, {...way, isLater: number > at})).join("");
-  const back = number === at ? `<rect x="0" y="${top}" width="${width}" height="${high}" fill="#fff2cc"/>` : "";
+  const back = number === at ? `<rect x="0" y="${top}" width="${width}" height="${high}" ${PRESENT}/>` : "";
   return `<g>${back}<rect class="hit" data-at="${number}" x="0" y="${top}" width="${width}" height="${high}"/>`
     + `${rows}</g>`;
 }
@@ -364,11 +365,15 @@ function drawParts(title, now, before, none) {
   return text ? `<div class="row"><b>${title}</b><div>${text}</div></div>` : "";
 }
 
-/** @param {number[]} queue @param {number} at @param {boolean} isAnswer @returns {Chip[]} */
-function callChips(queue, at, isAnswer) {
+/** The calls of a queue. The arguments of one that was not received stay out: the kernel may have changed them, which the
+ * trace tells at the receive.
+ * @param {number[]} queue @param {number} at @param {string} title of the queue @returns {Chip[]} */
+function callChips(queue, at, title) {
+  const isAnswer = title === "answers", isHeld = title === "held";
   return queue.map(number => {
     const call = view.run.calls[number], message = view.run.message(number, at), forgotten = call.forgotten && call.forgotten <= at;
-    const text = isAnswer && call.answer ? codeText(call.answer.code) : `${methodText(message.method)} from ${byName(message.label)}`;
+    const request = `${methodText(message.method)}${isHeld ? trimmed(message.args.split(" ")) : ""} from ${byName(message.label)}`;
+    const text = isAnswer && call.answer ? codeText(call.answer.code) + trimmed(call.answer.args.split(" ")) : request;
     return {key: number, call: number, kind: "", text: text + (forgotten ? ", forgotten" : "")};
   });
 }
@@ -426,7 +431,7 @@ function drawRegisters(task, old) {
 function drawCalls(task, old) {
   const {at} = view, free = task.plan.phones - task.phones.size;
   const queue = (/** @type {string} */ title, /** @type {number[]} */ now, /** @type {number[]} */ before) =>
-    drawParts(title, callChips(now, at, title === "answers"), callChips(before, at - 1, title === "answers"), "none");
+    drawParts(title, callChips(now, at, title), callChips(before, at - 1, title), "none");
   return queue("incoming", task.incoming, old.incoming) + queue("held", task.held, old.held) + queue("answers", task.answers, old.answers)
     + drawParts("phones", phoneChips(task), phoneChips(old), "")
     + (task.phones.size ? "" : `<div class="row"><b>phones</b><div><span class="quiet">all ${free} free</span></div></div>`);
@@ -649,6 +654,11 @@ function serve() {
   $("lessons").hidden = $("edit").hidden = !data.isServed;
   $("about").hidden = !data.about;
   $("lesson").textContent = data.about;
+  $("answer").hidden = !data.answer;
+  $("solution").textContent = data.answer;
+  const next = data.lessons[data.lessons.findIndex(([name]) => name === data.name) + 1];
+  $("next").hidden = !next;
+  if (next) [$("next").title, $("next").href] = [next[1], `/lesson/${next[0]}`];
   const lessons = data.lessons.map(([name, title]) => `<option value="${name}">${escaped(title)}</option>`);
   $("lessons").innerHTML = `<option value="">lessons ..</option>${lessons.join("")}`;
   $("lessons").value = data.lessons.some(([name]) => name === data.name) ? data.name : "";
