@@ -16,3 +16,4 @@ pub mod Linking
 pub mod NewTasks
 pub mod QuietTasks
 pub mod WakeExamples
+pub mod TakenCalls

@@ -8,3 +8,4 @@ pub mod TaskHistory
 pub mod Deliveries
 pub mod Links
 pub mod QuietTasks
+pub mod TakenCalls

@@ -5,6 +5,8 @@ ghost use Rattle.async_laws.specs.TaskHistory.{FittingLosesNoWake, StartKeepsWak
 ghost use Rattle.async_laws.specs.OrderLaws.{YieldsGoBehind, RoutesGoLast, FirstIsTaken};
 ghost use Rattle.async_laws.specs.HeldCalls.{ReceivedCallsCome, KeptCallsStay};
 ghost use Rattle.async_laws.specs.OrderLaws.{StrayCallsAreRefused, LimitsAreHeeded};
+ghost use Rattle.async_laws.specs.TakenCalls.{NextTakesTheFirst, NextTellsTheClosing};
+ghost use Rattle.async_laws.specs.TakenCalls.{WaitersTakeAtOnce, WaitersHearHangups};
 ghost use Rattle.async_laws.specs.Links.{PromisesFollow, EntriesAreOwn, EventKeeps};
 ghost use Rattle.async_laws.specs.Links.{EventKeepsOthers, KillKeeps, HangupKeeps, GoneKeeps};
 ghost use Rattle.async_laws.specs.Links.{SpawnKeeps};
@@ -57,6 +59,18 @@ pub fn fibrils_and_calls_keep_their_order()
 pub fn received_calls_are_not_lost()
     ensures received { ReceivedCallsCome }
     ensures stay { KeptCallsStay }
+{}
+
+/// A fibril that does `next` has the call in its registers that stood first at its connection: r0
+/// is 0, r2 its number, r3 its method, r4 to r8 its arguments, r16 and r17 the task and the phone
+/// of its label. All other registers stay, and so does what any other fibril keeps. Where none
+/// stands there and the connection is closed, it is call 0 with method 0. A fibril that waits in
+/// `next` takes what comes at once.
+pub fn next_tells_the_first_call()
+    ensures first { NextTakesTheFirst }
+    ensures closed { NextTellsTheClosing }
+    ensures waiting { WaitersTakeAtOnce }
+    ensures hung_up { WaitersHearHangups }
 {}
 
 /// What the kernel promises a task follows from the laws of calls, where the effects of an event
