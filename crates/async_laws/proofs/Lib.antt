@@ -16,4 +16,5 @@ pub mod Linking
 pub mod NewTasks
 pub mod QuietTasks
 pub mod WakeExamples
+pub mod KeptOnce
 pub mod TakenCalls

@@ -8,4 +8,5 @@ pub mod TaskHistory
 pub mod Deliveries
 pub mod Links
 pub mod QuietTasks
+pub mod KeptOnce
 pub mod TakenCalls

@@ -5,6 +5,8 @@ ghost use Rattle.async_laws.specs.TaskHistory.{FittingLosesNoWake, StartKeepsWak
 ghost use Rattle.async_laws.specs.OrderLaws.{YieldsGoBehind, RoutesGoLast, FirstIsTaken};
 ghost use Rattle.async_laws.specs.HeldCalls.{ReceivedCallsCome, KeptCallsStay};
 ghost use Rattle.async_laws.specs.OrderLaws.{StrayCallsAreRefused, LimitsAreHeeded};
+ghost use Rattle.async_laws.specs.KeptOnce.{StartKeepsOnce, EachKeepsOnce, ReceivedCallsComeOnce};
+ghost use Rattle.async_laws.specs.KeptOnce.{KeptCallsGoOnce};
 ghost use Rattle.async_laws.specs.TakenCalls.{NextTakesTheFirst, NextTellsTheClosing};
 ghost use Rattle.async_laws.specs.TakenCalls.{WaitersTakeAtOnce, WaitersHearHangups};
 ghost use Rattle.async_laws.specs.Links.{PromisesFollow, EntriesAreOwn, EventKeeps};
@@ -59,6 +61,17 @@ pub fn fibrils_and_calls_keep_their_order()
 pub fn received_calls_are_not_lost()
     ensures received { ReceivedCallsCome }
     ensures stay { KeptCallsStay }
+{}
+
+/// A call that is kept is kept once: it stands at one place of one queue, or is the close call of
+/// one connection, or is owed one answer. One that comes is kept once more, or a fibril has it at
+/// once, or a connection. One whose answer is made, or that a fibril takes, is kept once less. So
+/// no call is kept twice, where none comes again while it is kept.
+pub fn calls_are_kept_once()
+    ensures start { StartKeepsOnce }
+    ensures each { EachKeepsOnce }
+    ensures comes { ReceivedCallsComeOnce }
+    ensures goes { KeptCallsGoOnce }
 {}
 
 /// A fibril that does `next` has the call in its registers that stood first at its connection: r0

@@ -8,7 +8,7 @@
 mod laws;
 
 pub use laws::{
-    events_keep_the_fit, fibrils_and_calls_keep_their_order, fitting_entries_keep_the_laws,
-    lawful_runs_keep_the_fit, laws_of_calls_keep_the_promises, next_tells_the_first_call,
-    no_wake_up_is_lost, received_calls_are_not_lost,
+    calls_are_kept_once, events_keep_the_fit, fibrils_and_calls_keep_their_order,
+    fitting_entries_keep_the_laws, lawful_runs_keep_the_fit, laws_of_calls_keep_the_promises,
+    next_tells_the_first_call, no_wake_up_is_lost, received_calls_are_not_lost,
 };
