@@ -18,3 +18,4 @@ pub mod QuietTasks
 pub mod WakeExamples
 pub mod KeptOnce
 pub mod TakenCalls
+pub mod LimitLaws

@@ -9,4 +9,5 @@ pub mod Deliveries
 pub mod Links
 pub mod QuietTasks
 pub mod KeptOnce
+pub mod LimitLaws
 pub mod TakenCalls

@@ -9,6 +9,9 @@ ghost use Rattle.async_laws.specs.KeptOnce.{StartKeepsOnce, EachKeepsOnce, Recei
 ghost use Rattle.async_laws.specs.KeptOnce.{KeptCallsGoOnce};
 ghost use Rattle.async_laws.specs.TakenCalls.{NextTakesTheFirst, NextTellsTheClosing};
 ghost use Rattle.async_laws.specs.TakenCalls.{WaitersTakeAtOnce, WaitersHearHangups};
+ghost use Rattle.async_laws.specs.LimitLaws.{RefusalsAreRemembered, AnswersAreRemembered};
+ghost use Rattle.async_laws.specs.LimitLaws.{TheShortDoNotConnect, OnlyTheLimitMakesShort};
+ghost use Rattle.async_laws.specs.LimitLaws.{NobodyIsToldTheLimit};
 ghost use Rattle.async_laws.specs.Links.{PromisesFollow, EntriesAreOwn, EventKeeps};
 ghost use Rattle.async_laws.specs.Links.{EventKeepsOthers, KillKeeps, HangupKeeps, GoneKeeps};
 ghost use Rattle.async_laws.specs.Links.{SpawnKeeps};
@@ -84,6 +87,18 @@ pub fn next_tells_the_first_call()
     ensures closed { NextTellsTheClosing }
     ensures waiting { WaitersTakeAtOnce }
     ensures hung_up { WaitersHearHangups }
+{}
+
+/// Where the connect call of a begin is refused or answered with `ELIMIT`, the fibril stays at its
+/// begin with no register changed, is ready, and keeps in mind that the task has no phone left: so
+/// it sends no connect call again in that begin. In no other way does a fibril come to keep that,
+/// and the task itself refuses no operation with `ELIMIT`.
+pub fn limits_are_kept_in_mind()
+    ensures refused { RefusalsAreRemembered }
+    ensures answered { AnswersAreRemembered }
+    ensures heeded { TheShortDoNotConnect }
+    ensures alone { OnlyTheLimitMakesShort }
+    ensures untold { NobodyIsToldTheLimit }
 {}
 
 /// What the kernel promises a task follows from the laws of calls, where the effects of an event

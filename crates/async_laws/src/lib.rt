@@ -10,5 +10,6 @@ mod laws;
 pub use laws::{
     calls_are_kept_once, events_keep_the_fit, fibrils_and_calls_keep_their_order,
     fitting_entries_keep_the_laws, lawful_runs_keep_the_fit, laws_of_calls_keep_the_promises,
-    next_tells_the_first_call, no_wake_up_is_lost, received_calls_are_not_lost,
+    limits_are_kept_in_mind, next_tells_the_first_call, no_wake_up_is_lost,
+    received_calls_are_not_lost,
 };
