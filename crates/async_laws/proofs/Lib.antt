@@ -19,3 +19,4 @@ pub mod WakeExamples
 pub mod KeptOnce
 pub mod TakenCalls
 pub mod LimitLaws
+pub mod LawExamples
