@@ -22,6 +22,7 @@ mod KeptReplies
 mod OneArea
 mod LawfulReads
 mod LawfulWrites
+mod DroppedAreas
 mod LawfulAreas
 mod LawfulData
 mod LawfulShares
