@@ -31,3 +31,4 @@ mod LawfulAnswers
 mod CarriedCalls
 mod MemoryRequests
 mod DeliveredAnswers
+mod ToldHangups
