@@ -31,4 +31,5 @@ mod LawfulAnswers
 mod CarriedCalls
 mod MemoryRequests
 mod DeliveredAnswers
+mod ActiveCalls
 mod ToldHangups

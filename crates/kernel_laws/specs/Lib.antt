@@ -1,3 +1,4 @@
+pub mod ActiveCalls
 pub mod AnswerCodes
 pub mod CallCodes
 pub mod Carrying

@@ -22,6 +22,7 @@ mod routes;
 pub use call_codes::{
     answers_are_delivered_as_given, answers_have_the_code_that_is_due,
     calls_are_refused_by_the_first_cause, calls_keep_what_they_carry,
+    the_limit_counts_the_active_calls,
 };
 pub use connecting::{argument_five_tells_the_phone, connect_calls_connect_the_two};
 pub use data::{data_calls_move_what_they_name, shares_give_what_they_name};
