@@ -32,4 +32,5 @@ mod CarriedCalls
 mod MemoryRequests
 mod DeliveredAnswers
 mod ActiveCalls
+mod UsablePhones
 mod ToldHangups

@@ -14,3 +14,4 @@ pub mod PoolLaws
 pub mod ReceiveLaws
 pub mod Routes
 pub mod SpawnLaws
+pub mod UsablePhones
