@@ -34,3 +34,4 @@ mod DeliveredAnswers
 mod ActiveCalls
 mod UsablePhones
 mod ToldHangups
+mod LawExamples
