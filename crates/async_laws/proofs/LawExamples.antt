@@ -4,6 +4,7 @@ use Rattle.std.specs.Prelude.{replicate, if◌then◌else◌}
 use Rattle.ipc_ids.specs.declared.numbers.CallNo.{CallNo}
 use Rattle.ipc_ids.specs.declared.numbers.Label.{Label}
 use Rattle.ipc_ids.specs.declared.message.Msg.{Msg}
+use Rattle.ipc_ids.specs.declared.message.Outcome.TheVariants as outcome
 use Rattle.ipc_ids.specs.Codes.{ehangup, elimit}
 use Rattle.fibril_core.specs.declared.conn.Conn.{Conn}
 use Rattle.fibril_core.specs.declared.conn.Queued.{Queued}
@@ -12,6 +13,7 @@ use Rattle.async_sessions.specs.Sessions.{no_sessions}
 use Rattle.async_task.specs.declared.context.Context.{Context}
 use Rattle.async_task.specs.Contexts.{new_context, after_refused}
 use Rattle.async_task.specs.AsyncState.{AsyncState}
+use Rattle.async_task.specs.Steps.{step}
 use Rattle.async_laws.specs.KeptOnce.{AreKeptOnce}
 use Rattle.async_laws.specs.LimitLaws.{Remembers}
 use Rattle.async_laws.specs.TakenCalls.{TellCall}
@@ -106,3 +108,8 @@ told_the_limit law = let e : 1 ≡ 0 = ap place_in law.here in omega (arith, e)
 -- it forgets the limit
 limit_forgotten : Remembers (record { 0 = 1 }) (new_context 0) (task []) (task []) → ⊥
 limit_forgotten law = let e : 0 ≡ 1 = ap short_in law.here in omega (arith, e)
+
+-- Why no call may come again while it is kept: no fibril of this task is ready, so it receives, and the call that is
+-- queued comes once more, as it can where a fibril passed it on by its number and it was passed back.
+comes_again : AreKeptOnce (step (task (conn 1 queued None ∷ [])) (outcome.Received call msg label)).state → ⊥
+comes_again law = let two : 2 ≤ 1 = law call in omega (arith, two)

@@ -21,24 +21,26 @@ use Rattle.fibril_core.specs.declared.conn.Taken.{Taken}
 use Rattle.fibril_core.specs.declared.conn.Taken.TheVariants as taken
 use Rattle.fibril_core.specs.declared.conn.Routed.TheVariants as routed
 use Rattle.fibril_core.specs.declared.fibrils.Status.TheVariants.{Ready}
-use Rattle.fibril_core.specs.Fibrils.{FibrilOrder, why_at, fibril_at, make_ready}
+use Rattle.fibril_core.specs.Fibrils.{FibrilOrder, why_at, why_of, fibril_at, make_ready, next_number}
 use Rattle.fibril_core.specs.FibrilLaws.{status_of}
 use Rattle.fibril_core.specs.Conns as conns
 use Rattle.fibril_core.specs.Conns.{conn_of_fibril, conn_of_label, leads_to, is_open, closes, route_to, route_answer}
-use Rattle.fibril_core.specs.Conns.{take_from, take_answer}
+use Rattle.fibril_core.specs.Conns.{take_from, take_answer, fibril_of}
 use Rattle.fibril_core.proofs.Orders.{first_number}
-use Rattle.fibril_core.proofs.Places.{set_here, set_elsewhere, length_set}
+use Rattle.fibril_core.proofs.Places.{set_here, set_elsewhere, length_set, push_here}
 use Rattle.fibril_core.proofs.Connections.{fibril_there, label_there, route_changes}
 use Rattle.async_task.specs.declared.context.Context.{Context}
 use Rattle.async_task.specs.Turns.{Turn}
 use Rattle.async_task.specs.Turns as turn
-use Rattle.async_task.specs.Contexts.{at_next, with_received}
+use Rattle.async_task.specs.Contexts.{new_context, at_next, with_received}
+use Rattle.async_task.specs.Connections.{reach_holder, start_connection, connect_call, called_label}
 use Rattle.async_task.specs.AsyncState.{AsyncState, context_at, with_context}
 use Rattle.async_task.specs.Turns.{turn_now}
 use Rattle.async_task.specs.Calls.{next_call, with_taken}
 use Rattle.async_task.specs.Connections.{hand_over, reach_blocked, reach, after_route, receive_call_by}
 use Rattle.async_task.specs.Steps.{step_in, step}
 use Rattle.async_laws.specs.NoLostWakes.{IsQuiet, KeepsWakes}
+use Rattle.async_laws.specs.TakenCalls.{KnowsItsCall, StartedOnesKnowTheirCall}
 use Rattle.async_laws.specs.TakenCalls.{IsUntold, TellCall, Takes, closing, no_call, Serves, NextTakesTheFirst}
 use Rattle.async_laws.specs.TakenCalls.{NextTellsTheClosing, WaitsAt, WaitersTakeAtOnce, WaitersHearHangups}
 use Rattle.async_laws.proofs.NoLostWakes.{IsPresent, present_is, context_set}
@@ -367,3 +369,64 @@ waiters_take_at_once a n msg label f t c kept now w plain other = taken_call a n
 pub waiters_hear_hangups : WaitersHearHangups
 waiters_hear_hangups a n msg label f t c kept now w none =
     taken_closing a n msg label f t c kept now w (λ e. omega (arith, e, none)) none
+
+-- a fibril that a connection starts
+
+with_length : (b : AsyncState) (f : FibrilNo) (u : Context) → length (with_context b f u).contexts ≡ length b.contexts
+with_length b f u = by (nat_lt (f.0 - 1) (length b.contexts))
+  where
+    by : (x : Bool) → length (if x then slice_set b.contexts (f.0 - 1) u else b.contexts) ≡ length b.contexts
+    by true = length_set b.contexts (f.0 - 1) u
+    by false = refl
+
+hand_length : (d : AsyncState) (f : FibrilNo) (s : Taken) (q : Option Context) →
+    length (hand_over d f s q).contexts ≡ length d.contexts
+hand_length d f (taken.Call n msg label) (Some t) = with_length d f (at_next (with_received t n msg label))
+hand_length d f (taken.HungUp label) (Some t) = with_length d f (at_next (with_received t no_call closing label))
+hand_length d f (taken.Call n msg label) None = refl
+hand_length d f (taken.HungUp label) None = refl
+hand_length d f taken.Wait q = refl
+hand_length d f taken.NoConnection q = refl
+
+reach_length : (b : AsyncState) (f : FibrilNo) (v : Option Why) →
+    length (reach_blocked b f v).contexts ≡ length b.contexts
+reach_length b f (Some why.Message) =
+    hand_length (record b { conns = conns.take_next f b.conns; order = make_ready b.order f }) f
+    (take_answer (conn_of_fibril f b.conns)) (context_at b f)
+reach_length b f None = refl
+reach_length b f (Some (why.Answer n)) = refl
+reach_length b f (Some (why.Mutex s)) = refl
+reach_length b f (Some why.Phone) = refl
+
+holder_length : (b : AsyncState) (g : Option FibrilNo) → length (reach_holder b g).contexts ≡ length b.contexts
+holder_length b None = refl
+holder_length b (Some f) = reach_length b f (why_of b.order f)
+
+pub started_ones_know_their_call : StartedOnesKnowTheirCall
+started_ones_know_their_call a n msg label body now asks is =
+    subst (λ (x : AsyncState). KnowsItsCall n msg label body a x) (sym state) (record {
+      now = new;
+      here =
+          ap (λ (i : ℕ). slice_get (before.contexts ++ new ∷ []) i) (sym (holder_length b holder))
+          ∙ push_here before.contexts new;
+      registers = tells (new_context body) n msg label refl;
+      rest = refl;
+    })
+  where
+    new : Context
+    new = with_received (new_context body) n msg label
+
+    holder : Option FibrilNo
+    holder = fibril_of (conn_of_label (called_label msg) a.conns)
+
+    b : AsyncState
+    b = record a { conns = conns.start (called_label msg) (next_number a.order) a.conns }
+
+    before : AsyncState
+    before = reach_holder b holder
+
+    state : (step a (outcome.Received n msg label)).state ≡ (start_connection a n msg label body (called_label msg)).state
+    state =
+        ap (λ (r : Turn). (step_in a (outcome.Received n msg label) r).state) now
+        ∙ ap (λ (x : Bool). (receive_call_by a n msg label x).state) (eq-eqb msg.method connect_me_to asks)
+        ∙ ap (λ (p : Option ℕ). (connect_call a n msg label p).state) is

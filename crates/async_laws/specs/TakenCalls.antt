@@ -1,6 +1,6 @@
 -- What a fibril is told by `next`, in the words of its registers.
 use Rattle.std.specs.Prelude.{ℕ, ◌≡◌, ◌≢◌, ◌+◌, ◌^◌, ◌<◌, ◌≤◌, ◌⊎◌, true, List, [], ◌∷◌, length}
-use Rattle.std.specs.Prelude.{Some, slice_get, slice_index}
+use Rattle.std.specs.Prelude.{Some, slice_get, slice_index, replicate, position}
 use Rattle.ipc_ids.specs.declared.numbers.CallNo.{CallNo}
 use Rattle.ipc_ids.specs.declared.numbers.FibrilNo.{FibrilNo}
 use Rattle.ipc_ids.specs.declared.numbers.Label.{Label}
@@ -15,6 +15,8 @@ use Rattle.fibril_core.specs.declared.conn.Queued.{Queued}
 use Rattle.fibril_core.specs.Fibrils.{why_of}
 use Rattle.async_task.specs.declared.context.Context.{Context}
 use Rattle.async_task.specs.Turns as turn
+use Rattle.async_task.specs.Contexts.{new_context}
+use Rattle.async_task.specs.Connections.{is_of_connections}
 use Rattle.async_task.specs.AsyncState.{AsyncState, context_at}
 use Rattle.async_task.specs.Turns.{turn_now}
 use Rattle.async_task.specs.Steps.{step}
@@ -96,3 +98,17 @@ WaitersHearHangups =
     (a : AsyncState) (n : CallNo) (msg : Msg) (label : Label) (f : FibrilNo) (t : Context) (c : Conn) →
     KeepsWakes a → turn_now a ≡ turn.Receive → WaitsAt f c t label a → msg.method ≡ 0 →
     Takes f t no_call closing label a (step a (outcome.Received n msg label)).state
+
+-- the fibril of a connection that starts stands before that body, with the connect call in its registers
+pub record KnowsItsCall (n : CallNo) (msg : Msg) (label : Label) (body : ℕ) (a after : AsyncState) : Type 0 where
+  pub now : Context
+  pub here : slice_get after.contexts (length a.contexts) ≡ Some now
+  pub registers : TellCall n msg label (replicate 32 0) now.registers
+  pub rest : now ≡ record (new_context body) { registers = now.registers }
+
+-- so it is where a connect call comes and the task has a body of connections
+abbrev pub StartedOnesKnowTheirCall : Type 0
+StartedOnesKnowTheirCall =
+    (a : AsyncState) (n : CallNo) (msg : Msg) (label : Label) (body : ℕ) → turn_now a ≡ turn.Receive →
+    msg.method ≡ connect_me_to → position is_of_connections a.bodies ≡ Some body →
+    KnowsItsCall n msg label body a (step a (outcome.Received n msg label)).state

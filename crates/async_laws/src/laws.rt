@@ -9,6 +9,7 @@ ghost use Rattle.async_laws.specs.KeptOnce.{StartKeepsOnce, EachKeepsOnce, Recei
 ghost use Rattle.async_laws.specs.KeptOnce.{KeptCallsGoOnce};
 ghost use Rattle.async_laws.specs.TakenCalls.{NextTakesTheFirst, NextTellsTheClosing};
 ghost use Rattle.async_laws.specs.TakenCalls.{WaitersTakeAtOnce, WaitersHearHangups};
+ghost use Rattle.async_laws.specs.TakenCalls.{StartedOnesKnowTheirCall};
 ghost use Rattle.async_laws.specs.LimitLaws.{RefusalsAreRemembered, AnswersAreRemembered};
 ghost use Rattle.async_laws.specs.LimitLaws.{TheShortDoNotConnect, OnlyTheLimitMakesShort};
 ghost use Rattle.async_laws.specs.LimitLaws.{NobodyIsToldTheLimit};
@@ -81,12 +82,13 @@ pub fn calls_are_kept_once()
 /// is 0, r2 its number, r3 its method, r4 to r8 its arguments, r16 and r17 the task and the phone
 /// of its label. All other registers stay, and so does what any other fibril keeps. Where none
 /// stands there and the connection is closed, it is call 0 with method 0. A fibril that waits in
-/// `next` takes what comes at once.
+/// `next` takes what comes at once, and one that a connection starts has the connect call so.
 pub fn next_tells_the_first_call()
     ensures first { NextTakesTheFirst }
     ensures closed { NextTellsTheClosing }
     ensures waiting { WaitersTakeAtOnce }
     ensures hung_up { WaitersHearHangups }
+    ensures started { StartedOnesKnowTheirCall }
 {}
 
 /// Where the connect call of a begin is refused or answered with `ELIMIT`, the fibril stays at its
