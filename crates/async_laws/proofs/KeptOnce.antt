@@ -462,10 +462,12 @@ module _ (a : AsyncState) (n : CallNo) (msg : Msg) (label : Label) where
                 label = l;
                 handed = λ t here.
                     subst (λ (q : Option Context).
-                    context_at (hand_over d c.fibril (taken.Call k m l) q) c.fibril ≡ Some (at_next (with_received t n m l)))
+                    context_at (hand_over d c.fibril (taken.Call k m l) q) c.fibril
+                    ≡ Some (at_next (with_received t n m l)))
                     (sym here)
                     (subst (λ (j : CallNo).
-                    context_at (hand_over d c.fibril (taken.Call k m l) (Some t)) c.fibril ≡ Some (at_next (with_received t j m l)))
+                    context_at (hand_over d c.fibril (taken.Call k m l) (Some t)) c.fibril
+                    ≡ Some (at_next (with_received t j m l)))
                     same (context_set d c.fibril t (at_next (with_received t k m l)) here));
               },
             )

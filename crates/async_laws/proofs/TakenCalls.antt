@@ -425,7 +425,8 @@ started_ones_know_their_call a n msg label body now asks is =
     before : AsyncState
     before = reach_holder b holder
 
-    state : (step a (outcome.Received n msg label)).state ≡ (start_connection a n msg label body (called_label msg)).state
+    state : (step a (outcome.Received n msg label)).state ≡
+        (start_connection a n msg label body (called_label msg)).state
     state =
         ap (λ (r : Turn). (step_in a (outcome.Received n msg label) r).state) now
         ∙ ap (λ (x : Bool). (receive_call_by a n msg label x).state) (eq-eqb msg.method connect_me_to asks)
