@@ -95,7 +95,7 @@ wait_same a f t k slot.Closed = (refl, refl)
 wait_same a f t k (slot.Sent n) = (refl, refl)
 wait_same a f t k (slot.Answered n r) = (refl, refl)
 
-next_same : (a : AsyncState) (f : FibrilNo) (t : Context) (s : Taken) →
+pub next_same : (a : AsyncState) (f : FibrilNo) (t : Context) (s : Taken) →
     IsSame a (next_call a f t s).state
 next_same a f t (taken.Call n msg label) = (refl, refl)
 next_same a f t (taken.HungUp label) = (refl, refl)
@@ -190,6 +190,29 @@ reply_same a n r (Some w) =
     let b : AsyncState = forget_call (wake_if a w.fibril woken) n in
     let same = give_same b w.fibril n r woken w.slot (context_at b w.fibril) in
     (same.0, same.1)
+
+pub answers_same : (a : AsyncState) (n : CallNo) (r : Reply) →
+    IsSame a (manage a (outcome.Answered n r)).state
+answers_same a n r = reply_same a n r (find (is_of_call n) a.awaited)
+
+-- so does each operation but `next`
+pub does_same_but_next : (a : AsyncState) (f : FibrilNo) (t : Context) (p : Op) (o : Outcome) →
+    (p ≡ op.Next → ⊥) → IsSame a (do_op a f t p o).state
+does_same_but_next a f t (op.CallSlot k phone method args) o other = call_same a f t k o (slot_at t k)
+does_same_but_next a f t (op.Send k x method args) o other =
+    send_same a f t k o (slot_at t k) (phone_by a.pool f (handle_at t x))
+does_same_but_next a f t (op.Wait k) o other = wait_same a f t k (slot_at t k)
+does_same_but_next a f t op.Next o other = absurd (other refl)
+does_same_but_next a f t op.Yield o other = (refl, refl)
+does_same_but_next a f t (op.OpenSession s phone m) o other =
+    let b : AsyncState = with_pool a (make_after a.pool s (value_of t phone) m (session_at a.pool s)) in
+    let same : IsSame b (open_outcome b f t (made (session_at a.pool s))).state =
+    open_same b f t (made (session_at a.pool s)) in
+    (same.0, same.1)
+does_same_but_next a f t (op.Begin x s) o other = begin_same a f t x s o (plan_begin a f t x s)
+does_same_but_next a f t (op.End x) o other = end_same a f t x (handle_at t x)
+does_same_but_next a f t (op.Close s) o other = close_same a f t s o (plan_close a s)
+does_same_but_next a f t p o other = (refl, refl)
 
 -- connections
 
@@ -341,7 +364,7 @@ quiet_holds_none n cs h sound quiet = by (subst (λ (x : Conn). IsWith n x) same
         absurd (cc at)
     by (inr i) = absurd (cc (i, none))
 
-hand_conns : (a : AsyncState) (f : FibrilNo) (s : Taken) (t : Option Context) →
+pub hand_conns : (a : AsyncState) (f : FibrilNo) (s : Taken) (t : Option Context) →
     IsSame a (hand_over a f s t)
 hand_conns a f (taken.Call n msg label) (Some t) = (refl, refl)
 hand_conns a f (taken.Call n msg label) None = (refl, refl)

@@ -16,3 +16,7 @@ pub mod Linking
 pub mod NewTasks
 pub mod QuietTasks
 pub mod WakeExamples
+pub mod KeptOnce
+pub mod TakenCalls
+pub mod LimitLaws
+pub mod LawExamples

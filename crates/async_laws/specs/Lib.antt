@@ -8,3 +8,6 @@ pub mod TaskHistory
 pub mod Deliveries
 pub mod Links
 pub mod QuietTasks
+pub mod KeptOnce
+pub mod LimitLaws
+pub mod TakenCalls

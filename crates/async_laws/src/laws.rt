@@ -5,6 +5,14 @@ ghost use Rattle.async_laws.specs.TaskHistory.{FittingLosesNoWake, StartKeepsWak
 ghost use Rattle.async_laws.specs.OrderLaws.{YieldsGoBehind, RoutesGoLast, FirstIsTaken};
 ghost use Rattle.async_laws.specs.HeldCalls.{ReceivedCallsCome, KeptCallsStay};
 ghost use Rattle.async_laws.specs.OrderLaws.{StrayCallsAreRefused, LimitsAreHeeded};
+ghost use Rattle.async_laws.specs.KeptOnce.{StartKeepsOnce, EachKeepsOnce, ReceivedCallsComeOnce};
+ghost use Rattle.async_laws.specs.KeptOnce.{KeptCallsGoOnce};
+ghost use Rattle.async_laws.specs.TakenCalls.{NextTakesTheFirst, NextTellsTheClosing};
+ghost use Rattle.async_laws.specs.TakenCalls.{WaitersTakeAtOnce, WaitersHearHangups};
+ghost use Rattle.async_laws.specs.TakenCalls.{StartedOnesKnowTheirCall};
+ghost use Rattle.async_laws.specs.LimitLaws.{RefusalsAreRemembered, AnswersAreRemembered};
+ghost use Rattle.async_laws.specs.LimitLaws.{TheShortDoNotConnect, OnlyTheLimitMakesShort};
+ghost use Rattle.async_laws.specs.LimitLaws.{NobodyIsToldTheLimit};
 ghost use Rattle.async_laws.specs.Links.{PromisesFollow, EntriesAreOwn, EventKeeps};
 ghost use Rattle.async_laws.specs.Links.{EventKeepsOthers, KillKeeps, HangupKeeps, GoneKeeps};
 ghost use Rattle.async_laws.specs.Links.{SpawnKeeps};
@@ -57,6 +65,42 @@ pub fn fibrils_and_calls_keep_their_order()
 pub fn received_calls_are_not_lost()
     ensures received { ReceivedCallsCome }
     ensures stay { KeptCallsStay }
+{}
+
+/// A call that is kept is kept once: it stands at one place of one queue, or is the close call of
+/// one connection, or is owed one answer. One that comes is kept once more, or a fibril has it at
+/// once, or a connection. One whose answer is made, or that a fibril takes, is kept once less. So
+/// no call is kept twice, where none comes again while it is kept.
+pub fn calls_are_kept_once()
+    ensures start { StartKeepsOnce }
+    ensures each { EachKeepsOnce }
+    ensures comes { ReceivedCallsComeOnce }
+    ensures goes { KeptCallsGoOnce }
+{}
+
+/// A fibril that does `next` has the call in its registers that stood first at its connection: r0
+/// is 0, r2 its number, r3 its method, r4 to r8 its arguments, r16 and r17 the task and the phone
+/// of its label. All other registers stay, and so does what any other fibril keeps. Where none
+/// stands there and the connection is closed, it is call 0 with method 0. A fibril that waits in
+/// `next` takes what comes at once, and one that a connection starts has the connect call so.
+pub fn next_tells_the_first_call()
+    ensures first { NextTakesTheFirst }
+    ensures closed { NextTellsTheClosing }
+    ensures waiting { WaitersTakeAtOnce }
+    ensures hung_up { WaitersHearHangups }
+    ensures started { StartedOnesKnowTheirCall }
+{}
+
+/// Where the connect call of a begin is refused or answered with `ELIMIT`, the fibril stays at its
+/// begin with no register changed, is ready, and keeps in mind that the task has no phone left: so
+/// it sends no connect call again in that begin. In no other way does a fibril come to keep that,
+/// and the task itself refuses no operation with `ELIMIT`.
+pub fn limits_are_kept_in_mind()
+    ensures refused { RefusalsAreRemembered }
+    ensures answered { AnswersAreRemembered }
+    ensures heeded { TheShortDoNotConnect }
+    ensures alone { OnlyTheLimitMakesShort }
+    ensures untold { NobodyIsToldTheLimit }
 {}
 
 /// What the kernel promises a task follows from the laws of calls, where the effects of an event

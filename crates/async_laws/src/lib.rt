@@ -8,7 +8,8 @@
 mod laws;
 
 pub use laws::{
-    events_keep_the_fit, fibrils_and_calls_keep_their_order, fitting_entries_keep_the_laws,
-    lawful_runs_keep_the_fit, laws_of_calls_keep_the_promises, no_wake_up_is_lost,
+    calls_are_kept_once, events_keep_the_fit, fibrils_and_calls_keep_their_order,
+    fitting_entries_keep_the_laws, lawful_runs_keep_the_fit, laws_of_calls_keep_the_promises,
+    limits_are_kept_in_mind, next_tells_the_first_call, no_wake_up_is_lost,
     received_calls_are_not_lost,
 };

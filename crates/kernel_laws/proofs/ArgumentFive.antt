@@ -318,7 +318,7 @@ settle_tells j c o b g h = settled_for j (record { 0 = 0 }) h c g (bare_reply eh
 pub kill_tells : (k : KernelState) (t : TaskNo) → TellPhones k.calls → TellPhones (kill_event k t).state.calls
 kill_tells k t h = kill_keeps t (λ j. TellPhones j.calls)
     (λ j p g. hang_up_tells t j p (phone_at j t p) g) (λ u j p g. slam_tells t u j p (phone_at j u p) g)
-    (λ j m c is g. settle_tells j c c.caller (lives j c.caller) (g m c is) g) (λ j c g. tell_gone j.calls g c.number.0)
+    (λ j m c is at g. settle_tells j c c.caller (lives j c.caller) (g m c is) g) (λ j m c is at g. tell_gone j.calls g c.number.0)
     (λ j c g. tell_forgot j.calls g c.number.0) (lost_tells t) k h
 
 pub spawn_tells : (k : KernelState) (limit : ℕ) (names : Option TaskNo) → TellPhones k.calls → TellPhones (spawn_event k limit names).state.calls

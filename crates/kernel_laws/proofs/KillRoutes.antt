@@ -10,7 +10,8 @@ use Rattle.ipc_ids.specs.Codes.{ehangup}
 use Rattle.call_slab.specs.declared.call.Call.{Call}
 use Rattle.call_slab.specs.declared.call.Place.{Place}
 use Rattle.call_slab.specs.declared.call.Place.TheVariants.{Incoming, Dispatched, Answers}
-use Rattle.answerbox.specs.Calls.{CallTable, call_at, calls_at, calls_by, with_record, without_call, without_caller}
+use Rattle.std.proofs.lemmas.Bool.{eqb-true}
+use Rattle.answerbox.specs.Calls.{CallTable, call_at, task_of, same_place, calls_at, calls_by, with_record, without_call, without_caller}
 use Rattle.answerbox.proofs.Fronts.{front_live}
 use Rattle.phone_table.specs.Phones.{state_at}
 use Rattle.address_space.specs.Memory.{first_area, count_areas}
@@ -32,7 +33,7 @@ use Rattle.kernel_laws.proofs.CallRoutes.{came_by, put_by, gone_by, not_answers,
 abbrev pub IsNowhere : PhoneState → Type 0
 IsNowhere s = (u : TaskNo) → s ≡ Connected u → ⊥
 
-free_nowhere : IsNowhere Free
+pub free_nowhere : IsNowhere Free
 free_nowhere u e = cc
 
 hung_up_nowhere : IsNowhere HungUp
@@ -45,7 +46,7 @@ pub is_there : (o : Option PhoneState) (s : PhoneState) → o ≡ Some s → IsS
 is_there o s is = rw is refl
 
 -- a record without its caller in the place of another
-forgot_by : (q : CallTable) (m n : ℕ) (c : Call) → ((i : ℕ) (d : Call) → call_at q i ≡ Some d → d.number.0 ≡ i) → call_at (without_caller q m) n ≡ Some c → ((d : Call) × (call_at q n ≡ Some d) × (record d { caller = None } ≡ c)) ⊎ (call_at q n ≡ Some c)
+pub forgot_by : (q : CallTable) (m n : ℕ) (c : Call) → ((i : ℕ) (d : Call) → call_at q i ≡ Some d → d.number.0 ≡ i) → call_at (without_caller q m) n ≡ Some c → ((d : Call) × (call_at q n ≡ Some d) × (record d { caller = None } ≡ c)) ⊎ (call_at q n ≡ Some c)
 forgot_by q m n c numbered at = by_call (call_at q m) refl at where
   by_call : (o : Option Call) → call_at q m ≡ o → call_at (option_map_or (λ d. with_record q (record d { caller = None })) o q) n ≡ Some c → ((d : Call) × (call_at q n ≡ Some d) × (record d { caller = None } ≡ c)) ⊎ (call_at q n ≡ Some c)
   by_call None is there = inr there
@@ -54,19 +55,31 @@ forgot_by q m n c numbered at = by_call (call_at q m) refl at where
     | inr h ↦ inr h.1
   ]
 
+-- the task of two places that are one
+one_task : (p q : Place) → same_place p q ≡ true → task_of p ≡ task_of q
+one_task (Incoming u) (Incoming v) h = eqb-true u.0 v.0 h
+one_task (Dispatched u) (Dispatched v) h = eqb-true u.0 v.0 h
+one_task (Answers u) (Answers v) h = eqb-true u.0 v.0 h
+one_task (Incoming u) (Dispatched v) h = absurd (cc h)
+one_task (Incoming u) (Answers v) h = absurd (cc h)
+one_task (Dispatched u) (Incoming v) h = absurd (cc h)
+one_task (Dispatched u) (Answers v) h = absurd (cc h)
+one_task (Answers u) (Incoming v) h = absurd (cc h)
+one_task (Answers u) (Dispatched v) h = absurd (cc h)
+
 -- what each step of a kill keeps, the kill keeps
 module _ (t : TaskNo) (I : KernelState → Type 0)
     (hangs : (j : KernelState) (p : ℕ) → I j → I (hang_up_at t j p).state)
     (slams : (u : TaskNo) (j : KernelState) (p : ℕ) → I j → I (slam_at t u j p).state)
-    (settles : (j : KernelState) (m : ℕ) (c : Call) → call_at j.calls m ≡ Some c → I j → I (settle_call j c).state)
-    (drops : (j : KernelState) (c : Call) → I j → I (drop_answer t j c).state)
+    (settles : (j : KernelState) (m : ℕ) (c : Call) → call_at j.calls m ≡ Some c → task_of c.place ≡ t.0 → I j → I (settle_call j c).state)
+    (drops : (j : KernelState) (m : ℕ) (c : Call) → call_at j.calls m ≡ Some c → task_of c.place ≡ t.0 → I j → I (drop_answer t j c).state)
     (forgets : (j : KernelState) (c : Call) → I j → I (forget_call j c).state)
     (loses : (j : KernelState) (base : Option ℕ) → I j → I (lose_first_area t j base).state) where
   slammed_other : (n : ℕ) (j : KernelState) → I j → I (slam_other t j n).state
   slammed_other n j h = by_test (λ (s : Transition). I s.state) (n + 1 == t.0) _ _ (λ _. h) (λ _. let u = task_no (n + 1) in each_keeps (slam_at t u) I (λ i p g. slams u i p g) (width j.tasks.phones u.0) 0 j h)
 
-  calls_settled : (place : Place) (j : KernelState) → I j → I (settle_calls_at place j).state
-  calls_settled place j h = drain_keeps (first_at place) settle_call I (λ i c g is. let f = front_live i.calls place c is in settles i f.0 c f.1 g) (calls_at j.calls place) j h
+  calls_settled : (place : Place) → task_of place ≡ t.0 → (j : KernelState) → I j → I (settle_calls_at place j).state
+  calls_settled place here j h = drain_keeps (first_at place) settle_call I (λ i c g is. let f = front_live i.calls place c is in settles i f.0 c f.1 (one_task c.place place f.2 ∙ here) g) (calls_at j.calls place) j h
 
   pub kill_keeps : (k : KernelState) → I (mark_ended k t) → I (kill k t).state
   kill_keeps k h =
@@ -78,9 +91,9 @@ module _ (t : TaskNo) (I : KernelState → Type 0)
       let m5 : Transition = then_do m4 (forget_calls_elsewhere t) in
       let h0 : I m0.state = each_keeps (hang_up_at t) I hangs (width (mark_ended k t).tasks.phones t.0) 0 (mark_ended k t) h in
       let h1 : I m1.state = each_keeps (slam_other t) I (λ i n g. slammed_other n i g) (length m0.state.tasks.phones) 0 m0.state h0 in
-      let h2 : I m2.state = calls_settled (Incoming t) m1.state h1 in
-      let h3 : I m3.state = calls_settled (Dispatched t) m2.state h2 in
-      let h4 : I m4.state = drain_keeps (first_at (Answers t)) (drop_answer t) I (λ i c g is. drops i c g) (calls_at m3.state.calls (Answers t)) m3.state h3 in
+      let h2 : I m2.state = calls_settled (Incoming t) refl m1.state h1 in
+      let h3 : I m3.state = calls_settled (Dispatched t) refl m2.state h2 in
+      let h4 : I m4.state = drain_keeps (first_at (Answers t)) (drop_answer t) I (λ i c g is. let f = front_live i.calls (Answers t) c is in drops i f.0 c f.1 (one_task c.place (Answers t) f.2) g) (calls_at m3.state.calls (Answers t)) m3.state h3 in
       let h5 : I m5.state = drain_keeps (first_call_of t) forget_call I (λ i c g is. forgets i c g) (calls_by m4.state.calls t) m4.state h4 in
       each_keeps (drop_first_area t) I (λ i n g. loses i (first_area i.memory t) g) (count_areas m5.state.memory t) 0 m5.state h5
 
@@ -197,7 +210,7 @@ module _ (k : KernelState) (sound : IsSound k) (t : TaskNo) where
   kill_left : IsLeaving (kill k t).state
   kill_left = kill_keeps t IsLeaving
       (λ j p h. hung_up j p (phone_at j t p) refl h) (λ u j p h. slammed u j p (phone_at j u p) h)
-      (λ j m c is h. settled j c c.caller (lives j c.caller) h) (λ j c h. over j c.number.0 (kept_phone c) h)
+      (λ j m c is at h. settled j c c.caller (lives j c.caller) h) (λ j m c is at h. over j c.number.0 (kept_phone c) h)
       forgotten lost k first
 
 pub kill_goes : (k : KernelState) (t : TaskNo) → IsSound k → OnlyFarewellsCome t k (kill_event k t).state

@@ -35,16 +35,16 @@ neither : (b c : Bool) → (b || c) ≡ false → (b ≡ false) × (c ≡ false)
 neither true c h = absurd (cc h)
 neither false c h = (refl, h)
 
-true_false : (b : Bool) → b ≡ true → b ≡ false → ⊥
+pub true_false : (b : Bool) → b ≡ true → b ≡ false → ⊥
 true_false b h g = false≢true (sym g ∙ h)
 
 module _ (q : Area → Bool) where
-  in_row : (rows : List (List Area)) (j : ℕ) → list_any q (unwrap_or (slice_get rows j) []) ≡ true → list_any (list_any q) rows ≡ true
+  pub in_row : (rows : List (List Area)) (j : ℕ) → list_any q (unwrap_or (slice_get rows j) []) ≡ true → list_any (list_any q) rows ≡ true
   in_row [] j h = absurd (cc h)
   in_row (row ∷ rows) zero h = or_left (list_any q row) (list_any (list_any q) rows) h
   in_row (row ∷ rows) (suc j) h = or_right (list_any q row) (list_any (list_any q) rows) (in_row rows j h)
 
-  row_of : (rows : List (List Area)) → list_any (list_any q) rows ≡ true → (j : ℕ) × (list_any q (unwrap_or (slice_get rows j) []) ≡ true)
+  pub row_of : (rows : List (List Area)) → list_any (list_any q) rows ≡ true → (j : ℕ) × (list_any q (unwrap_or (slice_get rows j) []) ≡ true)
   row_of [] h = absurd (cc h)
   row_of (row ∷ rows) h = elim (one_of (list_any q row) (list_any (list_any q) rows) h) [ inl here ↦ (zero, here) | inr behind ↦ let r = row_of rows behind in (suc r.0, r.1) ]
 
@@ -79,10 +79,10 @@ same_key : (n s : ℕ) (b : Bool) → eq_by_cmp nat_cmp n s ≡ b → (n ≡ s �
 same_key n s true e ne = absurd (ne (key_eq n s e))
 same_key n s false e ne = refl
 
-removed : (stores : FinMap nat_cmp (List ℕ)) (s n : ℕ) → (s == n) ≡ true → get (map.remove stores s) n ≡ None
+pub removed : (stores : FinMap nat_cmp (List ℕ)) (s n : ℕ) → (s == n) ≡ true → get (map.remove stores s) n ≡ None
 removed stores s n e = rw (get-remove nat_cmp_total stores s n, eq_keys n s e) refl
 
-not_removed : (stores : FinMap nat_cmp (List ℕ)) (s n : ℕ) → (n ≡ s → ⊥) → get (map.remove stores s) n ≡ get stores n
+pub not_removed : (stores : FinMap nat_cmp (List ℕ)) (s n : ℕ) → (n ≡ s → ⊥) → get (map.remove stores s) n ≡ get stores n
 not_removed stores s n ne = rw (get-remove nat_cmp_total stores s n, same_key n s (eq_by_cmp nat_cmp n s) refl ne) refl
 
 none_either : (b : Bool) (o : Option (List ℕ)) → o ≡ None → cond b None o ≡ None

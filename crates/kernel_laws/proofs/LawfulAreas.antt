@@ -20,6 +20,7 @@ use Rattle.address_space.proofs.Soundness.{lawful_of}
 use Rattle.kernel_laws.specs.MemoryLaws.{Has, HasAt, IsIn, NoArea, byte_at, IsPossible, IsTaken, IsFirstCause, Gives, IsLawfulMake, AreAmong, IsSharable, IsLawfulShare, IsLawfulDrop}
 use Rattle.kernel_laws.proofs.OneArea.{one_area}
 use Rattle.kernel_laws.proofs.LawfulWrites.{byte_put, byte_elsewhere}
+use Rattle.kernel_laws.proofs.DroppedAreas.{any_of, drops}
 
 -- ---- the tests of an area that is asked for
 
@@ -46,14 +47,6 @@ impossible base pages rights h p =
     absurd (grind (arith, nat_tests, h, whole, some, few, lowest, highest, ends))
 
 -- areas of a list that pass a test
-
-any_if : (p : Area → Bool) (x : Area) (areas : List Area) (b : Bool) → p x ≡ b → (b || list_any p areas) ≡ true → (list_any p areas ≡ true → (a : Area) × ((i : ℕ) × (slice_get areas i ≡ Some a)) × (p a ≡ true)) → (a : Area) × ((i : ℕ) × (slice_get (x ∷ areas) i ≡ Some a)) × (p a ≡ true)
-any_if p x areas true is h more = (x, (0, refl), is)
-any_if p x areas false is h more = let r = more h in (r.0, (suc r.1.0, r.1.1), r.2)
-
-any_of : (p : Area → Bool) (areas : List Area) → list_any p areas ≡ true → (a : Area) × ((i : ℕ) × (slice_get areas i ≡ Some a)) × (p a ≡ true)
-any_of p [] h = absurd (cc h)
-any_of p (x ∷ areas) h = any_if p x areas (p x) refl h (λ r. any_of p areas r)
 
 none_if : (p : Area → Bool) (x : Area) (areas : List Area) (b : Bool) → p x ≡ b → (b || list_any p areas) ≡ false → (p x ≡ false) × (list_any p areas ≡ false)
 none_if p x areas true is h = absurd (cc h)
@@ -274,14 +267,24 @@ module _ (m : Memory) (t : TaskNo) (base : ℕ) where
   by_place : (o : Option ℕ) → place_of base (areas_of m t) ≡ o → IsLawfulDrop m t base (drop_at m t o)
   by_place None is =
       let no = nowhere m t base is in
-      record { gone = (λ _. no, λ _. refl); dropped = (λ e. absurd (cc e), λ h. absurd (no h.0 h.1)); refused = λ _ _. refl }
+      record { gone = (λ _. no, λ _. refl); dropped = (λ e. absurd (cc e), λ h. absurd (no h.0 h.1)); refused = λ _ _. refl; goes = λ some e. absurd (cc e) }
   by_place (Some i) is =
       let f = found_place m t base i is in
       let has : HasAt m t base f.0 = record { has = (i, f.1); begins = f.2 } in
-      record { gone = (λ e. absurd (cc e), λ no. absurd (no f.0 has)); dropped = (λ _. (f.0, has), λ _. refl); refused = λ code e. absurd (cc e) }
+      record { gone = (λ e. absurd (cc e), λ no. absurd (no f.0 has)); dropped = (λ _. (f.0, has), λ _. refl); refused = λ code e. absurd (cc e); goes = λ some e. (f.0, has, drops m t i f.0 some f.1) }
 
   pub drop_is_lawful : IsLawfulDrop m t base (drop_area m t base)
   drop_is_lawful = by_place (place_of base (areas_of m t)) refl
+
+  -- and in a sound memory there is but one
+  at_base : (a : Area) → IsSound m → HasAt m t base a → IsIn a.base a.pages base
+  at_base a sound h =
+      let some = (range_of m t a sound h.has).some in
+      let same = h.begins in
+      record { from = omega (arith, same); to = omega (arith, same, some) }
+
+  pub base_is_one : (a b : Area) → IsSound m → HasAt m t base a → HasAt m t base b → a ≡ b
+  base_is_one a b sound h g = one_area m t base a b sound h.has g.has (at_base a sound h) (at_base b sound g)
 
 -- ---- a share
 

@@ -152,7 +152,7 @@ module _ (k : KernelState) (t : TaskNo) where
         by HungUp at usable = inr (at, grind (arith, nat_tests, usable))
         by Slammed at usable = absurd (cc usable)
 
-  none_usable : first_usable_of k t ≡ None → HasUsable k t → ⊥
+  pub none_usable : first_usable_of k t ≡ None → HasUsable k t → ⊥
   none_usable is h = by_row (row_at k.tasks.phones t.0) refl is h.1 where
     by_row : (row : Option (List PhoneState)) → row_at k.tasks.phones t.0 ≡ row → first_usable_of k t ≡ None → (phone_at k t h.0 ≡ Some Free) ⊎ ((phone_at k t h.0 ≡ Some HungUp) × (active_calls k.calls (label_of t h.0) ≡ 0)) → ⊥
     by_row None at none usable = elim usable [ inl free ↦ (let g = rw at at free in absurd (cc g)) | inr hung ↦ (let f = hung.0 in let g = rw at at f in absurd (cc g)) ]

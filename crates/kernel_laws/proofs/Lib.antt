@@ -22,6 +22,7 @@ mod KeptReplies
 mod OneArea
 mod LawfulReads
 mod LawfulWrites
+mod DroppedAreas
 mod LawfulAreas
 mod LawfulData
 mod LawfulShares
@@ -30,3 +31,7 @@ mod LawfulAnswers
 mod CarriedCalls
 mod MemoryRequests
 mod DeliveredAnswers
+mod ActiveCalls
+mod UsablePhones
+mod ToldHangups
+mod LawExamples

@@ -134,7 +134,7 @@ none_stays q m n none = elim (cases_eq m n) [ inl e ↦ gone_here q m n e | inr 
 none_some : {A : Type 0} (o : Option A) (x : A) → o ≡ None → o ≡ Some x → ⊥
 none_some o x a b = cc
 
-unawaited_is : (o : Option Call) (c : Call) → unawaited o ≡ Some c → (o ≡ Some c) × (c.discard ≡ true)
+pub unawaited_is : (o : Option Call) (c : Call) → unawaited o ≡ Some c → (o ≡ Some c) × (c.discard ≡ true)
 unawaited_is None c e = absurd (cc e)
 unawaited_is (Some d) c e = by_mark d.discard refl e where
   by_mark : (b : Bool) → d.discard ≡ b → (if b then Some d else None) ≡ Some c → (Some d ≡ Some c) × (c.discard ≡ true)

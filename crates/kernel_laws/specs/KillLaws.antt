@@ -8,6 +8,7 @@ use Rattle.ipc_ids.specs.declared.message.PhoneState.TheVariants.{Free, Connecti
 use Rattle.ipc_ids.specs.declared.entry.Entry.{Entry}
 use Rattle.ipc_ids.specs.declared.entry.Entry.TheVariants as entry
 use Rattle.ipc_ids.specs.Codes.{ehangup}
+use Rattle.ipc_ids.specs.Methods.{phone_hungup}
 use Rattle.call_slab.specs.declared.call.Call.{Call}
 use Rattle.call_slab.specs.declared.call.Place.{Place}
 use Rattle.call_slab.specs.declared.call.Place.TheVariants.{Incoming, Dispatched, Answers}
@@ -15,7 +16,7 @@ use Rattle.answerbox.specs.Calls.{call_at, task_of}
 use Rattle.phone_table.specs.Phones.{state_at}
 use Rattle.address_space.specs.Areas.{stands_over}
 use Rattle.address_space.specs.Memory.{areas_of}
-use Rattle.cleanup.specs.State.{KernelState, is_alive, phone_at}
+use Rattle.cleanup.specs.State.{KernelState, is_alive, phone_at, label_of}
 use Rattle.cleanup.specs.Joins.{bare_reply}
 
 -- task t has ended, and each other task is alive just where it was
@@ -126,3 +127,22 @@ pub record ClosesAreas (t : TaskNo) (before after : KernelState) : Type 0 where
   pub gone : (store : ℕ) → HasAreaOver before t store →
       ((u : TaskNo) → 1 ≤ u.0 → (u.0 ≡ t.0 → ⊥) → HasAreaOver before u store → ⊥) →
       get after.memory.stores store ≡ None
+
+-- a call that waits at task u tells it that phone p of task t was hung up
+pub record TellsOfHangup (t : TaskNo) (p : ℕ) (u : TaskNo) (c : Call) : Type 0 where
+  pub place : c.place ≡ Incoming u
+  pub asks : c.request.method ≡ phone_hungup
+  pub label : c.label ≡ label_of t p
+
+-- call n came to be live, with this record
+abbrev pub HasCome : KernelState → KernelState → ℕ → Call → Type 0
+HasCome before after n c = (call_at before.calls n ≡ None) × (call_at after.calls n ≡ Some c)
+
+-- who is told of the phones of t while t ends, from one state to another
+pub record TellsWhereItLed (t : TaskNo) (before after : KernelState) : Type 0 where
+  -- each other task that a phone of t led to
+  pub told : (p : ℕ) (u : TaskNo) → phone_at before t p ≡ Some (Connected u) → (u.0 ≡ t.0 → ⊥) →
+      (n : ℕ) × (c : Call) × HasCome before after n c × TellsOfHangup t p u c
+  -- by one call for each phone: no two that came to wait have one label
+  pub once : (m n : ℕ) (c d : Call) (u v : TaskNo) → HasCome before after m c → HasCome before after n d →
+      c.place ≡ Incoming u → d.place ≡ Incoming v → c.label ≡ d.label → m ≡ n

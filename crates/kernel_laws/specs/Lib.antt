@@ -1,3 +1,4 @@
+pub mod ActiveCalls
 pub mod AnswerCodes
 pub mod CallCodes
 pub mod Carrying
@@ -13,3 +14,4 @@ pub mod PoolLaws
 pub mod ReceiveLaws
 pub mod Routes
 pub mod SpawnLaws
+pub mod UsablePhones

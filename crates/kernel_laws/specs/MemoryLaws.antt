@@ -156,8 +156,25 @@ pub record IsLawfulShare (m : Memory) (from : TaskNo) (base : ℕ) (to : TaskNo)
       Gives m to (record { base = target; pages = pages; rights = rights; store = store.0 }) done.memory
   pub bytes : done.memory.stores ≡ m.stores
 
--- what task t is told as it drops the area with this base
+-- this area of task t goes, and no other area of any task
+pub record Drops (m : Memory) (t : TaskNo) (a : Area) (after : Memory) : Type 0 where
+  pub place : ℕ
+  pub there : slice_get (areas_of m t) place ≡ Some a
+  -- those before it stand where they stood, and those behind it one place nearer
+  pub before : (i : ℕ) → i < place → slice_get (areas_of after t) i ≡ slice_get (areas_of m t) i
+  pub behind : (i : ℕ) → place ≤ i → slice_get (areas_of after t) i ≡ slice_get (areas_of m t) (i + 1)
+  pub others : (u : TaskNo) → 1 ≤ u.0 → (u.0 ≡ t.0 → ⊥) → areas_of after u ≡ areas_of m u
+  -- its store is gone exactly where no area stands over it any more, and no other store changes
+  pub used : (u : TaskNo) (b : Area) → 1 ≤ u.0 → Has after u b → b.store ≡ a.store →
+      get after.stores a.store ≡ get m.stores a.store
+  pub unused : ((u : TaskNo) (b : Area) → 1 ≤ u.0 → Has after u b → b.store ≡ a.store → ⊥) →
+      get after.stores a.store ≡ None
+  pub stores : (n : ℕ) → (n ≡ a.store → ⊥) → get after.stores n ≡ get m.stores n
+  pub next : after.next_store ≡ m.next_store
+
+-- what task t is told as it drops the area with this base, and that it is this one that goes
 pub record IsLawfulDrop (m : Memory) (t : TaskNo) (base : ℕ) (done : Step Unit) : Type 0 where
   pub gone : done.told ≡ Err enoent ↔ NoArea (HasAt m t base)
   pub dropped : done.told ≡ Ok tt ↔ (a : Area) × HasAt m t base a
   pub refused : (code : Code) → done.told ≡ Err code → done.memory ≡ m
+  pub goes : 1 ≤ t.0 → done.told ≡ Ok tt → (a : Area) × HasAt m t base a × Drops m t a done.memory

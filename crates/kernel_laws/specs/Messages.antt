@@ -1,6 +1,6 @@
 -- What messages and replies come to as calls are sent, received, passed on, answered and delivered, in the words of
 -- methods, arguments, codes and areas.
-use Rattle.std.specs.Prelude.{◌≡◌, ℕ, ◌+◌, ◌*◌, ◌<◌, ◌≤◌, ◌⊎◌, List, length, slice_get, slice_index, Option, None, Some}
+use Rattle.std.specs.Prelude.{◌≡◌, ℕ, ◌+◌, ◌<◌, ◌≤◌, ◌⊎◌, List, length, slice_index, Option, None, Some}
 use Rattle.ipc_ids.specs.declared.numbers.Code.{Code}
 use Rattle.ipc_ids.specs.declared.numbers.CallNo.{CallNo}
 use Rattle.ipc_ids.specs.declared.numbers.Label.{Label}
@@ -15,9 +15,10 @@ use Rattle.call_slab.specs.declared.call.Call.{Call}
 use Rattle.call_slab.specs.declared.call.Place.TheVariants.{Dispatched, Answers}
 use Rattle.answerbox.specs.Calls.{call_at}
 use Rattle.address_space.specs.Areas.{Area}
-use Rattle.address_space.specs.Memory.{Memory, areas_of}
+use Rattle.address_space.specs.Memory.{Memory}
 use Rattle.cleanup.specs.State.{KernelState}
 use Rattle.cleanup.specs.Serving.{Served}
+use Rattle.kernel_laws.specs.MemoryLaws.{IsReadable, IsWritable}
 use Rattle.kernel_laws.specs.PoolLaws.{pool}
 use Rattle.kernel_laws.specs.PhoneCodes.{IsHeld}
 
@@ -72,18 +73,13 @@ pub record IsReceivedMessage (t : TaskNo) (n : CallNo) (c : Call) (msg : Msg) (a
 abbrev pub TellsMessage : TaskNo → KernelState → Served → Type 0
 TellsMessage t before done = (n : CallNo) (msg : Msg) (label : Label) (c : Call) → done.outcome ≡ outcome.Received n msg label → call_at before.calls n.0 ≡ Some c → IsReceivedMessage t n c msg done.state
 
--- one of these areas, with rights of these two, has so many bytes from an address on, all of them
-abbrev pub HasOne : ℕ → ℕ → List Area → ℕ → ℕ → Type 0
-HasOne one both areas at count = (i : ℕ) × (a : Area) × (slice_get areas i ≡ Some a) × ((a.rights ≡ one) ⊎ (a.rights ≡ both)) × (a.base ≤ at) × (at + count ≤ a.base + a.pages * 4096)
-
--- task t may write so many bytes from an address on: there are none, or one area of its own with the right to write, 2
--- or 3, has them
+-- task t may write so many bytes from an address on: there are none, or an area of it that may be written has them
 abbrev pub MayWrite : Memory → TaskNo → ℕ → ℕ → Type 0
-MayWrite m t at count = (count ≡ 0) ⊎ HasOne 2 3 (areas_of m t) at count
+MayWrite m t at count = (count ≡ 0) ⊎ ((a : Area) × IsWritable m t at count a)
 
--- likewise it may read them, by the rights 1 or 3
+-- likewise it may read them
 abbrev pub MayRead : Memory → TaskNo → ℕ → ℕ → Type 0
-MayRead m t at count = (count ≡ 0) ⊎ HasOne 1 3 (areas_of m t) at count
+MayRead m t at count = (count ≡ 0) ⊎ ((a : Area) × IsReadable m t at count a)
 
 -- the first two arguments: an address, and how many bytes
 abbrev pub address : List ℕ → ℕ

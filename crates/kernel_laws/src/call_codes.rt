@@ -1,5 +1,5 @@
 //! With which codes calls are refused and answered, over all sound states.
-ghost use Rattle.std.specs.Prelude.{ℕ};
+ghost use Rattle.std.specs.Prelude.{ℕ, List};
 ghost use Rattle.ipc_ids.specs.declared.numbers.TaskNo.{TaskNo};
 ghost use Rattle.ipc_ids.specs.declared.message.Msg.{Msg};
 ghost use Rattle.ipc_ids.specs.declared.message.Reply.{Reply};
@@ -10,6 +10,7 @@ ghost use Rattle.kernel_core.specs.Answering.{answer};
 ghost use Rattle.kernel_core.specs.Calling.{call};
 ghost use Rattle.kernel_core.specs.Kernel.{serve, kill_event};
 ghost use Rattle.kernel_core.specs.Receiving.{receive};
+ghost use Rattle.kernel_laws.specs.ActiveCalls.{HasActive, AreTheActive, IsLimitedBy};
 ghost use Rattle.kernel_laws.specs.AnswerCodes.{IsLawfulAnswer};
 ghost use Rattle.kernel_laws.specs.CallCodes.{IsLawfulCall};
 ghost use Rattle.kernel_laws.specs.Carrying.{Forwards, AreCarried};
@@ -21,6 +22,16 @@ ghost use Rattle.kernel_laws.specs.Delivering.{DeliversAsGiven};
 pub fn calls_are_refused_by_the_first_cause()
     ensures { (k : KernelState) (t : TaskNo) (p : ℕ) (msg : Msg) → IsSound k
         → IsLawfulCall k t p msg (phone_at k t p) (call k t p msg) }
+{}
+
+/// The limit of a phone counts the calls that are active over it, each once: those live calls that
+/// were made over it and whose caller has not ended. With 64 of them or more a call is refused with
+/// `ELIMIT`, with fewer it is accepted.
+pub fn the_limit_counts_the_active_calls()
+    ensures counted { (k : KernelState) (t : TaskNo) (p : ℕ) → HasActive k.calls t p }
+    ensures limited { (k : KernelState) (t : TaskNo) (p : ℕ) (msg : Msg) (ns : List ℕ)
+        → IsSound k → AreTheActive k.calls t p ns
+        → IsLimitedBy k t p msg ns (call k t p msg).outcome }
 {}
 
 /// An answer is refused just where its task does not hold the call. A code other than `EOK` reaches

@@ -12,13 +12,14 @@ ghost use Rattle.kernel_core.specs.Calling.{call};
 ghost use Rattle.kernel_core.specs.Receiving.{receive};
 ghost use Rattle.kernel_core.specs.Kernel.{serve, kill_event, spawn_event};
 ghost use Rattle.kernel_core.specs.Effects.{AreEffects, has_delivery, IsHonest};
-ghost use Rattle.kernel_laws.specs.KillLaws.{EndsTask, LeavesNothingOf, EndsWaitingFirst, ClosesPhones, ClosesCalls, ClosesAreas};
+ghost use Rattle.kernel_laws.specs.KillLaws.{EndsTask, LeavesNothingOf, EndsWaitingFirst, ClosesPhones, ClosesCalls, ClosesAreas, TellsWhereItLed};
 ghost use Rattle.kernel_laws.specs.PoolLaws.{pool, bytes_asked, HasAnswer, IsFullFor, IsBalanced, IsGivenBack};
 ghost use Rattle.kernel_laws.specs.ReceiveLaws.{IsLawfulReceive};
 ghost use Rattle.kernel_laws.specs.SpawnLaws.{MakesTask};
 
 /// A kill ends the task and no other, leaves nothing of it, ends what waited at it before what it
-/// held, and closes its phones, its calls and its areas, and no others.
+/// held, and closes its phones, its calls and its areas, and no others. Each other task that a phone
+/// of it led to is told of that phone's hangup by a new call, and by one alone.
 pub fn kills_leave_nothing()
     ensures task { (k : KernelState) (t : TaskNo) → is_alive k t ≡ true
         → EndsTask t k (kill k t).state }
@@ -32,6 +33,8 @@ pub fn kills_leave_nothing()
         → ClosesCalls t k (kill k t).state }
     ensures areas { (k : KernelState) (t : TaskNo) → is_alive k t ≡ true
         → ClosesAreas t k (kill k t).state }
+    ensures told { (k : KernelState) (t : TaskNo) → IsSound k → is_alive k t ≡ true
+        → TellsWhereItLed t k (kill k t).state }
 {}
 
 /// A receive drops the answers of hangups that came before all others, and no other call; then it

@@ -22,8 +22,12 @@ mod routes;
 pub use call_codes::{
     answers_are_delivered_as_given, answers_have_the_code_that_is_due,
     calls_are_refused_by_the_first_cause, calls_keep_what_they_carry,
+    the_limit_counts_the_active_calls,
 };
-pub use connecting::{argument_five_tells_the_phone, connect_calls_connect_the_two};
+pub use connecting::{
+    argument_five_tells_the_phone, connect_calls_connect_the_two,
+    connect_calls_keep_the_least_usable_phone,
+};
 pub use data::{data_calls_move_what_they_name, shares_give_what_they_name};
 pub use laws::{
     events_are_honest, kills_leave_nothing, receives_are_lawful, spawns_make_one_task,

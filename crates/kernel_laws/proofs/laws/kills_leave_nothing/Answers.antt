@@ -1,6 +1,7 @@
 use Rattle.kernel_laws.proofs.KillOrder.{kill_ends_waiting_first}
 use Rattle.kernel_laws.proofs.KillLaws.{kill_ends_task, kill_leaves_nothing_of, kill_closes_phones, kill_closes_calls}
 use Rattle.kernel_laws.proofs.KilledAreas.{kill_closes_areas}
+use Rattle.kernel_laws.proofs.ToldHangups.{kill_tells_where_it_led}
 use Rattle.kernel_laws.proofs.laws.kills_leave_nothing.Goals as goal
 
 pub returns-clause-task : goal.returns-clause-task
@@ -20,3 +21,6 @@ returns-clause-calls c = kill_closes_calls
 
 pub returns-clause-areas : goal.returns-clause-areas
 returns-clause-areas c = kill_closes_areas
+
+pub returns-clause-told : goal.returns-clause-told
+returns-clause-told c = kill_tells_where_it_led
