@@ -54,7 +54,7 @@ task_last names name f = go (place_of names name) where
   go (Some place) = refl
   go None = refl
 
-flip : (a b : List ℕ) → bytes_eq a b ≡ bytes_eq b a
+pub flip : (a b : List ℕ) → bytes_eq a b ≡ bytes_eq b a
 flip [] [] = refl
 flip [] (y ∷ ys) = refl
 flip (x ∷ xs) [] = refl

@@ -5,10 +5,12 @@ pub mod EventTasks
 pub mod Faults
 pub mod FormFaults
 pub mod Lines
+pub mod NearPlaces
 pub mod Places
 pub mod ReaderAnswers
 pub mod Readings
 pub mod Soundness
+pub mod StepLines
 pub mod TaskKinds
 pub mod Words
 pub mod KnownTasks
@@ -16,3 +18,4 @@ pub mod Parts
 mod WordExamples
 mod OperationExamples
 pub mod ReadingExamples
+pub mod Verbs

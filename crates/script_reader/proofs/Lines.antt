@@ -27,16 +27,16 @@ size_of (Some text) = suc (length text)
 
 -- ---- a byte at the front
 
-first_end : (x : ℕ) (xs : List ℕ) → (x == 10) ≡ true → first_line (x ∷ xs) ≡ []
+pub first_end : (x : ℕ) (xs : List ℕ) → (x == 10) ≡ true → first_line (x ∷ xs) ≡ []
 first_end x xs e = rw e refl
 
-first_more : (x : ℕ) (xs : List ℕ) → (x == 10) ≡ false → first_line (x ∷ xs) ≡ x ∷ first_line xs
+pub first_more : (x : ℕ) (xs : List ℕ) → (x == 10) ≡ false → first_line (x ∷ xs) ≡ x ∷ first_line xs
 first_more x xs e = rw e (take_more _ x xs)
 
-behind_end : (x : ℕ) (xs : List ℕ) → (x == 10) ≡ true → behind (x ∷ xs) ≡ Some xs
+pub behind_end : (x : ℕ) (xs : List ℕ) → (x == 10) ≡ true → behind (x ∷ xs) ≡ Some xs
 behind_end x xs e = rw e refl
 
-behind_more : (x : ℕ) (xs : List ℕ) → (x == 10) ≡ false → behind (x ∷ xs) ≡ behind xs
+pub behind_more : (x : ℕ) (xs : List ℕ) → (x == 10) ≡ false → behind (x ∷ xs) ≡ behind xs
 behind_more x xs e = rw e refl
 
 -- ---- a line at the front
@@ -110,7 +110,7 @@ record SameWord (xs : List ℕ) : Type 0 where
   left : first_line (drop (len xs) xs) ≡ drop (len xs) (first_line xs)
   others : behind (drop (len xs) xs) ≡ behind xs
 
-feed_ends : (x : ℕ) → ends_word x ≡ false → (x == 10) ≡ false
+pub feed_ends : (x : ℕ) → ends_word x ≡ false → (x == 10) ≡ false
 feed_ends x goes = elim (cases_Bool (x == 10)) [
   | inl e ↦ absurd (true≢false (sym (ap ends_word (eqb-true x 10 e)) ∙ goes))
   | inr e ↦ e

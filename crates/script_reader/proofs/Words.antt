@@ -34,7 +34,7 @@ blank_or_not false true a h e f = sym f
 blank_or_not false false true h e f = h
 blank_or_not false false false h e f = e
 
-in_word : (p q a : Bool) → (p || (q || not a)) ≡ false → (p ≡ false) × (q ≡ false) × (a ≡ true)
+pub in_word : (p q a : Bool) → (p || (q || not a)) ≡ false → (p ≡ false) × (q ≡ false) × (a ≡ true)
 in_word true true true h = (h, h, refl)
 in_word true true false h = (h, h, sym h)
 in_word true false true h = (h, refl, refl)
@@ -70,10 +70,10 @@ no_comment_at x xs e = rw e (take_more _ x xs)
 pieces_sign : (x : ℕ) (xs : List ℕ) → (x == 35) ≡ true → pieces (x ∷ xs) ≡ [] ∷ []
 pieces_sign x xs e = ap (slice_split is_blank) (no_comment_after x xs e)
 
-pieces_blank : (x : ℕ) (xs : List ℕ) → is_blank x ≡ true → pieces (x ∷ xs) ≡ [] ∷ pieces xs
+pub pieces_blank : (x : ℕ) (xs : List ℕ) → is_blank x ≡ true → pieces (x ∷ xs) ≡ [] ∷ pieces xs
 pieces_blank x xs h = ap (slice_split is_blank) (no_comment_at x xs (blank_is_no_sign x h)) ∙ slice_split-cons_yes is_blank x (without_comment xs) h
 
-pieces_more : (x : ℕ) (xs : List ℕ) → ends_word x ≡ false → pieces (x ∷ xs) ≡ onto_first x (pieces xs)
+pub pieces_more : (x : ℕ) (xs : List ℕ) → ends_word x ≡ false → pieces (x ∷ xs) ≡ onto_first x (pieces xs)
 pieces_more x xs goes =
     let parts = in_word (is_blank x) (x == 35) (is_allowed x) goes in
     ap (slice_split is_blank) (no_comment_at x xs parts.1) ∙ slice_split-cons_no is_blank x (without_comment xs) parts.0
@@ -112,7 +112,7 @@ cut (x ∷ xs) h =
       | inr goes ↦ subst (λ i. Cut i (x ∷ xs)) (sym (len_more x xs goes)) (cut_more (len xs) x xs (pieces_more x xs goes) (cut xs good.1))
     ]
 
-kept_cons : (word : List ℕ) (parts : List (List ℕ)) → (length word == 0) ≡ false → kept (word ∷ parts) ≡ word ∷ kept parts
+pub kept_cons : (word : List ℕ) (parts : List (List ℕ)) → (length word == 0) ≡ false → kept (word ∷ parts) ≡ word ∷ kept parts
 kept_cons word parts e = rw e refl
 
 word_first : (x : ℕ) (xs : List ℕ) → ends_word x ≡ false → list_all is_allowed xs ≡ true

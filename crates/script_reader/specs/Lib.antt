@@ -14,3 +14,4 @@ pub mod Text
 pub mod Word
 pub mod EventLine
 pub mod ScriptParts
+pub mod StepLine

@@ -105,6 +105,7 @@ fn first_body(alloc: Global, kind: Kind) -> Option<Body>
 }
 
 /// Gives a body one more operation.
+#[inline(always)]
 fn add_op_to(body: &mut Body, op: Op) -> Result<(), LineFault>
     ensures value { Follows result body.new (body_with_op op body.old) }
     ensures connection { body.new.connection ≡ body.old.connection }
@@ -195,6 +196,7 @@ impl LastTask {
     }
 
     /// Gives the last body one more operation.
+    #[inline(always)]
     fn add_op(&mut self, op: Op) -> Result<(), LineFault>
         requires of_kind { IfSome (taken_by self.old) (λ kind. IsOpOf kind op) }
         requires last_body { HasLastBody self.old }

@@ -20,6 +20,7 @@ mod operation;
 mod plan;
 mod reading;
 mod schedule;
+mod step_line;
 mod text;
 mod word;
 

@@ -16,6 +16,7 @@ const HANDLES: u32 = 8;
 const SESSIONS: u32 = 16;
 
 /// Up to five arguments, with 0 for those that are left out.
+#[inline(always)]
 #[tactic(auto, unfolding(crate::specs::Operation::arguments))]
 fn arguments(words: &[&[u8]]) -> Option<[Value; 5]>
     requires { length words.now ≤ 5 }
@@ -30,6 +31,7 @@ fn arguments(words: &[&[u8]]) -> Option<[Value; 5]>
 }
 
 /// Two values, and up to five arguments.
+#[inline(always)]
 #[tactic(auto, unfolding(crate::specs::Operation::two_and_arguments))]
 fn two_and_arguments(words: &[&[u8]]) -> Result<(Value, Value, [Value; 5]), Reason>
     ensures value { result ≡ two_and_arguments (texts words.now) }
@@ -46,6 +48,7 @@ fn two_and_arguments(words: &[&[u8]]) -> Result<(Value, Value, [Value; 5]), Reas
     }
 }
 
+#[inline(always)]
 #[tactic(auto, unfolding(crate::specs::Operation::call_op))]
 fn call_op(words: &[&[u8]]) -> Result<Op, Reason>
     ensures value { result ≡ call_op (texts words.now) }

@@ -1,5 +1,5 @@
 //! Reads a schedule, line by line.
-ghost use Rattle.std.specs.Prelude.{◌≡◌, ◌≢◌, ◌≤◌, ◌<◌, ℕ, List, [], ◌++◌, length, replicate, false, is_some, Ok, Err, IfOk, IsOkAnd};
+ghost use Rattle.std.specs.Prelude.{◌≡◌, ◌≢◌, ◌≤◌, ◌<◌, ℕ, List, [], ◌++◌, length, replicate, true, false, is_some, Some, Ok, Err, IfOk, IsOkAnd};
 ghost use Rattle.std.specs.Option.{option_map};
 ghost use Rattle.ipc_ids.specs.declared.message.Event.{Event};
 ghost use Rattle.script_reader.specs.declared.fault.Reason.{Reason};
@@ -8,6 +8,8 @@ ghost use Rattle.script_reader.specs.Draft.{Follows};
 ghost use Rattle.script_reader.specs.Schedule.{MayAllCome, event_verb_of, count_of, with_events, step_with, step_of, kill_of, hangup_of};
 ghost use Rattle.script_reader.specs.EventLine.{is_taken, spawn_place, with_spawn, with_repeated, spawn_of, after_event_verb, after_event_words, after_event_line, no_events, after_event, SpellsEvents};
 ghost use Rattle.script_reader.specs.Names.{task_names, place_of};
+ghost use Rattle.script_reader.specs.Word.{is_name};
+ghost use Rattle.script_reader.specs.StepLine.{with_steps};
 ghost use Rattle.script_reader.specs.Grammar.{IsFirstFault};
 ghost use Rattle.script_reader.specs.Reasons.{event_reasons};
 ghost use Rattle.script_reader.specs.Reading.{lines_from, reading, events_alone, schedule_of, events_in, fault_in_schedule, Reads, Agrees};
@@ -17,6 +19,7 @@ use crate::fault::{LineFault, Reason, ScheduleFault};
 use crate::name::is_name;
 use crate::names::{Names, names_of};
 use crate::plan::Script;
+use crate::step_line::step_line;
 use crate::text::{MOST_BYTES, split_line};
 use crate::word::number;
 use ipc_ids::Event;
@@ -46,6 +49,7 @@ fn event_verb_of(word: &[u8]) -> Option<EventVerb>
     }
 }
 
+#[inline(always)]
 fn push_times(events: &mut Vec<Event>, event: Event, count: u64) -> Result<(), LineFault>
     ensures { Follows result events.new.items (Ok (events.old.items ++ replicate count event)) }
 {
@@ -56,6 +60,7 @@ fn push_times(events: &mut Vec<Event>, event: Event, count: u64) -> Result<(), L
 }
 
 /// Adds an event so many times, if there is room for it.
+#[inline(always)]
 #[tactic(auto, unfolding(crate::specs::Schedule::with_events))]
 fn add_events(events: &mut Vec<Event>, event: Event, count: u64) -> Result<(), LineFault>
     ensures { Follows result events.new.items (with_events events.old.items event count) }
@@ -261,10 +266,10 @@ fn add_words(
     )
 }
 
-/// Adds what the first line of a text says, and returns what stands behind it; `None` where it is
-/// the last.
+/// Adds what the first line of a text says, word by word, and returns what stands behind it; `None`
+/// where it is the last.
 #[tactic(auto, unfolding(crate::specs::EventLine::after_event_line))]
-fn add_line<'a>(
+fn add_any_line<'a>(
     events: &mut Vec<Event>,
     names: &mut Names,
     alloc: Global,
@@ -283,6 +288,67 @@ fn add_line<'a>(
     }
     add_words(events, names, alloc, templates, words.as_slice())?;
     Ok(others)
+}
+
+/// The number of the last event's task, which is the place of the task after it; 0 where the last
+/// event is no step.
+#[inline(always)]
+fn next_place(events: &[Event]) -> usize {
+    match events {
+        [.., Event::Step(task)] => task.0 as usize,
+        _ => 0,
+    }
+}
+
+/// So many steps of the task of a name, which is looked for first at a place.
+#[inline(always)]
+#[tactic(auto, unfolding(crate::specs::Schedule::step_with, crate::specs::Word::name_of))]
+fn step_near(names: &Names, place: usize, name: &[u8], count: u64) -> Result<(Event, u64), Reason>
+    requires { is_name name.now ≡ true }
+    ensures { result ≡ step_with names.now name.now (Some count) }
+{
+    let task = names.task_near(place, name).ok_or(Reason::UnknownName)?;
+    Ok((Event::Step(task), count))
+}
+
+/// Adds so many steps of the task of a name.
+#[inline(always)]
+fn add_steps(
+    events: &mut Vec<Event>,
+    names: &Names,
+    name: &[u8],
+    count: u64,
+) -> Result<(), LineFault>
+    requires { is_name name.now ≡ true }
+    ensures { Follows result (record { events = events.new.items; names = names.now })
+        (with_steps (record { events = events.old.items; names = names.now }) name.now count) }
+{
+    let (event, count) = step_near(names, next_place(events), name, count)?;
+    add_events(events, event, count)
+}
+
+/// Adds what the first line of a text says, and returns what stands behind it; `None` where it is
+/// the last.
+fn add_line<'a>(
+    events: &mut Vec<Event>,
+    names: &mut Names,
+    alloc: Global,
+    templates: &Names,
+    words: &mut Vec<&'a [u8]>,
+    text: &'a [u8],
+) -> Result<Option<&'a [u8]>, LineFault>
+    ensures value { Follows result (record { events = events.new.items; names = names.new })
+        (after_event_line templates.now (record { events = events.old.items; names = names.old })
+        (first_line text.now)) }
+    ensures behind { IfOk result (λ others. option_map (λ t. t.now) others ≡ behind text.now) }
+{
+    match step_line(text) {
+        Some(line) => {
+            add_steps(events, names, line.name, line.count)?;
+            Ok(Some(line.others))
+        }
+        None => add_any_line(events, names, alloc, templates, words, text),
+    }
 }
 
 fn add_lines(

@@ -1,0 +1,24 @@
+-- A name that stands at a place is found there.
+use Rattle.std.proofs.Common.{◌≡◌, ℕ, ◌<◌, Bool, true, false, List, length, get_or, Some, refl, subst, ◌∙◌, arith}
+use Rattle.std.specs.Prelude.{position}
+use Rattle.std.specs.Global.{Vec}
+use Rattle.std.specs.List.{position_or_len, IsDistinct}
+use Rattle.std.specs.Str.{bytes_eq}
+use Rattle.std.proofs.lemmas.Bool.{lt-ltb}
+use Rattle.std.proofs.lemmas.List.Sums.{position_or_len_is}
+use Rattle.std.proofs.lemmas.Map.Keys.{apart_from_distinct}
+use Rattle.std.proofs.lemmas.Slice.Eq.{bytes_eq-Decides}
+use Rattle.script_reader.proofs.EventFaults.{flip}
+
+abbrev pub same_bytes : Vec ℕ → Vec ℕ → Bool
+same_bytes v w = bytes_eq v.items w.items
+
+-- where no two keys have the same bytes, the one at a place is found there
+pub first_at : (keys : List (Vec ℕ)) (i : ℕ) (d : Vec ℕ) (name : List ℕ) → IsDistinct same_bytes keys → i < length keys
+    → bytes_eq (get_or keys i d).items name ≡ true → position (λ (v : Vec ℕ). bytes_eq name v.items) keys ≡ Some i
+first_at keys i d name apart lt here =
+    let same : (get_or keys i d).items ≡ name = (bytes_eq-Decides (get_or keys i d).items name).0 here in
+    let others : (k : ℕ) → k < i → bytes_eq name (get_or keys k d).items ≡ false =
+    λ k below. subst (λ (n : List ℕ). bytes_eq n (get_or keys k d).items ≡ false) same (flip (get_or keys i d).items (get_or keys k d).items ∙ apart_from_distinct same_bytes keys k i d apart below lt) in
+    let place : position_or_len (λ (v : Vec ℕ). bytes_eq name v.items) keys ≡ i = position_or_len_is (λ (v : Vec ℕ). bytes_eq name v.items) keys i d (omega (arith, lt)) others (λ _. flip name (get_or keys i d).items ∙ here) in
+    rw place (rw (lt-ltb i (length keys) lt) refl)
