@@ -84,11 +84,10 @@ whole line other text same last b is feed test =
 pub no_feed :
     (line other text : List ℕ) (same last : ℕ) → other ≡ text ++ last ∷ [] → (last ≡ 10 → ⊥) →
     IsTrue (nat_eq last 10) ↔ (take same line ++ other ≡ line ++ 10 ∷ [])
-no_feed line other text same last is apart =
-    (
-      λ h. absurd (apart (eqb-true last 10 h)),
-      λ e. absurd (apart (same_but_last (take same line ++ text) line last 10 (append_assoc (take same line) text (last ∷ []) ∙ ap (λ l. take same line ++ l) (sym is) ∙ e)).1),
-    )
+no_feed line other text same last is apart = (
+  λ h. absurd (apart (eqb-true last 10 h)),
+  λ e. absurd (apart (same_but_last (take same line ++ text) line last 10 (append_assoc (take same line) text (last ∷ []) ∙ ap (λ l. take same line ++ l) (sym is) ∙ e)).1),
+)
 
 pub no_other : (line other : List ℕ) (same : ℕ) → same ≤ length line → length other ≡ 0 → IsTrue false ↔ (take same line ++ other ≡ line ++ 10 ∷ [])
 no_other line other same within none =
