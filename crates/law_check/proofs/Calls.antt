@@ -42,8 +42,8 @@ knows_at_place p n w x k old new knows here live m puts =
         | inl e ↦ subst (λ (j : ℕ). life j (On n w ∷ p) ≡ life_at new.calls.items j) e (rw (puts.calls, ap known (kept_set n (record k { place = x }) old.calls.items live), eq-eqb n n refl) (comes w x (life n p) k m (here ∙ sym (knows.lives n))))
         | inr apart ↦ rw (puts.calls, ne_eqb n i apart, kept_set_other n i (record k { place = x }) old.calls.items live (λ e. apart (sym e))) (knows.lives i)
       ];
-      killed = rw (puts.killed) knows.killed;
-      named = rw (puts.named) knows.named;
+      killed = rw (puts.tasks) knows.killed;
+      named = rw (puts.tasks) knows.named;
       event = rw (puts.event) knows.event;
       back = rw (puts.back) (not_back n w x (life n p) p m);
       first = rw (puts.event) (knows.first ∙ not_first n w x p m);
@@ -67,8 +67,8 @@ knows_accepted p n u phone method to x old new knows now next there pushes =
         | inl e ↦ subst (λ (j : ℕ). life j (On n (Accepted u phone method to) ∷ p) ≡ life_at new.calls.items j) e (rw (pushes.calls, eq-eqb n n refl) (gone_in u phone method to (life n p) x there ∙ sym (rw (here) (ap known (kept_push old.calls.items k)))))
         | inr apart ↦ rw (pushes.calls, ne_eqb n i apart, kept_push_other i old.calls.items k (λ e. apart (here ∙ sym e))) (knows.lives i)
       ];
-      killed = rw (pushes.killed) knows.killed;
-      named = rw (pushes.named) knows.named;
+      killed = rw (pushes.tasks) knows.killed;
+      named = rw (pushes.tasks) knows.named;
       event = rw (pushes.event) knows.event;
       back = rw (pushes.back) (last_back n u phone method to p);
       first = rw (pushes.event) (sym (ap is_nothing knows.event) ∙ begun u (event p) now);

@@ -1,7 +1,7 @@
 -- What is kept of a past to tell the life of each call.
-use Rattle.std.specs.Prelude.{ℕ, ◌≡◌, ◌-◌, ◌<◌, ◌≤◌, ◌==◌, ◌++◌, Bool, true, false, if◌then◌else◌, Option, Some, None, List, [], ◌∷◌, length, slice_get, slice_set}
+use Rattle.std.specs.Prelude.{ℕ, ◌≡◌, ◌-◌, ◌<◌, ◌≤◌, ◌==◌, ◌++◌, Bool, true, false, if◌then◌else◌, Option, Some, None, List, [], ◌∷◌, length, slice_get, slice_set, is_some, unwrap_or, ◌||◌, Result, OnOk}
 use Rattle.std.specs.Ordering.{nat_cmp}
-use Rattle.std.specs.BTreeSet.{contains}
+use Rattle.std.specs.BTreeMap.{BTreeMap, get}
 use Rattle.ipc_ids.specs.Tales.{Receive, Answer, Forward, Other_request, Event, Step, Kill, Gone, Spawn, Way, To, At_once, Note, Accepted, Tale, On}
 use Rattle.ipc_ids.specs.Life as life
 use Rattle.ipc_ids.specs.Life.{Life, Nowhere, event, is_killed, has_head, last_number}
@@ -65,12 +65,25 @@ abbrev pub is_nothing : Option Event → Bool
 is_nothing None = true
 is_nothing (Some e) = false
 
+-- a head names task u
+abbrev pub is_named_in : BTreeMap ℕ Bool → ℕ → Bool
+is_named_in tasks u = is_some (get nat_cmp tasks u)
+
+-- a head kills task u
+abbrev pub is_killed_in : BTreeMap ℕ Bool → ℕ → Bool
+is_killed_in tasks u = unwrap_or (get nat_cmp tasks u) false
+
+-- the event kills a task
+abbrev pub kills : PresentEvent → Bool
+kills (now.Kill t) = true
+kills _ = false
+
 -- what is kept is what the past says
 pub record Knows (p : List Tale) (s : Lives) : Type 0 where
   pub count : length s.calls.items ≡ last_number p
   pub lives : (n : ℕ) → life.life n p ≡ life_at s.calls.items n
-  pub killed : (u : ℕ) → is_killed u p ≡ contains nat_cmp s.killed u
-  pub named : (u : ℕ) → has_head u p ≡ contains nat_cmp s.named u
+  pub killed : (u : ℕ) → is_killed u p ≡ is_killed_in s.tasks u
+  pub named : (u : ℕ) → has_head u p ≡ is_named_in s.tasks u
   pub event : event p ≡ event_of s.event
   pub back : back_of p ≡ (if s.back then Some (last_number p) else None)
   pub first : is_nothing (event_of s.event) ≡ is_first p
@@ -82,8 +95,7 @@ IsLive n calls = (0 < n) × (n ≤ length calls)
 -- of the call with this number another thing is known, and else nothing has changed
 pub record Puts (n : ℕ) (k : KnownCall) (old new : Lives) : Type 0 where
   pub calls : new.calls.items ≡ slice_set old.calls.items (n - 1) k
-  pub killed : new.killed ≡ old.killed
-  pub named : new.named ≡ old.named
+  pub tasks : new.tasks ≡ old.tasks
   pub event : new.event ≡ old.event
   pub back : new.back ≡ false
 
@@ -102,7 +114,20 @@ goes_back (To t) = false
 -- one more call is known, and else nothing has changed
 pub record Pushes (k : KnownCall) (goes : Bool) (old new : Lives) : Type 0 where
   pub calls : new.calls.items ≡ old.calls.items ++ k ∷ []
-  pub killed : new.killed ≡ old.killed
-  pub named : new.named ≡ old.named
+  pub tasks : new.tasks ≡ old.tasks
   pub event : new.event ≡ old.event
   pub back : new.back ≡ goes
+
+-- a head named task t, and killed it or not; else nothing has changed
+pub record Names (t : ℕ) (kill : Bool) (old new : Lives) : Type 0 where
+  pub named : (u : ℕ) → is_named_in new.tasks u ≡ (if t == u then true else is_named_in old.tasks u)
+  pub killed :
+      (u : ℕ) → is_killed_in new.tasks u ≡ (if t == u then kill || is_killed_in old.tasks u else is_killed_in old.tasks u)
+  pub calls : new.calls ≡ old.calls
+  pub event : new.event ≡ old.event
+  pub back : new.back ≡ old.back
+
+-- what was known before an entry that is allowed is known after it, unless memory ran out
+abbrev pub KnowsNext : {X E : Type 0} → Lives → Tale → Result X E → Lives → Type 0
+KnowsNext old e result new =
+    (p : List Tale) → Knows p old → Follows p e → IsAllowed p e → OnOk result (Knows (e ∷ p) new)

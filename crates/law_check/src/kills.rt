@@ -4,7 +4,7 @@ ghost use Rattle.ipc_ids.specs.Tales.{Tale, tale, tales};
 ghost use Rattle.ipc_ids.specs.Laws.{IsAllowed, LivesAreLawful, KillEndsHeldCalls};
 ghost use Rattle.ipc_ids.specs.declared.entry.Entry.{Entry};
 ghost use Rattle.ipc_ids.specs.Lawful.{Follows};
-ghost use Rattle.law_check.specs.Lives.{Knows, life_at};
+ghost use Rattle.law_check.specs.Lives.{KnowsNext, life_at};
 ghost use Rattle.law_check.specs.Passing.{KillsStand, in_order};
 ghost use Rattle.law_check.specs.KillState.{KnowsKills, TakesKill, kill_at, kill_by_end, number_at, is_late, is_dead, kind, since_put};
 
@@ -189,8 +189,7 @@ impl Kills {
             → OnOk result (KnowsKills (tale entry.now ∷ p) self.new) }
         ensures killed { self.new.killed ≡ self.old.killed }
         ensures events { self.new.events ≡ self.old.events }
-        ensures lives { (p : List Tale) → Knows p self.old.lives → Follows p (tale entry.now)
-            → IsAllowed p (tale entry.now) → OnOk result (Knows (tale entry.now ∷ p) self.new.lives) }
+        ensures lives { KnowsNext self.old.lives (tale entry.now) result self.new.lives }
     {
         self.come(call, entry)?;
         self.lives.note(entry)?;
@@ -204,8 +203,7 @@ impl Kills {
             → IsAllowed p (tale entry.now) → kind (tale entry.now) ≡ Kind.Head
             → OnOk result (KnowsKills (tale entry.now ∷ p) self.new) }
         ensures events { self.new.events ≤ self.old.events + 1 }
-        ensures lives { (p : List Tale) → Knows p self.old.lives → Follows p (tale entry.now)
-            → IsAllowed p (tale entry.now) → OnOk result (Knows (tale entry.now ∷ p) self.new.lives) }
+        ensures lives { KnowsNext self.old.lives (tale entry.now) result self.new.lives }
     {
         self.end()?;
         self.events += 1;
@@ -219,8 +217,7 @@ impl Kills {
             → IsAllowed p (tale entry.now) → kind (tale entry.now) ≡ Kind.Other
             → OnOk result (KnowsKills (tale entry.now ∷ p) self.new) }
         ensures events { self.new.events ≡ self.old.events }
-        ensures lives { (p : List Tale) → Knows p self.old.lives → Follows p (tale entry.now)
-            → IsAllowed p (tale entry.now) → OnOk result (Knows (tale entry.now ∷ p) self.new.lives) }
+        ensures lives { KnowsNext self.old.lives (tale entry.now) result self.new.lives }
     {
         self.lives.note(entry)?;
         Ok(())
@@ -233,8 +230,7 @@ impl Kills {
             → IsAllowed p (tale entry.now)
             → IfOk result (λ yes. TakesKill p (tale entry.now) self.new yes) }
         ensures events { self.new.events ≤ self.old.events + 1 }
-        ensures lives { (p : List Tale) → Knows p self.old.lives → Follows p (tale entry.now)
-            → IsAllowed p (tale entry.now) → OnOk result (Knows (tale entry.now ∷ p) self.new.lives) }
+        ensures lives { KnowsNext self.old.lives (tale entry.now) result self.new.lives }
     {
         match kind_of(entry) {
             Kind::Head => {

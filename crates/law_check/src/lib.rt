@@ -1,8 +1,8 @@
 //! Tells whether a list of entries satisfies the laws of calls and of shared areas. All laws are
-//! tested in one pass, which keeps no entry, in a time that is linear in the list up to a logarithm.
-//! A write passes over
-//! those areas of its task, over its store, that begin between the area around it and the address:
-//! where no areas of a task over one store overlap, that is at most one.
+//! tested in one pass, which keeps no entry. Its time is linear in the list up to a logarithm, but
+//! for writes where areas of a task over one store overlap: a write passes over those areas of its
+//! task, over its store, that begin between the area around it and the address. Where none overlap,
+//! that is at most one.
 #![tactic(auto)]
 
 mod areas;

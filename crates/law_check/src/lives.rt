@@ -1,16 +1,16 @@
 //! The law of a call's life, as entries come.
 ghost use Rattle.std.specs.Prelude.{◌≡◌, ◌↔◌, ℕ, suc, length, List, [], ◌∷◌, Some, OnOk, IsSome, IsTrue};
 ghost use Rattle.std.specs.Ordering.{nat_cmp};
-ghost use Rattle.std.specs.BTreeSet.{contains};
+ghost use Rattle.std.specs.BTreeMap.{get};
 ghost use Rattle.ipc_ids.specs.Tales.{Event, Step, Tale, Head, On, Note, Way, Accepted, Received, Forwarded, Answered, Vanished, Forgotten, Delivered, Dropped, Kernel, Task, ask, author, way, tale};
 ghost use Rattle.ipc_ids.specs.Life.{Allowed, IsOf, event, after, life, last_number, task_of};
 ghost use Rattle.ipc_ids.specs.Laws.{IsAllowed};
 ghost use Rattle.ipc_ids.specs.Lawful.{Follows, IsRound};
-ghost use Rattle.law_check.specs.Lives.{Knows, life_at, at, known, IsOfTask, event_of, IsLive, Puts, Pushes, BringsTo};
+ghost use Rattle.law_check.specs.Lives.{Knows, life_at, at, known, IsOfTask, event_of, IsLive, Puts, Pushes, BringsTo, Names, KnowsNext, kills, is_killed_in, is_named_in};
 
 use ipc_ids::{Code, Entry, NoMemory, Request, TaskNo};
 use std::alloc::Global;
-use std::collections::BTreeSet;
+use std::collections::BTreeMap;
 
 /// Where a call is.
 #[derive(Clone, Copy, Debug, PartialEq, Eq)]
@@ -46,15 +46,21 @@ pub enum PresentEvent {
 #[derive(Drop)]
 pub struct Lives {
     pub calls: Vec<KnownCall>,
-    killed: BTreeSet<u64>,
-    /// The tasks that the heads so far name.
-    named: BTreeSet<u64>,
+    /// The tasks that the heads so far name, and whether one of these kills the task.
+    tasks: BTreeMap<u64, bool>,
     pub event: PresentEvent,
     /// The last entry says that the last call goes back.
     back: bool,
 }
 
 impl PresentEvent {
+    /// The event kills a task.
+    fn is_kill(self) -> bool
+        ensures { result ≡ kills self }
+    {
+        matches!(self, PresentEvent::Kill(_))
+    }
+
     /// The event is one of this task.
     fn is_of(self, task: u64) -> bool
         ensures { IsTrue result ↔ IsOfTask task (event_of self) }
@@ -78,8 +84,7 @@ impl Lives {
     {
         Lives {
             calls: Vec::new(alloc),
-            killed: BTreeSet::new(alloc),
-            named: BTreeSet::new(alloc),
+            tasks: BTreeMap::new(alloc),
             event: PresentEvent::Nothing,
             back: false,
         }
@@ -96,16 +101,16 @@ impl Lives {
     }
 
     fn is_killed(&self, task: u64) -> bool
-        ensures { result ≡ contains nat_cmp self.now.killed task }
+        ensures { result ≡ is_killed_in self.now.tasks task }
     {
-        self.killed.contains(&task)
+        self.tasks.get(&task).copied().unwrap_or(false)
     }
 
     /// A head of the task stands there.
     fn is_named(&self, task: u64) -> bool
-        ensures { result ≡ contains nat_cmp self.now.named task }
+        ensures { result ≡ is_named_in self.now.tasks task }
     {
-        self.named.contains(&task)
+        self.tasks.get(&task).is_some()
     }
 
     /// Call `call` may be accepted next, from this task.
@@ -404,15 +409,23 @@ impl Lives {
         }
     }
 
+    /// A head names the task, and kills it or not.
+    fn name(&mut self, task: u64, kills: bool) -> Result<(), NoMemory>
+        ensures { OnOk result (Names task kills self.old self.new) }
+    {
+        let was = self.tasks.insert(task, kills)?.unwrap_or(false);
+        if was {
+            self.tasks.insert(task, true)?;
+        }
+        Ok(())
+    }
+
     /// An event of the task begins.
     fn begin(&mut self, task: u64, event: PresentEvent) -> Result<(), NoMemory>
         ensures { (p : List Tale) (e : Event) → Knows p self.old → event_of event ≡ Some e
             → task_of e ≡ task → OnOk result (Knows (Head e ∷ p) self.new) }
     {
-        self.named.insert(task)?;
-        if let PresentEvent::Kill(task) = event {
-            self.killed.insert(task)?;
-        }
+        self.name(task, event.is_kill())?;
         self.event = event;
         self.back = false;
         Ok(())
@@ -420,8 +433,7 @@ impl Lives {
 
     /// Takes an entry that is allowed.
     pub fn note(&mut self, entry: &Entry) -> Result<(), NoMemory>
-        ensures { (p : List Tale) → Knows p self.old → Follows p (tale entry.now)
-            → IsAllowed p (tale entry.now) → OnOk result (Knows (tale entry.now ∷ p) self.new) }
+        ensures { KnowsNext self.old (tale entry.now) result self.new }
     {
         match entry {
             Entry::Head(task, request) => self.begin(task.0, now_of(*task, request)),

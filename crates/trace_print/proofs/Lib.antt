@@ -1,3 +1,4 @@
+pub mod Comparing
 pub mod Counts
 pub mod Digits
 pub mod Lasts

@@ -2,8 +2,8 @@
 //! caller gives, which take no memory but their own.
 #![tactic(auto)]
 
-mod array;
 mod bytes;
+mod comparison;
 mod count;
 mod effect;
 mod fibril;

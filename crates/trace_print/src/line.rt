@@ -2,12 +2,12 @@
 ghost use Rattle.std.specs.Prelude.{◌≡◌, ◌↔◌, ◌+◌, ◌≤◌, [], ◌∷◌, ◌++◌, length, map, OnOk, OnErr, IsOk, IsTrue, vec_len, vec_capacity};
 ghost use Rattle.trace_print.specs.Text.{text_of_entry};
 
+use crate::comparison::Comparison;
 use crate::count::Count;
 use crate::effect::push_effect;
 use crate::head::{push_outcome, push_request};
 use crate::part::push_task;
 use crate::pen::Pen;
-use arrayvec::ArrayVec;
 use ipc_ids::{Entry, NoMemory};
 
 #[tactic(auto, using(crate::proofs::Marks::map_append))]
@@ -82,14 +82,10 @@ pub fn entry_length(entry: &Entry) -> u64
 }
 
 /// Whether the line of the entry is these bytes and a line feed. It takes no memory.
-#[tactic(auto, using(crate::proofs::Marks::map_same))]
 pub fn entry_is(entry: &Entry, line: &[u8]) -> bool
     ensures { IsTrue result ↔ (text_of_entry entry.now ≡ line.now ++ 10 ∷ []) }
 {
-    let mut bytes = ArrayVec::<u8, 256>::new();
-    push_line(&mut bytes, entry);
-    match bytes.as_slice().split_last() {
-        Some((last, text)) => *last == b'\n' && text == line,
-        None => false,
-    }
+    let mut comparison = Comparison::new(line);
+    push_line(&mut comparison, entry);
+    comparison.is_whole()
 }

@@ -1,4 +1,5 @@
 pub mod Parts
+pub mod Lines
 pub mod Again
 pub mod Pieces
 pub mod Trees

@@ -28,7 +28,7 @@ use Rattle.trace_reader.specs.Read.{entry_in, nth, read, IsPlain, outcome_in, mo
 use Rattle.trace_reader.specs.Trace.{IsNoLine, AreBuilt, IsFirstBad}
 use Rattle.trace_reader.specs.declared.trace.TraceFault.{TraceFault}
 use Rattle.trace_reader.specs.declared.trace.TraceFault.TheVariants.{Bad}
-use Rattle.trace_reader.proofs.Parts.{nths, parts_join, lacks_join, before_mark, is_marked, whole_cut}
+use Rattle.trace_reader.proofs.Parts.{nths, parts_join, lacks_join, before_mark, before_all, is_marked, whole_cut}
 use Rattle.trace_reader.proofs.Again.{one_more, large_code, number_again, small_again, task_again, label_again, owner_again, fibril_again, code_again, bytes_again}
 use Rattle.trace_reader.proofs.Joined.{is_joined, words_lack}
 
@@ -177,6 +177,14 @@ pub line_again : (e : Entry) (line : List ℕ) → IsBuilt e → text_of_entry e
 line_again e line b text =
     let same : line ≡ join (words_of e) = (same_but_last line (join (words_of e)) 10 10 (sym text ∙ is_joined e)).0 in
     ap read same ∙ read_again e b
+
+-- the line of an entry has no line feed inside
+pub whole_line : (e : Entry) (line : List ℕ) → IsBuilt e → text_of_entry e ≡ line ++ 10 ∷ [] → length (before 10 line) ≡ length line
+whole_line e line b text =
+    let same : line ≡ join (words_of e) = (same_but_last line (join (words_of e)) 10 10 (sym text ∙ is_joined e)).0 in
+    ap (λ (l : List ℕ). length (before 10 l)) same
+    ∙ ap length (before_all 10 (join (words_of e)) (lacks_join (words_of e) (words_lack e b).1))
+    ∙ sym (ap length same)
 
 not_refused : (a : Entry) → a ≡ entry.Outcome got.Done → a ≡ entry.Outcome (got.Refused eok) → ⊥
 not_refused a h k = cc

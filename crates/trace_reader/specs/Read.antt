@@ -197,6 +197,10 @@ texts words = map (λ w. w.now) words
 abbrev pub nth : List (List ℕ) → ℕ → List ℕ
 nth ws i = unwrap_or (slice_get ws i) []
 
+-- these are the first words of the line
+abbrev pub HasWords : List (List ℕ) → List ℕ → Type 0
+HasWords ws line = (i : ℕ) → nth ws i ≡ nth (parts 13 0 line) i
+
 -- what a line is read as
 abbrev pub read : List ℕ → Entry
 read line = entry_in (nth (parts 13 0 line))

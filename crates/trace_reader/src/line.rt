@@ -1,7 +1,7 @@
 //! What a line is read as.
 ghost use Rattle.std.specs.Prelude.{◌≡◌, ◌++◌, ◌∷◌, [], IfSome, IfNone};
 ghost use Rattle.trace_reader.specs.Line.{IsBuilt};
-ghost use Rattle.trace_reader.specs.Read.{read, entry_in, effect_in, fibril_effect_in, exchange_effect_in, gets_in, ends_in, call_effect_in, call_end_in, head_in, nth, texts};
+ghost use Rattle.trace_reader.specs.Read.{HasWords, entry_in, effect_in, fibril_effect_in, exchange_effect_in, gets_in, ends_in, call_effect_in, call_end_in, head_in, nth, texts};
 ghost use Rattle.trace_print.specs.Text.{text_of_entry};
 ghost use Rattle.ipc_ids.specs.declared.entry.Entry.{Entry};
 
@@ -9,8 +9,8 @@ use crate::asked::{
     answerer_in, exchange_mode_in, outcome_in, request_in, slot_in, state_in, way_in, why_in,
 };
 use crate::part::{
-    Words, code_of, fibril_of, label_of, number_of, owner_of, reply_at, small_of, task_of, word,
-    words_of,
+    Words, code_of, fibril_of, first_line, label_of, number_of, owner_of, reply_at, small_of,
+    task_of, word,
 };
 use ipc_ids::{CallNo, Entry, ExchangeNo, Reply, StoreNo};
 use trace_print::entry_is;
@@ -240,11 +240,20 @@ fn entry_in(line: &Words) -> Entry
     }
 }
 
-/// What the line is read as. It counts only where the text of that entry is the line.
-fn read(line: &[u8]) -> Entry
-    ensures { result ≡ read line.now }
+/// The entry whose text is this line, which has these words, and a line feed.
+pub fn entry_of(words: &Words, line: &[u8]) -> Option<Entry>
+    requires { HasWords (texts words.now.items) line.now }
+    ensures some { IfSome result (λ e. text_of_entry e ≡ line.now ++ 10 ∷ []) }
+    ensures built { IfSome result (λ e. IsBuilt e) }
+    ensures none { IfNone result ((e : Entry) → IsBuilt e → text_of_entry e ≡ line.now ++ 10 ∷ []
+        → ⊥) }
 {
-    entry_in(&words_of(line))
+    let entry = entry_in(words);
+    if entry_is(&entry, line) {
+        Some(entry)
+    } else {
+        None
+    }
 }
 
 /// The entry whose text is this line and a line feed; `None` where the line is the text of no entry
@@ -255,10 +264,10 @@ pub fn read_entry(line: &[u8]) -> Option<Entry>
     ensures none { IfNone result ((e : Entry) → IsBuilt e → text_of_entry e ≡ line.now ++ 10 ∷ []
         → ⊥) }
 {
-    let entry = read(line);
-    if entry_is(&entry, line) {
-        Some(entry)
-    } else {
-        None
+    let mut words = Words::new();
+    let count = first_line(line, &mut words);
+    if count < line.len() {
+        return None;
     }
+    entry_of(&words, line)
 }

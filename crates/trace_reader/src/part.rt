@@ -1,14 +1,14 @@
 //! The parts of a line. Each reader gives something for any bytes; what it gives counts only where
 //! the entry's own text is the line.
-ghost use Rattle.std.specs.Prelude.{◌≡◌, ◌≤◌, ◌<◌, ◌==◌, ℕ, length};
+ghost use Rattle.std.specs.Prelude.{◌≡◌, ◌≤◌, ◌<◌, ◌==◌, ℕ, [], length};
 ghost use Rattle.trace_reader.specs.Words.{part, number_of, small_of, task_of, label_of, code_of, named, find, rows, before, behind, owner_of, fibril_of, digit_of, bytes_of};
-ghost use Rattle.trace_reader.specs.Read.{args_in, msg_in, reply_in, nth, parts, texts};
+ghost use Rattle.trace_reader.specs.Read.{HasWords, args_in, msg_in, reply_in, nth, texts};
 
 use arrayvec::ArrayVec;
 use ipc_ids::{Code, FibrilNo, Label, Msg, PhoneNo, Reply, Short, TaskNo};
 
 /// How many bytes stand before the first mark.
-pub fn length_before(text: &[u8], mark: u8) -> usize
+fn length_before(text: &[u8], mark: u8) -> usize
     ensures length { result ≡ length (before mark text.now) }
     ensures within { result ≤ length text.now }
 {
@@ -52,19 +52,41 @@ pub fn part(text: &[u8], mark: u8, index: usize) -> &[u8]
 /// The first words of a line, as it is cut at each space. No entry has more than thirteen.
 pub type Words<'a> = ArrayVec<&'a [u8], 13>;
 
-pub fn words_of(line: &[u8]) -> Words
-    ensures { (i : ℕ) → nth (texts result.items) i ≡ nth (parts 13 0 line.now) i }
+/// How many bytes stand before the first space or line feed.
+fn length_of_word(text: &[u8]) -> usize
+    ensures length { result ≡ length (before 32 (before 10 text.now)) }
+    ensures within { result ≤ length text.now }
 {
-    let mut words = ArrayVec::new();
-    let mut rest = line;
+    let mut count = 0;
+    for byte in text {
+        if *byte <= b' ' && (*byte == b' ' || *byte == b'\n') {
+            return count;
+        }
+        count += 1;
+    }
+    count
+}
+
+/// Adds the first words of the line that the bytes begin with, and tells how many bytes that line
+/// has: all of them, where there is no line feed.
+pub fn first_line<'a>(bytes: &'a [u8], words: &mut Words<'a>) -> usize
+    requires { words.old.items ≡ [] }
+    ensures words { HasWords (texts words.new.items) (before 10 bytes.now) }
+    ensures length { result ≡ length (before 10 bytes.now) }
+    ensures within { result ≤ length bytes.now }
+{
+    let mut rest = bytes;
     let mut left = 13u64;
-    while left > 0 && !rest.is_empty() {
-        let (word, behind) = cut(rest, b' ');
-        words.push(word);
-        rest = behind;
+    while left > 0 {
+        let count = length_of_word(rest);
+        words.push(&rest[..count]);
+        if count == rest.len() || rest[count] == b'\n' {
+            return bytes.len() - rest.len() + count;
+        }
+        rest = &rest[count + 1..];
         left -= 1;
     }
-    words
+    bytes.len() - rest.len() + length_before(rest, b'\n')
 }
 
 /// The word with this index; no bytes where there is none.
@@ -86,7 +108,7 @@ pub fn number_of(word: &[u8]) -> u64
     for byte in word {
         number = number
             .wrapping_mul(10)
-            .wrapping_add(u64::from(byte.saturating_sub(b'0')));
+            .wrapping_add(u64::from(*byte).saturating_sub(48));
     }
     number
 }

@@ -5,8 +5,8 @@ ghost use Rattle.trace_print.specs.Text.{text_of, text_of_entry};
 ghost use Rattle.trace_reader.specs.Line.{IsBuilt};
 ghost use Rattle.trace_reader.specs.Trace.{IsFirstBad, IsTrace, AreBuilt, IsNoLine, IsOnly};
 
-use crate::line::read_entry;
-use crate::part::length_before;
+use crate::line::entry_of;
+use crate::part::{Words, first_line};
 use ipc_ids::{Entry, NoMemory, Trace};
 use std::alloc::Global;
 
@@ -27,11 +27,12 @@ pub fn first_entry(bytes: &[u8]) -> Option<(Entry, &[u8])>
     ensures shorter { IfSome result (λ first. length first.1.now < length bytes.now) }
     ensures none { IfNone result (IsNoLine bytes.now) }
 {
-    let count = length_before(bytes, b'\n');
+    let mut words = Words::new();
+    let count = first_line(bytes, &mut words);
     if count == bytes.len() {
         return None;
     }
-    match read_entry(&bytes[..count]) {
+    match entry_of(&words, &bytes[..count]) {
         Some(entry) => Some((entry, &bytes[count + 1..])),
         None => None,
     }
