@@ -42,7 +42,8 @@ phone_of t p = record { task = t; phone = record { 0 = p } }
 -- in the event with this head task t passes on call n, over a phone of its own that leads to task u, with this label
 abbrev pub PassesOn : Beginning → List Entry → ℕ → TaskNo → TaskNo → Label → Option Entry → Type 0
 PassesOn b q n t u label (Some (entry.Head s (request.Forward m p mode change))) =
-    (s ≡ t) × (m ≡ n) × (leads b.wires t.0 p q ≡ Some u) × (label_by mode (label_of_call n q) (phone_of t p) ≡ Some label)
+    (s ≡ t) × (m ≡ n) × (leads b.wires t.0 p q ≡ Some u)
+    × (label_by mode (label_of_call n q) (phone_of t p) ≡ Some label)
 PassesOn b q n t u label _ = ⊥
 
 -- a call that is passed on goes where the phone leads that its holder names
