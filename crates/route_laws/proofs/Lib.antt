@@ -1,0 +1,5 @@
+pub mod PhoneSteps
+pub mod PhoneRequests
+pub mod PhoneKills
+pub mod PhoneEvents
+mod PhoneExamples
