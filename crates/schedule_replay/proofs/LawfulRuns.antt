@@ -9,21 +9,23 @@ use Rattle.script_reader.specs.Sound.{IsSound}
 use Rattle.script_reader.specs.Schedule.{MayAllCome}
 use Rattle.kernel_core.proofs.WholeHistories.{laws_of_history, area_law_of_history}
 use Rattle.schedule_replay.specs.Run.{RunState, start, run, state_after}
-use Rattle.schedule_replay.specs.RunHistory.{RunFits}
+use Rattle.route_laws.proofs.PhoneEvents.{calls_go_where_phones_lead}
+use Rattle.schedule_replay.specs.RunHistory.{beginning, RunFits}
 use Rattle.schedule_replay.specs.LawfulRun.{KeepsLaws, LosesNoWake, IsLawfulRun}
 use Rattle.schedule_replay.proofs.RunHistories.{run_told, part_told, fitting_keeps_wakes, facts_are_lawful}
 use Rattle.schedule_replay.proofs.ServiceRuns.{ends_are_told, blocks_are_kept}
 
-laws_kept : (plan : Plan) (events : List Event) → RunFits (run plan events) (state_after (start plan) events) → KeepsLaws plan (run plan events)
+laws_kept : (plan : Plan) (events : List Event) → RunFits (beginning plan) (run plan events) (state_after (start plan) events) → KeepsLaws plan (run plan events)
 laws_kept plan events told =
     let h : List Entry = run plan events in
     let now : RunState = state_after (start plan) events in
     let laws = laws_of_history h now.kernel told.kernel in
-    let facts = facts_are_lawful h now told in
+    let facts = facts_are_lawful (beginning plan) h now told in
     record {
       lives = laws.0;
       answers = laws.1;
       kills = laws.2;
+      phones = calls_go_where_phones_lead (beginning plan) h now.kernel told.kernel told.routes;
       areas = area_law_of_history h now.kernel told.kernel;
       replies = replies_reach_their_fibril h (λ t. (facts t).0) (λ t. (facts t).1);
       exchanges = exchanges_are_lawful h (λ t. (facts t).2);
@@ -33,7 +35,7 @@ laws_kept plan events told =
 
 wakes_kept : (plan : Plan) (events : List Event) → IsSound plan → MayAllCome (length plan.tasks) (length plan.templates) events → LosesNoWake plan events
 wakes_kept plan events sound may done rest is =
-    fitting_keeps_wakes (run plan done) (state_after (start plan) done)
+    fitting_keeps_wakes (beginning plan) (run plan done) (state_after (start plan) done)
     (part_told plan done rest sound (subst (λ (es : List Event). MayAllCome (length plan.tasks) (length plan.templates) es) is may))
 
 -- the run of a sound script

@@ -3,6 +3,7 @@ mod GeneratorExamples
 pub mod OpenWires
 pub mod OwnEntries
 mod RunExample
+pub mod PhoneRuns
 pub mod RunHistories
 pub mod Sending
 pub mod Stepping

@@ -25,7 +25,7 @@ use Rattle.cleanup.specs.Serving.{Served}
 use Rattle.ipc_ids.specs.Program.{fits}
 use Rattle.ipc_ids.specs.Lawful.{Lawful}
 use Rattle.ipc_ids.specs.Tales.{past}
-use Rattle.kernel_core.specs.Kernel.{serve, kill_event, next_task, named, spawning}
+use Rattle.kernel_core.specs.Kernel.{serve, kill_event, next_task, named, spawning, spawn_event}
 use Rattle.kernel_core.specs.History.{actor, IsOneOf, AreOfTasks, HistoryFits, served_entries, killed_entries, gone_entries}
 use Rattle.kernel_core.specs.Effects.{AreEffects}
 use Rattle.kernel_core.proofs.FittingOutcomes.{outcome_fits}
@@ -54,11 +54,15 @@ use Rattle.schedule_replay.specs.declared.any.AnyProgram.TheVariants as any
 use Rattle.schedule_replay.specs.Any.{wanted, after, entries}
 use Rattle.schedule_replay.specs.Run.{RunState, RunTransition, with_tasks, with_service, program_by, program_of, programs_from, start, step_by, step_served, request_served, killed, gone, spawned, spawn_by, MayHappen, MayAllHappen, turn, run_from, state_after, run}
 use Rattle.script_reader.specs.Schedule.{tasks_after, MayAllCome}
-use Rattle.schedule_replay.specs.RunHistory.{ProgramFits, ProgramsFit, ServiceFits, ServicesFit, RunFits, KeepsAllWakes}
+use Rattle.schedule_replay.specs.RunHistory.{beginning, ProgramFits, ProgramsFit, ServiceFits, ServicesFit, RunFits, KeepsAllWakes}
 use Rattle.schedule_replay.specs.Wiring.{with_wire, with_wires, wires_to_service, AreOpen}
 use Rattle.schedule_replay.proofs.OwnEntries.{IsOwn, AreOwn, own_entries_fit}
 use Rattle.ipc_ids.proofs.KeptCalls.{start_keeps}
 use Rattle.schedule_replay.proofs.ServiceHistories.{served_by, step_entries, own_serves, others_serve, hangup_serves, killed_serves, gone_serves, first_serves, made_serves, fresh_serves, step_keeps, hangup_keeps_calls, killed_keeps_calls, made_keeps_calls, calls_gone}
+use Rattle.route_laws.specs.Leads.{Beginning}
+use Rattle.route_laws.specs.PhoneHistory.{RoutesFit}
+use Rattle.route_laws.proofs.PhoneEvents.{phones_serve, phones_kill, phones_gone, phones_spawn}
+use Rattle.schedule_replay.proofs.PhoneRuns.{own_routes, start_routes}
 use Rattle.schedule_replay.proofs.OpenWires.{service_wires_are_open, wires_are_open}
 
 -- The kernel.
@@ -346,15 +350,17 @@ not_there n t is known = let most : t ≤ n = known.1 in omega (arith, is, most)
 -- The run.
 
 -- the state after an event
-abbrev FitsAfter : List Entry → RunTransition → Type 0
-FitsAfter h next = RunFits (h ++ next.entries) next.state
+abbrev FitsAfter : Beginning → List Entry → RunTransition → Type 0
+FitsAfter b h next = RunFits b (h ++ next.entries) next.state
 
-module _ (h : List Entry) (now : RunState) (told : RunFits h now) where
-  gone_told : (t : TaskNo) → IsOneOf (length now.kernel.tasks.alive) (Some t) → FitsAfter h (gone now t)
+module _ (b : Beginning) (h : List Entry) (now : RunState) (told : RunFits b h now) where
+  gone_told : (t : TaskNo) → IsOneOf (length now.kernel.tasks.alive) (Some t) → FitsAfter b h (gone now t)
   gone_told t there =
       let kept : HistoryFits (h ++ gone_entries t) now.kernel = gone_fits h now.kernel t told.kernel there in
       record {
         kernel = kept;
+        routes = phones_gone b h now.kernel told.kernel told.routes t;
+        names = told.names;
         programs = λ i p at. gone_fit h now.kernel t (suc i) p (told.programs i p at) kept;
         kept = λ u. calls_gone h t u (told.kept u);
         services = λ i p at. gone_serves h t (suc i) p (told.services i p at);
@@ -363,7 +369,7 @@ module _ (h : List Entry) (now : RunState) (told : RunFits h now) where
       }
 
   served_told : (t : TaskNo) (p : AnyProgram) → is_alive now.kernel t ≡ true → slice_get now.programs (t.0 - 1) ≡ Some p
-      → FitsAfter h (step_served now t p (serve now.kernel t (wanted p)))
+      → FitsAfter b h (step_served now t p (serve now.kernel t (wanted p)))
   served_told t p alive at =
       let served : Served = serve now.kernel t (wanted p) in
       let es : List Entry = step_entries now.kernel t p in
@@ -376,6 +382,8 @@ module _ (h : List Entry) (now : RunState) (told : RunFits h now) where
       let new : ProgramFits (h ++ es) t.0 (after p served.outcome) = own_fits h now.kernel t p told.kernel before kept in
       record {
         kernel = kept;
+        routes = own_routes b h served.state t (wanted p) served (entries p served.outcome) (own_entries p served.outcome) (phones_serve b h now.kernel told.kernel told.routes t (wanted p));
+        names = told.names;
         programs =
             one_changed (h ++ es) now.programs (t.0 - 1) (after p served.outcome)
             (λ j q apart there. others_fit h now.kernel t p (suc j) q (λ same. apart (omega (arith, same))) before (told.programs j q there) kept)
@@ -390,18 +398,20 @@ module _ (h : List Entry) (now : RunState) (told : RunFits h now) where
         templates = told.templates;
       }
 
-  stepped : (t : TaskNo) (b : Bool) (o : Option AnyProgram) → IsOneOf (length now.kernel.tasks.alive) (Some t) → is_alive now.kernel t ≡ b → slice_get now.programs (t.0 - 1) ≡ o → FitsAfter h (step_by now t (if b then o else None))
+  stepped : (t : TaskNo) (x : Bool) (o : Option AnyProgram) → IsOneOf (length now.kernel.tasks.alive) (Some t) → is_alive now.kernel t ≡ x → slice_get now.programs (t.0 - 1) ≡ o → FitsAfter b h (step_by now t (if x then o else None))
   stepped t true None there alive at = gone_told t there
   stepped t true (Some p) there alive at = served_told t p alive at
   stepped t false o there alive at = gone_told t there
 
-  hung_up : (t : TaskNo) (phone : ℕ) (b : Bool) → IsOneOf (length now.kernel.tasks.alive) (Some t) → is_alive now.kernel t ≡ b
-      → FitsAfter h (if b then request_served now t (ask.Hangup phone) (serve now.kernel t (ask.Hangup phone)) else gone now t)
+  hung_up : (t : TaskNo) (phone : ℕ) (x : Bool) → IsOneOf (length now.kernel.tasks.alive) (Some t) → is_alive now.kernel t ≡ x
+      → FitsAfter b h (if x then request_served now t (ask.Hangup phone) (serve now.kernel t (ask.Hangup phone)) else gone now t)
   hung_up t phone true there alive =
       let kept : HistoryFits (h ++ served_entries t (ask.Hangup phone) (serve now.kernel t (ask.Hangup phone))) (serve now.kernel t (ask.Hangup phone)).state =
       serve_fits h now.kernel t (ask.Hangup phone) told.kernel alive in
       record {
         kernel = kept;
+        routes = phones_serve b h now.kernel told.kernel told.routes t (ask.Hangup phone);
+        names = told.names;
         programs = λ i p at. hangup_fits h now.kernel t phone (suc i) p told.kernel (told.programs i p at) kept;
         kept = λ u. hangup_keeps_calls h now.kernel t phone u told.kernel kept (told.kept u);
         services = λ i p at. hangup_serves h now.kernel t phone (suc i) p told.kernel (told.services i p at);
@@ -410,11 +420,13 @@ module _ (h : List Entry) (now : RunState) (told : RunFits h now) where
       }
   hung_up t phone false there alive = gone_told t there
 
-  ended : (t : TaskNo) (b : Bool) → IsOneOf (length now.kernel.tasks.alive) (Some t) → is_alive now.kernel t ≡ b → FitsAfter h (if b then killed now t (kill_event now.kernel t) else gone now t)
+  ended : (t : TaskNo) (x : Bool) → IsOneOf (length now.kernel.tasks.alive) (Some t) → is_alive now.kernel t ≡ x → FitsAfter b h (if x then killed now t (kill_event now.kernel t) else gone now t)
   ended t true there alive =
       let kept : HistoryFits (h ++ killed_entries t (kill_event now.kernel t)) (kill_event now.kernel t).state = kill_fits h now.kernel t told.kernel alive in
       record {
         kernel = kept;
+        routes = phones_kill b h now.kernel told.kernel told.routes t alive;
+        names = told.names;
         programs = λ i p at. killed_fits h now.kernel t (suc i) p (told.programs i p at) kept;
         kept = λ u. killed_keeps_calls h now.kernel t u kept (told.kept u);
         services = λ i p at. killed_serves h now.kernel t (suc i) p (told.services i p at);
@@ -424,9 +436,9 @@ module _ (h : List Entry) (now : RunState) (told : RunFits h now) where
   ended t false there alive = gone_told t there
 
   -- a task is made, with these effects behind the head
-  made : (plan : TaskPlan) (es : List Entry) (k : KernelState) → AreEffects es → HistoryFits (h ++ entry.Spawn (next_task now.kernel) ∷ es) k → length k.tasks.alive ≡ length now.kernel.tasks.alive + 1
-      → FitsAfter h (spawned now plan (record { state = k; entries = entry.Spawn (next_task now.kernel) ∷ es }))
-  made plan es k effects kept more =
+  made : (plan : TaskPlan) (es : List Entry) (k : KernelState) → AreEffects es → HistoryFits (h ++ entry.Spawn (next_task now.kernel) ∷ es) k → RoutesFit b (h ++ entry.Spawn (next_task now.kernel) ∷ es) k → length k.tasks.alive ≡ length now.kernel.tasks.alive + 1
+      → FitsAfter b h (spawned now plan (record { state = k; entries = entry.Spawn (next_task now.kernel) ∷ es }))
+  made plan es k effects kept routes more =
       let t : TaskNo = next_task now.kernel in
       let n : ℕ = length now.kernel.tasks.alive in
       let number : t.0 ≡ suc n = omega arith in
@@ -436,6 +448,8 @@ module _ (h : List Entry) (now : RunState) (told : RunFits h now) where
       let serves : ServiceFits h t.0 new = fresh_serves h t.0 plan plan.kind strange in
       record {
         kernel = kept;
+        routes = routes;
+        names = told.names;
         programs = λ j q at. elim (at_last now.programs new j q at) [
           | inl e ↦ made_fits h es k t (suc j) q effects (told.programs j q e) kept
           | inr e ↦
@@ -454,31 +468,34 @@ module _ (h : List Entry) (now : RunState) (told : RunFits h now) where
       }
 
   made_by : (plan : TaskPlan) (o : Option TaskNo) → HistoryFits (h ++ (spawning now.kernel (next_task now.kernel) plan.limit o).entries) (with_event (spawning now.kernel (next_task now.kernel) plan.limit o).state)
-      → FitsAfter h (spawned now plan (record { state = with_event (spawning now.kernel (next_task now.kernel) plan.limit o).state; entries = (spawning now.kernel (next_task now.kernel) plan.limit o).entries }))
-  made_by plan None kept = made plan [] _ tt kept (length-append now.kernel.tasks.alive (true ∷ []))
-  made_by plan (Some u) kept = made plan (entry.PhoneIs (label_of (next_task now.kernel) 0) (Connected u) ∷ []) _ (refl, tt) kept (length-append now.kernel.tasks.alive (true ∷ []))
+      → RoutesFit b (h ++ (spawning now.kernel (next_task now.kernel) plan.limit o).entries) (with_event (spawning now.kernel (next_task now.kernel) plan.limit o).state)
+      → FitsAfter b h (spawned now plan (record { state = with_event (spawning now.kernel (next_task now.kernel) plan.limit o).state; entries = (spawning now.kernel (next_task now.kernel) plan.limit o).entries }))
+  made_by plan None kept routes = made plan [] _ tt kept routes (length-append now.kernel.tasks.alive (true ∷ []))
+  made_by plan (Some u) kept routes = made plan (entry.PhoneIs (label_of (next_task now.kernel) 0) (Connected u) ∷ []) _ (refl, tt) kept routes (length-append now.kernel.tasks.alive (true ∷ []))
 
-  spawned_told : (place : ℕ) (o : Option TaskPlan) → slice_get now.templates place ≡ o → FitsAfter h (spawn_by now o)
+  spawned_told : (place : ℕ) (o : Option TaskPlan) → slice_get now.templates place ≡ o → FitsAfter b h (spawn_by now o)
   spawned_told place None at = rw (append-nil h) told
   spawned_told place (Some plan) at =
       let sound : script.IsSoundTask plan = sound_template now.templates place plan told.templates at in
       made_by plan (named now.kernel now.names) (spawn_fits h now.kernel plan.limit now.names sound.some_phones told.kernel)
+      (subst (λ (o : Option TaskNo). RoutesFit b (h ++ (spawn_event now.kernel plan.limit o).entries) (spawn_event now.kernel plan.limit o).state) (sym told.names)
+      (phones_spawn b h now.kernel plan.limit sound.some_phones told.kernel told.routes))
 
   -- each event that may come
-  pub turn_fits : (e : Event) → MayHappen now e → FitsAfter h (turn now e)
+  pub turn_fits : (e : Event) → MayHappen now e → FitsAfter b h (turn now e)
   turn_fits (Step t) may = stepped t (is_alive now.kernel t) (slice_get now.programs (t.0 - 1)) may refl refl
   turn_fits (Kill t) may = ended t (is_alive now.kernel t) may refl
   turn_fits (Hangup t phone) may = hung_up t phone (is_alive now.kernel t) may refl
   turn_fits (Spawn place) may = spawned_told place (slice_get now.templates place) refl
 
 -- the same of states that are known by equations
-pub kept_by : (h : List Entry) (before now new : RunState) (e : Event) → before ≡ now → new ≡ (turn before e).state → MayHappen now e
-    → RunFits h now → RunFits (h ++ (turn now e).entries) new
-kept_by h before now new e same is may told =
+pub kept_by : (b : Beginning) (h : List Entry) (before now new : RunState) (e : Event) → before ≡ now → new ≡ (turn before e).state → MayHappen now e
+    → RunFits b h now → RunFits b (h ++ (turn now e).entries) new
+kept_by b h before now new e same is may told =
     subst
-    (λ (r : RunState). RunFits (h ++ (turn now e).entries) r)
+    (λ (r : RunState). RunFits b (h ++ (turn now e).entries) r)
     (sym (is ∙ ap (λ (r : RunState). (turn r e).state) same))
-    (turn_fits h now told e may)
+    (turn_fits b h now told e may)
 
 first_programs : (t : ℕ) (tasks : List TaskPlan) (i : ℕ) (p : AnyProgram) → slice_get (programs_from (suc t) tasks) i ≡ Some p → ProgramFits [] (suc (t + i)) p
 first_programs t [] i p at = absurd (cc at)
@@ -539,12 +556,15 @@ first_services t (task ∷ tasks) (suc i) p at =
     one_more n = omega arith
 
 -- before the first event
-pub start_told : (plan : Plan) → script.IsSound plan → RunFits [] (start plan)
+pub start_told : (plan : Plan) → script.IsSound plan → RunFits (beginning plan) [] (start plan)
 start_told plan sound =
     let tasks = tasks_fit kernel.start plan.tasks start_fits in
     let service = wires_fit (with_tasks kernel.start plan.tasks) (wires_to_service plan.tasks) (service_wires_are_open plan sound) tasks in
+    let kernel_fits = wires_fit (with_service plan.tasks) plan.wires (wires_are_open plan sound) service in
     record {
-      kernel = wires_fit (with_service plan.tasks) plan.wires (wires_are_open plan sound) service;
+      kernel = kernel_fits;
+      routes = start_routes plan sound kernel_fits;
+      names = refl;
       programs = λ i p at. subst (λ (n : ℕ). ProgramFits [] n p) (from_zero i) (first_programs 0 plan.tasks i p at);
       kept = λ t. start_keeps t;
       services = λ i p at. subst (λ (n : ℕ). ServiceFits [] n p) (from_zero i) (first_services 0 plan.tasks i p at);
@@ -620,12 +640,12 @@ pub may_on : (now next : RunState) (e : Event) (left rest : List Event) → left
 may_on now next e left rest is after may = rw after (later_may now e rest (rw is at may))
 
 -- the state that all events of a schedule leave fits what they tell
-pub state_told : (h : List Entry) (now : RunState) → RunFits h now → (events : List Event) → MayAllHappen now events → RunFits (h ++ run_from now events) (state_after now events)
-state_told h now told [] may = rw (append-nil h) told
-state_told h now told (e ∷ events) may =
+pub state_told : (b : Beginning) (h : List Entry) (now : RunState) → RunFits b h now → (events : List Event) → MayAllHappen now events → RunFits b (h ++ run_from now events) (state_after now events)
+state_told b h now told [] may = rw (append-nil h) told
+state_told b h now told (e ∷ events) may =
     let next : RunTransition = turn now e in
-    subst (λ (es : List Entry). RunFits es (state_after next.state events)) (append_assoc h next.entries (run_from next.state events))
-    (state_told (h ++ next.entries) next.state (turn_fits h now told e may.0) events (later_may now e events may))
+    subst (λ (es : List Entry). RunFits b es (state_after next.state events)) (append_assoc h next.entries (run_from next.state events))
+    (state_told b (h ++ next.entries) next.state (turn_fits b h now told e may.0) events (later_may now e events may))
 
 -- what a schedule may ask, so may a first part of it
 may_first : (tasks templates : ℕ) (done rest : List Event) → MayAllCome tasks templates (done ++ rest) → MayAllCome tasks templates done
@@ -634,16 +654,16 @@ may_first tasks templates (e ∷ done) rest may = (may.0, may_first (tasks_after
 
 -- of a run from the start, and of a first part of its events
 pub run_told : (plan : Plan) (events : List Event) → script.IsSound plan → MayAllCome (length plan.tasks) (length plan.templates) events
-    → RunFits (run plan events) (state_after (start plan) events)
-run_told plan events sound may = state_told [] (start plan) (start_told plan sound) events (may_from plan events (start plan) refl may)
+    → RunFits (beginning plan) (run plan events) (state_after (start plan) events)
+run_told plan events sound may = state_told (beginning plan) [] (start plan) (start_told plan sound) events (may_from plan events (start plan) refl may)
 
 pub part_told : (plan : Plan) (done rest : List Event) → script.IsSound plan → MayAllCome (length plan.tasks) (length plan.templates) (done ++ rest)
-    → RunFits (run plan done) (state_after (start plan) done)
+    → RunFits (beginning plan) (run plan done) (state_after (start plan) done)
 part_told plan done rest sound may = run_told plan done sound (may_first (length plan.tasks) (length plan.templates) done rest may)
 
 -- in a state that its entries fit no task with fibrils has lost a wake-up
-pub fitting_keeps_wakes : (h : List Entry) (now : RunState) → RunFits h now → KeepsAllWakes now
-fitting_keeps_wakes h now told i p at = (told.programs i (any.Async p) at).0.wakes.wakes
+pub fitting_keeps_wakes : (b : Beginning) (h : List Entry) (now : RunState) → RunFits b h now → KeepsAllWakes now
+fitting_keeps_wakes b h now told i p at = (told.programs i (any.Async p) at).0.wakes.wakes
 
 -- what each program does keeps the laws of replies and of exchanges
 abbrev FactsAreLawful : List Entry → ℕ → Type 0
@@ -659,13 +679,13 @@ program_lawful h t (any.Block p) fits = quiet_lawful h t fits
 program_lawful h t (any.Async p) fits = fitting_is_lawful h t p.state fits.0
 
 -- nothing is told of a task that is not there
-nobody_lawful : (h : List Entry) (now : RunState) → RunFits h now → (t : ℕ) → (IsOneOf (length now.kernel.tasks.alive) (Some (record { 0 = t })) → ⊥) → FactsAreLawful h t
-nobody_lawful h now told t other = quiet_lawful h t (strange_quiet h t (known_strange (length now.kernel.tasks.alive) t h told.kernel.known other))
+nobody_lawful : (b : Beginning) (h : List Entry) (now : RunState) → RunFits b h now → (t : ℕ) → (IsOneOf (length now.kernel.tasks.alive) (Some (record { 0 = t })) → ⊥) → FactsAreLawful h t
+nobody_lawful b h now told t other = quiet_lawful h t (strange_quiet h t (known_strange (length now.kernel.tasks.alive) t h told.kernel.known other))
 
 -- so do the entries of a run, of every task
-pub facts_are_lawful : (h : List Entry) (now : RunState) → RunFits h now → (t : ℕ) → FactsAreLawful h t
-facts_are_lawful h now told zero = nobody_lawful h now told zero (λ known. let some : 1 ≤ 0 = known.0 in omega (arith, some))
-facts_are_lawful h now told (suc i) = by_place (slice_get now.programs i) refl where
+pub facts_are_lawful : (b : Beginning) (h : List Entry) (now : RunState) → RunFits b h now → (t : ℕ) → FactsAreLawful h t
+facts_are_lawful b h now told zero = nobody_lawful b h now told zero (λ known. let some : 1 ≤ 0 = known.0 in omega (arith, some))
+facts_are_lawful b h now told (suc i) = by_place (slice_get now.programs i) refl where
   by_place : (o : Option AnyProgram) → slice_get now.programs i ≡ o → FactsAreLawful h (suc i)
-  by_place None at = nobody_lawful h now told (suc i) (λ known. let most : suc i ≤ length now.kernel.tasks.alive = known.1 in let none = get_none now.programs i at in omega (arith, most, none, told.paired))
+  by_place None at = nobody_lawful b h now told (suc i) (λ known. let most : suc i ≤ length now.kernel.tasks.alive = known.1 in let none = get_none now.programs i at in omega (arith, most, none, told.paired))
   by_place (Some p) at = program_lawful h (suc i) p (told.programs i p at)

@@ -24,7 +24,8 @@ use Rattle.schedule_replay.specs.declared.any.AnyProgram.{AnyProgram}
 use Rattle.schedule_replay.specs.declared.any.AnyProgram.TheVariants as any
 use Rattle.schedule_replay.specs.Any.{wanted, after, serves_names, keeps_blocks, is_block, IsBlockServer}
 use Rattle.schedule_replay.specs.Run.{RunState, start, program_of, program_by, programs_from, step_by, request_served, killed, gone, spawn_by, turn, state_after, run}
-use Rattle.schedule_replay.specs.RunHistory.{RunFits}
+use Rattle.route_laws.specs.Leads.{Beginning}
+use Rattle.schedule_replay.specs.RunHistory.{beginning, RunFits}
 
 -- a test of programs that no outcome changes
 module _ (test : AnyProgram → Bool) (stays : (p : AnyProgram) (o : Outcome) → test (after p o) ≡ test p) where
@@ -105,17 +106,17 @@ blocks_stay (any.Naming p) o = refl
 blocks_stay (any.Async p) o = refl
 blocks_stay (any.Block p) o = refl
 
-told_of_names : (h : List Entry) (now : RunState) (i : ℕ) (p : AnyProgram) → RunFits h now → slice_get now.programs i ≡ Some p → serves_names p ≡ true → WaitersGetTheSameEnd (suc i) h
-told_of_names h now i (any.Naming s) told at is = naming.fitting_is_lawful (doings (suc i) h) s (told.services i (any.Naming s) at)
-told_of_names h now i (any.Raw s) told at is = absurd (cc is)
-told_of_names h now i (any.Async s) told at is = absurd (cc is)
-told_of_names h now i (any.Block s) told at is = absurd (cc is)
+told_of_names : (b : Beginning) (h : List Entry) (now : RunState) (i : ℕ) (p : AnyProgram) → RunFits b h now → slice_get now.programs i ≡ Some p → serves_names p ≡ true → WaitersGetTheSameEnd (suc i) h
+told_of_names b h now i (any.Naming s) told at is = naming.fitting_is_lawful (doings (suc i) h) s (told.services i (any.Naming s) at)
+told_of_names b h now i (any.Raw s) told at is = absurd (cc is)
+told_of_names b h now i (any.Async s) told at is = absurd (cc is)
+told_of_names b h now i (any.Block s) told at is = absurd (cc is)
 
-told_of_blocks : (h : List Entry) (now : RunState) (i : ℕ) (p : AnyProgram) → RunFits h now → slice_get now.programs i ≡ Some p → keeps_blocks p ≡ true → ReadsGiveTheLastWrite (suc i) h
-told_of_blocks h now i (any.Block s) told at is = block.fitting_is_lawful (doings (suc i) h) s (told.services i (any.Block s) at)
-told_of_blocks h now i (any.Raw s) told at is = absurd (cc is)
-told_of_blocks h now i (any.Async s) told at is = absurd (cc is)
-told_of_blocks h now i (any.Naming s) told at is = absurd (cc is)
+told_of_blocks : (b : Beginning) (h : List Entry) (now : RunState) (i : ℕ) (p : AnyProgram) → RunFits b h now → slice_get now.programs i ≡ Some p → keeps_blocks p ≡ true → ReadsGiveTheLastWrite (suc i) h
+told_of_blocks b h now i (any.Block s) told at is = block.fitting_is_lawful (doings (suc i) h) s (told.services i (any.Block s) at)
+told_of_blocks b h now i (any.Raw s) told at is = absurd (cc is)
+told_of_blocks b h now i (any.Async s) told at is = absurd (cc is)
+told_of_blocks b h now i (any.Naming s) told at is = absurd (cc is)
 
 service_first : (tasks : List TaskPlan) → script.has_service tasks ≡ true → slice_get (map serves_names (programs_from 1 tasks)) 0 ≡ Some true
 service_first [] is = absurd (cc is)
@@ -127,10 +128,10 @@ service_first (task ∷ tasks) is = by_kind task.kind is where
   by_kind kind.Block is = absurd (cc is)
 
 -- in each run of a script with the naming service
-pub ends_are_told : (plan : Plan) (events : List Event) → RunFits (run plan events) (state_after (start plan) events) → script.has_service plan.tasks ≡ true → WaitersGetTheSameEnd 1 (run plan events)
+pub ends_are_told : (plan : Plan) (events : List Event) → RunFits (beginning plan) (run plan events) (state_after (start plan) events) → script.has_service plan.tasks ≡ true → WaitersGetTheSameEnd 1 (run plan events)
 ends_are_told plan events told is =
     let there = still_there serves_names names_stay (start plan) events 0 (service_first plan.tasks is) in
-    told_of_names (run plan events) (state_after (start plan) events) 0 there.0 told there.1 there.2
+    told_of_names (beginning plan) (run plan events) (state_after (start plan) events) 0 there.0 told there.1 there.2
 
 block_there : (k : Kind) (t : ℕ) (task : TaskPlan) → is_block k ≡ keeps_blocks (program_by (record { 0 = t }) task k)
 block_there kind.Naming t task = refl
@@ -144,7 +145,7 @@ blocks_there t zero (task ∷ tasks) = ap (λ (b : Bool). Some b) (block_there t
 blocks_there t (suc i) (task ∷ tasks) = blocks_there (t + 1) i tasks
 
 -- in each run, of each block server in it
-pub blocks_are_kept : (plan : Plan) (events : List Event) (i : ℕ) → RunFits (run plan events) (state_after (start plan) events) → IsBlockServer i plan.tasks → ReadsGiveTheLastWrite (suc i) (run plan events)
+pub blocks_are_kept : (plan : Plan) (events : List Event) (i : ℕ) → RunFits (beginning plan) (run plan events) (state_after (start plan) events) → IsBlockServer i plan.tasks → ReadsGiveTheLastWrite (suc i) (run plan events)
 blocks_are_kept plan events i told is =
     let there = still_there keeps_blocks blocks_stay (start plan) events i (sym (blocks_there 1 i plan.tasks) ∙ is) in
-    told_of_blocks (run plan events) (state_after (start plan) events) i there.0 told there.1 there.2
+    told_of_blocks (beginning plan) (run plan events) (state_after (start plan) events) i there.0 told there.1 there.2

@@ -1,10 +1,11 @@
--- What every run of a script keeps: the laws of calls, of shared areas, of replies, of exchanges and of services, and
--- no fibril waits for what has been.
+-- What every run of a script keeps: the laws of calls, of phones, of shared areas, of replies, of exchanges and of
+-- services, and no fibril waits for what has been.
 use Rattle.std.specs.Prelude.{ℕ, suc, ◌≡◌, ◌++◌, true, List}
 use Rattle.ipc_ids.specs.declared.message.Event.{Event}
 use Rattle.ipc_ids.specs.declared.entry.Entry.{Entry}
 use Rattle.ipc_ids.specs.Laws.{LivesAreLawful, AnsweredAtMostOnce, KillEndsHeldCalls}
 use Rattle.ipc_ids.specs.AreaLaw.{AreasAreLawful}
+use Rattle.route_laws.specs.PhoneLaw.{CallsGoWherePhonesLead}
 use Rattle.ipc_ids.specs.Replies.{RepliesReachTheirFibril}
 use Rattle.ipc_ids.specs.Exchanges.{ExchangesAreLawful}
 use Rattle.task_ends.specs.EndLaw.{WaitersGetTheSameEnd}
@@ -13,14 +14,16 @@ use Rattle.script_reader.specs.Plan.{Plan}
 use Rattle.script_reader.specs.Sound.{has_service}
 use Rattle.schedule_replay.specs.Any.{IsBlockServer}
 use Rattle.schedule_replay.specs.Run.{start, state_after, run}
-use Rattle.schedule_replay.specs.RunHistory.{KeepsAllWakes}
+use Rattle.schedule_replay.specs.RunHistory.{beginning, KeepsAllWakes}
 
--- the entries of a run of this script keep the laws: of a call's life, of one answer, of a kill, of shared areas, of
--- replies, of exchanges, of ends and of blocks
+-- the entries of a run of this script keep the laws: of a call's life, of one answer, of a kill, of phones, of shared
+-- areas, of replies, of exchanges, of ends and of blocks
 pub record KeepsLaws (plan : Plan) (h : List Entry) : Type 0 where
   pub lives : LivesAreLawful h
   pub answers : AnsweredAtMostOnce h
   pub kills : KillEndsHeldCalls h
+  -- a call goes where its phone leads, by the wires of the script and the entries before it
+  pub phones : CallsGoWherePhonesLead (beginning plan) h
   pub areas : AreasAreLawful h
   pub replies : RepliesReachTheirFibril h
   pub exchanges : ExchangesAreLawful h

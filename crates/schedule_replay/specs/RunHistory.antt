@@ -1,10 +1,14 @@
 -- What the entries so far, the history, tell of a run's state between two events.
-use Rattle.std.specs.Prelude.{ℕ, suc, ◌≡◌, List, Some, slice_get, length, All, ⊤}
+use Rattle.std.specs.Prelude.{ℕ, suc, ◌≡◌, ◌++◌, List, Some, slice_get, length, map, All, ⊤}
+use Rattle.script_reader.specs.declared.plan.Wire.{Wire}
+use Rattle.script_reader.specs.Plan.{Plan}
 use Rattle.script_reader.specs.Sound.{IsSoundTask}
 use Rattle.ipc_ids.specs.declared.entry.Entry.{Entry}
 use Rattle.ipc_ids.specs.Doings.{doings}
 use Rattle.ipc_ids.specs.KeptCalls.{KeepsCalls}
 use Rattle.kernel_core.specs.History.{HistoryFits}
+use Rattle.route_laws.specs.Leads.{Lead, Beginning}
+use Rattle.route_laws.specs.PhoneHistory.{RoutesFit}
 use Rattle.async_laws.specs.Links.{IsHistoryOf}
 use Rattle.async_laws.specs.NoLostWakes.{NoWakeIsLost}
 use Rattle.async_task.specs.Program.{AsyncTask}
@@ -13,7 +17,8 @@ use Rattle.naming_service.specs.NamingHistory.{NamingFits}
 use Rattle.block_server.specs.BlockHistory.{BlocksFit}
 use Rattle.schedule_replay.specs.declared.any.AnyProgram.{AnyProgram}
 use Rattle.schedule_replay.specs.declared.any.AnyProgram.TheVariants as any
-use Rattle.schedule_replay.specs.Run.{RunState}
+use Rattle.schedule_replay.specs.Run.{RunState, service_of}
+use Rattle.schedule_replay.specs.Wiring.{wires_to_service}
 
 -- what they tell of the program of task t; a raw program, the naming service and a block server have
 -- no fibrils
@@ -38,10 +43,23 @@ ServiceFits h t (any.Block p) = BlocksFit (doings t h) p
 abbrev pub ServicesFit : List Entry → List AnyProgram → Type 0
 ServicesFit h ps = (i : ℕ) (p : AnyProgram) → slice_get ps i ≡ Some p → ServiceFits h (suc i) p
 
--- they fit the kernel, and each program, of which each task has one; a call that came to a task, and was not passed
--- on, is settled
-pub record RunFits (h : List Entry) (now : RunState) : Type 0 where
+-- where the phone of a wire leads
+abbrev pub lead_of : Wire → Lead
+lead_of wire = record { phone = record { task = wire.from; phone = wire.phone }; to = wire.to }
+
+-- how the run of a script begins: with the wires to the naming service, and then those of the script
+abbrev pub beginning : Plan → Beginning
+beginning plan = record {
+  wires = map lead_of (wires_to_service plan.tasks) ++ map lead_of plan.wires;
+  names = service_of plan.tasks;
+}
+
+-- of a run that began so, they fit the kernel, its phones, and each program, of which each task has one; a call that
+-- came to a task, and was not passed on, is settled
+pub record RunFits (b : Beginning) (h : List Entry) (now : RunState) : Type 0 where
   pub kernel : HistoryFits h now.kernel
+  pub routes : RoutesFit b h now.kernel
+  pub names : now.names ≡ b.names
   pub programs : ProgramsFit h now.programs
   pub services : ServicesFit h now.programs
   pub kept : (t : ℕ) → KeepsCalls h t

@@ -2,8 +2,9 @@
 ghost use Rattle.std.specs.Prelude.{◌≡◌, ◌+◌, ◌^◌, ◌<◌, ◌≤◌, ◌++◌, [], List, true, false};
 ghost use Rattle.std.specs.Prelude.{IfOk, OnOk, OnErr, IsErr};
 ghost use Rattle.ipc_ids.specs.declared.entry.Entry.{Entry};
+ghost use Rattle.route_laws.specs.Leads.{Beginning};
 ghost use Rattle.schedule_replay.specs.Run.{start, turn, MayHappen, Tells, TellsPart};
-ghost use Rattle.schedule_replay.specs.RunHistory.{RunFits};
+ghost use Rattle.schedule_replay.specs.RunHistory.{beginning, RunFits};
 
 use crate::system::System;
 use ipc_ids::{Event, NoMemory, Trace};
@@ -44,7 +45,7 @@ impl Replay {
         ensures state { IfOk result (λ replay. replay
             ≡ record { state = start script.now; lost = false }) }
         ensures no_event { IfOk result (λ replay. replay.state.kernel.events ≡ 0) }
-        ensures history { IfOk result (λ replay. RunFits [] replay.state) }
+        ensures history { IfOk result (λ replay. RunFits (beginning script.now) [] replay.state) }
     {
         // The proof rests on what every script keeps.
         let _tasks = &script.tasks;
@@ -76,8 +77,8 @@ impl Replay {
         ensures nothing_more { self.old.lost ≡ true → IsErr result
             × (out.new.entries ≡ out.old.entries) × (self.new ≡ self.old) }
         ensures events { self.new.state.kernel.events ≤ self.old.state.kernel.events + 1 }
-        ensures history { OnOk result ((h : List Entry) → RunFits h self.old.state
-            → RunFits (h ++ (turn self.old.state event.now).entries) self.new.state) }
+        ensures history { OnOk result ((b : Beginning) (h : List Entry) → RunFits b h self.old.state
+            → RunFits b (h ++ (turn self.old.state event.now).entries) self.new.state) }
     {
         if self.lost {
             return Err(NoMemory);
