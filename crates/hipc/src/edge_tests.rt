@@ -1,7 +1,7 @@
 //! Loads and puts that fail, each with what is answered and what was written by then.
 use crate::rows::{FIRST_CALL_SCHEDULE, FIRST_CALL_SCRIPT};
 use crate::tests::{files, words};
-use crate::{Status, run};
+use command_line::{Status, run};
 use io_edge::MemSink;
 use schedule_replay::{ReplayFault, SliceFeed, replay};
 use script_reader::{read_schedule, read_script};

@@ -1,6 +1,6 @@
 //! Files as large as they may be, and the kill that touches the most phones.
-use crate::Status;
 use crate::tests::answers;
+use command_line::Status;
 use std::alloc::Global;
 use std::test::Fail;
 

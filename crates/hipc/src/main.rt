@@ -2,10 +2,11 @@
 //! generated input, and sums it up; or checks a trace.
 #![tactic(auto)]
 
-mod answer;
-mod check;
-mod command;
-mod due;
+ghost use Rattle.std.specs.Prelude.{◌≡◌};
+ghost use Rattle.std.specs.Process.{exit_status};
+ghost use Rattle.command_line.specs.declared.status.Status.{Status};
+ghost use Rattle.command_line.specs.Status.{number_of};
+
 #[cfg(test)]
 mod edge_tests;
 #[cfg(test)]
@@ -16,20 +17,19 @@ mod line_tests;
 mod reading_tests;
 #[cfg(test)]
 mod rows;
-mod status;
-mod summary;
 #[cfg(test)]
 mod tests;
 
-pub use answer::replay_bytes;
-pub use due::run;
+use command_line::{Status, run};
 use io_edge::{FileShelf, OutSink, words_behind_name};
 use ipc_ids::NoMemory;
-pub use status::Status;
 use std::process::ExitCode;
 use std::rt::Env;
 
-fn main(rt: HostRuntime) -> ExitCode {
+// Does what the words of the command line ask, and ends with the number of the status it comes to.
+fn main(rt: HostRuntime) -> ExitCode
+    ensures number { (status : Status) × (exit_status result ≡ number_of status) }
+{
     let status = match words_behind_name(&rt, rt.alloc()) {
         Ok(words) => {
             let mut shelf = FileShelf::new(&rt, rt.alloc());

@@ -2,7 +2,7 @@
 use crate::rows::{
     CALLS, FIBRILS, FIRST_CALL_SCHEDULE, FIRST_CALL_SCRIPT, FIRST_CALL_TEXT, MEMORY, Row, SERVICES,
 };
-use crate::{Status, replay_bytes, run};
+use command_line::{Status, replay_bytes, run};
 use io_edge::{MemShelf, MemSink};
 use std::alloc::{AllocError, Global};
 use std::test::Fail;

@@ -1,0 +1,5 @@
+pub mod Dues
+pub mod LawfulTexts
+pub mod Lost
+pub mod Tallies
+mod Traces

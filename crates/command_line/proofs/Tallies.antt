@@ -1,0 +1,93 @@
+-- What a run comes to, event by event.
+use Rattle.std.proofs.Common.{◌≡◌, ℕ, suc, ◌+◌, ◌<◌, ◌≤◌, ◌++◌, [], ◌∷◌, List, Bool, length, drop, refl, ap, sym, ◌∙◌, arith, drop-cons, length-append}
+use Rattle.std.specs.Prelude.{slice_index_or, count_by}
+use Rattle.std.proofs.lemmas.List.{drop_all}
+use Rattle.std.proofs.lemmas.Grind.{common_steps}
+use Rattle.ipc_ids.specs.declared.entry.Entry.{Entry}
+use Rattle.ipc_ids.specs.declared.message.Event.{Event}
+use Rattle.trace_print.specs.Text.{text_of}
+use Rattle.script_reader.specs.Plan.{Plan}
+use Rattle.schedule_replay.specs.Run.{RunState, turn, run_from, run, MayHappen, MayAllHappen}
+use Rattle.schedule_replay.proofs.RunHistories.{may_now, may_on}
+use Rattle.schedule_replay.specs.Generator.{generated_plan, generated_events}
+use Rattle.schedule_replay.proofs.Sending.{text_append}
+use Rattle.command_line.specs.declared.summary.Tally.{Tally}
+use Rattle.command_line.specs.Summary.{is_accepted, is_answered, is_vanished, is_delivered, with_entries, tally_of, tally_line, summary_line}
+
+count_append : (test : Entry → Bool) (a b : List Entry) → count_by test (a ++ b) ≡ count_by test a + count_by test b
+count_append test [] b = omega arith
+count_append test (e ∷ a) b = grind (arith, common_steps, count_append test a b)
+
+length_append : (a b : List Entry) → length (text_of (a ++ b)) ≡ length (text_of a) + length (text_of b)
+length_append a b = ap length (text_append a b) ∙ length-append (text_of a) (text_of b)
+
+abbrev made : ℕ → ℕ → ℕ → ℕ → ℕ → Tally
+made c a v d b = record { calls = c; answered = a; vanished = v; delivered = d; bytes = b }
+
+same : (c1 c2 a1 a2 v1 v2 d1 d2 b1 b2 : ℕ) → c1 ≡ c2 → a1 ≡ a2 → v1 ≡ v2 → d1 ≡ d2 → b1 ≡ b2
+    → made c1 a1 v1 d1 b1 ≡ made c2 a2 v2 d2 b2
+same c1 c2 a1 a2 v1 v2 d1 d2 b1 b2 c a v d b = rw (c, a, v, d, b) refl
+
+-- entries behind others are counted after them
+pub tally_append : (t : Tally) (a b : List Entry) → with_entries t (a ++ b) ≡ with_entries (with_entries t a) b
+tally_append t a b =
+    let calls = count_append is_accepted a b in
+    let answered = count_append is_answered a b in
+    let vanished = count_append is_vanished a b in
+    let delivered = count_append is_delivered a b in
+    let bytes = length_append a b in
+    same _ _ _ _ _ _ _ _ _ _ (omega (arith, calls)) (omega (arith, answered)) (omega (arith, vanished)) (omega (arith, delivered)) (omega (arith, bytes))
+
+-- no entry is nothing to count
+nothing_more : (t : Tally) → with_entries t [] ≡ t
+nothing_more t = same _ _ _ _ _ _ _ _ _ _ (omega arith) (omega arith) (omega arith) (omega arith) (omega arith)
+
+-- one entry more
+pub one_more_entry : (t : Tally) (entries : List Entry) (i : ℕ) (d : Entry) (all : Tally) → i < length entries
+    → with_entries t (drop i entries) ≡ all
+    → with_entries (with_entries t (slice_index_or entries i d ∷ [])) (drop (i + 1) entries) ≡ all
+one_more_entry t entries i d all h so_far =
+    let e : Entry = slice_index_or entries i d in
+    let next : i + 1 ≡ suc i = omega arith in
+    let split : drop i entries ≡ e ∷ drop (i + 1) entries = rw next (drop-cons entries i d h) in
+    sym (tally_append t (e ∷ []) (drop (i + 1) entries)) ∙ rw split at so_far
+
+-- no entry is left
+pub no_more_entries : (t : Tally) (entries : List Entry) (i : ℕ) (all : Tally) → length entries ≤ i
+    → with_entries t (drop i entries) ≡ all → t ≡ all
+no_more_entries t entries i all h so_far = sym (nothing_more t) ∙ rw (drop_all i entries h) at so_far
+
+-- one event more
+pub one_more_event : (now : RunState) (events : List Event) (i : ℕ) (d : Event) (t all : Tally) → i < length events
+    → with_entries t (run_from now (drop i events)) ≡ all
+    → with_entries (with_entries t (turn now (slice_index_or events i d)).entries)
+    (run_from (turn now (slice_index_or events i d)).state (drop (i + 1) events)) ≡ all
+one_more_event now events i d t all h so_far =
+    let e : Event = slice_index_or events i d in
+    let next : i + 1 ≡ suc i = omega arith in
+    let rest : List Entry = run_from (turn now e).state (drop (i + 1) events) in
+    let split : drop i events ≡ e ∷ drop (i + 1) events = rw next (drop-cons events i d h) in
+    sym (tally_append t (turn now e).entries rest) ∙ rw split at so_far
+
+-- what may come next, and what may come after it
+pub next_may : (now : RunState) (events : List Event) (i : ℕ) (d : Event) → i < length events → MayAllHappen now (drop i events)
+    → MayHappen now (slice_index_or events i d) × MayAllHappen (turn now (slice_index_or events i d)).state (drop (i + 1) events)
+next_may now events i d h may =
+    let e : Event = slice_index_or events i d in
+    let next : i + 1 ≡ suc i = omega arith in
+    let split : drop i events ≡ e ∷ drop (i + 1) events = rw next (drop-cons events i d h) in
+    (may_now now e (drop i events) (drop (i + 1) events) split may, may_on now (turn now e).state e (drop i events) (drop (i + 1) events) split refl may)
+
+-- no event is left
+pub no_more_events : (now : RunState) (events : List Event) (i : ℕ) (t all : Tally) → length events ≤ i
+    → with_entries t (run_from now (drop i events)) ≡ all → t ≡ all
+no_more_events now events i t all h so_far = sym (nothing_more t) ∙ rw (drop_all i events h) at so_far
+
+-- what the run of generated input comes to, in its line
+pub summed_up : (seed events : ℕ) (t : Tally) (plan : Plan) (list : List Event)
+    → t ≡ tally_of (run plan list) → plan ≡ generated_plan → list ≡ generated_events seed events
+    → tally_line events t ≡ summary_line seed events
+summed_up seed events t plan list is script made =
+    ap (tally_line events) is
+    ∙ ap (λ p. tally_line events (tally_of (run p list))) script
+    ∙ ap (λ l. tally_line events (tally_of (run generated_plan l))) made
