@@ -4,7 +4,7 @@ use Rattle.ipc_ids.specs.declared.message.Event.{Event}
 use Rattle.script_reader.specs.declared.fault.Reason.{Reason}
 use Rattle.script_reader.specs.Plan.{Plan}
 use Rattle.script_reader.proofs.ReadingExamples.{plan, script_is_read, schedule_is_read}
-use Rattle.schedule_replay.proofs.RunCall.{first_call_text}
+use Rattle.replay_examples.proofs.RunCall.{first_call_text}
 use Rattle.command_line.specs.declared.status.Status.TheVariants.{Done}
 use Rattle.command_line.specs.Answer.{answer_of, answer_for_script, answer_for_events}
 
