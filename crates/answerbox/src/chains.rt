@@ -230,6 +230,7 @@ fn put_previous<L: Ledger>(
 }
 
 /// Links the neighbours of a call with these links to each other.
+#[inline(always)]
 fn pass_over<L: Ledger>(
     calls: &mut Calls,
     ends: &mut Ends,
@@ -266,6 +267,7 @@ fn pass_over<L: Ledger>(
 }
 
 /// Links a call behind the last one.
+#[inline(always)]
 fn join_last<L: Ledger>(
     calls: &mut Calls,
     ends: &mut Ends,
@@ -291,6 +293,7 @@ fn join_last<L: Ledger>(
 }
 
 /// Takes a call with these links out of that list, if it stands in one.
+#[inline(always)]
 pub fn unlink<L: Ledger>(
     calls: &mut Calls,
     rows: &mut Vec<Ends>,
@@ -312,6 +315,7 @@ pub fn unlink<L: Ledger>(
 }
 
 /// Puts a call at the end of that list, if it is to stand in one.
+#[inline(always)]
 pub fn append<L: Ledger>(
     calls: &mut Calls,
     rows: &mut Vec<Ends>,

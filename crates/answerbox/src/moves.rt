@@ -13,6 +13,7 @@ use ipc_ids::Steps;
 use std::sync::ledger::{Blank, Ledger};
 
 /// Moves a call to the end of the queue of that place, with that stamp.
+#[inline(always)]
 pub fn relocate<L: Ledger>(
     calls: &mut Calls,
     queues: &mut Vec<Ends>,
@@ -46,6 +47,7 @@ pub fn relocate<L: Ledger>(
 }
 
 /// Puts a new call at the end of its queue and of the list of its caller.
+#[inline(always)]
 pub fn admit<L: Ledger>(
     calls: &mut Calls,
     queues: &mut Vec<Ends>,
@@ -75,6 +77,7 @@ pub fn admit<L: Ledger>(
 }
 
 /// Takes a call out of its queue and of the list of its caller, and returns its record.
+#[inline(always)]
 pub fn dismiss<L: Ledger>(
     calls: &mut Calls,
     queues: &mut Vec<Ends>,

@@ -129,6 +129,7 @@ impl Calls {
 
     /// Puts a call under a key that no live call has, and under its number, with no links. Its
     /// number is above those of all that were put before.
+    #[inline(always)]
     pub fn put(&mut self, call: Call) -> CallKey
         requires room { 0 < self.old.spare }
         requires above { self.old.last < call.number.0 }
@@ -209,6 +210,7 @@ impl Calls {
     }
 
     /// Takes the call out, which frees its key.
+    #[inline(always)]
     pub fn take_out<L: Ledger>(&mut self, key: CallKey, steps: &mut Steps<L>) -> Call
         requires live { IsSome (get self.old.slots key) }
         ensures call { call_of (get self.old.slots key) ≡ Some result }

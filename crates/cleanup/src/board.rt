@@ -308,6 +308,7 @@ impl Switchboard {
     }
 
     /// A new call goes to the end of its place. There is room for it.
+    #[inline(always)]
     pub(crate) fn enqueue(&mut self, call: Call)
         requires new_call { IsNewCall self.old.state call }
         requires room { 0 < self.old.spare }
@@ -323,6 +324,7 @@ impl Switchboard {
     }
 
     /// The call is over.
+    #[inline(always)]
     pub(crate) fn leave(&mut self, call: CallNo) -> Call
         requires live { IsSome (call_at self.old.state.calls call.0) }
         ensures call { call_at self.old.state.calls call.0 ≡ Some result }

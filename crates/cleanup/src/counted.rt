@@ -21,6 +21,7 @@ pub(crate) fn front(boxes: &Boxes, place: Place) -> Option<CallNo>
 }
 
 /// Removes the call and returns its record.
+#[inline(always)]
 pub(crate) fn leave(boxes: &mut Boxes, call: CallNo) -> Call
     requires live { IsSome (call_at boxes.old.calls call.0) }
     ensures call { call_at boxes.old.calls call.0 ≡ Some result }
@@ -123,6 +124,7 @@ fn front_counted<L: Ledger>(boxes: &Boxes, place: Place, blank: Blank) -> Option
     boxes.front(place, &mut steps)
 }
 
+#[inline(always)]
 fn leave_counted<L: Ledger>(boxes: &mut Boxes, call: CallNo, blank: Blank) -> Call
     requires blank { (blank.name ≡ L.name) × (blank.parts ≡ L.parts) × (0 < blank.parts) }
     requires live { IsSome (call_at boxes.old.calls call.0) }
