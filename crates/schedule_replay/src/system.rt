@@ -347,10 +347,15 @@ fn serve_request(
 {
     out.reserve(1)?;
     tell_request(task, request, out);
-    let outcome = kernel.serve(task, request, out)?;
-    out.reserve(1)?;
-    tell_outcome(&outcome, out);
-    Ok(outcome)
+    let served = kernel.serve(task, request, out);
+    match &served {
+        Ok(outcome) => {
+            out.reserve(1)?;
+            tell_outcome(outcome, out);
+            served
+        }
+        Err(NoMemory) => Err(NoMemory),
+    }
 }
 
 /// The kernel brings a task to its end, after the head.
