@@ -1,6 +1,6 @@
 //! The raw program, which does one operation of its body at a time.
 ghost use Rattle.std.specs.Prelude.{◌≡◌, ◌+◌, ◌^◌, ◌<◌, ◌++◌, if◌then◌else◌, true, length, IfOk};
-ghost use Rattle.std.specs.Prelude.{IfSome, IsOk};
+ghost use Rattle.std.specs.Prelude.{IfSome, IsOk, OnOk, ◌∷◌, []};
 ghost use Rattle.std.specs.Option.{option_copied};
 ghost use Rattle.ipc_ids.specs.Program.{fits};
 ghost use Rattle.raw_program.specs.Raw.{started, operation, value_in, value_of, values_of};
@@ -317,11 +317,33 @@ impl RawProgram {
 fn copies_of(alloc: Global, ops: &[Op]) -> Result<Vec<Op>, NoMemory>
     ensures { IfOk result (λ copies. copies.items ≡ ops.now) }
 {
-    let mut copies = Vec::new(alloc);
+    let mut copies = Vec::with_capacity(alloc, ops.len())?;
     for op in ops {
-        copies.push(op.copy())?;
+        push_copy(&mut copies, op)?;
     }
     Ok(copies)
+}
+
+/// Adds the same operation once more. A call, the commonest one, is copied in place.
+#[inline(always)]
+fn push_copy(copies: &mut Vec<Op>, op: &Op) -> Result<(), NoMemory>
+    ensures { OnOk result (copies.new.items ≡ copies.old.items ++ op.now ∷ []) }
+{
+    if let Op::Call {
+        phone,
+        method,
+        args,
+    } = op
+    {
+        copies.push(Op::Call {
+            phone: *phone,
+            method: *method,
+            args: *args,
+        })?;
+        return Ok(());
+    }
+    copies.push(op.copy())?;
+    Ok(())
 }
 
 fn value_in(registers: &[u64], value: Value) -> u64

@@ -10,6 +10,7 @@ ghost use Rattle.kernel_core.specs.History.{served_entries, killed_entries, gone
 ghost use Rattle.kernel_core.specs.Kernel.{serve, kill_event};
 ghost use Rattle.schedule_replay.specs.Any.{wanted};
 ghost use Rattle.schedule_replay.specs.Run.{Tells, TellsPart};
+ghost use Rattle.ipc_ids.specs.declared.entry.Entry.TheVariants as entry;
 
 use crate::any::AnyProgram;
 use crate::starting::{
@@ -269,6 +270,61 @@ fn copy_of(request: &Request) -> Request
     }
 }
 
+/// Tells what a task asks, for which there is room.
+fn tell_request(task: TaskNo, request: &Request, out: &mut Trace)
+    requires room { 0 < out.old.spare }
+    ensures entries { Tells out.old out.new (entry.Head task request.now ∷ []) }
+{
+    match request {
+        Request::Call { phone, msg } => {
+            let (phone, msg) = (*phone, *msg);
+            out.push(Entry::Head(task, Request::Call { phone, msg }));
+        }
+        Request::Receive => out.push(Entry::Head(task, Request::Receive)),
+        Request::Answer { call, reply } => {
+            let (call, reply) = (*call, *reply);
+            out.push(Entry::Head(task, Request::Answer { call, reply }));
+        }
+        Request::Hangup { phone } => {
+            let phone = *phone;
+            out.push(Entry::Head(task, Request::Hangup { phone }));
+        }
+        Request::Nothing => out.push(Entry::Head(task, Request::Nothing)),
+        other => tell_other_request(task, other, out),
+    }
+}
+
+/// The same of a request that comes less often.
+#[inline(never)]
+fn tell_other_request(task: TaskNo, request: &Request, out: &mut Trace)
+    requires room { 0 < out.old.spare }
+    ensures entries { Tells out.old out.new (entry.Head task request.now ∷ []) }
+{
+    out.push(Entry::Head(task, copy_of(request)));
+}
+
+/// Tells what a task is told, for which there is room.
+fn tell_outcome(outcome: &Outcome, out: &mut Trace)
+    requires room { 0 < out.old.spare }
+    ensures entries { Tells out.old out.new (entry.Outcome outcome.now ∷ []) }
+{
+    match outcome {
+        Outcome::Done => out.push(Entry::Outcome(Outcome::Done)),
+        Outcome::Refused(code) => out.push(Entry::Outcome(Outcome::Refused(*code))),
+        Outcome::Accepted(call) => out.push(Entry::Outcome(Outcome::Accepted(*call))),
+        Outcome::Received { call, msg, label } => {
+            let (call, msg, label) = (*call, *msg, *label);
+            out.push(Entry::Outcome(Outcome::Received { call, msg, label }));
+        }
+        Outcome::Answered { call, reply } => {
+            let (call, reply) = (*call, *reply);
+            out.push(Entry::Outcome(Outcome::Answered { call, reply }));
+        }
+        Outcome::Empty => out.push(Entry::Outcome(Outcome::Empty)),
+        Outcome::Bytes(bytes) => out.push(Entry::Outcome(Outcome::Bytes(bytes.copy()))),
+    }
+}
+
 /// The kernel serves a request, between its head, which tells the request, and its outcome.
 fn serve_request(
     kernel: &mut Kernel,
@@ -290,11 +346,16 @@ fn serve_request(
     ensures rises { kernel.old.events ≤ kernel.new.events }
 {
     out.reserve(1)?;
-    out.push(Entry::Head(task, copy_of(request)));
-    let outcome = kernel.serve(task, request, out)?;
-    out.reserve(1)?;
-    out.push(Entry::Outcome(outcome.copy()));
-    Ok(outcome)
+    tell_request(task, request, out);
+    let served = kernel.serve(task, request, out);
+    match &served {
+        Ok(outcome) => {
+            out.reserve(1)?;
+            tell_outcome(outcome, out);
+            served
+        }
+        Err(NoMemory) => Err(NoMemory),
+    }
 }
 
 /// The kernel brings a task to its end, after the head.

@@ -1,10 +1,11 @@
 //! What one line adds to a script.
-ghost use Rattle.std.specs.Prelude.{◌≡◌, ◌≢◌, ◌≤◌, IfSome, IfOk, OnOk};
+ghost use Rattle.std.specs.Prelude.{◌≡◌, ◌≢◌, ◌≤◌, IfSome, IfOk, OnOk, Some};
 ghost use Rattle.std.specs.Option.{ForSome, option_map};
-ghost use Rattle.script_reader.specs.declared.plan.Kind.TheVariants.{Naming};
+ghost use Rattle.script_reader.specs.declared.plan.Kind.TheVariants.{Naming, Raw};
 ghost use Rattle.script_reader.specs.Text.{texts, first_line, behind};
 ghost use Rattle.script_reader.specs.Line.{kind_of, counted_kind_of, service_kind_of, number_up_to, most_behind, head, plain_task, counted_task, service_task, task_of, template_of, wire_of, ns, task, template, body, wire, operation, body_of_last, operation_of_last, after_words, after_line};
-ghost use Rattle.script_reader.specs.Draft.{IsStep, IsWhole, Follows, with_new};
+ghost use Rattle.script_reader.specs.Draft.{IsStep, IsWhole, Follows, with_new, plan_of, taker, present};
+ghost use Rattle.script_reader.specs.declared.word.OpVerb.TheVariants.{Call};
 ghost use Rattle.script_reader.specs.ScriptParts.{parts_of, AreWhole};
 ghost use Rattle.script_reader.specs.Sound.{HeadFits};
 
@@ -12,10 +13,11 @@ use crate::draft::{Draft, Drafts, MOST_PHONES, TaskHead};
 use crate::fault::{LineFault, Reason};
 use crate::name::Name;
 use crate::names::Names;
-use crate::operation::op_in;
+use crate::operation::{op_in, two_and_arguments};
 use crate::plan::Kind;
 use crate::text::split_line;
 use crate::word::{OpVerb, Verb, look_up, number, verb_of};
+use ipc_ids::Op;
 use std::alloc::Global;
 
 const MOST_BLOCKS: u32 = 64;
@@ -293,8 +295,29 @@ fn add_wire(draft: &mut Draft, words: &[&[u8]]) -> Result<(), LineFault>
     draft.add_wire(from.as_slice(), phone, to.as_slice())
 }
 
+/// A call of a raw task, the commonest line of a script.
+#[inline(always)]
+#[tactic(auto, unfolding(crate::specs::Line::operation, crate::specs::Operation::call_op))]
+fn add_call(draft: &mut Draft, words: &[&[u8]]) -> Result<(), LineFault>
+    requires raw { taker draft.old ≡ Some Raw }
+    requires present { present (plan_of draft.old) ≡ Some Raw }
+    requires whole { IsWhole draft.old }
+    ensures value { IsStep result draft.old draft.new
+        (λ plan. operation plan Call (texts words.now)) }
+    ensures whole { OnOk result (IsWhole draft.new) }
+{
+    let (phone, method, args) = two_and_arguments(words)?;
+    draft.add_op(Op::Call {
+        phone,
+        method,
+        args,
+    })
+}
+
+/// An operation of any kind.
+#[inline(never)]
 #[tactic(auto, unfolding(crate::specs::Line::operation))]
-fn add_operation(draft: &mut Draft, verb: OpVerb, words: &[&[u8]]) -> Result<(), LineFault>
+fn add_any_operation(draft: &mut Draft, verb: OpVerb, words: &[&[u8]]) -> Result<(), LineFault>
     requires { IsWhole draft.old }
     ensures value { IsStep result draft.old draft.new
         (λ plan. operation plan verb (texts words.now)) }
@@ -302,6 +325,18 @@ fn add_operation(draft: &mut Draft, verb: OpVerb, words: &[&[u8]]) -> Result<(),
 {
     let op = op_in(draft.present(), verb, words)?;
     draft.add_op(op)
+}
+
+fn add_operation(draft: &mut Draft, verb: OpVerb, words: &[&[u8]]) -> Result<(), LineFault>
+    requires { IsWhole draft.old }
+    ensures value { IsStep result draft.old draft.new
+        (λ plan. operation plan verb (texts words.now)) }
+    ensures whole { OnOk result (IsWhole draft.new) }
+{
+    match (draft.present(), verb) {
+        (Some(Kind::Raw), OpVerb::Call) => add_call(draft, words),
+        _ => add_any_operation(draft, verb, words),
+    }
 }
 
 /// A body of the last task or template.

@@ -33,7 +33,7 @@ fn arguments(words: &[&[u8]]) -> Option<[Value; 5]>
 /// Two values, and up to five arguments.
 #[inline(always)]
 #[tactic(auto, unfolding(crate::specs::Operation::two_and_arguments))]
-fn two_and_arguments(words: &[&[u8]]) -> Result<(Value, Value, [Value; 5]), Reason>
+pub fn two_and_arguments(words: &[&[u8]]) -> Result<(Value, Value, [Value; 5]), Reason>
     ensures value { result ≡ two_and_arguments (texts words.now) }
     ensures ranges { IfOk result (λ x. IsInRange x.0 × IsInRange x.1 × All IsInRange x.2) }
 {

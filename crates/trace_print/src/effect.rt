@@ -1,5 +1,5 @@
 //! What happened to a call, to a phone, or to the memory of a task.
-ghost use Rattle.std.specs.Prelude.{◌≡◌, ◌+◌, ◌≤◌, ◌++◌, length, map};
+ghost use Rattle.std.specs.Prelude.{◌≡◌, ◌+◌, ◌≤◌, ◌++◌, codes, length, map};
 ghost use Rattle.ipc_ids.specs.declared.entry.Entry.TheVariants as entry;
 ghost use Rattle.trace_print.specs.Text.{call_text, way_text, answerer_text, phone_state_text, store_text};
 ghost use Rattle.trace_print.specs.Text.{task_effect_text, effect_text};
@@ -9,15 +9,17 @@ use crate::part::{push_label, push_numbered, push_reply, push_spaced, push_task}
 use crate::pen::Pen;
 use ipc_ids::{CallNo, Entry, Label, PhoneState, StoreNo, TaskNo};
 
+/// Two spaces, a call and what happened to it.
 #[tactic(auto, using(crate::proofs::Marks::map_append), unfolding(crate::specs::Text::call_text))]
 #[inline(always)]
 fn push_call<P: Pen>(pen: &mut P, call: CallNo, what: &[u8])
-    requires room { P.count pen.old + (25 + length what.now) ≤ P.capacity pen.old }
-    ensures text { P.seen pen.new ≡ P.seen pen.old ++ map P.mark (call_text call ++ what.now) }
-    ensures len { P.count pen.new ≤ P.count pen.old + (25 + length what.now) }
+    requires room { P.count pen.old + (27 + length what.now) ≤ P.capacity pen.old }
+    ensures text { P.seen pen.new ≡ P.seen pen.old
+        ++ map P.mark (codes "  " ++ call_text call ++ what.now) }
+    ensures len { P.count pen.new ≤ P.count pen.old + (27 + length what.now) }
     ensures capacity { P.capacity pen.old ≤ P.capacity pen.new }
 {
-    pen.word(b"call ");
+    pen.word(b"  call ");
     pen.number(call.0);
     pen.word(what);
 }
@@ -134,10 +136,10 @@ fn push_task_effect<P: Pen>(pen: &mut P, effect: &Entry)
 
 #[tactic(auto, using(crate::proofs::Marks::map_append))]
 fn push_accepted<P: Pen>(pen: &mut P, call: CallNo, from: Label, method: u64, to: Option<TaskNo>)
-    requires room { P.count pen.old + 130 ≤ P.capacity pen.old }
+    requires room { P.count pen.old + 132 ≤ P.capacity pen.old }
     ensures text { P.seen pen.new ≡ P.seen pen.old
-        ++ map P.mark (effect_text (entry.Accepted call from method to)) }
-    ensures len { P.count pen.new ≤ P.count pen.old + 130 }
+        ++ map P.mark (codes "  " ++ effect_text (entry.Accepted call from method to)) }
+    ensures len { P.count pen.new ≤ P.count pen.old + 132 }
     ensures capacity { P.capacity pen.old ≤ P.capacity pen.new }
 {
     push_call(pen, call, b" accepted ");
@@ -146,11 +148,13 @@ fn push_accepted<P: Pen>(pen: &mut P, call: CallNo, from: Label, method: u64, to
     push_way(pen, to);
 }
 
+/// Two spaces and an effect.
 #[tactic(auto, using(crate::proofs::Marks::map_append))]
 pub fn push_effect<P: Pen>(pen: &mut P, effect: &Entry)
-    requires room { P.count pen.old + 220 ≤ P.capacity pen.old }
-    ensures text { P.seen pen.new ≡ P.seen pen.old ++ map P.mark (effect_text effect.now) }
-    ensures len { P.count pen.new ≤ P.count pen.old + 220 }
+    requires room { P.count pen.old + 222 ≤ P.capacity pen.old }
+    ensures text { P.seen pen.new ≡ P.seen pen.old
+        ++ map P.mark (codes "  " ++ effect_text effect.now) }
+    ensures len { P.count pen.new ≤ P.count pen.old + 222 }
     ensures capacity { P.capacity pen.old ≤ P.capacity pen.new }
 {
     match effect {
@@ -191,6 +195,9 @@ pub fn push_effect<P: Pen>(pen: &mut P, effect: &Entry)
             push_task(pen, *at);
         }
         Entry::Forgotten(call) => push_call(pen, *call, b" forgotten"),
-        of_task => push_task_effect(pen, of_task),
+        of_task => {
+            pen.word(b"  ");
+            push_task_effect(pen, of_task);
+        }
     }
 }

@@ -6,9 +6,9 @@ use crate::comparison::Comparison;
 use crate::count::Count;
 use crate::effect::push_effect;
 use crate::head::{push_outcome, push_request};
-use crate::part::push_task;
+use crate::part::{push_numbered, push_task};
 use crate::pen::Pen;
-use ipc_ids::{Entry, NoMemory};
+use ipc_ids::{CallNo, Entry, NoMemory, Outcome};
 
 #[tactic(auto, using(crate::proofs::Marks::map_append))]
 fn push_line<P: Pen>(pen: &mut P, entry: &Entry)
@@ -38,13 +38,17 @@ fn push_line<P: Pen>(pen: &mut P, entry: &Entry)
             push_task(pen, *task);
             pen.byte(b'\n');
         }
+        Entry::Outcome(Outcome::Done) => pen.word(b"  = EOK\n"),
+        Entry::Outcome(Outcome::Accepted(CallNo(call))) => {
+            push_numbered(pen, b"  = call ", *call);
+            pen.byte(b'\n');
+        }
         Entry::Outcome(outcome) => {
             pen.word(b"  = ");
             push_outcome(pen, outcome);
             pen.byte(b'\n');
         }
         effect => {
-            pen.word(b"  ");
             push_effect(pen, effect);
             pen.byte(b'\n');
         }
