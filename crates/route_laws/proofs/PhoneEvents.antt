@@ -1,6 +1,6 @@
 -- Each event keeps what a history tells of phones, and a history that fits so keeps the law of phones.
-use Rattle.std.proofs.Common.{◌≡◌, ℕ, zero, suc, ◌+◌, ◌-◌, ◌≤◌, Bool, true, false, not, List, [], ◌∷◌, ◌++◌, length, replicate, Option, None, Some, refl, ap, sym, ◌∙◌, arith}
-use Rattle.std.specs.Prelude.{⊤, ◌==◌, if◌then◌else◌, slice_get, unwrap_or, option_and_then}
+use Rattle.std.proofs.Common.{◌≡◌, ℕ, zero, suc, ◌-◌, ◌≤◌, Bool, true, false, not, List, [], ◌∷◌, ◌++◌, replicate, Option, None, Some, refl, ap, sym, ◌∙◌}
+use Rattle.std.specs.Prelude.{◌==◌, if◌then◌else◌, slice_get, unwrap_or, option_and_then}
 use Rattle.std.specs.Option.{option_map_or}
 use Rattle.ipc_ids.specs.declared.numbers.TaskNo.{TaskNo}
 use Rattle.ipc_ids.specs.declared.message.PhoneState.{PhoneState}
@@ -8,23 +8,20 @@ use Rattle.ipc_ids.specs.declared.message.PhoneState.TheVariants.{Free, Connecti
 use Rattle.ipc_ids.specs.declared.message.Request.{Request}
 use Rattle.ipc_ids.specs.declared.entry.Entry.{Entry}
 use Rattle.ipc_ids.specs.declared.entry.Entry.TheVariants as entry
-use Rattle.ipc_ids.specs.Tales.{tales, onto, past}
+use Rattle.ipc_ids.specs.Tales.{tales, onto}
 use Rattle.ipc_ids.specs.Life.{is_killed}
 use Rattle.ipc_ids.specs.Holdings.{on_top, newest_first}
 use Rattle.ipc_ids.proofs.LawfulAreas.{on_top-append, newest_first-append}
 use Rattle.phone_table.specs.Phones.{state_at}
-use Rattle.cleanup.specs.State.{KernelState, Transition, alive_in, is_alive, label_of, with_task, with_event}
-use Rattle.cleanup.specs.Sound.{IsSound}
+use Rattle.cleanup.specs.State.{KernelState, alive_in, is_alive, label_of, with_task}
 use Rattle.cleanup.specs.Serving.{Served}
-use Rattle.kernel_core.specs.AreaHistory.{AreasFit}
 use Rattle.kernel_core.specs.Request.{serve_request}
 use Rattle.kernel_core.specs.Kernel.{serve, kill_event, next_task, named, spawning, spawn_event}
 use Rattle.kernel_core.specs.History.{is_ended, HistoryFits, served_entries, killed_entries, gone_entries}
 use Rattle.kernel_core.proofs.SpawnedHistories.{new_free}
-use Rattle.cleanup.specs.Kill.{kill}
-use Rattle.route_laws.specs.Leads.{Lead, Beginning, phone_in, target, leads}
+use Rattle.route_laws.specs.Leads.{Beginning, target, leads}
 use Rattle.route_laws.specs.PhoneLaw.{AreCutOff, AllRouted, CallsGoWherePhonesLead, WereRouted}
-use Rattle.route_laws.specs.PhoneHistory.{TellPhones, PhonesFit, RoutesFit}
+use Rattle.route_laws.specs.PhoneHistory.{PhonesFit, RoutesFit}
 use Rattle.route_laws.proofs.PhoneSteps.{is_some, target_told, ArePlain, IsHeadEntry, outcome_told, plains_told, head_told, phone_told}
 use Rattle.route_laws.proofs.PhoneRequests.{After, served, served_tells}
 use Rattle.route_laws.proofs.PhoneKills.{kill_kept}

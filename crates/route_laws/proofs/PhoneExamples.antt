@@ -1,6 +1,6 @@
 -- The law of phones at work on short lists: one that keeps it, and one for each way to break it. Phone 0 of the client
 -- leads to the server.
-use Rattle.std.proofs.Common.{ℕ, ◌≡◌, Bool, true, false, ◌++◌, Option, None, Some, List, [], ◌∷◌, refl, ap, sym, ◌∙◌, inl, inr, arith}
+use Rattle.std.proofs.Common.{ℕ, ◌≡◌, Bool, true, false, ◌++◌, Option, None, Some, List, [], ◌∷◌, refl, ap, sym, ◌∙◌, inl, inr}
 use Rattle.std.specs.Prelude.{◌==◌, if◌then◌else◌}
 use Rattle.std.proofs.lemmas.Bool.{eq-eqb, false≢true}
 use Rattle.ipc_ids.specs.declared.numbers.TaskNo.{TaskNo}
@@ -10,7 +10,6 @@ use Rattle.ipc_ids.specs.declared.message.Msg.{Msg}
 use Rattle.ipc_ids.specs.declared.message.Reply.{Reply}
 use Rattle.ipc_ids.specs.declared.message.Mode.{Mode}
 use Rattle.ipc_ids.specs.declared.message.Mode.TheVariants.{Plain, Route}
-use Rattle.ipc_ids.specs.declared.message.PhoneState.{PhoneState}
 use Rattle.ipc_ids.specs.declared.message.PhoneState.TheVariants.{Free, Connecting, Connected, HungUp, Slammed}
 use Rattle.ipc_ids.specs.declared.message.Request.TheVariants as request
 use Rattle.ipc_ids.specs.declared.message.Outcome.TheVariants as outcome
@@ -19,8 +18,8 @@ use Rattle.ipc_ids.specs.declared.entry.Entry.TheVariants as entry
 use Rattle.ipc_ids.specs.Codes.{eok}
 use Rattle.ipc_ids.specs.Methods.{connect_me_to, first_user_method}
 use Rattle.ipc_ids.specs.Holdings.{on_top, newest_first}
-use Rattle.route_laws.specs.Leads.{Lead, Beginning, is_phone, phone_in, target, leads}
-use Rattle.route_laws.specs.PhoneLaw.{AreCutOff, IsRouted, AllRouted, CallsGoWherePhonesLead, WereRouted}
+use Rattle.route_laws.specs.Leads.{Beginning, is_phone, phone_in, target, leads}
+use Rattle.route_laws.specs.PhoneLaw.{AreCutOff, CallsGoWherePhonesLead, WereRouted}
 use Rattle.route_laws.proofs.PhoneSteps.{head_routed}
 use Rattle.route_laws.proofs.PhoneEvents.{routed_keep_the_law}
 

@@ -1,5 +1,5 @@
 -- A kill keeps what the entries tell of phones.
-use Rattle.std.proofs.Common.{◌≡◌, ℕ, ◌+◌, Bool, true, List, [], ◌∷◌, length, Option, None, Some, refl, ap, sym, subst, ◌∙◌}
+use Rattle.std.proofs.Common.{◌≡◌, ℕ, ◌+◌, Bool, true, List, ◌∷◌, length, Option, None, Some, refl, ap, sym, subst, ◌∙◌}
 use Rattle.std.specs.Prelude.{◌==◌}
 use Rattle.std.proofs.lemmas.Bool.{eqb-true}
 use Rattle.ipc_ids.specs.declared.numbers.TaskNo.{TaskNo}
@@ -11,7 +11,6 @@ use Rattle.ipc_ids.specs.Codes.{ehangup}
 use Rattle.ipc_ids.specs.Holdings.{on_top, present}
 use Rattle.ipc_ids.proofs.LawfulAreas.{on_top-append}
 use Rattle.call_slab.specs.declared.call.Call.{Call}
-use Rattle.call_slab.specs.declared.call.Place.{Place}
 use Rattle.call_slab.specs.declared.call.Place.TheVariants.{Incoming, Dispatched, Answers}
 use Rattle.answerbox.specs.Calls.{calls_at, calls_by, with_record}
 use Rattle.address_space.specs.Memory.{first_area, count_areas}
@@ -26,7 +25,7 @@ use Rattle.cleanup.proofs.Repeats.{by_test}
 use Rattle.cleanup.proofs.Silence.{IsEnding, IsAlone, own_phones_hung_up, phones_slammed}
 use Rattle.cleanup.proofs.Queues.{IsLive, IsUncalled, IsIdle, IsUnanswered, front_at, call_from, forget_step, incoming_alone, incoming_settled, dispatched_uncalled, dispatched_settled, drop_idle, answers_dropped, forget_unanswered}
 use Rattle.cleanup.proofs.Killing.{after_hangups, after_slams, after_incoming, after_dispatched}
-use Rattle.route_laws.specs.Leads.{Beginning, target, leads}
+use Rattle.route_laws.specs.Leads.{Beginning, leads}
 use Rattle.route_laws.specs.PhoneLaw.{HangsUp, Kills}
 use Rattle.route_laws.specs.PhoneHistory.{PhonesFit}
 use Rattle.route_laws.proofs.PhoneSteps.{is_some, target_told, plain_told, phone_told, calls_follow, record_keeps, over_told}

@@ -22,7 +22,7 @@ use Rattle.ipc_ids.specs.declared.entry.Entry.TheVariants as entry
 use Rattle.ipc_ids.specs.Codes.{eok, enoent, eperm, elimit, ehangup, eforward}
 use Rattle.ipc_ids.specs.Methods.{kind_of, phone_hungup, connect_to_me, connect_me_to, data_write, data_read, share_out, share_in, first_user_method}
 use Rattle.ipc_ids.specs.Tables.{most_active}
-use Rattle.ipc_ids.specs.Holdings.{Making, on_top, present, making}
+use Rattle.ipc_ids.specs.Holdings.{on_top, present, making}
 use Rattle.ipc_ids.proofs.LawfulAreas.{on_top-append}
 use Rattle.call_slab.specs.declared.call.Call.{Call}
 use Rattle.call_slab.specs.declared.call.Place.{Place}
@@ -34,13 +34,13 @@ use Rattle.forwarding.specs.declared.passing.ForwardFault.TheVariants.{NotHeld, 
 use Rattle.forwarding.specs.Forwarding.{is_held, is_forwardable, msg_after, label_after}
 use Rattle.forwarding.specs.Routes.{callee_of, receiver_of, as_forwarded, forward_answer}
 use Rattle.address_space.specs.Memory as spaces
-use Rattle.data_hooks.specs.DataMoments.{address_of, count_of, cut_args, write_before_send, read_before_send, write_accept, read_accept, read_deliver}
+use Rattle.data_hooks.specs.DataMoments.{address_of, count_of, cut_args, write_before_send, read_before_send, write_accept, read_deliver}
 use Rattle.share_hooks.specs.ShareMoments.{base_of, pages_of, rights_of, out_before_send, in_before_send, out_accept, in_accept}
 use Rattle.cleanup.specs.declared.sharing.Share.TheVariants.{Out, In}
 use Rattle.cleanup.specs.State.{Tasks, KernelState, Transition, phone_at, label_of}
 use Rattle.cleanup.specs.Sound.{IsSound, IsCaller}
 use Rattle.cleanup.specs.Kept.{AreKept, WaitsIn, accepts, phone_of, kept_of, keeper_of, kept_phone, lent_phone, first_usable_of}
-use Rattle.cleanup.specs.Joins.{bare_reply, new_call, acceptance, answer_at_once, reception, delivery, answer_to, declined_call, accepted_to_me, accepted_me_to, code_of, lives, vanishing, settle_for, settle, passage, passed_call, drop_answer, hang_up, hangup_call}
+use Rattle.cleanup.specs.Joins.{bare_reply, new_call, acceptance, answer_at_once, reception, delivery, answer_to, declined_call, code_of, lives, settle_for, passage, passed_call, drop_answer, hang_up, hangup_call}
 use Rattle.cleanup.specs.Areas.{done_or_refused, made_note, gone_note, wrote_note, bytes_or_refused}
 use Rattle.cleanup.specs.Data.{accepted_write, accepted_read, delivered_read}
 use Rattle.cleanup.specs.Sharing.{shared_note, accepted_share}
@@ -59,11 +59,11 @@ use Rattle.kernel_core.specs.HangingUp.{hangup_over}
 use Rattle.kernel_core.specs.Request.{serve_request}
 use Rattle.kernel_core.proofs.AreaSteps.{quiet_hand}
 use Rattle.kernel_core.proofs.Serving.{own, front_at, unawaited_front}
-use Rattle.route_laws.specs.Leads.{Beginning, phone_in, target, leads}
+use Rattle.route_laws.specs.Leads.{Beginning, phone_in}
 use Rattle.route_laws.specs.PhoneLaw.{label_of_call, label_by, PassesOn, ConnectsTwo, Connects, ComesToLead, HangsUp}
 use Rattle.route_laws.specs.PhoneLaw as law
 use Rattle.route_laws.specs.PhoneHistory.{PhonesFit}
-use Rattle.route_laws.proofs.PhoneSteps.{is_some, state_told, target_told, AreIdle, waits_idle, usable_idle, IsPlain, ArePlain, TellsLabelOf, plain_told, plains_told, phone_told, idle_told, accepted_told, passed_told, calls_follow, gone_keeps, over_told, put_told}
+use Rattle.route_laws.proofs.PhoneSteps.{is_some, state_told, target_told, AreIdle, waits_idle, usable_idle, ArePlain, TellsLabelOf, plain_told, plains_told, phone_told, idle_told, accepted_told, passed_told, calls_follow, gone_keeps, over_told, put_told}
 
 -- after these entries more, in that state
 abbrev pub After : Beginning → List Entry → List Entry → KernelState → Type 0

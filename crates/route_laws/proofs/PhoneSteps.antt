@@ -25,7 +25,7 @@ use Rattle.cleanup.proofs.KilledPhones.{written_elsewhere}
 use Rattle.cleanup.proofs.Usable.{IsUsable, usable_is, kept_waits}
 use Rattle.cleanup.proofs.Queues.{IsLive}
 use Rattle.route_laws.specs.Leads.{Lead, Beginning, is_phone, phone_in, target, leads}
-use Rattle.route_laws.specs.PhoneLaw.{GoesThere, label_of_call, GoesOnThere, TellsLabel, ComesToLead, CeasesToLead, AreCutOff, IsRouted}
+use Rattle.route_laws.specs.PhoneLaw.{GoesThere, GoesOnThere, TellsLabel, ComesToLead, CeasesToLead, AreCutOff, IsRouted}
 use Rattle.route_laws.specs.PhoneHistory.{TellPhones, PhonesFit}
 
 -- the phone of an entry, and another
