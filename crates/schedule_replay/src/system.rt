@@ -347,15 +347,10 @@ fn serve_request(
 {
     out.reserve(1)?;
     tell_request(task, request, out);
-    let served = kernel.serve(task, request, out);
-    match &served {
-        Ok(outcome) => {
-            out.reserve(1)?;
-            tell_outcome(outcome, out);
-            served
-        }
-        Err(NoMemory) => Err(NoMemory),
-    }
+    let outcome = kernel.serve(task, request, out)?;
+    out.reserve(1)?;
+    tell_outcome(&outcome, out);
+    Ok(outcome)
 }
 
 /// The kernel brings a task to its end, after the head.
