@@ -3,12 +3,13 @@
 use ipc_ids::{CallNo, Code, Entry, Msg, Outcome, Request, Short, TaskNo};
 use std::alloc::Global;
 use std::test::Fail;
-use trace_print::{entry_is, entry_length, entry_text};
+use trace_print::{Comparison, entry_length, entry_text};
 
 /// The text of the entry is this line with its line feed, and all three calls say so.
 fn is_written(alloc: Global, entry: &Entry, line: &str) -> Result<bool, Fail> {
     let mut text = Vec::new(alloc);
     entry_text(entry, &mut text)?;
+    let mut comparison = Comparison::new();
     let Some((last, first)) = text.as_slice().split_last() else {
         return Ok(false);
     };
@@ -16,8 +17,9 @@ fn is_written(alloc: Global, entry: &Entry, line: &str) -> Result<bool, Fail> {
         *last == b'\n'
             && first == line.as_bytes()
             && entry_length(entry) == line.len() as u64 + 1
-            && entry_is(entry, line.as_bytes())
-            && !entry_is(entry, b""),
+            && comparison.is_of(entry, line.as_bytes())
+            && !comparison.is_of(entry, b"")
+            && comparison.is_of(entry, line.as_bytes()),
     )
 }
 

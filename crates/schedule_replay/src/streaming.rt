@@ -85,7 +85,7 @@ pub fn replay<F: Feed, K: Sink>(
 {
     // The proof rests on what every script keeps.
     let _tasks = &script.tasks;
-    let mut buffer = TextBuffer::new(alloc)?;
+    let mut buffer = TextBuffer::new();
     let mut replay = Replay::new(alloc, script)?;
     let mut trace = Trace::new(alloc);
     while let Some(event) = feed.next() {

@@ -1,15 +1,14 @@
 //! The text of entries on its way to a sink.
-ghost use Rattle.std.specs.Prelude.{◌≡◌, ◌≤◌, ◌⊎◌, ◌++◌, [], length, IfOk, OnOk, OnErr};
+ghost use Rattle.std.specs.Prelude.{◌≡◌, ◌≤◌, ◌⊎◌, ◌++◌, [], length, OnOk, OnErr};
 ghost use Rattle.std.specs.Io.KnownBytes.{Appends};
 ghost use Rattle.io_edge.specs.Edge.{AppendsStart, Rose};
 ghost use Rattle.trace_print.specs.Text.{text_of_entry, text_of};
 ghost use Rattle.schedule_replay.specs.Streaming.{Sent};
 
 use io_edge::{PutFailed, Sink};
-use ipc_ids::{Entry, NoMemory};
-use std::alloc::Global;
+use ipc_ids::Entry;
 use std::marker::Model;
-use trace_print::entry_text;
+use trace_print::{Page, push_entry};
 
 /// How many bytes a buffer holds.
 const SIZE: usize = 4096;
@@ -20,28 +19,23 @@ const LONGEST_LINE: usize = 256;
 /// Text that waits for its put, in room for 4,096 bytes. Contracts see its bytes.
 #[derive(Drop)]
 pub struct TextBuffer {
-    bytes: Vec<u8>,
+    page: Page<SIZE>,
 }
 
 impl Model for TextBuffer {
-    ghost use Rattle.std.specs.Prelude.{◌≤◌, List, ℕ, vec_len, vec_capacity};
+    ghost use Rattle.std.specs.Prelude.{List, ℕ};
 
     ghost Value = { List ℕ };
 
-    ghost view = { λ buffer. buffer.bytes.items };
-
-    ghost invariant = { λ buffer.
-        (vec_len buffer.bytes ≤ 4096) × (4096 ≤ vec_capacity buffer.bytes) };
+    ghost view = { λ buffer. buffer.page };
 }
 
 impl TextBuffer {
-    /// An empty buffer, with its whole room.
-    pub fn new(alloc: Global) -> Result<TextBuffer, NoMemory>
-        ensures { IfOk result (λ buffer. buffer ≡ []) }
+    /// An empty buffer, with its whole room. It takes no memory.
+    pub fn new() -> TextBuffer
+        ensures { result ≡ [] }
     {
-        Ok(TextBuffer {
-            bytes: Vec::with_capacity(alloc, SIZE)?,
-        })
+        TextBuffer { page: Page::new() }
     }
 
     /// Puts all bytes.
@@ -54,9 +48,9 @@ impl TextBuffer {
         ensures cause { OnErr result (Rose (K.faults sink.old) (K.faults sink.new)) }
         ensures later { K.faults sink.old ≤ K.faults sink.new }
     {
-        match sink.put(&self.bytes) {
+        match sink.put(self.page.as_slice()) {
             Ok(()) => {
-                self.bytes.clear();
+                self.page.clear();
                 Ok(())
             }
             Err(PutFailed) => Err(PutFailed),
@@ -84,13 +78,13 @@ impl TextBuffer {
         ensures cause { OnErr result (Rose (K.faults sink.old) (K.faults sink.new)) }
         ensures later { K.faults sink.old ≤ K.faults sink.new }
     {
-        if SIZE - self.bytes.len() < LONGEST_LINE {
+        if self.page.room() < LONGEST_LINE {
             match self.flush(sink) {
                 Ok(()) => {}
                 Err(PutFailed) => return Err(PutFailed),
             }
         }
-        entry_text(entry, &mut self.bytes).unwrap();
+        push_entry(entry, &mut self.page);
         Ok(())
     }
 
@@ -110,7 +104,7 @@ impl TextBuffer {
         ensures later { K.faults sink.old ≤ K.faults sink.new }
     {
         // The proof rests on how many bytes a buffer holds at most.
-        let _bytes = &self.bytes;
+        let _text = self.page.as_slice();
         for entry in entries {
             match self.write_entry(entry, sink) {
                 Ok(()) => {}

@@ -6,7 +6,7 @@ use crate::reading::Reading;
 use ipc_ids::NoMemory;
 use law_check::Verdict;
 use std::alloc::Global;
-use trace_reader::first_entry;
+use trace_reader::Reader;
 
 const MOST: usize = 16_777_216;
 
@@ -36,10 +36,11 @@ pub fn check_trace(alloc: Global, bytes: &[u8]) -> Result<Finding, NoMemory>
     if bytes.len() > MOST {
         return Ok(Finding::TooLong);
     }
+    let mut reader = Reader::new();
     let mut reading = Reading::new(alloc);
     let mut rest = bytes;
     while !rest.is_empty() {
-        match first_entry(rest) {
+        match reader.first_entry(rest) {
             Some((entry, behind)) => {
                 reading.take(entry)?;
                 rest = behind;

@@ -1,38 +1,40 @@
 //! Bytes in hexadecimal digits.
-ghost use Rattle.std.specs.Prelude.{◌≡◌, ◌+◌, ◌≤◌, ◌<◌, ◌++◌, length, vec_len, vec_capacity};
+ghost use Rattle.std.specs.Prelude.{◌≡◌, ◌+◌, ◌≤◌, ◌<◌, ◌++◌, length};
 ghost use Rattle.trace_print.specs.Text.{digit_text, digits_text, bytes_text};
 
-pub fn digit(value: u8) -> u8
+use crate::text::Text;
+
+fn digit(value: u8) -> u8
     requires { value < 16 }
     ensures { result ≡ digit_text value }
 {
     b"0123456789abcdef"[value as usize]
 }
 
-fn push_digits(into: &mut Vec<u8>, bytes: &[u8])
+fn push_digits<T: Text>(text: &mut T, bytes: &[u8])
     requires few { length bytes.now ≤ 64 }
-    requires room { vec_len into.old + 128 ≤ vec_capacity into.old }
-    ensures text { into.new.items ≡ into.old.items ++ digits_text bytes.now }
-    ensures len { vec_len into.new ≤ vec_len into.old + 128 }
-    ensures capacity { vec_capacity into.old ≤ vec_capacity into.new }
+    requires room { T.count text.old + 128 ≤ T.capacity text.old }
+    ensures text { T.bytes text.new ≡ T.bytes text.old ++ digits_text bytes.now }
+    ensures len { T.count text.new ≤ T.count text.old + 128 }
+    ensures capacity { T.capacity text.old ≤ T.capacity text.new }
 {
     for byte in bytes {
-        into.push_reserved(digit(*byte / 16));
-        into.push_reserved(digit(*byte % 16));
+        text.push(digit(*byte / 16));
+        text.push(digit(*byte % 16));
     }
 }
 
 /// Adds bytes as digits in lower case, two for each, or `-` for none.
-pub fn push_bytes(into: &mut Vec<u8>, bytes: &[u8])
+pub fn push_bytes<T: Text>(text: &mut T, bytes: &[u8])
     requires few { length bytes.now ≤ 64 }
-    requires room { vec_len into.old + 128 ≤ vec_capacity into.old }
-    ensures text { into.new.items ≡ into.old.items ++ bytes_text bytes.now }
-    ensures len { vec_len into.new ≤ vec_len into.old + 128 }
-    ensures capacity { vec_capacity into.old ≤ vec_capacity into.new }
+    requires room { T.count text.old + 128 ≤ T.capacity text.old }
+    ensures text { T.bytes text.new ≡ T.bytes text.old ++ bytes_text bytes.now }
+    ensures len { T.count text.new ≤ T.count text.old + 128 }
+    ensures capacity { T.capacity text.old ≤ T.capacity text.new }
 {
     if bytes.is_empty() {
-        into.push_reserved(b'-');
+        text.push(b'-');
         return;
     }
-    push_digits(into, bytes);
+    push_digits(text, bytes);
 }

@@ -10,7 +10,11 @@ mod fibril;
 mod head;
 mod line;
 mod number;
+mod page;
 mod part;
 mod pen;
+mod text;
 
-pub use line::{entry_is, entry_length, entry_text};
+pub use comparison::Comparison;
+pub use line::{entry_length, entry_text, push_entry};
+pub use page::Page;

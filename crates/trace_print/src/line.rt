@@ -6,6 +6,7 @@ use crate::comparison::Comparison;
 use crate::count::Count;
 use crate::effect::push_effect;
 use crate::head::{push_outcome, push_request};
+use crate::page::Page;
 use crate::part::{push_numbered, push_task};
 use crate::pen::Pen;
 use ipc_ids::{CallNo, Entry, NoMemory, Outcome};
@@ -55,13 +56,21 @@ fn push_line<P: Pen>(pen: &mut P, entry: &Entry)
     }
 }
 
+/// Adds the line of an entry, of at most 256 bytes, for which there is room.
+#[tactic(auto, using(crate::proofs::Marks::map_same))]
+pub fn push_entry<const SIZE: usize>(entry: &Entry, into: &mut Page<SIZE>)
+    requires room { length into.old + 256 ≤ SIZE }
+    ensures text { into.new ≡ into.old ++ text_of_entry entry.now }
+{
+    push_line(into, entry);
+}
+
 /// Adds the line of an entry, of at most 256 bytes, and takes no memory but for `into` itself.
 ///
 /// # Errors
 ///
 /// `NoMemory` where `into` found no memory for the line; never where it has room for 256 bytes
 /// more.
-#[tactic(auto, using(crate::proofs::Marks::map_same))]
 pub fn entry_text(entry: &Entry, into: &mut Vec<u8>) -> Result<(), NoMemory>
     ensures ok { OnOk result (into.new.items ≡ into.old.items ++ text_of_entry entry.now) }
     ensures err { OnErr result (into.new.items ≡ into.old.items) }
@@ -69,8 +78,9 @@ pub fn entry_text(entry: &Entry, into: &mut Vec<u8>) -> Result<(), NoMemory>
     ensures room { vec_len into.old + 256 ≤ vec_capacity into.old → IsOk result }
     ensures capacity { vec_capacity into.old ≤ vec_capacity into.new }
 {
-    into.reserve(256)?;
-    push_line(into, entry);
+    let mut line = Page::<256>::new();
+    push_entry(entry, &mut line);
+    into.extend_from_slice(line.as_slice())?;
     Ok(())
 }
 
@@ -85,11 +95,13 @@ pub fn entry_length(entry: &Entry) -> u64
     count.length
 }
 
-/// Whether the line of the entry is these bytes and a line feed. It takes no memory.
-pub fn entry_is(entry: &Entry, line: &[u8]) -> bool
-    ensures { IsTrue result ↔ (text_of_entry entry.now ≡ line.now ++ 10 ∷ []) }
-{
-    let mut comparison = Comparison::new(line);
-    push_line(&mut comparison, entry);
-    comparison.is_whole()
+impl<'a> Comparison<'a> {
+    /// Whether the line of the entry is these bytes and a line feed. It takes no memory.
+    pub fn is_of(&mut self, entry: &Entry, line: &'a [u8]) -> bool
+        ensures { IsTrue result ↔ (text_of_entry entry.now ≡ line.now ++ 10 ∷ []) }
+    {
+        self.begin(line);
+        push_line(self, entry);
+        self.is_whole()
+    }
 }

@@ -1,9 +1,6 @@
 //! What the text of an entry is written with.
-ghost use Rattle.std.specs.Prelude.{◌≡◌, ◌+◌, ◌≤◌, ◌++◌, ℕ, List, [], ◌∷◌, length, decimal, map, vec_len, vec_capacity};
+ghost use Rattle.std.specs.Prelude.{◌≡◌, ◌+◌, ◌≤◌, ◌++◌, ℕ, List, [], ◌∷◌, length, decimal, map};
 ghost use Rattle.trace_print.specs.Text.{bytes_text};
-
-use crate::bytes::push_bytes;
-use crate::number::push_number;
 
 /// What the text of an entry is written with: bytes that have room for it, or a count that only
 /// needs to know how long it is.
@@ -46,34 +43,4 @@ pub trait Pen {
         ensures text { seen self.new ≡ seen self.old ++ map mark (bytes_text bytes.now) }
         ensures len { count self.new ≤ count self.old + 128 }
         ensures capacity { capacity self.old ≤ capacity self.new };
-}
-
-#[tactic(auto, using(crate::proofs::Marks::map_same))]
-impl Pen for Vec<u8> {
-    ghost seen = { λ bytes. bytes.items };
-
-    ghost count = { λ bytes. vec_len bytes };
-
-    ghost capacity = { λ bytes. vec_capacity bytes };
-
-    ghost mark = { λ byte. byte };
-
-    #[inline(always)]
-    fn byte(&mut self, byte: u8) {
-        self.push_reserved(byte);
-    }
-
-    #[inline(always)]
-    fn word(&mut self, word: &[u8]) {
-        self.extend_from_slice(word).unwrap();
-    }
-
-    #[inline(always)]
-    fn number(&mut self, number: u64) {
-        push_number(self, number);
-    }
-
-    fn bytes(&mut self, bytes: &[u8]) {
-        push_bytes(self, bytes);
-    }
 }

@@ -2,12 +2,11 @@
 use Rattle.std.proofs.Common.{ℕ, get_or, zero, suc, drop, ◌-◌, ◌≡◌, ◌<◌, ◌≤◌, ◌+◌, ◌^◌, true, false, List, [], ◌∷◌, ◌++◌, length, Option, None, refl, sym, ap, ◌∙◌, arith, ne_eqb, decimal, append_assoc, subst, inl, inr, ◌/◌, ◌%◌, ◌*◌}
 use native.Mathlib.Numerals.{unary_clauses}
 use Rattle.std.specs.Prelude.{unwrap_or, nat_eq}
-use Rattle.std.specs.List.{list_all}
 use Rattle.std.specs.Char.{digit_value}
 use Rattle.std.specs.Str.Parse.{digits_value, digits_value_after, AllDigits}
-use Rattle.std.proofs.lemmas.Bool.{cond-true, and_from, lt-ltb, le-leb, cases_eq, cases_lt}
+use Rattle.std.proofs.lemmas.Bool.{lt-ltb, cases_eq, cases_lt}
 use Rattle.std.specs.Cmp.Lexicographic.{pointwise}
-use Rattle.std.proofs.lemmas.Fmt.{decimal_is_IsNumeral, length-decimal-le}
+use Rattle.std.proofs.lemmas.Fmt.{decimal_is_IsNumeral}
 use Rattle.std.proofs.lemmas.Grind.{common_steps}
 use Rattle.std.proofs.Math.Nat.{mod-eq_of_lt}
 use Rattle.ipc_ids.specs.declared.numbers.TaskNo.{TaskNo}

@@ -1,6 +1,5 @@
 -- Equal words are read as equal entries.
 use Rattle.std.proofs.Common.{ℕ, ◌≡◌, List, refl}
-use Rattle.ipc_ids.specs.declared.entry.Entry.{Entry}
 use Rattle.trace_reader.specs.Read.{entry_in}
 
 pub same_entry : (v w : ℕ → List ℕ) → ((i : ℕ) → v i ≡ w i) → entry_in v ≡ entry_in w

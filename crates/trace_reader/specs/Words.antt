@@ -1,5 +1,5 @@
 -- What is read in a word of a line. Each reader gives something for any bytes.
-use Rattle.std.specs.Prelude.{Bool, true, false, ℕ, zero, suc, map, ◌+◌, ◌*◌, ◌-◌, ◌%◌, ◌^◌, ◌==◌, nat_lt, nat_eq, if◌then◌else◌, unwrap_or, List, [], ◌∷◌, Option, Some, None}
+use Rattle.std.specs.Prelude.{Bool, true, false, ℕ, zero, suc, map, ◌+◌, ◌*◌, ◌-◌, ◌%◌, ◌^◌, ◌==◌, nat_lt, nat_eq, if◌then◌else◌, List, [], ◌∷◌, Option, Some, None}
 use Rattle.std.specs.Borrow.{Bor}
 use Rattle.std.specs.Cmp.Lexicographic.{pointwise}
 use Rattle.ipc_ids.specs.declared.numbers.TaskNo.{TaskNo}

@@ -8,4 +8,4 @@ mod part;
 mod trace;
 
 pub use line::read_entry;
-pub use trace::{TraceFault, first_entry, read_trace};
+pub use trace::{Reader, TraceFault, read_trace};

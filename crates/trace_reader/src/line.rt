@@ -13,7 +13,7 @@ use crate::part::{
     task_of, word,
 };
 use ipc_ids::{CallNo, Entry, ExchangeNo, Reply, StoreNo};
-use trace_print::entry_is;
+use trace_print::Comparison;
 
 fn call_end_in(line: &Words) -> Entry
     ensures { result ≡ call_end_in (nth (texts line.now.items)) }
@@ -241,7 +241,7 @@ fn entry_in(line: &Words) -> Entry
 }
 
 /// The entry whose text is this line, which has these words, and a line feed.
-pub fn entry_of(words: &Words, line: &[u8]) -> Option<Entry>
+pub fn entry_of<'a>(words: &Words, line: &'a [u8], comparison: &mut Comparison<'a>) -> Option<Entry>
     requires { HasWords (texts words.now.items) line.now }
     ensures some { IfSome result (λ e. text_of_entry e ≡ line.now ++ 10 ∷ []) }
     ensures built { IfSome result (λ e. IsBuilt e) }
@@ -249,7 +249,7 @@ pub fn entry_of(words: &Words, line: &[u8]) -> Option<Entry>
         → ⊥) }
 {
     let entry = entry_in(words);
-    if entry_is(&entry, line) {
+    if comparison.is_of(&entry, line) {
         Some(entry)
     } else {
         None
@@ -269,5 +269,5 @@ pub fn read_entry(line: &[u8]) -> Option<Entry>
     if count < line.len() {
         return None;
     }
-    entry_of(&words, line)
+    entry_of(&words, line, &mut Comparison::new())
 }

@@ -9,6 +9,7 @@ use crate::line::entry_of;
 use crate::part::{Words, first_line};
 use ipc_ids::{Entry, NoMemory, Trace};
 use std::alloc::Global;
+use trace_print::Comparison;
 
 /// Why bytes are no trace.
 #[derive(Clone, Copy, Debug, PartialEq, Eq)]
@@ -19,22 +20,37 @@ pub enum TraceFault {
     NoMemory,
 }
 
-/// The entry whose text the bytes begin with, and the bytes behind it; `None` where they begin with
-/// that of none, as no bytes do. It takes no memory.
-pub fn first_entry(bytes: &[u8]) -> Option<(Entry, &[u8])>
-    ensures some { IfSome result (λ first. bytes.now ≡ text_of_entry first.0 ++ first.1.now) }
-    ensures built { IfSome result (λ first. IsBuilt first.0) }
-    ensures shorter { IfSome result (λ first. length first.1.now < length bytes.now) }
-    ensures none { IfNone result (IsNoLine bytes.now) }
-{
-    let mut words = Words::new();
-    let count = first_line(bytes, &mut words);
-    if count == bytes.len() {
-        return None;
+/// What reads entries one after the other. It takes no memory.
+#[derive(Drop)]
+pub struct Reader<'a> {
+    comparison: Comparison<'a>,
+}
+
+impl<'a> Reader<'a> {
+    /// Before the first entry.
+    pub fn new() -> Reader<'a> {
+        Reader {
+            comparison: Comparison::new(),
+        }
     }
-    match entry_of(&words, &bytes[..count]) {
-        Some(entry) => Some((entry, &bytes[count + 1..])),
-        None => None,
+
+    /// The entry whose text the bytes begin with, and the bytes behind it; `None` where they begin
+    /// with that of none, as no bytes do.
+    pub fn first_entry(&mut self, bytes: &'a [u8]) -> Option<(Entry, &'a [u8])>
+        ensures some { IfSome result (λ first. bytes.now ≡ text_of_entry first.0 ++ first.1.now) }
+        ensures built { IfSome result (λ first. IsBuilt first.0) }
+        ensures shorter { IfSome result (λ first. length first.1.now < length bytes.now) }
+        ensures none { IfNone result (IsNoLine bytes.now) }
+    {
+        let mut words = Words::new();
+        let count = first_line(bytes, &mut words);
+        if count == bytes.len() {
+            return None;
+        }
+        match entry_of(&words, &bytes[..count], &mut self.comparison) {
+            Some(entry) => Some((entry, &bytes[count + 1..])),
+            None => None,
+        }
     }
 }
 
@@ -50,9 +66,10 @@ pub fn read_trace(alloc: Global, bytes: &[u8]) -> Result<Trace, TraceFault>
     ensures bad { (line : ℕ) → result ≡ Err (TraceFault.Bad line) → IsFirstBad bytes.now line }
 {
     let mut trace = Trace::new(alloc);
+    let mut reader = Reader::new();
     let mut rest = bytes;
     while !rest.is_empty() {
-        match first_entry(rest) {
+        match reader.first_entry(rest) {
             Some((entry, behind)) => {
                 if trace.reserve(1).is_err() {
                     return Err(TraceFault::NoMemory);

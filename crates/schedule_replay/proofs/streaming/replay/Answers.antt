@@ -9,7 +9,7 @@ use Rattle.schedule_replay.proofs.streaming.replay.Goals as goal
 
 pub loop-event-init : goal.loop-event-init
 loop-event-init g c = record {
-  under_way = begun c.args.script.now (g.F.Feed.left c.args.feed.now) _ (g.K.Sink.written c.args.sink.now) _ (ap (λ (r : ReplayState). r.state) c.in_ok-replay.ensures.state) c.in_ok-buffer.ensures;
+  under_way = begun c.args.script.now (g.F.Feed.left c.args.feed.now) _ (g.K.Sink.written c.args.sink.now) _ (ap (λ (r : ReplayState). r.state) c.in_ok-replay.ensures.state) c.new-buffer.ensures;
   few = omega (arith, c.in_ok-replay.ensures.no_event, c.requires.few);
   may = may_from c.args.script.now (g.F.Feed.left c.args.feed.now) _ (ap (λ (r : ReplayState). r.state) c.in_ok-replay.ensures.state) c.requires.may;
   none = refl;
@@ -79,9 +79,6 @@ pub returns-clause-ok : goal.returns-clause-ok
 returns-clause-ok g c = ended _ _ _ _ _ (g.K.Sink.written c.loop-event.sink) (g.K.Sink.written c.flush.new.sink) _ c.loop-event.invariant.under_way c.in_default.ensures.0 c.in_ok-flush.ensures.ok
 
 -- the run keeps the laws, however the replay ends
-
-pub returns-in_err-buffer-clause-lawful : goal.returns-in_err-buffer-clause-lawful
-returns-in_err-buffer-clause-lawful g c = lawful_of_script _ c.args.script.now (g.F.Feed.left c.args.feed.now) c.script.view_is c.script.invariant c.requires.may
 
 pub returns-in_err-replay-clause-lawful : goal.returns-in_err-replay-clause-lawful
 returns-in_err-replay-clause-lawful g c = lawful_of_script _ c.args.script.now (g.F.Feed.left c.args.feed.now) c.script.view_is c.script.invariant c.requires.may

@@ -2,8 +2,8 @@ use Rattle.std.proofs.Common.{length}
 use Rattle.trace_check.specs.Reading.{ReadsTo}
 use Rattle.trace_check.proofs.finding.check_trace.Given as goal
 
-abbrev pub invariant-loop-rest : goal.invariant-loop-rest
-invariant-loop-rest l = ReadsTo l.bytes l.rest l.reading
+abbrev pub invariant-loop-reader : goal.invariant-loop-reader
+invariant-loop-reader l = ReadsTo l.bytes l.rest l.reading
 
-abbrev pub decreases-loop-rest : goal.decreases-loop-rest
-decreases-loop-rest l = length l.rest
+abbrev pub decreases-loop-reader : goal.decreases-loop-reader
+decreases-loop-reader l = length l.rest

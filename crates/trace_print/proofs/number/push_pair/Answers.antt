@@ -3,6 +3,6 @@ use Rattle.trace_print.proofs.Pairs.{pair_at}
 use Rattle.trace_print.proofs.number.push_pair.Goals as goal
 
 pub returns-clause-text : goal.returns-clause-text
-returns-clause-text c =
+returns-clause-text g c =
     let digits = pair_at c.args.number c.requires.few in
-    rw (← digits.0, ← digits.1, c.push_reserved-2.ensures.items, c.push_reserved.ensures.items) (simp (append_assoc))
+    rw (← digits.0, ← digits.1, c.push-2.ensures.text, c.push.ensures.text) (simp (append_assoc))

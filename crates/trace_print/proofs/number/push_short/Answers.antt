@@ -3,7 +3,7 @@ use Rattle.trace_print.proofs.Pairs.{pair_behind}
 use Rattle.trace_print.proofs.number.push_short.Goals as goal
 
 pub returns-else-number-lt100-clause-text : goal.returns-else-number-lt100-clause-text
-returns-else-number-lt100-clause-text c =
+returns-else-number-lt100-clause-text g c =
     rw (
       pair_behind c.args.number (omega arith) c.ranges.number.fits,
       c.push_pair.ensures.text,

@@ -1,4 +1,4 @@
-use Rattle.std.proofs.Common.{ℕ, suc, ◌≡◌, ◌<◌, ◌+◌, ◌⊎◌, [], length, take, drop, refl, sym, ap, ◌∙◌, arith, add-one, inl, inr}
+use Rattle.std.proofs.Common.{suc, ◌≡◌, ◌<◌, ◌+◌, ◌⊎◌, [], length, take, drop, refl, sym, ap, ◌∙◌, arith, add-one, inl, inr}
 use Rattle.std.specs.Prelude.{slice_index}
 use Rattle.std.proofs.lemmas.List.{take_rest, length-drop}
 use Rattle.trace_reader.specs.Words.{before}

@@ -9,5 +9,5 @@ pub returns-then-begins_with-clause-text : goal.returns-then-begins_with-clause-
 returns-then-begins_with-clause-text c =
     let s = c.args.self.now in
     let w = c.args.word.now in
-    same_more s.line.now s.other.items w s.same (length w) (no_items s.other.items (sym c.is_empty.ensures ∙ c.if-is_empty.true)) (rw take_rest at (c.if-begins_with.ensures refl).1)
-    ∙ ap (λ (t : List ℕ). compared s.line.now s.same s.other.items ++ t) (sym (map_same w))
+    same_more s.line.now s.other w s.same (length w) (no_items s.other (sym c.is_empty.ensures ∙ c.if-is_empty.true)) (rw take_rest at (c.if-begins_with.ensures refl).1)
+    ∙ ap (λ (t : List ℕ). compared s.line.now s.same s.other ++ t) (sym (map_same w))

@@ -1,7 +1,7 @@
-use Rattle.std.proofs.Common.{◌-◌, arith, ◌∙◌}
+use Rattle.std.proofs.Common.{arith, ◌∙◌}
 use Rattle.std.proofs.lemmas.List.{length-set}
-use Rattle.trace_print.proofs.Comparing.{three_left, one_left, two_left, count_step, pair_step, last_pair, last_digit}
-use Rattle.trace_print.proofs.comparison.digits_of.Goals as goal
+use Rattle.trace_print.proofs.Pairs.{three_left, one_left, two_left, count_step, pair_step, last_pair, last_digit}
+use Rattle.trace_print.proofs.number.digits_of.Goals as goal
 
 pub overflow_sub-at : goal.overflow_sub-at
 overflow_sub-at c =

@@ -4,7 +4,7 @@ use Rattle.trace_reader.specs.Words.{before}
 use Rattle.trace_reader.specs.Read.{nth, parts}
 use Rattle.trace_reader.proofs.Parts.{take_before, drop_behind}
 use Rattle.trace_reader.proofs.ReadAgain.{first_line, behind_is_shorter, no_feed, not_read}
-use Rattle.trace_reader.proofs.trace.first_entry.Goals as goal
+use Rattle.trace_reader.proofs.trace.Reader.first_entry.Goals as goal
 
 pub returns-then-count-bytes-clause-none : goal.returns-then-count-bytes-clause-none
 returns-then-count-bytes-clause-none c =
