@@ -2,10 +2,7 @@
 ghost use Rattle.std.specs.Prelude.{◌≡◌, ◌↔◌, ◌+◌, ◌≤◌, ◌++◌, [], ◌∷◌, length, take, IsTrue};
 ghost use Rattle.trace_print.specs.Comparison.{compared};
 
-use crate::bytes::push_bytes;
-use crate::number::push_number;
 use crate::page::Page;
-use crate::pen::Pen;
 use crate::text::Text;
 
 /// A line that is compared with a text: so many of its bytes were written, and then these others.
@@ -86,44 +83,10 @@ impl<'a> Text for Comparison<'a> {
 
     #[inline(always)]
     fn extend(&mut self, more: &[u8]) {
-        if self.other.is_empty() && self.line[self.same..].starts_with(more) {
+        if self.other.is_empty() && begins_with(&self.line[self.same..], more) {
             self.same += more.len();
         } else {
             self.other.extend(more);
         }
-    }
-}
-
-#[tactic(auto, using(crate::proofs::Marks::map_same))]
-impl<'a> Pen for Comparison<'a> {
-    ghost seen = { λ c. compared c.line.now c.same c.other };
-
-    ghost count = { λ c. c.same + length c.other };
-
-    ghost capacity = { λ _. 256 };
-
-    ghost mark = { λ byte. byte };
-
-    #[inline(always)]
-    fn byte(&mut self, byte: u8) {
-        self.push(byte);
-    }
-
-    #[inline(always)]
-    fn word(&mut self, word: &[u8]) {
-        if self.other.is_empty() && begins_with(&self.line[self.same..], word) {
-            self.same += word.len();
-        } else {
-            self.other.extend(word);
-        }
-    }
-
-    #[inline(always)]
-    fn number(&mut self, number: u64) {
-        push_number(self, number);
-    }
-
-    fn bytes(&mut self, bytes: &[u8]) {
-        push_bytes(self, bytes);
     }
 }

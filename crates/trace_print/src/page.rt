@@ -1,9 +1,6 @@
 //! Text in room for so many bytes.
 ghost use Rattle.std.specs.Prelude.{◌≡◌, ◌+◌, ◌≤◌, ◌==◌, [], length};
 
-use crate::bytes::push_bytes;
-use crate::number::push_number;
-use crate::pen::Pen;
 use crate::text::Text;
 use std::marker::Model;
 
@@ -86,35 +83,5 @@ impl<const SIZE: usize> Text for Page<SIZE> {
         let bytes = &mut self.bytes[..];
         bytes[len..end].copy_from_slice(more);
         self.len = end;
-    }
-}
-
-#[tactic(auto, using(crate::proofs::Marks::map_same))]
-impl<const SIZE: usize> Pen for Page<SIZE> {
-    ghost seen = { λ page. page };
-
-    ghost count = { λ page. length page };
-
-    ghost capacity = { λ _. SIZE };
-
-    ghost mark = { λ byte. byte };
-
-    #[inline(always)]
-    fn byte(&mut self, byte: u8) {
-        self.push(byte);
-    }
-
-    #[inline(always)]
-    fn word(&mut self, word: &[u8]) {
-        self.extend(word);
-    }
-
-    #[inline(always)]
-    fn number(&mut self, number: u64) {
-        push_number(self, number);
-    }
-
-    fn bytes(&mut self, bytes: &[u8]) {
-        push_bytes(self, bytes);
     }
 }

@@ -2,6 +2,10 @@
 ghost use Rattle.std.specs.Prelude.{◌≡◌, ◌+◌, ◌≤◌, ◌++◌, ℕ, List, [], ◌∷◌, length, decimal, map};
 ghost use Rattle.trace_print.specs.Text.{bytes_text};
 
+use crate::bytes::push_bytes;
+use crate::number::push_number;
+use crate::text::Text;
+
 /// What the text of an entry is written with: bytes that have room for it, or a count that only
 /// needs to know how long it is.
 pub trait Pen {
@@ -43,4 +47,35 @@ pub trait Pen {
         ensures text { seen self.new ≡ seen self.old ++ map mark (bytes_text bytes.now) }
         ensures len { count self.new ≤ count self.old + 128 }
         ensures capacity { capacity self.old ≤ capacity self.new };
+}
+
+// Text keeps each byte as it is.
+#[tactic(auto, using(crate::proofs::Marks::map_same))]
+impl<T: Text> Pen for T {
+    ghost seen = { T.bytes };
+
+    ghost count = { T.count };
+
+    ghost capacity = { T.capacity };
+
+    ghost mark = { λ byte. byte };
+
+    #[inline(always)]
+    fn byte(&mut self, byte: u8) {
+        self.push(byte);
+    }
+
+    #[inline(always)]
+    fn word(&mut self, word: &[u8]) {
+        self.extend(word);
+    }
+
+    #[inline(always)]
+    fn number(&mut self, number: u64) {
+        push_number(self, number);
+    }
+
+    fn bytes(&mut self, bytes: &[u8]) {
+        push_bytes(self, bytes);
+    }
 }
