@@ -84,7 +84,8 @@ fn is_callable(kind: MethodKind) -> bool
     }
 }
 
-/// Makes the call over a phone in this state.
+/// Makes the call over a phone in this state. It stands apart, since a refused call has no record.
+#[inline(never)]
 fn call_through(
     board: &mut Switchboard,
     from: Label,
