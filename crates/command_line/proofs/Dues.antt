@@ -6,13 +6,13 @@ use Rattle.std.specs.Io.KnownBytes.{Keeps}
 use Rattle.std.specs.Option.{option_map}
 use Rattle.ipc_ids.specs.Tables.{most_bytes}
 use Rattle.io_edge.specs.Edge.{Gives, Holds, file_of}
-use Rattle.script_reader.specs.declared.fault.Reason.{Reason}
-use Rattle.script_reader.specs.declared.fault.Reason.TheVariants.{TooLong}
-use Rattle.script_reader.specs.Text.{lines}
-use Rattle.script_reader.specs.Plan.{Plan}
+use Rattle.script_lines.specs.declared.fault.Reason.{Reason}
+use Rattle.script_lines.specs.declared.fault.Reason.TheVariants.{TooLong}
+use Rattle.script_lines.specs.Text.{lines}
+use Rattle.script_lines.specs.Plan.{Plan}
 use Rattle.script_reader.specs.Reading.{reading, lines_from, plan_from_parts, events_alone, script_of, schedule_of}
-use Rattle.script_reader.specs.Line.{after_line}
-use Rattle.script_reader.specs.ScriptParts.{no_parts}
+use Rattle.script_lines.specs.Line.{after_line}
+use Rattle.script_lines.specs.ScriptParts.{no_parts}
 use Rattle.script_reader.specs.EventLine.{no_events, after_event}
 use Rattle.command_line.specs.Answer.{answer_of, answer_for_script, answer_for_events}
 use Rattle.command_line.specs.Command.{Command, command_of}

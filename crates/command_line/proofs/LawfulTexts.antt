@@ -2,10 +2,10 @@
 use Rattle.std.proofs.Common.{◌≡◌, ◌≢◌, ℕ, List, sym, subst, ◌∙◌, Option, Ok}
 use Rattle.ipc_ids.specs.declared.message.Event.{Event}
 use Rattle.io_edge.specs.Edge.{Gives}
-use Rattle.script_reader.specs.Plan.{Plan}
-use Rattle.script_reader.specs.Sound.{IsSound}
+use Rattle.script_lines.specs.Plan.{Plan}
+use Rattle.script_lines.specs.Sound.{IsSound}
 use Rattle.script_reader.specs.Reading.{script_of, schedule_of}
-use Rattle.schedule_replay.specs.Run.{run}
+use Rattle.task_system.specs.Run.{run}
 use Rattle.std.specs.Io.KnownBytes.{Appends}
 use Rattle.trace_print.specs.Text.{text_of}
 use Rattle.schedule_replay.specs.Generator.{generated_plan, generated_events}

@@ -6,8 +6,8 @@ use Rattle.std.proofs.lemmas.Grind.{common_steps}
 use Rattle.ipc_ids.specs.declared.entry.Entry.{Entry}
 use Rattle.ipc_ids.specs.declared.message.Event.{Event}
 use Rattle.trace_print.specs.Text.{text_of}
-use Rattle.script_reader.specs.Plan.{Plan}
-use Rattle.schedule_replay.specs.Run.{RunState, turn, run_from, run, MayHappen, MayAllHappen}
+use Rattle.script_lines.specs.Plan.{Plan}
+use Rattle.task_system.specs.Run.{RunState, turn, run_from, run, MayHappen, MayAllHappen}
 use Rattle.schedule_replay.proofs.RunHistories.{may_now, may_on}
 use Rattle.schedule_replay.specs.Generator.{generated_plan, generated_events}
 use Rattle.schedule_replay.proofs.Sending.{text_append}

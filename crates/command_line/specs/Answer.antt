@@ -1,11 +1,11 @@
 -- What the program answers for the bytes of a script and a schedule: a status and a text.
 use Rattle.std.specs.Prelude.{ℕ, ◌++◌, List, Result, Ok, Err, codes, decimal}
 use Rattle.ipc_ids.specs.declared.message.Event.{Event}
-use Rattle.script_reader.specs.declared.fault.Reason.{Reason}
-use Rattle.script_reader.specs.Text.{text_of_reason}
-use Rattle.script_reader.specs.Plan.{Plan}
+use Rattle.script_lines.specs.declared.fault.Reason.{Reason}
+use Rattle.script_lines.specs.Text.{text_of_reason}
+use Rattle.script_lines.specs.Plan.{Plan}
 use Rattle.script_reader.specs.Reading.{script_of, schedule_of}
-use Rattle.schedule_replay.specs.Run.{run}
+use Rattle.task_system.specs.Run.{run}
 use Rattle.trace_print.specs.Text.{text_of}
 use Rattle.command_line.specs.declared.status.Status.{Status}
 use Rattle.command_line.specs.declared.status.Status.TheVariants.{Done, BadScript, BadSchedule}

@@ -3,7 +3,7 @@ use Rattle.std.specs.Prelude.{ℕ, ◌≤◌, List, [], ◌∷◌, ⊤, Option, 
 use Rattle.std.specs.declared.alloc.Global.{Global}
 use Rattle.std.specs.Str.{bytes_eq}
 use Rattle.ipc_ids.specs.Tables.{most_events}
-use Rattle.script_reader.specs.Word.{number}
+use Rattle.script_lines.specs.Word.{number}
 use Rattle.command_line.specs.declared.command.Command.{Command as Said}
 use Rattle.command_line.specs.declared.command.Command.TheVariants as form
 

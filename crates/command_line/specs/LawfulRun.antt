@@ -2,10 +2,10 @@
 use Rattle.std.specs.Prelude.{ℕ, ◌≡◌, List, Option, None, Some, Ok}
 use Rattle.std.specs.Io.KnownBytes.{Appends}
 use Rattle.ipc_ids.specs.declared.message.Event.{Event}
-use Rattle.script_reader.specs.Plan.{Plan}
+use Rattle.script_lines.specs.Plan.{Plan}
 use Rattle.script_reader.specs.Reading.{script_of, schedule_of}
 use Rattle.io_edge.specs.Edge.{Holds}
-use Rattle.schedule_replay.specs.Run.{run}
+use Rattle.task_system.specs.Run.{run}
 use Rattle.schedule_replay.specs.LawfulRun.{KeepsLaws, LosesNoWake}
 use Rattle.schedule_replay.specs.Generator.{generated_plan}
 use Rattle.trace_print.specs.Text.{text_of}

@@ -3,7 +3,7 @@ use Rattle.std.specs.Prelude.{ℕ, ◌+◌, ◌++◌, List, Bool, true, false, l
 use Rattle.ipc_ids.specs.declared.entry.Entry.{Entry}
 use Rattle.ipc_ids.specs.declared.entry.Entry.TheVariants as entry
 use Rattle.trace_print.specs.Text.{text_of}
-use Rattle.schedule_replay.specs.Run.{run}
+use Rattle.task_system.specs.Run.{run}
 use Rattle.schedule_replay.specs.Generator.{generated_plan, generated_events}
 use Rattle.command_line.specs.declared.summary.Tally.{Tally}
 

@@ -4,7 +4,7 @@ ghost use Rattle.std.specs.Io.KnownBytes.{Appends, Keeps};
 ghost use Rattle.io_edge.specs.Edge.{AppendsStart, Rose};
 ghost use Rattle.trace_print.specs.Text.{text_of};
 ghost use Rattle.script_reader.specs.Schedule.{MayAllCome};
-ghost use Rattle.schedule_replay.specs.Run.{run};
+ghost use Rattle.task_system.specs.Run.{run};
 ghost use Rattle.command_line.specs.Answer.{fault_line};
 ghost use Rattle.command_line.specs.Due.{DueForBytes, Whole, Part};
 ghost use Rattle.command_line.specs.LawfulRun.{WritesLawfulRun};

@@ -1,7 +1,7 @@
 //! What the words of a command line ask.
 ghost use Rattle.std.specs.Prelude.{◌≡◌, IfSome};
 ghost use Rattle.std.specs.Option.{option_map};
-ghost use Rattle.script_reader.specs.Word.{number};
+ghost use Rattle.script_lines.specs.Word.{number};
 ghost use Rattle.command_line.specs.Command.{texts, said, generate, command_of, HasFewEvents};
 
 use script_reader::number;

@@ -3,7 +3,7 @@ ghost use Rattle.std.specs.Prelude.{◌≡◌, ◌≢◌, ◌≤◌, ◌<◌, �
 ghost use Rattle.std.specs.Io.KnownBytes.{Appends, Keeps};
 ghost use Rattle.io_edge.specs.Edge.{AppendsStart, Rose};
 ghost use Rattle.script_reader.specs.Schedule.{MayAllCome};
-ghost use Rattle.schedule_replay.specs.Run.{run};
+ghost use Rattle.task_system.specs.Run.{run};
 ghost use Rattle.command_line.specs.Summary.{no_tally, with_entries, tally_of, first_half, second_half, tally_line, summary_line};
 ghost use Rattle.command_line.specs.declared.status.Status.TheVariants.{Done, WriteFailed, NoMemory as Memory};
 

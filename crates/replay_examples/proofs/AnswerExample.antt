@@ -1,8 +1,8 @@
 -- The answer to the bytes of the first lesson: its script and its schedule are read, and the text of the run is written.
 use Rattle.std.proofs.Common.{◌≡◌, ℕ, List, ◌++◌, Result, codes, ap, ◌∙◌}
 use Rattle.ipc_ids.specs.declared.message.Event.{Event}
-use Rattle.script_reader.specs.declared.fault.Reason.{Reason}
-use Rattle.script_reader.specs.Plan.{Plan}
+use Rattle.script_lines.specs.declared.fault.Reason.{Reason}
+use Rattle.script_lines.specs.Plan.{Plan}
 use Rattle.script_reader.proofs.ReadingExamples.{plan, script_is_read, schedule_is_read}
 use Rattle.replay_examples.proofs.RunCall.{first_call_text}
 use Rattle.command_line.specs.declared.status.Status.TheVariants.{Done}

@@ -2,7 +2,7 @@
 use Rattle.std.specs.Prelude.{◌≡◌, ◌^◌, ◌-◌, [], ◌∷◌, length, refl, codes, slice_index_or}
 use Rattle.std.specs.Fmt.{digits}
 use Rattle.ipc_ids.specs.declared.message.Event.TheVariants.{Step, Kill}
-use Rattle.script_reader.specs.declared.plan.Wire.{Wire}
+use Rattle.script_lines.specs.declared.plan.Wire.{Wire}
 use Rattle.schedule_replay.specs.Generator.{event_of, generated_events, generated_name, generated_operations, generated_plan, next_number}
 
 -- the first number of seed 0, and its event

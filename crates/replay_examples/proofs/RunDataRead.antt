@@ -27,11 +27,11 @@ use Rattle.ipc_ids.specs.declared.op.Op.TheVariants as op
 use Rattle.ipc_ids.specs.Codes.{eok}
 use Rattle.call_slab.specs.declared.call.Call.{Call}
 use Rattle.call_slab.specs.declared.call.Place.TheVariants.{Incoming, Dispatched, Answers}
-use Rattle.schedule_replay.specs.declared.any.AnyProgram.{AnyProgram}
-use Rattle.script_reader.specs.declared.plan.TaskPlan.{TaskPlan}
-use Rattle.script_reader.specs.Plan.{Plan}
-use Rattle.schedule_replay.specs.Any.{after}
-use Rattle.schedule_replay.specs.Run.{run, start, program_of, RunState}
+use Rattle.task_system.specs.declared.any.AnyProgram.{AnyProgram}
+use Rattle.script_lines.specs.declared.plan.TaskPlan.{TaskPlan}
+use Rattle.script_lines.specs.Plan.{Plan}
+use Rattle.task_system.specs.Any.{after}
+use Rattle.task_system.specs.Run.{run, start, program_of, RunState}
 use Rattle.replay_examples.proofs.KnownMaps.{empty_known, get_known, entries_known, insert_known, remove_known}
 use Rattle.replay_examples.proofs.RunWords.{task, call, store, phone, msg, reply, raw, wire, sent, area, memory, no_areas, state, Turns, of_none, of_next, of_step, from_start}
 use Rattle.address_space.specs.Stores.{written_over}

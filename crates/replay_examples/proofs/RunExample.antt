@@ -11,10 +11,10 @@ use Rattle.ipc_ids.specs.declared.entry.Entry.TheVariants as entry
 use Rattle.ipc_ids.specs.declared.op.Value.TheVariants.{Number}
 use Rattle.ipc_ids.specs.declared.op.Op.{Op}
 use Rattle.ipc_ids.specs.declared.op.Op.TheVariants as op
-use Rattle.script_reader.specs.declared.plan.Kind.TheVariants.{Naming, Raw}
-use Rattle.script_reader.specs.declared.plan.TaskPlan.{TaskPlan}
-use Rattle.script_reader.specs.Plan.{Plan}
-use Rattle.schedule_replay.specs.Run.{run}
+use Rattle.script_lines.specs.declared.plan.Kind.TheVariants.{Naming, Raw}
+use Rattle.script_lines.specs.declared.plan.TaskPlan.{TaskPlan}
+use Rattle.script_lines.specs.Plan.{Plan}
+use Rattle.task_system.specs.Run.{run}
 
 -- task 1, in the second run the naming service
 abbrev first : TaskNo

@@ -22,11 +22,11 @@ use Rattle.call_slab.specs.declared.call.Place.{Place}
 use Rattle.address_space.specs.Areas.{Area}
 use Rattle.address_space.specs.Memory.{Memory}
 use Rattle.cleanup.specs.State.{state_from}
-use Rattle.schedule_replay.specs.declared.any.AnyProgram.{AnyProgram}
-use Rattle.script_reader.specs.declared.plan.TaskPlan.{TaskPlan}
-use Rattle.script_reader.specs.declared.plan.Wire.{Wire}
-use Rattle.script_reader.specs.declared.plan.Kind.TheVariants.{Naming, Raw, Async}
-use Rattle.script_reader.specs.Plan.{Plan}
+use Rattle.task_system.specs.declared.any.AnyProgram.{AnyProgram}
+use Rattle.script_lines.specs.declared.plan.TaskPlan.{TaskPlan}
+use Rattle.script_lines.specs.declared.plan.Wire.{Wire}
+use Rattle.script_lines.specs.declared.plan.Kind.TheVariants.{Naming, Raw, Async}
+use Rattle.script_lines.specs.Plan.{Plan}
 use Rattle.ipc_ids.specs.declared.message.Request.{Request}
 use Rattle.ipc_ids.specs.declared.message.Event.TheVariants.{Step, Kill}
 use Rattle.cleanup.specs.State.{KernelState, Transition, is_alive, with_event}
@@ -34,8 +34,8 @@ use Rattle.cleanup.specs.Kill.{mark_ended, hang_up_own_phones, slam_phones_to, s
 use Rattle.cleanup.specs.Serving.{Served}
 use Rattle.kernel_core.specs.Kernel.{serve, kill_event}
 use Rattle.kernel_core.specs.History.{served_entries, killed_entries}
-use Rattle.schedule_replay.specs.Any.{wanted, after, entries}
-use Rattle.schedule_replay.specs.Run.{run, run_from, turn, start, step_by, killed, with_kernel, program_at, RunState, RunTransition}
+use Rattle.task_system.specs.Any.{wanted, after, entries}
+use Rattle.task_system.specs.Run.{run, run_from, turn, start, step_by, killed, with_kernel, program_at, RunState, RunTransition}
 use Rattle.replay_examples.proofs.KnownMaps.{known}
 
 abbrev pub task : ℕ → TaskNo

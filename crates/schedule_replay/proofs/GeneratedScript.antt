@@ -1,6 +1,6 @@
 -- The generated script is sound, and generated events are on its tasks.
 use Rattle.std.proofs.Common.{◌≡◌, ◌≢◌, ℕ, zero, suc, ◌+◌, ◌-◌, ◌/◌, ◌%◌, ◌^◌, ◌<◌, ◌≤◌, List, [], ◌∷◌, ◌++◌, length, get_or, map, refl, sym, ap, ◌∙◌, arith, true, false, Some, zero-add, append_assoc, append-nil, subst}
-use Rattle.script_reader.specs.declared.plan.TaskPlan.{TaskPlan}
+use Rattle.script_lines.specs.declared.plan.TaskPlan.{TaskPlan}
 use Rattle.std.specs.Prelude.{All, AllPairs, Bool, if◌then◌else◌, ◌==◌}
 use Rattle.std.specs.Fmt.{decimal, digits}
 use Rattle.std.specs.List.{flat_map, list_all, range_with_len}
@@ -14,14 +14,14 @@ use Rattle.ipc_ids.specs.declared.message.Event.TheVariants.{Step, Kill}
 use Rattle.ipc_ids.specs.declared.numbers.TaskNo.{TaskNo}
 use Rattle.ipc_ids.specs.declared.op.Op.{Op}
 use Rattle.ipc_ids.specs.declared.op.Value.TheVariants.{Number}
-use Rattle.script_reader.specs.declared.plan.Kind.TheVariants.{Naming}
-use Rattle.script_reader.specs.declared.plan.Wire.{Wire}
-use Rattle.script_reader.specs.Names.{ns_name}
-use Rattle.script_reader.specs.Ranges.{IsInRange, IsRawOp}
+use Rattle.script_lines.specs.declared.plan.Kind.TheVariants.{Naming}
+use Rattle.script_lines.specs.declared.plan.Wire.{Wire}
+use Rattle.script_lines.specs.Names.{ns_name}
+use Rattle.script_lines.specs.Ranges.{IsInRange, IsRawOp}
 use Rattle.script_reader.specs.Schedule.{IsOnTaskOf, task_of_event, MayAllCome}
 use Rattle.script_reader.proofs.EventTasks.{all_may}
-use Rattle.script_reader.specs.Sound.{IsRawBody, IsSoundTask, Leads, IsSound}
-use Rattle.script_reader.specs.Word.{is_name, name_of}
+use Rattle.script_lines.specs.Sound.{IsRawBody, IsSoundTask, Leads, IsSound}
+use Rattle.script_lines.specs.Word.{is_name, name_of}
 use Rattle.schedule_replay.specs.Generator.{answer_one, below, call_over, event_of, generated_events, generated_name, generated_operations, generated_plan, generated_task, generated_wire, next_number, wires_of}
 
 -- ---- a list made from its indices

@@ -4,11 +4,11 @@ use Rattle.ipc_ids.specs.declared.message.Event.{Event}
 use Rattle.ipc_ids.specs.declared.entry.Entry.{Entry}
 use Rattle.ipc_ids.proofs.LawfulReplies.{replies_reach_their_fibril}
 use Rattle.ipc_ids.proofs.LawfulExchanges.{exchanges_are_lawful}
-use Rattle.script_reader.specs.Plan.{Plan}
-use Rattle.script_reader.specs.Sound.{IsSound}
+use Rattle.script_lines.specs.Plan.{Plan}
+use Rattle.script_lines.specs.Sound.{IsSound}
 use Rattle.script_reader.specs.Schedule.{MayAllCome}
 use Rattle.kernel_core.proofs.WholeHistories.{laws_of_history, area_law_of_history}
-use Rattle.schedule_replay.specs.Run.{RunState, start, run, state_after}
+use Rattle.task_system.specs.Run.{RunState, start, run, state_after}
 use Rattle.route_laws.proofs.PhoneEvents.{calls_go_where_phones_lead}
 use Rattle.schedule_replay.specs.RunHistory.{beginning, RunFits}
 use Rattle.schedule_replay.specs.LawfulRun.{KeepsLaws, LosesNoWake, IsLawfulRun}

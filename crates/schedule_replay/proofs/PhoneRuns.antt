@@ -13,19 +13,19 @@ use Rattle.cleanup.specs.State.{KernelState, with_task}
 use Rattle.cleanup.specs.State as kernel
 use Rattle.cleanup.specs.Serving.{Served}
 use Rattle.kernel_core.specs.History.{HistoryFits, served_entries}
-use Rattle.script_reader.specs.declared.plan.TaskPlan.{TaskPlan}
-use Rattle.script_reader.specs.declared.plan.Wire.{Wire}
-use Rattle.script_reader.specs.Plan.{Plan}
-use Rattle.script_reader.specs.Sound.{IsSound}
+use Rattle.script_lines.specs.declared.plan.TaskPlan.{TaskPlan}
+use Rattle.script_lines.specs.declared.plan.Wire.{Wire}
+use Rattle.script_lines.specs.Plan.{Plan}
+use Rattle.script_lines.specs.Sound.{IsSound}
 use Rattle.route_laws.specs.Leads.{Lead, Beginning, is_phone, wired}
 use Rattle.route_laws.specs.PhoneHistory.{RoutesFit}
 use Rattle.route_laws.proofs.PhoneSteps.{IsPlain, ArePlain, is_some, written}
 use Rattle.route_laws.proofs.PhoneEvents.{phones_plain, free_more}
-use Rattle.schedule_replay.specs.Run.{with_tasks, with_service, start}
+use Rattle.task_system.specs.Run.{with_tasks, with_service, start}
 use Rattle.schedule_replay.specs.RunHistory.{lead_of, beginning}
-use Rattle.schedule_replay.specs.Wiring.{with_wire, with_wires, wires_to_service, AreOpen}
+use Rattle.task_system.specs.Wiring.{with_wire, with_wires, wires_to_service, AreOpen}
 use Rattle.schedule_replay.proofs.OwnEntries.{IsOwn, AreOwn}
-use Rattle.schedule_replay.proofs.OpenWires.{service_wires_are_open, wires_are_open}
+use Rattle.task_system.proofs.OpenWires.{service_wires_are_open, wires_are_open}
 
 -- a program's own entries
 

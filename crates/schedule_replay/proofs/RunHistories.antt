@@ -13,12 +13,12 @@ use Rattle.ipc_ids.specs.declared.message.Event.{Event}
 use Rattle.ipc_ids.specs.declared.message.Event.TheVariants.{Step, Kill, Hangup, Spawn}
 use Rattle.ipc_ids.specs.declared.entry.Entry.{Entry}
 use Rattle.ipc_ids.specs.declared.entry.Entry.TheVariants as entry
-use Rattle.script_reader.specs.declared.plan.Kind.{Kind}
-use Rattle.script_reader.specs.declared.plan.Kind.TheVariants as kind
-use Rattle.script_reader.specs.declared.plan.TaskPlan.{TaskPlan}
-use Rattle.script_reader.specs.declared.plan.Wire.{Wire}
-use Rattle.script_reader.specs.Plan.{Plan}
-use Rattle.script_reader.specs.Sound as script
+use Rattle.script_lines.specs.declared.plan.Kind.{Kind}
+use Rattle.script_lines.specs.declared.plan.Kind.TheVariants as kind
+use Rattle.script_lines.specs.declared.plan.TaskPlan.{TaskPlan}
+use Rattle.script_lines.specs.declared.plan.Wire.{Wire}
+use Rattle.script_lines.specs.Plan.{Plan}
+use Rattle.script_lines.specs.Sound as script
 use Rattle.cleanup.specs.State.{KernelState, is_alive, alive_in, label_of, with_task, with_event}
 use Rattle.cleanup.specs.State as kernel
 use Rattle.cleanup.specs.Serving.{Served}
@@ -49,13 +49,13 @@ use Rattle.ipc_ids.specs.Facts.{facts}
 use Rattle.ipc_ids.specs.Replies.{RepliesWereLawful, IsPassedOn}
 use Rattle.ipc_ids.specs.Exchanges.{ExchangesWereLawful}
 use Rattle.async_laws.proofs.QuietTasks.{nothing_passed_on, owns_silent, served_quiet, killed_quiet, gone_quiet, spawned_quiet, start_quiet}
-use Rattle.schedule_replay.specs.declared.any.AnyProgram.{AnyProgram}
-use Rattle.schedule_replay.specs.declared.any.AnyProgram.TheVariants as any
-use Rattle.schedule_replay.specs.Any.{wanted, after, entries}
-use Rattle.schedule_replay.specs.Run.{RunState, RunTransition, with_tasks, with_service, program_by, program_of, programs_from, start, step_by, step_served, request_served, killed, gone, spawned, spawn_by, MayHappen, MayAllHappen, turn, run_from, state_after, run}
+use Rattle.task_system.specs.declared.any.AnyProgram.{AnyProgram}
+use Rattle.task_system.specs.declared.any.AnyProgram.TheVariants as any
+use Rattle.task_system.specs.Any.{wanted, after, entries}
+use Rattle.task_system.specs.Run.{RunState, RunTransition, with_tasks, with_service, program_by, program_of, programs_from, start, step_by, step_served, request_served, killed, gone, spawned, spawn_by, MayHappen, MayAllHappen, turn, run_from, state_after, run}
 use Rattle.script_reader.specs.Schedule.{tasks_after, MayAllCome}
 use Rattle.schedule_replay.specs.RunHistory.{beginning, ProgramFits, ProgramsFit, ServiceFits, ServicesFit, RunFits, KeepsAllWakes}
-use Rattle.schedule_replay.specs.Wiring.{with_wire, with_wires, wires_to_service, AreOpen}
+use Rattle.task_system.specs.Wiring.{with_wire, with_wires, wires_to_service, AreOpen}
 use Rattle.schedule_replay.proofs.OwnEntries.{IsOwn, AreOwn, own_entries_fit}
 use Rattle.ipc_ids.proofs.KeptCalls.{start_keeps}
 use Rattle.schedule_replay.proofs.ServiceHistories.{served_by, step_entries, own_serves, others_serve, hangup_serves, killed_serves, gone_serves, first_serves, made_serves, fresh_serves, step_keeps, hangup_keeps_calls, killed_keeps_calls, made_keeps_calls, calls_gone}
@@ -63,7 +63,7 @@ use Rattle.route_laws.specs.Leads.{Beginning}
 use Rattle.route_laws.specs.PhoneHistory.{RoutesFit}
 use Rattle.route_laws.proofs.PhoneEvents.{phones_serve, phones_kill, phones_gone, phones_spawn}
 use Rattle.schedule_replay.proofs.PhoneRuns.{own_routes, start_routes}
-use Rattle.schedule_replay.proofs.OpenWires.{service_wires_are_open, wires_are_open}
+use Rattle.task_system.proofs.OpenWires.{service_wires_are_open, wires_are_open}
 
 -- The kernel.
 tasks_fit : (k : KernelState) (tasks : List TaskPlan) → HistoryFits [] k → HistoryFits [] (with_tasks k tasks)

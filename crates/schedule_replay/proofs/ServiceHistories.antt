@@ -7,15 +7,15 @@ use Rattle.ipc_ids.specs.declared.message.Request.{Request}
 use Rattle.ipc_ids.specs.declared.message.Request.TheVariants as ask
 use Rattle.ipc_ids.specs.declared.entry.Entry.{Entry}
 use Rattle.ipc_ids.specs.declared.entry.Entry.TheVariants as entry
-use Rattle.script_reader.specs.declared.plan.TaskPlan.{TaskPlan}
+use Rattle.script_lines.specs.declared.plan.TaskPlan.{TaskPlan}
 use Rattle.ipc_ids.specs.Lawful.{Lawful}
 use Rattle.ipc_ids.specs.Tales.{past}
 use Rattle.ipc_ids.specs.Doings.{Doing, Asks, Told, doings, doings_of, is_own_event, MayBeTold}
 use Rattle.ipc_ids.specs.Holdings.{on_top}
 use Rattle.ipc_ids.specs.KeptCalls.{KeepsCalls, is_within, AreWithin, served, did}
 use Rattle.ipc_ids.proofs.KeptCalls.{doings_served, served_keeps, told_is_new, doings_killed, killed_keeps, doings_gone, gone_keeps, doings_spawned, spawned_keeps}
-use Rattle.script_reader.specs.declared.plan.Kind.{Kind}
-use Rattle.script_reader.specs.declared.plan.Kind.TheVariants as kind
+use Rattle.script_lines.specs.declared.plan.Kind.{Kind}
+use Rattle.script_lines.specs.declared.plan.Kind.TheVariants as kind
 use Rattle.cleanup.specs.State.{KernelState}
 use Rattle.cleanup.specs.Serving.{Served}
 use Rattle.kernel_core.specs.Kernel.{serve, kill_event}
@@ -30,10 +30,10 @@ use Rattle.naming_service.proofs.StepsFit as naming
 use Rattle.block_server.specs.Blocks.{after as block_after}
 use Rattle.block_server.specs.BlockHistory.{BlocksFit}
 use Rattle.block_server.proofs.StepsFit as block
-use Rattle.schedule_replay.specs.declared.any.AnyProgram.{AnyProgram}
-use Rattle.schedule_replay.specs.declared.any.AnyProgram.TheVariants as any
-use Rattle.schedule_replay.specs.Any.{wanted, after, entries}
-use Rattle.schedule_replay.specs.Run.{program_by}
+use Rattle.task_system.specs.declared.any.AnyProgram.{AnyProgram}
+use Rattle.task_system.specs.declared.any.AnyProgram.TheVariants as any
+use Rattle.task_system.specs.Any.{wanted, after, entries}
+use Rattle.task_system.specs.Run.{program_by}
 use Rattle.schedule_replay.specs.RunHistory.{ServiceFits}
 use Rattle.schedule_replay.proofs.OwnEntries.{IsOwn, AreOwn}
 use Rattle.schedule_replay.proofs.Refusals.{effects_within, refusals_are_true}

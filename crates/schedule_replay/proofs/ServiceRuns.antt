@@ -9,21 +9,21 @@ use Rattle.ipc_ids.specs.declared.message.Event.{Event}
 use Rattle.ipc_ids.specs.declared.message.Event.TheVariants.{Step, Kill, Hangup, Spawn}
 use Rattle.ipc_ids.specs.declared.entry.Entry.{Entry}
 use Rattle.ipc_ids.specs.Doings.{doings}
-use Rattle.script_reader.specs.declared.plan.Kind.{Kind}
-use Rattle.script_reader.specs.declared.plan.Kind.TheVariants as kind
-use Rattle.script_reader.specs.declared.plan.TaskPlan.{TaskPlan}
-use Rattle.script_reader.specs.Plan.{Plan}
-use Rattle.script_reader.specs.Sound as script
+use Rattle.script_lines.specs.declared.plan.Kind.{Kind}
+use Rattle.script_lines.specs.declared.plan.Kind.TheVariants as kind
+use Rattle.script_lines.specs.declared.plan.TaskPlan.{TaskPlan}
+use Rattle.script_lines.specs.Plan.{Plan}
+use Rattle.script_lines.specs.Sound as script
 use Rattle.cleanup.specs.State.{is_alive}
 use Rattle.kernel_core.specs.Kernel.{serve, kill_event, next_task}
 use Rattle.task_ends.specs.EndLaw.{WaitersGetTheSameEnd}
 use Rattle.naming_service.proofs.StepsFit as naming
 use Rattle.block_server.specs.BlockLaw.{ReadsGiveTheLastWrite}
 use Rattle.block_server.proofs.StepsFit as block
-use Rattle.schedule_replay.specs.declared.any.AnyProgram.{AnyProgram}
-use Rattle.schedule_replay.specs.declared.any.AnyProgram.TheVariants as any
-use Rattle.schedule_replay.specs.Any.{wanted, after, serves_names, keeps_blocks, is_block, IsBlockServer}
-use Rattle.schedule_replay.specs.Run.{RunState, start, program_of, program_by, programs_from, step_by, request_served, killed, gone, spawn_by, turn, state_after, run}
+use Rattle.task_system.specs.declared.any.AnyProgram.{AnyProgram}
+use Rattle.task_system.specs.declared.any.AnyProgram.TheVariants as any
+use Rattle.task_system.specs.Any.{wanted, after, serves_names, keeps_blocks, is_block, IsBlockServer}
+use Rattle.task_system.specs.Run.{RunState, start, program_of, program_by, programs_from, step_by, request_served, killed, gone, spawn_by, turn, state_after, run}
 use Rattle.route_laws.specs.Leads.{Beginning}
 use Rattle.schedule_replay.specs.RunHistory.{beginning, RunFits}
 

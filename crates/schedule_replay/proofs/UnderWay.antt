@@ -6,8 +6,8 @@ use Rattle.io_edge.specs.Edge.{AppendsStart}
 use Rattle.ipc_ids.specs.declared.entry.Entry.{Entry}
 use Rattle.ipc_ids.specs.declared.message.Event.{Event}
 use Rattle.trace_print.specs.Text.{text_of}
-use Rattle.script_reader.specs.Plan.{Plan}
-use Rattle.schedule_replay.specs.Run.{RunState, start, turn, run, run_from, state_after}
+use Rattle.script_lines.specs.Plan.{Plan}
+use Rattle.task_system.specs.Run.{RunState, start, turn, run, run_from, state_after}
 use Rattle.schedule_replay.specs.Streaming.{Sent, IsAheadBy, KeepsUp, but_last}
 use Rattle.schedule_replay.proofs.Sending.{appends_none, appends_on, sent_on, sent_more, sent_starts, starts_wider, text_append}
 

@@ -9,10 +9,10 @@ use Rattle.ipc_ids.specs.declared.message.Event.TheVariants.{Step, Kill}
 use Rattle.ipc_ids.specs.declared.op.Op.{Op}
 use Rattle.ipc_ids.specs.declared.op.Op.TheVariants.{Call, Receive, Answer, Jump}
 use Rattle.ipc_ids.specs.declared.op.Value.TheVariants.{Number, Register}
-use Rattle.script_reader.specs.declared.plan.Kind.TheVariants.{Raw}
-use Rattle.script_reader.specs.declared.plan.TaskPlan.{TaskPlan}
-use Rattle.script_reader.specs.declared.plan.Wire.{Wire}
-use Rattle.script_reader.specs.Plan.{Plan}
+use Rattle.script_lines.specs.declared.plan.Kind.TheVariants.{Raw}
+use Rattle.script_lines.specs.declared.plan.TaskPlan.{TaskPlan}
+use Rattle.script_lines.specs.declared.plan.Wire.{Wire}
+use Rattle.script_lines.specs.Plan.{Plan}
 
 -- ---- the script
 

@@ -10,10 +10,10 @@ use Rattle.ipc_ids.specs.Replies.{RepliesReachTheirFibril}
 use Rattle.ipc_ids.specs.Exchanges.{ExchangesAreLawful}
 use Rattle.task_ends.specs.EndLaw.{WaitersGetTheSameEnd}
 use Rattle.block_server.specs.BlockLaw.{ReadsGiveTheLastWrite}
-use Rattle.script_reader.specs.Plan.{Plan}
-use Rattle.script_reader.specs.Sound.{has_service}
-use Rattle.schedule_replay.specs.Any.{IsBlockServer}
-use Rattle.schedule_replay.specs.Run.{start, state_after, run}
+use Rattle.script_lines.specs.Plan.{Plan}
+use Rattle.script_lines.specs.Sound.{has_service}
+use Rattle.task_system.specs.Any.{IsBlockServer}
+use Rattle.task_system.specs.Run.{start, state_after, run}
 use Rattle.schedule_replay.specs.RunHistory.{beginning, KeepsAllWakes}
 
 -- the entries of a run of this script keep the laws: of a call's life, of one answer, of a kill, of phones, of shared

@@ -1,7 +1,5 @@
-pub mod Any
 pub mod Generator
 pub mod LawfulRun
-pub mod Run
+pub mod Replay
 pub mod RunHistory
 pub mod Streaming
-pub mod Wiring

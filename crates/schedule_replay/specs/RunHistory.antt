@@ -1,8 +1,8 @@
 -- What the entries so far, the history, tell of a run's state between two events.
 use Rattle.std.specs.Prelude.{ℕ, suc, ◌≡◌, ◌++◌, List, Some, slice_get, length, map, All, ⊤}
-use Rattle.script_reader.specs.declared.plan.Wire.{Wire}
-use Rattle.script_reader.specs.Plan.{Plan}
-use Rattle.script_reader.specs.Sound.{IsSoundTask}
+use Rattle.script_lines.specs.declared.plan.Wire.{Wire}
+use Rattle.script_lines.specs.Plan.{Plan}
+use Rattle.script_lines.specs.Sound.{IsSoundTask}
 use Rattle.ipc_ids.specs.declared.entry.Entry.{Entry}
 use Rattle.ipc_ids.specs.Doings.{doings}
 use Rattle.ipc_ids.specs.KeptCalls.{KeepsCalls}
@@ -15,10 +15,10 @@ use Rattle.async_task.specs.Program.{AsyncTask}
 use Rattle.async_laws.specs.QuietTasks.{TellsOfNoFibril}
 use Rattle.naming_service.specs.NamingHistory.{NamingFits}
 use Rattle.block_server.specs.BlockHistory.{BlocksFit}
-use Rattle.schedule_replay.specs.declared.any.AnyProgram.{AnyProgram}
-use Rattle.schedule_replay.specs.declared.any.AnyProgram.TheVariants as any
-use Rattle.schedule_replay.specs.Run.{RunState, service_of}
-use Rattle.schedule_replay.specs.Wiring.{wires_to_service}
+use Rattle.task_system.specs.declared.any.AnyProgram.{AnyProgram}
+use Rattle.task_system.specs.declared.any.AnyProgram.TheVariants as any
+use Rattle.task_system.specs.Run.{RunState, service_of}
+use Rattle.task_system.specs.Wiring.{wires_to_service}
 
 -- what they tell of the program of task t; a raw program, the naming service and a block server have
 -- no fibrils

@@ -3,8 +3,8 @@ use Rattle.std.specs.Prelude.{◌≡◌, ◌≤◌, ◌+◌, ◌-◌, ◌++◌, 
 use Rattle.std.specs.Io.KnownBytes.{Appends}
 use Rattle.ipc_ids.specs.declared.message.Event.{Event}
 use Rattle.trace_print.specs.Text.{text_of}
-use Rattle.script_reader.specs.Plan.{Plan}
-use Rattle.schedule_replay.specs.Run.{run}
+use Rattle.script_lines.specs.Plan.{Plan}
+use Rattle.task_system.specs.Run.{run}
 
 -- some bytes were written, and followed by those in the buffer they are the text
 abbrev pub Sent : Option (List ℕ) → Option (List ℕ) → List ℕ → List ℕ → Type 0

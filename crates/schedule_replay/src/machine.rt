@@ -3,14 +3,14 @@ ghost use Rattle.std.specs.Prelude.{◌≡◌, ◌+◌, ◌^◌, ◌<◌, ◌≤
 ghost use Rattle.std.specs.Prelude.{IfOk, OnOk, OnErr, IsErr};
 ghost use Rattle.ipc_ids.specs.declared.entry.Entry.{Entry};
 ghost use Rattle.route_laws.specs.Leads.{Beginning};
-ghost use Rattle.schedule_replay.specs.Run.{start, turn, MayHappen, Tells, TellsPart};
+ghost use Rattle.task_system.specs.Run.{start, turn, MayHappen, Tells, TellsPart};
 ghost use Rattle.schedule_replay.specs.RunHistory.{beginning, RunFits};
 
-use crate::system::System;
 use ipc_ids::{Event, NoMemory, Trace};
 use script_reader::Script;
 use std::alloc::Global;
 use std::marker::Model;
+use task_system::System;
 
 /// The tasks of a script. Once memory was wanting in an event, no further event is done.
 #[derive(Drop)]
@@ -21,11 +21,11 @@ pub struct Replay {
 
 impl Model for Replay {
     ghost use Rattle.kernel_core.specs.contracts.kernel.Kernel as kernels;
-    ghost use Rattle.schedule_replay.specs.contracts.any.AnyProgram as any_program;
-    ghost use Rattle.script_reader.specs.contracts.plan.TaskPlans as plans;
+    ghost use Rattle.task_system.specs.contracts.any.AnyProgram as any_program;
+    ghost use Rattle.script_lines.specs.contracts.plan.TaskPlans as plans;
     ghost use Rattle.ipc_ids.specs.contracts.numbers.TaskNo as task;
     ghost use Rattle.std.specs.Coded.{coded_option};
-    ghost use Rattle.schedule_replay.specs.Run.{ReplayState, replay_code};
+    ghost use Rattle.schedule_replay.specs.Replay.{ReplayState, replay_code};
 
     ghost Value = { ReplayState };
 

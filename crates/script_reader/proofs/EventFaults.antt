@@ -1,27 +1,27 @@
 -- What a line of a schedule is at fault for is the first reason of its table.
-use Rattle.std.proofs.Common.{◌≡◌, ℕ, suc, ◌+◌, Bool, true, false, cond, not, ◌&&◌, List, [], ◌∷◌, length, Option, Some, None, Result, Ok, Err, refl, sym, ap, ◌∙◌, inl, inr, arith}
-use Rattle.std.specs.Prelude.{is_some, nat_eq, nat_le, nat_lt, codes, option_map, ◌↔◌, ◌++◌}
+use Rattle.std.proofs.Common.{◌≡◌, ℕ, suc, ◌+◌, Bool, true, false, cond, not, ◌&&◌, List, [], ◌∷◌, length, Option, Some, None, Result, Ok, Err, refl, ap, ◌∙◌, arith}
+use Rattle.std.specs.Prelude.{is_some, nat_le, nat_lt, codes, option_map, ◌↔◌, ◌++◌}
 use Rattle.std.specs.List.{list_all}
 use Rattle.std.specs.Str.{bytes_eq}
 use Rattle.std.specs.Option.{option_or, option_and_then, option_map_or, ok_or}
-use Rattle.std.proofs.lemmas.Bool.{cases_eq, ne_eqb}
 use Rattle.ipc_ids.specs.Tables.{most_events, most_tasks}
 use Rattle.ipc_ids.specs.declared.numbers.TaskNo.{TaskNo}
 use Rattle.ipc_ids.specs.declared.message.Event.{Event}
 use Rattle.ipc_ids.specs.declared.message.Event.TheVariants as events
-use Rattle.script_reader.specs.declared.fault.Reason.{Reason}
-use Rattle.script_reader.specs.declared.fault.Reason.TheVariants.{UnknownOperation, WrongCount, BadWord, UnknownName, NameTaken, TooMany, TooManyEvents}
+use Rattle.script_lines.specs.declared.fault.Reason.{Reason}
+use Rattle.script_lines.specs.declared.fault.Reason.TheVariants.{UnknownOperation, WrongCount, BadWord, UnknownName, NameTaken, TooMany, TooManyEvents}
 use Rattle.script_reader.specs.declared.schedule.EventVerb.{EventVerb}
 use Rattle.script_reader.specs.declared.schedule.EventVerb.TheVariants.{Step, Kill, Hangup, Spawn}
-use Rattle.script_reader.specs.Text.{is_allowed, words}
-use Rattle.script_reader.specs.Word.{number, is_name, name_of}
-use Rattle.script_reader.specs.Operation.{◌>>=◌, needed}
-use Rattle.script_reader.specs.Plan.{Plan}
-use Rattle.script_reader.specs.Names.{task_names, place_of, task_named}
+use Rattle.script_lines.specs.Text.{is_allowed, words}
+use Rattle.script_lines.specs.Word.{number, is_name, name_of}
+use Rattle.script_lines.specs.Operation.{◌>>=◌, needed}
+use Rattle.script_lines.specs.Plan.{Plan}
+use Rattle.script_lines.specs.Names.{task_names, place_of, task_named}
 use Rattle.script_reader.specs.Schedule.{event_verb_of, count_of, step_with, step_of, kill_of, hangup_of, with_events}
 use Rattle.script_reader.specs.EventLine.{EventsAndNames, unless, is_taken, spawn_place, with_spawn, spawn_of, with_repeated, after_event_verb, after_event_words, after_event_line, after_event}
 use Rattle.script_reader.specs.Reasons.{THE, UP_TO, event_forms, has_wrong_count, has_bad_word, event_names_unknown, event_name_is_taken, are_too_many_tasks, passes_limit, are_too_many_events, is_unknown_operation, on_line, event_reasons}
 use Rattle.script_reader.specs.Rows.{Row, IsFirstReason, first_reason, fault_in}
+use Rattle.script_lines.proofs.NearPlaces.{flip}
 use Rattle.script_reader.proofs.FormFaults.{differ}
 use Rattle.script_reader.proofs.Faults.{bind_fault, rows_join, bytes_first, at_fault_both}
 
@@ -53,15 +53,6 @@ task_last names name f = go (place_of names name) where
   go : (o : Option ℕ) → fault_in (ok_or (option_map (λ place. record { 0 = place + 1 }) o) UnknownName >>= λ task. Ok (f task)) ≡ first_reason ((UnknownName, not (is_some o)) ∷ [])
   go (Some place) = refl
   go None = refl
-
-pub flip : (a b : List ℕ) → bytes_eq a b ≡ bytes_eq b a
-flip [] [] = refl
-flip [] (y ∷ ys) = refl
-flip (x ∷ xs) [] = refl
-flip (x ∷ xs) (y ∷ ys) = elim (cases_eq x y) [
-  | inl e ↦ rw e (ap (λ (b : Bool). nat_eq y y && b) (flip xs ys))
-  | inr ne ↦ rw (ne_eqb x y ne, ne_eqb y x (λ e. ne (sym e))) refl
-]
 
 is_count : (times word : List ℕ) → is_some (count_of times word) ≡ (THE (codes "x") times && UP_TO most_events word)
 unfolding count_of

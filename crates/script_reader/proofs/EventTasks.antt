@@ -1,5 +1,5 @@
 -- An event that a line names is on a task whose name is known.
-use Rattle.std.proofs.Common.{◌≡◌, ℕ, suc, ◌+◌, ◌≤◌, ◌<◌, Bool, true, false, cond, List, [], ◌∷◌, length, Option, Some, None, Result, Ok, Err, refl, sym, ap, subst, arith}
+use Rattle.std.proofs.Common.{◌≡◌, ℕ, suc, ◌+◌, ◌≤◌, ◌<◌, List, [], ◌∷◌, length, Option, Some, None, Ok, refl, sym, ap, subst, arith}
 use Rattle.std.specs.Prelude.{All, option_map}
 use Rattle.std.specs.Option.{ok_or}
 use Rattle.std.specs.Str.{bytes_eq}
@@ -7,37 +7,13 @@ use Rattle.std.proofs.lemmas.List.Quantifiers.{position-Some}
 use Rattle.ipc_ids.specs.declared.numbers.TaskNo.{TaskNo}
 use Rattle.ipc_ids.specs.declared.message.Event.{Event}
 use Rattle.ipc_ids.specs.declared.message.Event.TheVariants as events
-use Rattle.script_reader.specs.declared.fault.Reason.{Reason}
-use Rattle.script_reader.specs.declared.fault.Reason.TheVariants.{BadByte, UnknownName, TooManyEvents}
-use Rattle.script_reader.specs.Names.{task_named, place_of}
-use Rattle.script_reader.specs.Operation.{◌>>=◌, needed}
+use Rattle.script_lines.specs.declared.fault.Reason.TheVariants.{UnknownName}
+use Rattle.script_lines.specs.Names.{task_named, place_of}
+use Rattle.script_lines.specs.Operation.{needed}
 use Rattle.script_reader.specs.Schedule.{MayCome, MayAllCome, tasks_after, task_of_event, count_of, step_with, step_of, kill_of, hangup_of}
-use Rattle.script_reader.specs.Sound.{IsTask}
-use Rattle.script_reader.specs.Word.{name_of, number}
-
--- ---- a step that is not at fault
-
-abbrev pub given : {A : Type 0} → A → Result A Reason
-given x = Ok x
-
-pub ok_is : {A : Type 0} (x y : A) → given x ≡ given y → x ≡ y
-ok_is x y e = cc
-
-pub then_ok : {A B : Type 0} (r : Result A Reason) (f : A → Result B Reason) (y : B) → (r >>= f) ≡ Ok y → (x : A) × (r ≡ Ok x) × (f x ≡ Ok y)
-then_ok (Ok x) f y e = (x, refl, e)
-then_ok (Err reason) f y e = absurd cc
-
-pub found_is : {A : Type 0} (o : Option A) (x : A) → ok_or o UnknownName ≡ Ok x → o ≡ Some x
-found_is (Some z) x e = ap Some (ok_is z x e)
-found_is None x e = absurd cc
-
-pub chosen_ok : {A : Type 0} (b : Bool) (r : Result A Reason) (y : A) → cond b r (Err BadByte) ≡ Ok y → r ≡ Ok y
-chosen_ok true r y e = e
-chosen_ok false r y e = absurd cc
-
-pub allowed_ok : {A : Type 0} (b : Bool) (x y : A) → cond b (Err TooManyEvents) (Ok x) ≡ Ok y → (b ≡ false) × (x ≡ y)
-allowed_ok true x y e = absurd cc
-allowed_ok false x y e = (refl, ok_is x y e)
+use Rattle.script_lines.specs.Sound.{IsTask}
+use Rattle.script_lines.specs.Word.{name_of, number}
+use Rattle.script_lines.proofs.Faultless.{ok_is, then_ok, found_is}
 
 -- ---- the task of one event
 

@@ -7,25 +7,25 @@ use Rattle.std.specs.Option.{option_or, option_and_then, option_map_or, ok_or}
 use Rattle.ipc_ids.specs.Tables.{most_tasks, most_phones, most_operations}
 use Rattle.ipc_ids.specs.declared.op.Op.{Op}
 use Rattle.ipc_ids.specs.declared.op.Body.{Body}
-use Rattle.script_reader.specs.declared.fault.Reason.{Reason}
-use Rattle.script_reader.specs.declared.fault.Reason.TheVariants.{BadByte, UnknownOperation, OutOfPlace, WrongCount, BadWord, UnknownName, NameTaken, BadPhone, TooMany}
-use Rattle.script_reader.specs.declared.plan.Kind.{Kind}
-use Rattle.script_reader.specs.declared.plan.Kind.TheVariants.{Naming, Raw, Async, Block}
-use Rattle.script_reader.specs.declared.plan.TaskPlan.{TaskPlan}
-use Rattle.script_reader.specs.declared.draft.TaskHead.{TaskHead}
-use Rattle.script_reader.specs.declared.word.Verb.{Verb}
-use Rattle.script_reader.specs.declared.word.Verb.TheVariants as first
-use Rattle.script_reader.specs.declared.word.OpVerb.{OpVerb}
-use Rattle.script_reader.specs.Text.{is_allowed, words}
-use Rattle.script_reader.specs.Word.{number, is_name, name_of, verb_of}
-use Rattle.script_reader.specs.Names.{task_names, place_of, is_ns}
-use Rattle.script_reader.specs.Operation.{◌>>=◌, needed, raw_op_of, async_op_of, op_in}
-use Rattle.script_reader.specs.Plan.{Plan}
-use Rattle.script_reader.specs.Draft.{last_of, open_kind, has_no_task, present, takes_bodies, is_async, is_full, empty_body, on_last, body_with_op, task_with_op, with_op, task_with_body, with_body, with_service, with_task, with_new, with_wire, wire_between}
-use Rattle.script_reader.specs.ScriptParts.{ScriptParts, with_tasks, with_templates, with_wires, part, with_part}
-use Rattle.script_reader.specs.Line.{kind_of, counted_kind_of, service_kind_of, number_up_to, most_behind, head, plain_task, counted_task, service_task, task_of, template_of, wire_of, alone_at, ns, task, template, body, wire, operation, after_verb, after_words, after_line}
+use Rattle.script_lines.specs.declared.fault.Reason.{Reason}
+use Rattle.script_lines.specs.declared.fault.Reason.TheVariants.{BadByte, UnknownOperation, OutOfPlace, WrongCount, BadWord, UnknownName, NameTaken, BadPhone, TooMany}
+use Rattle.script_lines.specs.declared.plan.Kind.{Kind}
+use Rattle.script_lines.specs.declared.plan.Kind.TheVariants.{Naming, Raw, Async, Block}
+use Rattle.script_lines.specs.declared.plan.TaskPlan.{TaskPlan}
+use Rattle.script_lines.specs.declared.draft.TaskHead.{TaskHead}
+use Rattle.script_lines.specs.declared.word.Verb.{Verb}
+use Rattle.script_lines.specs.declared.word.Verb.TheVariants as first
+use Rattle.script_lines.specs.declared.word.OpVerb.{OpVerb}
+use Rattle.script_lines.specs.Text.{is_allowed, words}
+use Rattle.script_lines.specs.Word.{number, is_name, name_of, verb_of}
+use Rattle.script_lines.specs.Names.{task_names, place_of, is_ns}
+use Rattle.script_lines.specs.Operation.{◌>>=◌, needed, raw_op_of, async_op_of, op_in}
+use Rattle.script_lines.specs.Plan.{Plan}
+use Rattle.script_lines.specs.Draft.{last_of, open_kind, has_no_task, present, takes_bodies, is_async, is_full, empty_body, on_last, body_with_op, task_with_op, with_op, task_with_body, with_body, with_service, with_task, with_new, with_wire, wire_between}
+use Rattle.script_lines.specs.ScriptParts.{ScriptParts, with_tasks, with_templates, with_wires, part, with_part}
+use Rattle.script_lines.specs.Line.{kind_of, counted_kind_of, service_kind_of, number_up_to, most_behind, head, plain_task, counted_task, service_task, task_of, template_of, wire_of, alone_at, ns, task, template, body, wire, operation, after_verb, after_words, after_line}
 use Rattle.script_reader.specs.Reasons.{Form, UP_TO, raw_forms, async_forms, op_forms, alone_where, forms, is_out_of_place, has_wrong_count, has_bad_word, names_unknown, name_is_taken, cannot_lead_from, cannot_lead, phone_is_bad, of_last_task, is_too_many, subject, is_among, is_taken_beside, is_known, line_reasons}
-use Rattle.script_reader.specs.Sound.{most_blocks}
+use Rattle.script_lines.specs.Sound.{most_blocks}
 use Rattle.script_reader.specs.Rows.{Row, first_reason, fault_in, IsFirstReason, NoReason}
 use Rattle.script_reader.proofs.FormFaults.{Says, bad, differ, two_needed, three_needed, raw_says, async_says}
 

@@ -6,12 +6,12 @@ use Rattle.std.specs.Option.{option_and_then}
 use Rattle.std.proofs.lemmas.Bool.{ne_eqb, lt-leb}
 use Rattle.ipc_ids.specs.declared.op.Value.{Value}
 use Rattle.ipc_ids.specs.declared.op.Op.TheVariants as ops
-use Rattle.script_reader.specs.declared.fault.Reason.{Reason}
-use Rattle.script_reader.specs.declared.fault.Reason.TheVariants.{OutOfPlace, WrongCount, BadWord}
-use Rattle.script_reader.specs.declared.word.OpVerb.{OpVerb}
-use Rattle.script_reader.specs.declared.word.OpVerb.TheVariants as verbs
-use Rattle.script_reader.specs.Word.{number_below, value, register, bytes_of, mode_of, exchange_mode_of}
-use Rattle.script_reader.specs.Operation.{◌>>=◌, needed, padded, values, arguments, two_and_arguments, call_op, answer_op, receive_op, forward_op, hangup_op, area_op, unarea_op, poke_op, peek_op, set_op, jump_op, two_and_place, jump_equal_op, jump_differ_op, slot_of, handle_of, session_of, call_slot_op, send_op, wait_op, next_op, yield_op, open_op, begin_op, end_op, close_op, raw_op_of, async_op_of}
+use Rattle.script_lines.specs.declared.fault.Reason.{Reason}
+use Rattle.script_lines.specs.declared.fault.Reason.TheVariants.{OutOfPlace, WrongCount, BadWord}
+use Rattle.script_lines.specs.declared.word.OpVerb.{OpVerb}
+use Rattle.script_lines.specs.declared.word.OpVerb.TheVariants as verbs
+use Rattle.script_lines.specs.Word.{number_below, value, register, bytes_of, mode_of, exchange_mode_of}
+use Rattle.script_lines.specs.Operation.{◌>>=◌, needed, padded, values, arguments, two_and_arguments, call_op, answer_op, receive_op, forward_op, hangup_op, area_op, unarea_op, poke_op, peek_op, set_op, jump_op, two_and_place, jump_equal_op, jump_differ_op, slot_of, handle_of, session_of, call_slot_op, send_op, wait_op, next_op, yield_op, open_op, begin_op, end_op, close_op, raw_op_of, async_op_of}
 use Rattle.script_reader.specs.Reasons.{Form, V, up_to_five, shared_forms, raw_forms, async_forms, is_out_of_place, has_wrong_count, has_bad_word}
 use Rattle.script_reader.specs.Rows.{first_reason, fault_in}
 

@@ -11,25 +11,26 @@ use Rattle.std.proofs.lemmas.List.Quantifiers.{position-Some}
 use Rattle.ipc_ids.specs.Tables.{most_tasks}
 use Rattle.ipc_ids.specs.declared.message.Event.{Event}
 use Rattle.ipc_ids.specs.declared.message.Event.TheVariants.{Spawn}
-use Rattle.script_reader.specs.declared.fault.Reason.{Reason}
-use Rattle.script_reader.specs.declared.fault.Reason.TheVariants.{UnknownName, NameTaken, TooMany}
-use Rattle.script_reader.specs.declared.plan.TaskPlan.{TaskPlan}
+use Rattle.script_lines.specs.declared.fault.Reason.{Reason}
+use Rattle.script_lines.specs.declared.fault.Reason.TheVariants.{UnknownName, NameTaken, TooMany}
+use Rattle.script_lines.specs.declared.plan.TaskPlan.{TaskPlan}
 use Rattle.script_reader.specs.Grammar.{Makes}
 use Rattle.script_reader.specs.EventLine.{EventsAndNames, no_events, unless, is_taken, spawn_place, with_spawn, spawn_of, with_repeated, after_event_verb, after_event_words, after_event_line, after_event, SpellsEvents}
 use Rattle.script_reader.specs.Reading.{schedule_of}
-use Rattle.script_reader.specs.declared.fault.ScheduleFault.{ScheduleFault}
+use Rattle.script_lines.specs.declared.fault.ScheduleFault.{ScheduleFault}
 use Rattle.script_reader.specs.declared.schedule.EventVerb.{EventVerb}
 use Rattle.script_reader.specs.declared.schedule.EventVerb.TheVariants as verbs
 use Rattle.script_reader.proofs.ReaderAnswers.{events_spelled}
 use Rattle.std.specs.Global.{Vec}
-use Rattle.script_reader.specs.Names.{task_names, place_of}
-use Rattle.script_reader.specs.Operation.{◌>>=◌, needed}
-use Rattle.script_reader.specs.Plan.{Plan}
+use Rattle.script_lines.specs.Names.{task_names, place_of}
+use Rattle.script_lines.specs.Operation.{◌>>=◌, needed}
+use Rattle.script_lines.specs.Plan.{Plan}
 use Rattle.script_reader.specs.Schedule.{task_of_event, MayAllCome, tasks_after, step_of, kill_of, hangup_of, event_verb_of, with_events}
-use Rattle.script_reader.specs.Sound.{IsTask}
-use Rattle.script_reader.specs.Text.{is_allowed, words}
-use Rattle.script_reader.specs.Word.{name_of}
-use Rattle.script_reader.proofs.EventTasks.{IsOn, may_on, ok_is, then_ok, found_is, chosen_ok, allowed_ok, steps_on, kill_on, hangup_on}
+use Rattle.script_lines.specs.Sound.{IsTask}
+use Rattle.script_lines.specs.Text.{is_allowed, words}
+use Rattle.script_lines.specs.Word.{name_of}
+use Rattle.script_lines.proofs.Faultless.{ok_is, then_ok, found_is, chosen_ok, allowed_ok}
+use Rattle.script_reader.proofs.EventTasks.{IsOn, may_on, steps_on, kill_on, hangup_on}
 
 -- how many tasks there are after events
 abbrev tasks_after_all : ℕ → List Event → ℕ

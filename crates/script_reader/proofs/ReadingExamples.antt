@@ -3,17 +3,17 @@ use Rattle.std.proofs.Common.{◌≡◌, [], ◌∷◌, Ok, None, false, codes, 
 use Rattle.ipc_ids.specs.declared.message.Event.TheVariants.{Step}
 use Rattle.ipc_ids.specs.declared.op.Value.TheVariants.{Number, Register}
 use Rattle.ipc_ids.specs.declared.op.Op.TheVariants as op
-use Rattle.script_reader.specs.declared.plan.Kind.TheVariants.{Raw}
-use Rattle.script_reader.specs.Plan.{Plan}
-use Rattle.script_reader.specs.Draft.{limit_at, has_no_task, with_service, with_task, with_new, with_wire, present, takes_bodies, task_with_body, with_body, with_op}
+use Rattle.script_lines.specs.declared.plan.Kind.TheVariants.{Raw}
+use Rattle.script_lines.specs.Plan.{Plan}
+use Rattle.script_lines.specs.Draft.{limit_at, has_no_task, with_service, with_task, with_new, with_wire, present, takes_bodies, task_with_body, with_body, with_op}
 use Rattle.script_reader.specs.Schedule.{event_verb_of, count_of, step_with, step_of, kill_of, hangup_of, with_events}
 use Rattle.script_reader.specs.EventLine.{is_taken, spawn_place, after_event_line}
-use Rattle.script_reader.specs.Line.{kind_of, counted_kind_of, service_kind_of, number_up_to, plain_task, counted_task, service_task, task_of, template_of, wire_of, ns, task, template, body, wire, operation, after_line}
-use Rattle.script_reader.specs.Names.{task_named}
-use Rattle.script_reader.specs.Operation.{arguments, two_and_arguments, call_op, answer_op, receive_op, forward_op, hangup_op, area_op, unarea_op, poke_op, peek_op, set_op, jump_op, two_and_place, jump_equal_op, jump_differ_op, slot_of, handle_of, session_of, call_slot_op, send_op, wait_op, next_op, yield_op, open_op, begin_op, end_op, close_op}
+use Rattle.script_lines.specs.Line.{kind_of, counted_kind_of, service_kind_of, number_up_to, plain_task, counted_task, service_task, task_of, template_of, wire_of, ns, task, template, body, wire, operation, after_line}
+use Rattle.script_lines.specs.Names.{task_named}
+use Rattle.script_lines.specs.Operation.{arguments, two_and_arguments, call_op, answer_op, receive_op, forward_op, hangup_op, area_op, unarea_op, poke_op, peek_op, set_op, jump_op, two_and_place, jump_equal_op, jump_differ_op, slot_of, handle_of, session_of, call_slot_op, send_op, wait_op, next_op, yield_op, open_op, begin_op, end_op, close_op}
 use Rattle.script_reader.specs.Reading.{reading}
 use Rattle.ipc_ids.specs.Digits.{in_base}
-use Rattle.script_reader.specs.Word.{verb_of, number, number_below, named, register_number, register, value, hex_digit, bytes_of, is_name, name_of, mode_of, exchange_mode_of}
+use Rattle.script_lines.specs.Word.{verb_of, number, number_below, named, register_number, register, value, hex_digit, bytes_of, is_name, name_of, mode_of, exchange_mode_of}
 use Rattle.script_reader.specs.Reading.{script_of, schedule_of}
 
 -- a calls b over its phone 0 and receives; b receives and answers

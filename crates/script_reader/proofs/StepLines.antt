@@ -6,14 +6,14 @@ use Rattle.std.specs.Char.{is_ascii_digit, is_ascii_lowercase}
 use Rattle.std.proofs.lemmas.Bool.{cases_Bool, and_parts, or_cases, cases_lt, lt-ltb, true≢false}
 use Rattle.std.proofs.lemmas.List.Sums.{prefix_len-le-length}
 use Rattle.ipc_ids.specs.Digits.{in_base}
-use Rattle.script_reader.specs.Text.{is_allowed, is_blank, ends_word, first_line, behind, words}
-use Rattle.script_reader.specs.Word.{is_name, is_name_byte, number}
-use Rattle.script_reader.specs.Operation.{◌>>=◌}
+use Rattle.script_lines.specs.Text.{is_allowed, is_blank, ends_word, first_line, behind, words}
+use Rattle.script_lines.specs.Word.{is_name, is_name_byte, number}
+use Rattle.script_lines.specs.Operation.{◌>>=◌}
 use Rattle.script_reader.specs.Schedule.{count_of, step_with, step_of, event_verb_of}
 use Rattle.script_reader.specs.EventLine.{EventsAndNames, with_repeated, after_event_words, after_event_line}
 use Rattle.script_reader.specs.StepLine.{IsCounted, SaysSteps}
-use Rattle.script_reader.proofs.Words.{pieces, kept, in_word, pieces_blank, pieces_more, kept_cons}
-use Rattle.script_reader.proofs.Lines.{first_end, first_more, behind_end, behind_more, feed_ends}
+use Rattle.script_lines.proofs.Words.{pieces, kept, in_word, pieces_blank, pieces_more, kept_cons}
+use Rattle.script_lines.proofs.Lines.{first_end, first_more, behind_end, behind_more, feed_ends}
 
 -- ---- bytes at the front that pass a test
 

@@ -5,15 +5,15 @@ use Rattle.std.specs.Option.{ok_or}
 use Rattle.ipc_ids.specs.Tables.{most_tasks}
 use Rattle.ipc_ids.specs.declared.message.Event.{Event}
 use Rattle.ipc_ids.specs.declared.message.Event.TheVariants as events
-use Rattle.script_reader.specs.declared.fault.Reason.{Reason}
-use Rattle.script_reader.specs.declared.fault.Reason.TheVariants.{BadByte, UnknownOperation, UnknownName, NameTaken, TooMany, WrongCount}
+use Rattle.script_lines.specs.declared.fault.Reason.{Reason}
+use Rattle.script_lines.specs.declared.fault.Reason.TheVariants.{BadByte, UnknownOperation, UnknownName, NameTaken, TooMany, WrongCount}
 use Rattle.script_reader.specs.declared.schedule.EventVerb.{EventVerb}
 use Rattle.script_reader.specs.declared.schedule.EventVerb.TheVariants.{Step, Kill, Hangup, Spawn}
-use Rattle.script_reader.specs.Text.{is_allowed, words}
-use Rattle.script_reader.specs.Word.{name_of}
-use Rattle.script_reader.specs.Operation.{◌>>=◌, needed}
-use Rattle.script_reader.specs.Names.{task_names, place_of, is_ns}
-use Rattle.script_reader.specs.Plan.{Plan}
+use Rattle.script_lines.specs.Text.{is_allowed, words}
+use Rattle.script_lines.specs.Word.{name_of}
+use Rattle.script_lines.specs.Operation.{◌>>=◌, needed}
+use Rattle.script_lines.specs.Names.{task_names, place_of, is_ns}
+use Rattle.script_lines.specs.Plan.{Plan}
 use Rattle.script_reader.specs.Grammar.{Spells}
 use Rattle.script_reader.specs.Schedule.{step_of, kill_of, hangup_of, event_verb_of, with_events}
 

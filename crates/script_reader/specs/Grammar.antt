@@ -3,10 +3,13 @@
 -- `reasons x line` is the table of the reasons for which it may be.
 use Rattle.std.specs.Prelude.{◌≡◌, ℕ, ◌+◌, ◌<◌, ◌≤◌, List, [], ◌∷◌, ◌++◌, length, Result, Ok, ◌⊎◌}
 use Rattle.ipc_ids.specs.Tables.{most_bytes}
-use Rattle.script_reader.specs.declared.fault.Reason.{Reason}
-use Rattle.script_reader.specs.declared.fault.Reason.TheVariants.{TooLong}
+use Rattle.script_lines.specs.declared.fault.Reason.{Reason}
+use Rattle.script_lines.specs.declared.fault.Reason.TheVariants.{TooLong}
 use Rattle.script_reader.specs.Rows.{Row, IsFirstReason}
-use Rattle.script_reader.specs.Text.{lines}
+use Rattle.script_lines.specs.Text.{lines}
+use Rattle.script_lines.specs.Plan.{Plan}
+use Rattle.script_lines.specs.Line.{after_line}
+use Rattle.script_lines.specs.ScriptParts.{ScriptParts, no_parts, script_of_parts}
 
 -- a text of more than 1,048,576 bytes
 abbrev pub IsTooLong : List ℕ → Type 0
@@ -44,3 +47,7 @@ abbrev pub IsFirstFault : {A : Type 0} → (A → List ℕ → Result A Reason) 
 IsFirstFault after reasons nothing text number reason =
     (IsTooLong text × (number ≡ 0) × (reason ≡ TooLong))
     ⊎ ((length text ≤ most_bytes) × FaultAt after reasons nothing (lines text) number reason)
+
+-- the bytes spell this script: its lines make the two parts of it
+abbrev pub SpellsScript : List ℕ → Plan → Type 0
+SpellsScript text plan = (w : ScriptParts) × Spells after_line no_parts text w × (script_of_parts w ≡ plan)

@@ -3,16 +3,16 @@ use Rattle.std.specs.Prelude.{◌≡◌, ℕ, ◌+◌, List, [], ◌∷◌, leng
 use Rattle.std.specs.Global.{Vec}
 use Rattle.ipc_ids.specs.Tables.{most_bytes}
 use Rattle.ipc_ids.specs.declared.message.Event.{Event}
-use Rattle.script_reader.specs.declared.fault.Reason.{Reason}
-use Rattle.script_reader.specs.declared.fault.Reason.TheVariants.{TooLong}
-use Rattle.script_reader.specs.declared.fault.ScriptFault.{ScriptFault}
-use Rattle.script_reader.specs.declared.fault.ScriptFault.TheVariants as scripts
-use Rattle.script_reader.specs.declared.fault.ScheduleFault.{ScheduleFault}
-use Rattle.script_reader.specs.declared.fault.ScheduleFault.TheVariants as schedules
-use Rattle.script_reader.specs.Text.{lines}
-use Rattle.script_reader.specs.Plan.{Plan}
-use Rattle.script_reader.specs.ScriptParts.{ScriptParts, no_parts, script_of_parts}
-use Rattle.script_reader.specs.Line.{after_line}
+use Rattle.script_lines.specs.declared.fault.Reason.{Reason}
+use Rattle.script_lines.specs.declared.fault.Reason.TheVariants.{TooLong}
+use Rattle.script_lines.specs.declared.fault.ScriptFault.{ScriptFault}
+use Rattle.script_lines.specs.declared.fault.ScriptFault.TheVariants as scripts
+use Rattle.script_lines.specs.declared.fault.ScheduleFault.{ScheduleFault}
+use Rattle.script_lines.specs.declared.fault.ScheduleFault.TheVariants as schedules
+use Rattle.script_lines.specs.Text.{lines}
+use Rattle.script_lines.specs.Plan.{Plan}
+use Rattle.script_lines.specs.ScriptParts.{ScriptParts, no_parts, script_of_parts}
+use Rattle.script_lines.specs.Line.{after_line}
 use Rattle.script_reader.specs.EventLine.{EventsAndNames, no_events, after_event}
 
 -- the line with this number, and then the others

@@ -7,24 +7,24 @@ use Rattle.std.specs.Str.{bytes_eq}
 use Rattle.ipc_ids.specs.Tables.{most_tasks, most_phones, most_operations, most_events}
 use Rattle.ipc_ids.specs.declared.op.Body.{Body}
 use Rattle.ipc_ids.specs.declared.message.Event.{Event}
-use Rattle.script_reader.specs.declared.fault.Reason.TheVariants.{BadByte, UnknownOperation, OutOfPlace, WrongCount, BadWord, UnknownName, NameTaken, BadPhone, TooMany, TooManyEvents}
-use Rattle.script_reader.specs.declared.plan.Kind.{Kind}
-use Rattle.script_reader.specs.declared.plan.Kind.TheVariants.{Naming, Raw, Async, Block}
-use Rattle.script_reader.specs.declared.plan.TaskPlan.{TaskPlan}
-use Rattle.script_reader.specs.declared.word.Verb.{Verb}
-use Rattle.script_reader.specs.declared.word.Verb.TheVariants.{Ns, Task, Template, Fibril, Connection, Wire, Op}
-use Rattle.script_reader.specs.declared.word.OpVerb.{OpVerb}
-use Rattle.script_reader.specs.declared.word.OpVerb.TheVariants as verbs
+use Rattle.script_lines.specs.declared.fault.Reason.TheVariants.{BadByte, UnknownOperation, OutOfPlace, WrongCount, BadWord, UnknownName, NameTaken, BadPhone, TooMany, TooManyEvents}
+use Rattle.script_lines.specs.declared.plan.Kind.{Kind}
+use Rattle.script_lines.specs.declared.plan.Kind.TheVariants.{Naming, Raw, Async, Block}
+use Rattle.script_lines.specs.declared.plan.TaskPlan.{TaskPlan}
+use Rattle.script_lines.specs.declared.word.Verb.{Verb}
+use Rattle.script_lines.specs.declared.word.Verb.TheVariants.{Ns, Task, Template, Fibril, Connection, Wire, Op}
+use Rattle.script_lines.specs.declared.word.OpVerb.{OpVerb}
+use Rattle.script_lines.specs.declared.word.OpVerb.TheVariants as verbs
 use Rattle.script_reader.specs.declared.schedule.EventVerb.{EventVerb}
 use Rattle.script_reader.specs.declared.schedule.EventVerb.TheVariants.{Step, Kill, Hangup, Spawn}
 use Rattle.script_reader.specs.Rows.{Row}
-use Rattle.script_reader.specs.Text.{is_allowed, words}
-use Rattle.script_reader.specs.Word.{number, number_below, value, register, bytes_of, is_name, mode_of, exchange_mode_of, verb_of}
-use Rattle.script_reader.specs.Names.{task_names, place_of, is_ns}
-use Rattle.script_reader.specs.Plan.{Plan}
-use Rattle.script_reader.specs.ScriptParts.{ScriptParts, part}
-use Rattle.script_reader.specs.Sound.{most_fibrils, most_blocks, fibrils, connections}
-use Rattle.script_reader.specs.Draft.{limit_at, is_wired, leads_to_service, last_of, has_no_task, present, takes_bodies}
+use Rattle.script_lines.specs.Text.{is_allowed, words}
+use Rattle.script_lines.specs.Word.{number, number_below, value, register, bytes_of, is_name, mode_of, exchange_mode_of, verb_of}
+use Rattle.script_lines.specs.Names.{task_names, place_of, is_ns}
+use Rattle.script_lines.specs.Plan.{Plan}
+use Rattle.script_lines.specs.ScriptParts.{ScriptParts, part}
+use Rattle.script_lines.specs.Sound.{most_fibrils, most_blocks, fibrils, connections}
+use Rattle.script_lines.specs.Draft.{limit_at, is_wired, leads_to_service, last_of, has_no_task, present, takes_bodies}
 use Rattle.script_reader.specs.Schedule.{event_verb_of}
 use Rattle.script_reader.specs.EventLine.{EventsAndNames, is_taken}
 

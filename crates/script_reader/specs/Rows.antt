@@ -1,6 +1,6 @@
 -- A table of reasons, and the first of them whose test holds.
 use Rattle.std.specs.Prelude.{◌≡◌, List, [], ◌∷◌, ◌++◌, Bool, true, false, ⊤, Option, Some, None, Result, Ok, Err, if◌then◌else◌}
-use Rattle.script_reader.specs.declared.fault.Reason.{Reason}
+use Rattle.script_lines.specs.declared.fault.Reason.{Reason}
 
 -- a reason, and whether its test holds
 abbrev pub Row : Type 0

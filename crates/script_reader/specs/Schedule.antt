@@ -6,15 +6,15 @@ use Rattle.ipc_ids.specs.Tables.{most_tasks, most_events}
 use Rattle.ipc_ids.specs.declared.numbers.TaskNo.{TaskNo}
 use Rattle.ipc_ids.specs.declared.message.Event.{Event}
 use Rattle.ipc_ids.specs.declared.message.Event.TheVariants as events
-use Rattle.script_reader.specs.declared.fault.Reason.{Reason}
-use Rattle.script_reader.specs.declared.fault.Reason.TheVariants.{WrongCount, UnknownName, TooManyEvents}
+use Rattle.script_lines.specs.declared.fault.Reason.{Reason}
+use Rattle.script_lines.specs.declared.fault.Reason.TheVariants.{WrongCount, UnknownName, TooManyEvents}
 use Rattle.script_reader.specs.declared.schedule.EventVerb.{EventVerb}
 use Rattle.script_reader.specs.declared.schedule.EventVerb.TheVariants.{Step, Kill, Hangup, Spawn}
-use Rattle.script_reader.specs.Word.{look_up, number, name_of}
-use Rattle.script_reader.specs.Operation.{◌>>=◌, needed}
-use Rattle.script_reader.specs.Plan.{Plan}
-use Rattle.script_reader.specs.Sound.{IsTask}
-use Rattle.script_reader.specs.Names.{task_named}
+use Rattle.script_lines.specs.Word.{look_up, number, name_of}
+use Rattle.script_lines.specs.Operation.{◌>>=◌, needed}
+use Rattle.script_lines.specs.Plan.{Plan}
+use Rattle.script_lines.specs.Sound.{IsTask}
+use Rattle.script_lines.specs.Names.{task_named}
 
 -- the task that an event is on; one that makes a task is on none
 abbrev pub task_of_event : Event → TaskNo

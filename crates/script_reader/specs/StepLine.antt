@@ -2,10 +2,10 @@
 use Rattle.std.specs.Prelude.{◌≡◌, ℕ, true, List, ◌∷◌, ◌++◌, Some, Result, codes}
 use Rattle.std.specs.List.{list_all}
 use Rattle.std.specs.Char.{is_ascii_digit}
-use Rattle.script_reader.specs.declared.fault.Reason.{Reason}
-use Rattle.script_reader.specs.Text.{first_line, behind}
-use Rattle.script_reader.specs.Word.{is_name}
-use Rattle.script_reader.specs.Operation.{◌>>=◌}
+use Rattle.script_lines.specs.declared.fault.Reason.{Reason}
+use Rattle.script_lines.specs.Text.{first_line, behind}
+use Rattle.script_lines.specs.Word.{is_name}
+use Rattle.script_lines.specs.Operation.{◌>>=◌}
 use Rattle.script_reader.specs.Schedule.{count_of, step_with}
 use Rattle.script_reader.specs.EventLine.{EventsAndNames, with_repeated, after_event_line}
 

@@ -1,8 +1,8 @@
 //! Copies of plans.
 ghost use Rattle.std.specs.Prelude.{◌≡◌, IfOk};
 
-use crate::plan::{TaskPlan, TaskPlans};
 use ipc_ids::{Bodies, Body, NoMemory, Op, Ops};
+use script_lines::{TaskPlan, TaskPlans};
 use std::alloc::Global;
 
 fn copies_of_ops(alloc: Global, ops: &[Op]) -> Result<Ops, NoMemory>

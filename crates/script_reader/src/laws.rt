@@ -1,13 +1,13 @@
 //! What is read is what bytes spell, and a fault is the first reason of its table.
 ghost use Rattle.std.specs.Prelude.{◌≡◌, ◌↔◌, ℕ, List, [], Ok, Err};
 ghost use Rattle.ipc_ids.specs.declared.message.Event.{Event};
-ghost use Rattle.script_reader.specs.declared.fault.Reason.{Reason};
-ghost use Rattle.script_reader.specs.Grammar.{IsFirstFault};
-ghost use Rattle.script_reader.specs.Line.{after_line, SpellsScript};
+ghost use Rattle.script_lines.specs.declared.fault.Reason.{Reason};
+ghost use Rattle.script_reader.specs.Grammar.{IsFirstFault, SpellsScript};
+ghost use Rattle.script_lines.specs.Line.{after_line};
 ghost use Rattle.script_reader.specs.Reasons.{line_reasons, event_reasons};
 ghost use Rattle.script_reader.specs.Rows.{fault_in, first_reason, IsFirstReason, NoReason};
-ghost use Rattle.script_reader.specs.Plan.{Plan};
-ghost use Rattle.script_reader.specs.ScriptParts.{ScriptParts, no_parts};
+ghost use Rattle.script_lines.specs.Plan.{Plan};
+ghost use Rattle.script_lines.specs.ScriptParts.{ScriptParts, no_parts};
 ghost use Rattle.script_reader.specs.Reading.{script_of, schedule_of};
 ghost use Rattle.script_reader.specs.EventLine.{EventsAndNames, no_events, after_event, SpellsEvents};
 

@@ -1,19 +1,15 @@
 //! Reads a script, line by line.
 ghost use Rattle.std.specs.Prelude.{◌≡◌, ◌≢◌, ℕ, Ok, Err, OnOk};
-ghost use Rattle.script_reader.specs.declared.fault.Reason.{Reason};
-ghost use Rattle.script_reader.specs.Text.{lines};
-ghost use Rattle.script_reader.specs.Plan.{Plan};
-ghost use Rattle.script_reader.specs.Line.{after_line, SpellsScript};
-ghost use Rattle.script_reader.specs.ScriptParts.{no_parts, parts_of, AreWhole};
-ghost use Rattle.script_reader.specs.Grammar.{IsFirstFault};
+ghost use Rattle.script_lines.specs.declared.fault.Reason.{Reason};
+ghost use Rattle.script_lines.specs.Text.{lines};
+ghost use Rattle.script_lines.specs.Plan.{Plan};
+ghost use Rattle.script_lines.specs.Line.{after_line};
+ghost use Rattle.script_lines.specs.ScriptParts.{no_parts, parts_of, AreWhole};
+ghost use Rattle.script_reader.specs.Grammar.{IsFirstFault, SpellsScript};
 ghost use Rattle.script_reader.specs.Reasons.{line_reasons};
 ghost use Rattle.script_reader.specs.Reading.{lines_from, script_of, fault_in_script, Reads, Agrees};
 
-use crate::draft::Drafts;
-use crate::fault::{LineFault, Reason, ScriptFault};
-use crate::line::add_line;
-use crate::plan::Script;
-use crate::text::MOST_BYTES;
+use script_lines::{Drafts, LineFault, MOST_BYTES, Reason, Script, ScriptFault, add_line};
 use std::alloc::Global;
 
 fn add_lines(drafts: &mut Drafts, alloc: Global, text: &[u8]) -> Result<(), ScriptFault>

@@ -2,27 +2,24 @@
 ghost use Rattle.std.specs.Prelude.{◌≡◌, ◌≢◌, ◌≤◌, ◌<◌, ℕ, List, [], ◌++◌, length, replicate, true, false, is_some, Some, Ok, Err, IfOk, IsOkAnd};
 ghost use Rattle.std.specs.Option.{option_map};
 ghost use Rattle.ipc_ids.specs.declared.message.Event.{Event};
-ghost use Rattle.script_reader.specs.declared.fault.Reason.{Reason};
-ghost use Rattle.script_reader.specs.Text.{texts, lines, first_line, behind};
-ghost use Rattle.script_reader.specs.Draft.{Follows};
+ghost use Rattle.script_lines.specs.declared.fault.Reason.{Reason};
+ghost use Rattle.script_lines.specs.Text.{texts, lines, first_line, behind};
+ghost use Rattle.script_lines.specs.Draft.{Follows};
 ghost use Rattle.script_reader.specs.Schedule.{MayAllCome, event_verb_of, count_of, with_events, step_with, step_of, kill_of, hangup_of};
 ghost use Rattle.script_reader.specs.EventLine.{is_taken, spawn_place, with_spawn, with_repeated, spawn_of, after_event_verb, after_event_words, after_event_line, no_events, after_event, SpellsEvents};
-ghost use Rattle.script_reader.specs.Names.{task_names, place_of};
-ghost use Rattle.script_reader.specs.Word.{is_name};
+ghost use Rattle.script_lines.specs.Names.{task_names, place_of};
+ghost use Rattle.script_lines.specs.Word.{is_name};
 ghost use Rattle.script_reader.specs.StepLine.{with_steps};
 ghost use Rattle.script_reader.specs.Grammar.{IsFirstFault};
 ghost use Rattle.script_reader.specs.Reasons.{event_reasons};
 ghost use Rattle.script_reader.specs.Reading.{lines_from, reading, events_alone, schedule_of, events_in, fault_in_schedule, Reads, Agrees};
 
-use crate::draft::{MOST_TASKS, is_ns};
-use crate::fault::{LineFault, Reason, ScheduleFault};
-use crate::name::is_name;
-use crate::names::{Names, names_of};
-use crate::plan::Script;
 use crate::step_line::step_line;
-use crate::text::{MOST_BYTES, split_line};
-use crate::word::number;
 use ipc_ids::Event;
+use script_lines::{
+    LineFault, MOST_BYTES, MOST_TASKS, Names, Reason, ScheduleFault, Script, is_name, is_ns,
+    names_of, number, split_line,
+};
 use std::alloc::Global;
 
 const MOST_EVENTS: u64 = 65_536;
@@ -83,7 +80,7 @@ fn count_of(times: &[u8], word: &[u8]) -> Option<u64>
     }
 }
 
-#[tactic(auto, unfolding(crate::specs::Schedule::step_with, crate::specs::Word::name_of))]
+#[tactic(auto, unfolding(crate::specs::Schedule::step_with, script_lines::specs::Word::name_of))]
 fn step_with(names: &Names, name: &[u8], count: Option<u64>) -> Result<(Event, u64), Reason>
     ensures { result ≡ step_with names.now name.now count }
 {
@@ -108,7 +105,7 @@ fn step_of(names: &Names, words: &[&[u8]]) -> Result<(Event, u64), Reason>
 }
 
 /// `NAME`
-#[tactic(auto, unfolding(crate::specs::Schedule::kill_of, crate::specs::Word::name_of))]
+#[tactic(auto, unfolding(crate::specs::Schedule::kill_of, script_lines::specs::Word::name_of))]
 fn kill_of(names: &Names, words: &[&[u8]]) -> Result<(Event, u64), Reason>
     ensures { result ≡ kill_of names.now (texts words.now) }
 {
@@ -125,7 +122,7 @@ fn kill_of(names: &Names, words: &[&[u8]]) -> Result<(Event, u64), Reason>
 }
 
 /// `NAME N`
-#[tactic(auto, unfolding(crate::specs::Schedule::hangup_of, crate::specs::Word::name_of))]
+#[tactic(auto, unfolding(crate::specs::Schedule::hangup_of, script_lines::specs::Word::name_of))]
 fn hangup_of(names: &Names, words: &[&[u8]]) -> Result<(Event, u64), Reason>
     ensures { result ≡ hangup_of names.now (texts words.now) }
 {
@@ -151,7 +148,7 @@ fn is_taken(templates: &Names, names: &Names, name: &[u8]) -> bool
 }
 
 /// The place of the template that makes the next task, where it may have this name.
-#[tactic(auto, unfolding(crate::specs::EventLine::spawn_place, crate::specs::Word::name_of, crate::specs::EventLine::is_taken))]
+#[tactic(auto, unfolding(crate::specs::EventLine::spawn_place, script_lines::specs::Word::name_of, crate::specs::EventLine::is_taken))]
 fn spawn_place(
     templates: &Names,
     names: &Names,
@@ -302,7 +299,7 @@ fn next_place(events: &[Event]) -> usize {
 
 /// So many steps of the task of a name, which is looked for first at a place.
 #[inline(always)]
-#[tactic(auto, unfolding(crate::specs::Schedule::step_with, crate::specs::Word::name_of))]
+#[tactic(auto, unfolding(crate::specs::Schedule::step_with, script_lines::specs::Word::name_of))]
 fn step_near(names: &Names, place: usize, name: &[u8], count: u64) -> Result<(Event, u64), Reason>
     requires { is_name name.now ≡ true }
     ensures { result ≡ step_with names.now name.now (Some count) }

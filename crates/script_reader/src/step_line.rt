@@ -3,10 +3,9 @@ ghost use Rattle.std.specs.Prelude.{◌≡◌, ◌≤◌, ◌∷◌, ◌++◌, l
 ghost use Rattle.std.specs.List.{list_all};
 ghost use Rattle.std.specs.Char.{is_ascii_digit};
 ghost use Rattle.script_reader.specs.StepLine.{IsCounted, SaysSteps};
-ghost use Rattle.script_reader.specs.Word.{is_name, is_name_byte};
+ghost use Rattle.script_lines.specs.Word.{is_name, is_name_byte};
 
-use crate::name::is_name_byte;
-use crate::word::number;
+use script_lines::{is_name_byte, number};
 
 /// A line `step NAME` or `step NAME x N`, with one space between two words, and what stands behind
 /// its line feed.
@@ -40,7 +39,7 @@ fn name_len(text: &[u8]) -> usize
 
 /// A name at the front, and what stands behind it.
 #[inline(always)]
-#[tactic(auto, unfolding(crate::specs::Word::is_name))]
+#[tactic(auto, unfolding(script_lines::specs::Word::is_name))]
 fn cut_name(text: &[u8]) -> Option<(&[u8], &[u8])>
     ensures name { IfSome result (λ cut. is_name cut.0.now ≡ true) }
     ensures parts { IfSome result (λ cut. text.now ≡ cut.0.now ++ cut.1.now) }

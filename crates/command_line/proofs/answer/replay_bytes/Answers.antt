@@ -1,7 +1,7 @@
 use Rattle.std.proofs.Common.{rules, inl, inr, codes, subst, ap}
 use Rattle.trace_print.specs.Text.{text_of}
-use Rattle.script_reader.specs.Sound.{IsSound}
-use Rattle.schedule_replay.specs.Run.{run}
+use Rattle.script_lines.specs.Sound.{IsSound}
+use Rattle.task_system.specs.Run.{run}
 use Rattle.command_line.specs.Answer.{fault_line}
 use Rattle.command_line.specs.Due.{DueForBytes}
 use Rattle.command_line.specs.declared.status.Status.TheVariants.{Done, BadScript, BadSchedule}

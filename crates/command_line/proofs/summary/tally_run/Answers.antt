@@ -1,5 +1,5 @@
 use Rattle.std.proofs.Common.{arith, ap, refl}
-use Rattle.schedule_replay.specs.Run.{ReplayState}
+use Rattle.schedule_replay.specs.Replay.{ReplayState}
 use Rattle.ipc_ids.specs.declared.message.Event.TheVariants.{Step}
 use Rattle.command_line.proofs.Tallies.{one_more_event, next_may}
 use Rattle.schedule_replay.proofs.RunHistories.{may_from}

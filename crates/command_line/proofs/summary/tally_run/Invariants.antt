@@ -1,5 +1,5 @@
 use Rattle.std.proofs.Common.{◌≡◌, ◌≤◌, drop}
-use Rattle.schedule_replay.specs.Run.{run, run_from, MayAllHappen}
+use Rattle.task_system.specs.Run.{run, run_from, MayAllHappen}
 use Rattle.command_line.specs.Summary.{with_entries, tally_of}
 use Rattle.command_line.proofs.summary.tally_run.Given as goal
 

@@ -1,6 +1,7 @@
 use Rattle.std.proofs.Common.{◌≡◌, ◌≤◌, ◌+◌, ◌∙◌, ◌++◌, refl, sym, ap, length, take, arith, add-one}
 use Rattle.trace_print.specs.Text.{text_of}
-use Rattle.schedule_replay.specs.Run.{ReplayState, turn}
+use Rattle.task_system.specs.Run.{turn}
+use Rattle.schedule_replay.specs.Replay.{ReplayState}
 use Rattle.schedule_replay.proofs.RunHistories.{may_from, may_now, may_on}
 use Rattle.schedule_replay.proofs.LawfulRuns.{lawful_of_script}
 use Rattle.schedule_replay.proofs.Sending.{on_error}

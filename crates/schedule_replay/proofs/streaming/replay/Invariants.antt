@@ -1,5 +1,5 @@
 use Rattle.std.proofs.Common.{◌≡◌, ◌≤◌, ◌+◌, length}
-use Rattle.schedule_replay.specs.Run.{MayAllHappen}
+use Rattle.task_system.specs.Run.{MayAllHappen}
 use Rattle.schedule_replay.proofs.UnderWay.{IsUnderWay}
 use Rattle.schedule_replay.proofs.streaming.replay.Given as goal
 

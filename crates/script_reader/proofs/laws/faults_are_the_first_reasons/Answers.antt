@@ -1,4 +1,4 @@
-use Rattle.script_reader.specs.Line.{after_line}
+use Rattle.script_lines.specs.Line.{after_line}
 use Rattle.script_reader.specs.EventLine.{after_event}
 use Rattle.script_reader.specs.Reasons.{line_reasons, event_reasons}
 use Rattle.script_reader.proofs.Faults.{line_fault, line_told, good_both}

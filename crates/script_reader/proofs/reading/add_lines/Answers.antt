@@ -1,7 +1,8 @@
 use Rattle.std.proofs.Common.{◌+◌, sym, ◌∙◌, arith}
-use Rattle.script_reader.specs.Line.{after_line}
-use Rattle.script_reader.specs.ScriptParts.{parts_of}
-use Rattle.script_reader.proofs.Lines.{here, next_line, faulty_line, less_left}
+use Rattle.script_lines.specs.Line.{after_line}
+use Rattle.script_lines.specs.ScriptParts.{parts_of}
+use Rattle.script_lines.proofs.Lines.{here, less_left}
+use Rattle.script_reader.proofs.LineByLine.{next_line, faulty_line}
 use Rattle.script_reader.proofs.reading.add_lines.Goals as goal
 
 pub loop-left-smaller : goal.loop-left-smaller

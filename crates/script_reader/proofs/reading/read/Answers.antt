@@ -1,6 +1,6 @@
-use Rattle.script_reader.specs.Text.{lines}
-use Rattle.script_reader.specs.ScriptParts.{parts_of}
-use Rattle.script_reader.proofs.Parts.{all_lines_fit}
+use Rattle.script_lines.specs.Text.{lines}
+use Rattle.script_lines.specs.ScriptParts.{parts_of}
+use Rattle.script_reader.proofs.WholeScripts.{all_lines_fit}
 use Rattle.script_reader.proofs.reading.read.Goals as goal
 
 pub into_script-requires-clause-fit : goal.into_script-requires-clause-fit

@@ -1,6 +1,7 @@
 use Rattle.std.proofs.Common.{◌+◌, sym, ◌∙◌, arith}
 use Rattle.script_reader.specs.EventLine.{after_event_line}
-use Rattle.script_reader.proofs.Lines.{here, next_line, faulty_line, less_left}
+use Rattle.script_lines.proofs.Lines.{here, less_left}
+use Rattle.script_reader.proofs.LineByLine.{next_line, faulty_line}
 use Rattle.script_reader.proofs.schedule.add_lines.Goals as goal
 
 pub loop-left-smaller : goal.loop-left-smaller

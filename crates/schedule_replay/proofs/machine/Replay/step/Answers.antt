@@ -1,5 +1,5 @@
 use Rattle.std.proofs.Common.{ap}
-use Rattle.schedule_replay.specs.Run.{ReplayState}
+use Rattle.schedule_replay.specs.Replay.{ReplayState}
 use Rattle.schedule_replay.proofs.RunHistories.{kept_by}
 use Rattle.schedule_replay.proofs.machine.Replay.step.Goals as goal
 

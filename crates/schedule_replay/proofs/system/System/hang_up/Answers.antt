@@ -1,5 +1,0 @@
-use Rattle.schedule_replay.proofs.Taking.{took_more}
-use Rattle.schedule_replay.proofs.system.System.hang_up.Goals as goal
-
-pub invariant_of-self : goal.invariant_of-self
-invariant_of-self c = (took_more c.self.inside.kernel.events c.serve_request.new.kernel.events c.self.inside.programs.items c.serve_request.ensures.rises c.self.invariant.0, c.self.invariant.1)

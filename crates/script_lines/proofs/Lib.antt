@@ -1,0 +1,13 @@
+pub mod Arguments
+pub mod DraftSteps
+pub mod Lines
+pub mod Places
+pub mod Soundness
+pub mod TaskKinds
+pub mod Words
+pub mod Parts
+mod WordExamples
+mod OperationExamples
+pub mod Verbs
+pub mod Faultless
+pub mod NearPlaces

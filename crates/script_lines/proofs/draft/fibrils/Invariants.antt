@@ -1,0 +1,6 @@
+use Rattle.std.proofs.Common.{◌≡◌, ◌≤◌, take}
+use Rattle.script_lines.specs.Sound.{fibrils}
+use Rattle.script_lines.proofs.draft.fibrils.Given as goal
+
+abbrev pub invariant-loop-body : goal.invariant-loop-body
+invariant-loop-body l = record { counted : l.count ≡ fibrils (take l.body-index l.bodies); few : l.count ≤ l.body-index }

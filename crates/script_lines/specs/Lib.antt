@@ -1,0 +1,10 @@
+pub mod Draft
+pub mod Line
+pub mod Names
+pub mod Operation
+pub mod Plan
+pub mod Ranges
+pub mod Sound
+pub mod Text
+pub mod Word
+pub mod ScriptParts

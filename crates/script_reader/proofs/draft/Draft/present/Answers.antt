@@ -1,6 +1,0 @@
-use Rattle.std.proofs.Common.{◌∙◌, sym}
-use Rattle.script_reader.proofs.DraftSteps.{present_is}
-use Rattle.script_reader.proofs.draft.Draft.present.Goals as goal
-
-pub returns-clause-value : goal.returns-clause-value
-returns-clause-value c = c.taker.ensures ∙ sym (present_is c.args.self.now c.requires)

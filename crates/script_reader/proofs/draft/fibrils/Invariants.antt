@@ -1,6 +1,0 @@
-use Rattle.std.proofs.Common.{◌≡◌, ◌≤◌, take}
-use Rattle.script_reader.specs.Sound.{fibrils}
-use Rattle.script_reader.proofs.draft.fibrils.Given as goal
-
-abbrev pub invariant-loop-body : goal.invariant-loop-body
-invariant-loop-body l = record { counted : l.count ≡ fibrils (take l.body-index l.bodies); few : l.count ≤ l.body-index }

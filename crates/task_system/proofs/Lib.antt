@@ -1,0 +1,5 @@
+pub mod OpenWires
+pub mod Stepping
+pub mod Taking
+pub mod Bodies
+pub mod Spawning
