@@ -74,7 +74,7 @@ pub fn push_entry<const SIZE: usize>(entry: &Entry, into: &mut Page<SIZE>)
 pub fn entry_text(entry: &Entry, into: &mut Vec<u8>) -> Result<(), NoMemory>
     ensures ok { OnOk result (into.new.items ≡ into.old.items ++ text_of_entry entry.now) }
     ensures err { OnErr result (into.new.items ≡ into.old.items) }
-    ensures short { OnOk result (length (text_of_entry entry.now) ≤ 256) }
+    ensures short { length (text_of_entry entry.now) ≤ 256 }
     ensures room { vec_len into.old + 256 ≤ vec_capacity into.old → IsOk result }
     ensures capacity { vec_capacity into.old ≤ vec_capacity into.new }
 {
