@@ -31,7 +31,7 @@ use Rattle.fibril_core.specs.Fibrils.{why_of, make_ready, next_number}
 use Rattle.fibril_core.specs.Conns as conns
 use Rattle.fibril_core.specs.Conns.{conn_of_fibril, conn_of_label, fibril_of, route_to, closes, is_open}
 use Rattle.fibril_core.specs.Conns.{take_answer, take_first, leads_to, lose_label, owed_by, start, finish}
-use Rattle.fibril_core.specs.Conns.{route_answer, new_conn}
+use Rattle.fibril_core.specs.Conns.{route_answer}
 use Rattle.fibril_core.specs.ConnLaws.{IsSound as AreSoundConns, after_loss}
 use Rattle.fibril_core.proofs.Connections.{take_changes, route_changes, starts, owes_in_order, finds}
 use Rattle.fibril_core.proofs.Connections.{fibril_there, sound_routed, sound_started}

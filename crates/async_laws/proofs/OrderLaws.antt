@@ -16,7 +16,7 @@ use Rattle.fibril_core.specs.declared.conn.Queued.{Queued}
 use Rattle.fibril_core.specs.declared.conn.Taken.TheVariants as taken
 use Rattle.fibril_core.specs.declared.fibrils.Status.TheVariants.{Ready}
 use Rattle.fibril_core.specs.FibrilLaws.{Becomes}
-use Rattle.fibril_core.specs.Conns.{closes, is_open, route_to, take_from, take_first, take_answer}
+use Rattle.fibril_core.specs.Conns.{closes, is_open, route_to, take_from}
 use Rattle.fibril_core.specs.Conns.{conn_of_label, leads_to, rest_of, route_answer}
 use Rattle.fibril_core.specs.Conns as conns
 use Rattle.fibril_core.proofs.Orders.{found_becomes}

@@ -1,6 +1,6 @@
 //! A sink in memory, whose puts can be told to fail.
-ghost use Rattle.std.specs.Prelude.{◌≡◌, ◌≤◌, ◌<◌, ◌+◌, ◌^◌, ◌++◌, [], ◌∷◌, IsOk, IfOk, OnOk};
-ghost use Rattle.std.specs.Prelude.{OnErr, Some, None, length, map};
+ghost use Rattle.std.specs.Prelude.{◌≡◌, ◌≤◌, ◌<◌, ◌↔◌, ◌+◌, ◌^◌, ◌++◌, [], ◌∷◌, IsOk, IfOk};
+ghost use Rattle.std.specs.Prelude.{OnOk, OnErr, Some, None, length, map};
 ghost use Rattle.io_edge.specs.Edge.{AppendsStart, Rose, next_count};
 ghost use Rattle.io_edge.specs.Memory.{empty_sink, with_failing_put, kept_by, next_kept, Fits};
 ghost use Rattle.io_edge.specs.Memory.{bytes_after_failure};
@@ -108,13 +108,11 @@ impl Sink for MemSink {
         ensures later { self.old.faults ≤ self.new.faults }
         ensures last { self.new.faults < 2 ^ 64 }
         // It fails exactly where the call is listed or the piece passes the room.
-        ensures unlisted { OnOk result (next_kept self.old ≡ None) }
-        ensures fits { OnOk result (Fits self.old piece.now) }
-        ensures succeeds { next_kept self.old ≡ None → Fits self.old piece.now → IsOk result }
+        ensures succeeds { IsOk result ↔ (next_kept self.old ≡ None) × Fits self.old piece.now }
         ensures kept { OnErr result (self.new.bytes ≡ bytes_after_failure self.old piece.now) }
         ensures counted { self.new.puts ≡ next_count self.old.puts }
-        ensures room { self.new.room ≡ self.old.room }
-        ensures puts_to_fail { self.new.puts_to_fail ≡ self.old.puts_to_fail }
+        ensures same { (self.new.room ≡ self.old.room)
+            × (self.new.puts_to_fail ≡ self.old.puts_to_fail) }
     {
         let faults = self.faults;
         self.puts = self.puts.saturating_add(1);

@@ -14,7 +14,7 @@ use Rattle.ipc_ids.specs.declared.message.PhoneState.TheVariants as phone
 use Rattle.ipc_ids.specs.declared.entry.Entry.{Entry}
 use Rattle.ipc_ids.specs.declared.entry.Entry.TheVariants as entry
 use Rattle.ipc_ids.specs.Holdings as entries
-use Rattle.ipc_ids.specs.Holdings.{Holding, Making, on_top, present, last_store, making}
+use Rattle.ipc_ids.specs.Holdings.{Making, on_top, present, last_store, making}
 use Rattle.ipc_ids.specs.AreaLaw.{IsLawfulEntry, WereLawful}
 use Rattle.call_slab.specs.declared.call.Call.{Call}
 use Rattle.call_slab.specs.declared.call.Place.{Place}

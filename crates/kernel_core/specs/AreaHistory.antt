@@ -7,7 +7,7 @@ use Rattle.ipc_ids.specs.declared.entry.Entry.{Entry}
 use Rattle.ipc_ids.specs.declared.entry.Entry.TheVariants as entry
 use Rattle.ipc_ids.specs.Methods.{share_out, share_in}
 use Rattle.ipc_ids.specs.Holdings as entries
-use Rattle.ipc_ids.specs.Holdings.{Holding, Making, last_store, making}
+use Rattle.ipc_ids.specs.Holdings.{Holding, last_store, making}
 use Rattle.ipc_ids.specs.AreaLaw.{WereLawful}
 use Rattle.call_slab.specs.declared.call.Call.{Call}
 use Rattle.answerbox.specs.Calls.{call_at}

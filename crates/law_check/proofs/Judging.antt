@@ -8,7 +8,7 @@ use Rattle.law_check.specs.declared.verdict.Laws.{Laws}
 use Rattle.law_check.specs.Passing.{in_order, KillsStand, AreasStand}
 use Rattle.law_check.specs.Verdict.{accepted}
 use Rattle.law_check.specs.Judging.{Stands, MayStand, Judges}
-use Rattle.law_check.proofs.Passing.{lives_next, lives_broken, knows_lives, calls_accepted}
+use Rattle.law_check.proofs.Passing.{lives_next, knows_lives, calls_accepted}
 
 pub stands_open : (p : List Entry) (s : Laws) (b : Bool) → MayStand p b s → b ≡ true → Stands p s
 stands_open p s true stand h = stand

@@ -7,18 +7,15 @@ use Rattle.ipc_ids.specs.declared.entry.Entry.TheVariants as entry
 use Rattle.ipc_ids.specs.Tales.{Tale, Head, On, Other, tale, tales}
 use Rattle.ipc_ids.specs.Life.{last_number}
 use Rattle.ipc_ids.specs.Lawful.{Follows, IsRound}
-use Rattle.ipc_ids.specs.Laws.{IsAllowed, AllAllowed, LivesAreLawful, KillEndsHeldCalls}
-use Rattle.ipc_ids.specs.AreaLaw.{AreasAreLawful}
+use Rattle.ipc_ids.specs.Laws.{IsAllowed, LivesAreLawful, KillEndsHeldCalls}
 use Rattle.law_check.specs.declared.kills.Kills.{Kills}
-use Rattle.law_check.specs.declared.areas.Areas.{Areas}
 use Rattle.law_check.specs.Allowed.{WasAllowed}
 use Rattle.law_check.specs.Lives.{Knows, life_at}
-use Rattle.law_check.specs.Kills.{KillsFoundLate, NoneIsLate}
+use Rattle.law_check.specs.Kills.{KillsFoundLate}
 use Rattle.law_check.specs.KillState.{KnowsKills, TakesKill, kill_at, kill_by_end, number_at, is_late}
-use Rattle.law_check.specs.AreaSteps.{IsServed, wants, MayCome, AreasFrom}
-use Rattle.law_check.specs.AreaState.{KnowsAreas}
+use Rattle.law_check.specs.AreaSteps.{MayCome}
 use Rattle.law_check.specs.Verdict.{accepted}
-use Rattle.law_check.specs.Passing.{in_order, LivesLeft, KillsLeft, NoKillsLeft, AreasLeft, NoAreasLeft, KillsStand, AreasStand}
+use Rattle.law_check.specs.Passing.{in_order, LivesLeft, KillsLeft, NoKillsLeft, AreasLeft, NoAreasLeft, KillsStand}
 use Rattle.law_check.proofs.KillSteps.{none_late}
 use Rattle.law_check.proofs.KillLaw.{late_kills_are_law}
 use Rattle.law_check.proofs.AreaSteps.{areas_are_law}

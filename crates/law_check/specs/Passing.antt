@@ -1,5 +1,5 @@
 -- How far entries have come that are taken one by one.
-use Rattle.std.specs.Prelude.{ℕ, ◌↔◌, Bool, true, false, List, [], ◌∷◌}
+use Rattle.std.specs.Prelude.{◌↔◌, Bool, true, false, List, [], ◌∷◌}
 use Rattle.ipc_ids.specs.declared.entry.Entry.{Entry}
 use Rattle.ipc_ids.specs.Tales.{tales}
 use Rattle.ipc_ids.specs.Laws.{AllAllowed, LivesAreLawful, KillEndsHeldCalls}

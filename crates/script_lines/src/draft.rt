@@ -64,9 +64,9 @@ pub struct Draft {
 /// or, where a template came after it, to the last template.
 #[derive(Drop)]
 pub struct Drafts {
-    pub tasks: Draft,
-    pub templates: Draft,
-    pub on_template: bool,
+    pub(crate) tasks: Draft,
+    pub(crate) templates: Draft,
+    pub(crate) on_template: bool,
 }
 
 /// Whether a name is that of the naming service, which no other task has.
@@ -459,6 +459,7 @@ impl Draft {
 }
 
 impl Drafts {
+    /// Before any line.
     pub fn new(alloc: Global) -> Drafts
         ensures nothing { parts_of result ≡ no_parts }
         ensures whole { AreWhole result }

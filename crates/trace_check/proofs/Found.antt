@@ -1,5 +1,5 @@
 -- What is found of entries that were read one by one.
-use Rattle.std.proofs.Common.{ℕ, suc, ◌≡◌, ◌<◌, ◌≤◌, ◌+◌, ◌++◌, ◌↔◌, ◌⊎◌, List, [], ◌∷◌, length, refl, sym, ap, subst, ◌∙◌, arith, inl, inr, append_assoc}
+use Rattle.std.proofs.Common.{ℕ, suc, ◌≡◌, ◌<◌, ◌≤◌, ◌+◌, ◌++◌, List, [], ◌∷◌, length, refl, sym, ap, subst, ◌∙◌, arith, inl, inr, append_assoc}
 use Rattle.ipc_ids.specs.declared.entry.Entry.{Entry}
 use Rattle.ipc_ids.specs.Laws.{LivesAreLawful, AnsweredAtMostOnce, KillEndsHeldCalls}
 use Rattle.ipc_ids.specs.AreaLaw.{AreasAreLawful}
@@ -10,7 +10,7 @@ use Rattle.law_check.specs.Verdict.{IsVerdict}
 use Rattle.law_check.specs.declared.verdict.Verdict.TheVariants as verdict
 use Rattle.trace_reader.specs.Line.{IsBuilt}
 use Rattle.trace_reader.specs.Trace.{AreBuilt, IsTrace, IsNoLine, IsFirstBad}
-use Rattle.trace_reader.proofs.Only.{one_list, no_bad, no_bytes, append_nil}
+use Rattle.trace_reader.proofs.Only.{one_list, no_bad, append_nil}
 use Rattle.trace_reader.proofs.ReadAgain.{text_of-append, built_push}
 use Rattle.trace_check.specs.declared.reading.Reading.{Reading}
 use Rattle.trace_check.specs.Finding.{most_trace, IsLawfulTrace}

@@ -14,13 +14,16 @@ pub struct Comparison<'a> {
     ghost within: { same ≤ length line.now },
 }
 
-/// The line begins with the word, which is known where the code is compiled: it is compared byte by
-/// byte, and no length is asked.
+/// The line begins with the word. A short one is compared byte by byte: where the word is known when
+/// the code is compiled, no length is asked.
 #[inline(always)]
 fn begins_with(line: &[u8], word: &[u8]) -> bool
     ensures { IsTrue result → (length word.now ≤ length line.now)
         × (take (length word.now) line.now ≡ word.now) }
 {
+    if word.len() > 16 {
+        return line.starts_with(word);
+    }
     if line.len() < word.len() {
         return false;
     }

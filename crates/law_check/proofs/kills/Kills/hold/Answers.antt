@@ -1,4 +1,3 @@
-use Rattle.std.proofs.Common.{◌≡◌, sym, rules}
 use Rattle.law_check.proofs.Passing.{all_killed, may_hold}
 use Rattle.law_check.proofs.kills.Kills.hold.Goals as goal
 
