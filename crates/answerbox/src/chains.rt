@@ -135,8 +135,8 @@ pub fn row_at(queues: &[Ends], place: Place) -> Option<usize>
     ensures some { IfSome result (λ i. i ≡ place_index place) }
     ensures none { IfNone result (length queues.now ≤ place_index place) }
 {
-    let task = task_at(place);
-    if task.0 >= (queues.len() as u64 + 2) / 3 {
+    // So many queues do not fit into memory, and three times such a number would not fit 64 bits.
+    if task_at(place).0 >= 1 << 62 {
         return None;
     }
     Some(index_of(place))
