@@ -16,6 +16,7 @@ use ipc_ids::{CallNo, Code, Entry, MethodKind, NoMemory, Outcome, Reply, StoreNo
 impl Switchboard {
     /// Accepts the DATA_WRITE that the task holds: the first bytes that it carries are written
     /// where the reply says. Where they are not, the code of the answer says why.
+    #[inline(never)]
     pub fn accept_write(
         &mut self,
         number: CallNo,
@@ -42,6 +43,7 @@ impl Switchboard {
     /// # Errors
     ///
     /// `NoMemory` where no memory was found for the bytes; then nothing has changed.
+    #[inline(never)]
     pub fn accept_read(
         &mut self,
         number: CallNo,
@@ -82,6 +84,7 @@ impl Switchboard {
     /// Delivers to the task the answer of its DATA_READ that was accepted, and ends the call: the
     /// bytes that the call brings are written where the task asked. Where they are not, the code
     /// of the reply says why.
+    #[inline(never)]
     pub fn deliver_read(&mut self, number: CallNo, who: TaskNo, out: &mut Trace) -> Outcome
         requires live { IsSome (call_at self.old.state.calls number.0) }
         requires added { IsAdded self.old.state who }

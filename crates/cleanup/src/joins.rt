@@ -60,6 +60,7 @@ impl Switchboard {
     }
 
     /// Accepts the new call, and answers it with this code and arguments 0 in the kernel's name.
+    #[inline(always)]
     pub fn answer_at_once(&mut self, mut call: Call, code: Code, out: &mut Trace) -> Outcome
         requires new_call { IsNewCall self.old.state call }
         requires unreserved { call.reserved ≡ None }
@@ -268,6 +269,7 @@ impl Switchboard {
 
     /// Accepts the CONNECT_TO_ME that the task holds: the phone that it kept leads to the caller.
     /// Without one the answer has the code `ELIMIT`.
+    #[inline(never)]
     pub fn accept_to_me(
         &mut self,
         number: CallNo,
@@ -294,6 +296,7 @@ impl Switchboard {
 
     /// Accepts the CONNECT_ME_TO that the task holds: the phone that its caller kept leads to the
     /// task.
+    #[inline(never)]
     pub fn accept_me_to(
         &mut self,
         number: CallNo,
@@ -343,6 +346,7 @@ impl Switchboard {
 
     /// Moves the call, for which no phone is kept, with the reply to the answers of its caller, and
     /// tells the note, where there is one, behind the answer.
+    #[inline(always)]
     pub(crate) fn finish_telling(
         &mut self,
         number: CallNo,
@@ -411,6 +415,7 @@ impl Switchboard {
 
     /// The same, with room for a move only where the caller is alive, and for a second entry only
     /// there and where the call keeps a phone.
+    #[inline(always)]
     fn settle_exactly(
         &mut self,
         number: CallNo,

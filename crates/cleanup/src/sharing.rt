@@ -43,6 +43,7 @@ impl Share {
 impl Switchboard {
     /// Accepts the share call that the task holds: one of the two gets an area over the store of
     /// an area of the other. Where it does not, the code of the answer says why.
+    #[inline(never)]
     pub fn accept_share(
         &mut self,
         way: Share,

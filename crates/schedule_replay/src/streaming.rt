@@ -53,6 +53,7 @@ impl From<NoMemory> for ReplayFault {
 /// `Sink` where a put failed; no event is taken after it. `NoMemory` where no memory was found, at
 /// the start or in an event; the text of the events before that one is written, if the sink takes
 /// it.
+#[inline(always)]
 pub fn replay<F: Feed, K: Sink>(
     alloc: Global,
     script: &Script,

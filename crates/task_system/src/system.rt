@@ -110,6 +110,7 @@ impl System {
         }
     }
 
+    #[inline(always)]
     fn step_task(&mut self, task: TaskNo, out: &mut Trace) -> Result<(), NoMemory>
         requires few_events { self.old.kernel.events < 2 ^ 24 }
         ensures state { OnOk result (self.new ≡ (step self.old task).state) }
@@ -158,6 +159,7 @@ impl System {
         }
     }
 
+    #[inline(never)]
     fn kill(&mut self, task: TaskNo, out: &mut Trace) -> Result<(), NoMemory>
         requires few_events { self.old.kernel.events < 2 ^ 24 }
         ensures state { OnOk result (self.new ≡ (kill self.old task).state) }
@@ -172,6 +174,7 @@ impl System {
     }
 
     /// The next task is made from a template. All memory is taken first.
+    #[inline(never)]
     fn spawn(&mut self, place: u32, out: &mut Trace) -> Result<(), NoMemory>
         requires few_events { self.old.kernel.events < 2 ^ 24 }
         requires may { MayHappen self.old (Event.Spawn place) }
@@ -195,6 +198,7 @@ impl System {
         }
     }
 
+    #[inline(never)]
     fn hang_up(&mut self, task: TaskNo, phone: u64, out: &mut Trace) -> Result<(), NoMemory>
         requires few_events { self.old.kernel.events < 2 ^ 24 }
         ensures state { OnOk result (self.new ≡ (hangup self.old task phone).state) }

@@ -25,6 +25,7 @@ fn push_digits<T: Text>(text: &mut T, bytes: &[u8])
 }
 
 /// Adds bytes as digits in lower case, two for each, or `-` for none.
+#[inline(never)]
 pub fn push_bytes<T: Text>(text: &mut T, bytes: &[u8])
     requires few { length bytes.now ≤ 64 }
     requires room { T.count text.old + 128 ≤ T.capacity text.old }

@@ -25,6 +25,7 @@ fn push_call<P: Pen>(pen: &mut P, call: CallNo, what: &[u8])
 }
 
 #[tactic(auto, using(crate::proofs::Marks::map_append), unfolding(crate::specs::Text::way_text))]
+#[inline(always)]
 fn push_way<P: Pen>(pen: &mut P, way: Option<TaskNo>)
     requires room { P.count pen.old + 25 ≤ P.capacity pen.old }
     ensures text { P.seen pen.new ≡ P.seen pen.old ++ map P.mark (way_text way) }
@@ -86,6 +87,7 @@ fn push_store<P: Pen>(pen: &mut P, store: StoreNo)
 }
 
 #[tactic(auto, using(crate::proofs::Marks::map_append))]
+#[inline(never)]
 fn push_task_effect<P: Pen>(pen: &mut P, effect: &Entry)
     requires room { P.count pen.old + 220 ≤ P.capacity pen.old }
     ensures text { P.seen pen.new ≡ P.seen pen.old ++ map P.mark (task_effect_text effect.now) }

@@ -30,6 +30,7 @@ pub fn push_task<P: Pen>(pen: &mut P, task: TaskNo)
 }
 
 #[tactic(auto, using(crate::proofs::Marks::map_append))]
+#[inline(always)]
 pub fn push_label<P: Pen>(pen: &mut P, label: Label)
     requires room { P.count pen.old + 42 ≤ P.capacity pen.old }
     ensures text { P.seen pen.new ≡ P.seen pen.old ++ map P.mark (label_text label) }
@@ -42,6 +43,7 @@ pub fn push_label<P: Pen>(pen: &mut P, label: Label)
 }
 
 #[tactic(auto, using(crate::proofs::Marks::map_append))]
+#[inline(always)]
 pub fn push_code<P: Pen>(pen: &mut P, code: Code)
     requires room { P.count pen.old + 20 ≤ P.capacity pen.old }
     ensures text { P.seen pen.new ≡ P.seen pen.old ++ map P.mark (code_text code) }
@@ -85,6 +87,7 @@ fn ends_in_zeros(args: &[u64; 5]) -> bool
 }
 
 #[tactic(auto, using(crate::proofs::Marks::map_append))]
+#[inline(always)]
 fn push_args<P: Pen>(pen: &mut P, args: &[u64; 5])
     requires room { P.count pen.old + 105 ≤ P.capacity pen.old }
     ensures text { P.seen pen.new ≡ P.seen pen.old ++ map P.mark (args_text args.now) }
