@@ -8,9 +8,10 @@ use Rattle.std.specs.Option.{option_map_or}
 use Rattle.std.proofs.lemmas.Bool.{cases_eq, cases_lt}
 use Rattle.std.proofs.lemmas.Bool.Decides.{nat_tests}
 use Rattle.std.proofs.lemmas.List.{get_or-set_same, get_or-set_other, get_or_past, length-set}
-use Rattle.call_slab.specs.declared.calls.Slot.{Slot}
-use Rattle.call_slab.specs.declared.calls.Links.{Links}
-use Rattle.call_slab.specs.Calls.{at_key, links_of}
+use Rattle.call_slab.specs.declared.slots.Slot.{Slot}
+use Rattle.call_slab.specs.declared.links.Links.{Links}
+use Rattle.call_slab.specs.Calls.{links_of}
+use Rattle.call_slab.specs.Slots.{at_key}
 use Rattle.answerbox.specs.declared.chains.Ends.{Ends}
 use Rattle.answerbox.specs.declared.chains.Chain.{Chain}
 use Rattle.answerbox.specs.declared.chains.Chain.TheVariants.{Queue, Own}

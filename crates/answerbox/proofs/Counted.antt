@@ -4,8 +4,8 @@ use Rattle.std.specs.Ordering.{nat_cmp}
 use Rattle.std.specs.FinMap.{FinMap, entries, get, len}
 use Rattle.std.proofs.lemmas.Bool.{cases_eq}
 use Rattle.call_slab.specs.declared.call.Call.{Call}
-use Rattle.call_slab.specs.declared.calls.Slot.{Slot}
-use Rattle.call_slab.specs.declared.calls.Links.{Links}
+use Rattle.call_slab.specs.declared.slots.Slot.{Slot}
+use Rattle.call_slab.specs.declared.links.Links.{Links}
 use Rattle.call_slab.specs.Calls.{call_of}
 use Rattle.answerbox.specs.declared.chains.Ends.{Ends}
 use Rattle.answerbox.specs.declared.chains.Chain.{Chain}

@@ -7,7 +7,7 @@ use Rattle.std.specs.FinMap.{FinMap, find, get, insert, remove, entries, entries
 use Rattle.std.proofs.lemmas.Bool.{cases_eq}
 use Rattle.call_slab.specs.declared.call.Call.{Call}
 use Rattle.call_slab.specs.declared.call.Place.{Place}
-use Rattle.call_slab.specs.declared.calls.Slot.{Slot}
+use Rattle.call_slab.specs.declared.slots.Slot.{Slot}
 use Rattle.call_slab.specs.Calls.{CallsState, call_of, links_of, name_of, change_call}
 use Rattle.answerbox.specs.declared.chains.Ends.{Ends}
 use Rattle.answerbox.specs.declared.chains.Chain.{Chain}

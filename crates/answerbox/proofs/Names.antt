@@ -8,7 +8,7 @@ use Rattle.std.specs.FinMap.Entries.{below_all}
 use Rattle.std.proofs.lemmas.Bool.{cases_eq}
 use Rattle.std.proofs.lemmas.Bool.Decides.{nat_tests}
 use Rattle.call_slab.specs.declared.call.Call.{Call}
-use Rattle.call_slab.specs.declared.calls.Slot.{Slot}
+use Rattle.call_slab.specs.declared.slots.Slot.{Slot}
 use Rattle.call_slab.specs.Calls.{CallsState}
 use Rattle.answerbox.specs.Chain.{Slots, Core, cores}
 use Rattle.answerbox.specs.Stored.{named, calls_in, Named}

@@ -2,8 +2,8 @@
 use Rattle.std.proofs.Common.{◌≡◌, ℕ, ◌+◌, ◌<◌, ◌≤◌, true, false, cond, ◌==◌, List, length, Option, None, Some, IsSome, IfSome, option_map, refl, sym, ap, ◌∙◌, arith, ⊎_elim}
 use Rattle.std.specs.FinMap.{get}
 use Rattle.std.proofs.lemmas.Bool.{cases_eq}
-use Rattle.call_slab.specs.declared.calls.Slot.{Slot}
-use Rattle.call_slab.specs.declared.calls.Links.{Links}
+use Rattle.call_slab.specs.declared.slots.Slot.{Slot}
+use Rattle.call_slab.specs.declared.links.Links.{Links}
 use Rattle.call_slab.specs.Calls.{links_of}
 use Rattle.answerbox.specs.declared.chains.Ends.{Ends}
 use Rattle.answerbox.specs.declared.chains.Chain.{Chain}

@@ -5,9 +5,10 @@ use Rattle.std.specs.FinMap.{FinMap, get}
 use Rattle.call_slab.specs.declared.call.Call.{Call}
 use Rattle.call_slab.specs.declared.call.Place.{Place}
 use Rattle.call_slab.specs.declared.call.Place.TheVariants.{Incoming, Dispatched, Answers}
-use Rattle.call_slab.specs.declared.calls.Slot.{Slot}
-use Rattle.call_slab.specs.declared.calls.Links.{Links}
-use Rattle.call_slab.specs.Calls.{CallsState, at_key, links_of}
+use Rattle.call_slab.specs.declared.slots.Slot.{Slot}
+use Rattle.call_slab.specs.declared.links.Links.{Links}
+use Rattle.call_slab.specs.Calls.{CallsState, links_of}
+use Rattle.call_slab.specs.Slots.{at_key}
 use Rattle.answerbox.specs.declared.chains.Ends.{Ends}
 use Rattle.answerbox.specs.declared.chains.Chain.{Chain}
 use Rattle.answerbox.specs.declared.chains.Chain.TheVariants.{Queue, Own}

@@ -3,8 +3,10 @@ use Rattle.std.specs.Prelude.{ℕ, ◌<◌, List, length, Option, None, Some, If
 use Rattle.std.specs.FinMap.{get, insert, remove}
 use Rattle.call_slab.specs.declared.call.Call.{Call}
 use Rattle.call_slab.specs.declared.call.Place.{Place}
-use Rattle.call_slab.specs.declared.calls.Slot.{Slot}
-use Rattle.call_slab.specs.Calls.{CallsState, at_key, call_of, links_of, no_links}
+use Rattle.call_slab.specs.declared.slots.Slot.{Slot}
+use Rattle.call_slab.specs.Calls.{CallsState, call_of, links_of}
+use Rattle.call_slab.specs.Links.{no_links}
+use Rattle.call_slab.specs.Slots.{at_key}
 use Rattle.answerbox.specs.declared.chains.Ends.{Ends}
 use Rattle.answerbox.specs.declared.chains.Chain.{Chain}
 use Rattle.answerbox.specs.declared.chains.Chain.TheVariants.{Queue, Own}

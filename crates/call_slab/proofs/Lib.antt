@@ -1,2 +1,3 @@
 mod Keyed
-mod Kept
+mod Live
+mod Pages

@@ -6,8 +6,10 @@ use Rattle.std.specs.FinMap.{FinMap, code, get, insert}
 use Rattle.std.specs.Option.{option_map_or}
 use Rattle.call_slab.specs.declared.call.Call.{Call}
 use Rattle.call_slab.specs.declared.call.Place.{Place}
-use Rattle.call_slab.specs.declared.calls.Slot.{Slot}
-use Rattle.call_slab.specs.declared.calls.Links.{Links}
+use Rattle.call_slab.specs.declared.slots.Slot.{Slot}
+use Rattle.call_slab.specs.declared.links.Links.{Links}
+use Rattle.call_slab.specs.Links.{no_links}
+use Rattle.call_slab.specs.Slots.{at_key}
 
 -- the slots by key, the keys by number, the greatest number so far, 0 at first, and for how many more
 -- calls there is room
@@ -40,10 +42,6 @@ IsUnder calls n key = name_at calls.slots key ≡ Some n
 abbrev pub HasNoCall : CallsState → ℕ → Type 0
 HasNoCall calls n = (key : ℕ) → IsUnder calls n key → ⊥
 
--- no neighbours
-abbrev pub no_links : Links
-no_links = record { before = None; after = None; older = None; newer = None }
-
 -- the call in a slot
 abbrev pub call_of : Option Slot → Option Call
 call_of slot = option_map (λ s. s.call) slot
@@ -63,10 +61,6 @@ put calls c key =
       slots = insert calls.slots key (record { name = c.number.0; call = c; links = no_links });
       keys = insert calls.keys c.number.0 key;
     }
-
--- the slot under this key changes
-abbrev pub at_key : (Slot → Slot) → FinMap nat_cmp Slot → ℕ → FinMap nat_cmp Slot
-at_key change slots key = option_map_or (λ s. insert slots key (change s)) (get slots key) slots
 
 -- the links of the call under this key are these
 abbrev pub set_links : CallsState → ℕ → Links → CallsState

@@ -6,78 +6,40 @@ ghost use Rattle.call_slab.specs.Change.{changed};
 
 use crate::call::{Call, Place};
 use crate::change::{Change, give};
-use indexmap::IndexMap;
+use crate::index::Index;
+use crate::links::{CallKey, Links};
+use crate::slots::Slots;
 use ipc_ids::{CallNo, NoMemory, Steps};
-use slab::Slab;
 use std::alloc::Global;
 use std::marker::Model;
 use std::sync::ledger::Ledger;
 
-/// The key of a live call: it stays the same until the call is taken out, and may then be given to
-/// another call. A contract sees it as the number.
-#[derive(Clone, Copy, Debug, PartialEq, Eq)]
-pub struct CallKey(usize);
-
-impl Model for CallKey {
-    ghost use Rattle.std.specs.Prelude.{ℕ};
-
-    ghost Value = { ℕ };
-
-    ghost view = { λ k. k.0 };
-
-    ghost inverse = { λ n. record { 0 = n } };
-}
-
-/// The neighbours of a call in the queue of its place and in the list of its caller's calls.
-#[derive(Clone, Copy, Debug, PartialEq, Eq)]
-pub struct Links {
-    /// Who came to the place just before it.
-    pub before: Option<CallKey>,
-    /// Who came to the place just after it.
-    pub after: Option<CallKey>,
-    /// The caller's live call with the next lower number.
-    pub older: Option<CallKey>,
-    /// The caller's live call with the next higher number.
-    pub newer: Option<CallKey>,
-}
-
-/// A call, the number under which it was put, and its links.
-#[derive(Drop)]
-pub struct Slot {
-    name: u64,
-    call: Call,
-    links: Links,
-}
-
 /// The live calls, with room for `spare` more.
 #[derive(Drop)]
 pub struct Calls {
-    slots: Slab<Slot>,
-    keys: IndexMap<u64, usize>,
+    slots: Slots,
+    keys: Index,
     // The greatest number under which a call was put.
     last: u64,
 }
 
 impl Model for Calls {
-    ghost use Rattle.std.specs.Prelude.{◌-◌, min};
-    ghost use Rattle.std.specs.FinMap.{from_entries, from_sorted};
-    ghost use Rattle.slab.specs.Slab.{slab_len, entries};
-    ghost use Rattle.indexmap.specs.IndexMap.{spare};
+    ghost use Rattle.std.specs.Prelude.{min};
     ghost use Rattle.call_slab.specs.Calls.{CallsState, calls_code, IsKeyed};
-    ghost use Rattle.call_slab.specs.contracts.calls.Slot as slot;
+    ghost use Rattle.call_slab.specs.contracts.slots.Slot as slot;
 
     ghost Value = { CallsState };
 
     ghost coded = { calls_code slot.the_row.coded };
 
     ghost view = { λ a. record {
-      slots = from_sorted (entries a.slots);
-      keys = from_entries a.keys.entries;
+      slots = a.slots.slots;
+      keys = a.keys.keys;
       last = a.last;
-      spare = min (a.slots.capacity - slab_len a.slots) (spare a.keys);
+      spare = min a.slots.spare a.keys.spare;
     } };
 
-    ghost invariant = { λ a. IsKeyed (from_sorted (entries a.slots)) (from_entries a.keys.entries) a.last };
+    ghost invariant = { λ a. IsKeyed a.slots.slots a.keys.keys a.last };
 }
 
 impl Calls {
@@ -95,15 +57,15 @@ impl Calls {
         ensures last { result.last ≡ 0 }
     {
         Calls {
-            slots: Slab::new(alloc),
-            keys: IndexMap::new(alloc),
+            slots: Slots::new(alloc),
+            keys: Index::new(alloc),
             last: 0,
         }
     }
 
     /// The allocator of the records, which a new call may use for its bytes.
     pub fn alloc(&self) -> Global {
-        *self.keys.allocator()
+        self.slots.alloc()
     }
 
     /// Makes room for `n` more calls.
@@ -118,13 +80,8 @@ impl Calls {
         ensures room { OnOk result (n ≤ self.new.spare) }
         ensures spare { self.old.spare ≤ self.new.spare }
     {
-        if self.slots.reserve(n).is_err() {
-            return Err(NoMemory);
-        }
-        if self.keys.reserve(n).is_err() {
-            return Err(NoMemory);
-        }
-        Ok(())
+        self.slots.reserve(n)?;
+        self.keys.reserve(n)
     }
 
     /// Puts a call under a key that no live call has, and under its number, with no links. Its
@@ -140,16 +97,10 @@ impl Calls {
         ensures spare { self.old.spare ≤ self.new.spare + 1 }
     {
         let name = call.number.0;
-        let links = Links {
-            before: None,
-            after: None,
-            older: None,
-            newer: None,
-        };
-        let key = self.slots.insert_reserved(Slot { name, call, links });
-        self.keys.insert(name, key).unwrap();
+        let key = self.slots.put(name, call);
+        self.keys.put(name, key);
         self.last = name;
-        CallKey(key)
+        key
     }
 
     /// The key of the live call that was put under this number; `None` exactly where no live call
@@ -161,10 +112,7 @@ impl Calls {
         ensures steps { steps.new ≡ steps.old + 1 }
     {
         steps.tick();
-        match self.keys.get(&number.0) {
-            Some(key) => Some(CallKey(*key)),
-            None => None,
-        }
+        self.keys.get(number.0)
     }
 
     /// The call under this key.
@@ -174,7 +122,7 @@ impl Calls {
         ensures steps { steps.new ≡ steps.old + 1 }
     {
         steps.tick();
-        &self.slots[key.0].call
+        self.slots.call(key)
     }
 
     /// The call under this key, to be written.
@@ -185,8 +133,7 @@ impl Calls {
         ensures steps { steps.new ≡ steps.old + 1 }
     {
         steps.tick();
-        let slot = &mut self.slots[key.0];
-        &mut slot.call
+        self.slots.call_mut(key)
     }
 
     /// The links of the call under this key.
@@ -196,7 +143,7 @@ impl Calls {
         ensures steps { steps.new ≡ steps.old + 1 }
     {
         steps.tick();
-        self.slots[key.0].links
+        self.slots.links(key)
     }
 
     /// Gives the call under this key these links.
@@ -206,7 +153,7 @@ impl Calls {
         ensures steps { steps.new ≡ steps.old + 1 }
     {
         steps.tick();
-        self.slots[key.0].links = links;
+        self.slots.set_links(key, links);
     }
 
     /// Takes the call out, which frees its key.
@@ -221,8 +168,8 @@ impl Calls {
         ensures steps { steps.new ≡ steps.old + 1 }
     {
         steps.tick();
-        let slot = self.slots.remove(key.0);
-        self.keys.swap_remove(&slot.name);
+        let slot = self.slots.take_out(key);
+        self.keys.remove(slot.name);
         slot.call
     }
 

@@ -7,7 +7,11 @@
 mod call;
 mod calls;
 mod change;
+mod index;
+mod links;
+mod slots;
 
 pub use call::{Call, Place};
-pub use calls::{CallKey, Calls, Links};
+pub use calls::Calls;
 pub use change::Change;
+pub use links::{CallKey, Links};
