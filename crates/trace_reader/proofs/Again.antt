@@ -8,13 +8,12 @@ use Rattle.std.proofs.lemmas.Bool.{lt-ltb, cases_eq, cases_lt}
 use Rattle.std.specs.Cmp.Lexicographic.{pointwise}
 use Rattle.std.proofs.lemmas.Fmt.{decimal_is_IsNumeral}
 use Rattle.std.proofs.lemmas.Grind.{common_steps}
-use Rattle.std.proofs.Math.Nat.{mod-eq_of_lt}
 use Rattle.ipc_ids.specs.declared.numbers.TaskNo.{TaskNo}
 use Rattle.ipc_ids.specs.declared.numbers.Label.{Label}
 use Rattle.ipc_ids.specs.declared.numbers.Code.{Code}
 use Rattle.ipc_ids.specs.Tables.{code_names, name_of}
 use Rattle.trace_print.specs.Text.{task_text, label_text, code_text, digit_text, digits_text, bytes_text, fibril_text}
-use Rattle.trace_reader.specs.Words.{part, before, number_after, number_of, small_of, task_of, label_of, named, code_or, code_of, digit_of, bytes_from, bytes_of, owner_of, fibril_of}
+use Rattle.trace_reader.specs.Words.{part, before, digit_on, number_after, number_of, small_of, task_of, label_of, named, code_or, code_of, digit_of, bytes_from, bytes_of, owner_of, fibril_of}
 use Rattle.trace_reader.specs.Words.{lacks}
 use Rattle.trace_reader.specs.Line.{AreBytes}
 use Rattle.ipc_ids.specs.declared.numbers.FibrilNo.{FibrilNo}
@@ -43,17 +42,14 @@ number_of_digits n (d ∷ ds) own small =
     fits : (n d k : ℕ) → n * 10 + d ≤ k → k < 2 ^ 64 → n * 10 + d < 2 ^ 64
     fits n d k h s = omega (arith, h, s)
 
-    digit_is : (d : ℕ) → digit_value d < 10 → d - 48 ≡ digit_value d
+    digit_is : (d : ℕ) → digit_value d < 10 → d ≡ digit_value d + 48
     digit_is d h = grind (arith, h)
 
-    tens : (n e : ℕ) → n * 10 + e < 2 ^ 64 → n * 10 < 2 ^ 64
-    tens n e h = omega (arith, h)
+    spelled : (n d e : ℕ) → d ≡ e + 48 → n * 10 + e < 2 ^ 64 → digit_on n d ≡ n * 10 + e
+    spelled n d e is h = omega (arith, is, h)
 
-    wrapped : (n d e : ℕ) → d ≡ e → n * 10 + e < 2 ^ 64 → (n * 10 % 2 ^ 64 + d) % 2 ^ 64 ≡ n * 10 + e
-    wrapped n d e is h = rw (mod-eq_of_lt (tens n e h), is, mod-eq_of_lt h) refl
-
-    no_wrap : (n d : ℕ) → digit_value d < 10 → n * 10 + digit_value d < 2 ^ 64 → (n * 10 % 2 ^ 64 + (d - 48)) % 2 ^ 64 ≡ n * 10 + digit_value d
-    no_wrap n d own h = wrapped n (d - 48) (digit_value d) (digit_is d own) h
+    no_wrap : (n d : ℕ) → digit_value d < 10 → n * 10 + digit_value d < 2 ^ 64 → digit_on n d ≡ n * 10 + digit_value d
+    no_wrap n d own h = spelled n d (digit_value d) (digit_is d own) h
 
 pub number_again : (n : ℕ) → n < 2 ^ 64 → number_of (decimal n) ≡ n
 unfolding number_of

@@ -8,3 +8,4 @@ pub mod ReadAgain
 pub mod Only
 pub mod Ranges
 pub mod Words
+pub mod Numbers

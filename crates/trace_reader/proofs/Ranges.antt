@@ -15,7 +15,7 @@ use Rattle.ipc_ids.specs.declared.message.Outcome.{Outcome}
 use Rattle.ipc_ids.specs.declared.message.Outcome.TheVariants as got
 use Rattle.ipc_ids.specs.declared.entry.Entry.{Entry}
 use Rattle.ipc_ids.specs.declared.entry.Entry.TheVariants as entry
-use Rattle.trace_reader.specs.Words.{part, number_after, number_of, small_of, task_of, label_of, find, code_or, code_of, digit_of, bytes_from, owner_of, fibril_of}
+use Rattle.trace_reader.specs.Words.{part, digit_on, number_after, number_of, small_of, task_of, label_of, find, code_or, code_of, digit_of, bytes_from, owner_of, fibril_of}
 use Rattle.trace_reader.specs.Line.{AreArgs, AreBytes, IsBuilt}
 use Rattle.trace_reader.specs.Read.{is, args_in, msg_in, reply_in, state_in, change_in, request_in, outcome_in, call_effect_in, gets_in, fibril_effect_in, effect_in, head_in, entry_in, nth, parts, read, IsPlain}
 
@@ -27,7 +27,7 @@ pick P false x y h k = k
 -- ---- numbers
 after_fits : (n : ℕ) (w : List ℕ) → n < 2 ^ 64 → number_after n w < 2 ^ 64
 after_fits n [] h = h
-after_fits n (c ∷ w) h = after_fits ((n * 10 % 2 ^ 64 + (c - 48)) % 2 ^ 64) w (wraps (n * 10 % 2 ^ 64 + (c - 48))) where
+after_fits n (c ∷ w) h = after_fits (digit_on n c) w (wraps ((n * 10 % 2 ^ 64 + c) % 2 ^ 64 + (2 ^ 64 - 48))) where
   wraps : (m : ℕ) → m % 2 ^ 64 < 2 ^ 64
   wraps m = mod-lt m (omega arith)
 

@@ -28,10 +28,14 @@ abbrev pub part : ℕ → ℕ → List ℕ → List ℕ
 part mark zero text = before mark text
 part mark (suc index) text = part mark index (behind mark text)
 
--- the number that these digits write when they follow those of n, as far as 64 bits have it
+-- the number that these digits and this one write, as far as 64 bits have it
+abbrev pub digit_on : ℕ → ℕ → ℕ
+digit_on n c = ((n * 10 % 2 ^ 64 + c) % 2 ^ 64 + (2 ^ 64 - 48)) % 2 ^ 64
+
+-- the number that these digits write when they follow those of n
 abbrev pub number_after : ℕ → List ℕ → ℕ
 number_after n [] = n
-number_after n (c ∷ word) = number_after ((n * 10 % 2 ^ 64 + (c - 48)) % 2 ^ 64) word
+number_after n (c ∷ word) = number_after (digit_on n c) word
 
 -- a number in decimal
 unfoldable pub number_of : List ℕ → ℕ

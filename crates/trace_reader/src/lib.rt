@@ -3,6 +3,7 @@
 #![tactic(auto)]
 
 mod asked;
+mod first_words;
 mod line;
 mod part;
 mod trace;

@@ -8,77 +8,77 @@ ghost use Rattle.ipc_ids.specs.declared.entry.Entry.{Entry};
 use crate::asked::{
     answerer_in, exchange_mode_in, outcome_in, request_in, slot_in, state_in, way_in, why_in,
 };
+use crate::first_words::Words;
 use crate::part::{
-    Words, code_of, fibril_of, first_line, label_of, number_of, owner_of, reply_at, small_of,
-    task_of, word,
+    code_of, fibril_of, first_line, is, label_of, number_of, owner_of, reply_at, small_of, task_of,
 };
 use ipc_ids::{CallNo, Entry, ExchangeNo, Reply, StoreNo};
 use trace_print::Comparison;
 
 fn call_end_in(line: &Words) -> Entry
-    ensures { result ≡ call_end_in (nth (texts line.now.items)) }
+    ensures { result ≡ call_end_in (nth (texts line.now)) }
 {
-    let call = CallNo(number_of(word(line, 3)));
-    let kind = word(line, 4);
-    if kind == b"vanished".as_slice() {
+    let call = CallNo(number_of(line.word(3)));
+    let kind = line.word(4);
+    if is(kind, b"vanished") {
         return Entry::Vanished(call);
     }
-    if kind == b"delivered".as_slice() {
+    if is(kind, b"delivered") {
         return Entry::Delivered {
             call,
-            to: task_of(word(line, 5)),
+            to: task_of(line.word(5)),
         };
     }
-    if kind == b"dropped".as_slice() {
+    if is(kind, b"dropped") {
         return Entry::Dropped {
             call,
-            at: task_of(word(line, 5)),
+            at: task_of(line.word(5)),
         };
     }
     Entry::Forgotten(call)
 }
 
 fn call_effect_in(line: &Words) -> Entry
-    ensures { result ≡ call_effect_in (nth (texts line.now.items)) }
+    ensures { result ≡ call_effect_in (nth (texts line.now)) }
 {
-    let call = CallNo(number_of(word(line, 3)));
-    let kind = word(line, 4);
-    if kind == b"accepted".as_slice() {
+    let call = CallNo(number_of(line.word(3)));
+    let kind = line.word(4);
+    if is(kind, b"accepted") {
         return Entry::Accepted {
             call,
-            from: label_of(word(line, 5)),
-            method: number_of(word(line, 7)),
-            to: way_in(word(line, 8), word(line, 9)),
+            from: label_of(line.word(5)),
+            method: number_of(line.word(7)),
+            to: way_in(line.word(8), line.word(9)),
         };
     }
-    if kind == b"received".as_slice() {
+    if is(kind, b"received") {
         return Entry::Received {
             call,
-            by: task_of(word(line, 5)),
+            by: task_of(line.word(5)),
         };
     }
-    if kind == b"forwarded".as_slice() {
+    if is(kind, b"forwarded") {
         return Entry::Forwarded {
             call,
-            by: task_of(word(line, 5)),
-            to: task_of(word(line, 7)),
-            label: label_of(word(line, 9)),
+            by: task_of(line.word(5)),
+            to: task_of(line.word(7)),
+            label: label_of(line.word(9)),
         };
     }
-    if kind == b"answered".as_slice() {
+    if is(kind, b"answered") {
         return Entry::Answered {
             call,
             reply: reply_at(line, 5),
-            by: answerer_in(word(line, 12)),
+            by: answerer_in(line.word(12)),
         };
     }
     call_end_in(line)
 }
 
 fn gets_in(line: &Words) -> Reply
-    ensures { result ≡ gets_in (nth (texts line.now.items)) }
+    ensures { result ≡ gets_in (nth (texts line.now)) }
 {
-    if word(line, 5) == b"slot".as_slice() {
+    if is(line.word(5), b"slot") {
         reply_at(line, 7)
     } else {
         reply_at(line, 6)
@@ -86,154 +86,154 @@ fn gets_in(line: &Words) -> Reply
 }
 
 fn ends_in(line: &Words) -> Entry
-    ensures { result ≡ ends_in (nth (texts line.now.items)) }
+    ensures { result ≡ ends_in (nth (texts line.now)) }
 {
-    let task = owner_of(word(line, 2));
-    let fibril = fibril_of(word(line, 2));
-    if word(line, 4).is_empty() {
+    let task = owner_of(line.word(2));
+    let fibril = fibril_of(line.word(2));
+    if line.word(4).is_empty() {
         return Entry::Ends { task, fibril };
     }
     Entry::ExchangeEnds {
         task,
         fibril,
-        exchange: ExchangeNo(number_of(word(line, 5))),
+        exchange: ExchangeNo(number_of(line.word(5))),
     }
 }
 
 fn exchange_effect_in(line: &Words) -> Entry
-    ensures { result ≡ exchange_effect_in (nth (texts line.now.items)) }
+    ensures { result ≡ exchange_effect_in (nth (texts line.now)) }
 {
-    let task = owner_of(word(line, 2));
-    let fibril = fibril_of(word(line, 2));
-    let kind = word(line, 3);
-    if kind == b"ends".as_slice() {
+    let task = owner_of(line.word(2));
+    let fibril = fibril_of(line.word(2));
+    let kind = line.word(3);
+    if is(kind, b"ends") {
         return ends_in(line);
     }
-    if kind == b"begins".as_slice() {
+    if is(kind, b"begins") {
         return Entry::Begins {
             task,
             fibril,
-            exchange: ExchangeNo(number_of(word(line, 5))),
-            mode: exchange_mode_in(word(line, 6)),
-            session: small_of(word(line, 8)),
-            phone: number_of(word(line, 10)),
+            exchange: ExchangeNo(number_of(line.word(5))),
+            mode: exchange_mode_in(line.word(6)),
+            session: small_of(line.word(8)),
+            phone: number_of(line.word(10)),
         };
     }
-    if kind == b"drops".as_slice() {
+    if is(kind, b"drops") {
         return Entry::Drops {
             task,
             fibril,
-            exchange: ExchangeNo(number_of(word(line, 5))),
+            exchange: ExchangeNo(number_of(line.word(5))),
         };
     }
     Entry::RefusedOp {
         task,
         fibril,
-        code: code_of(word(line, 4)),
+        code: code_of(line.word(4)),
     }
 }
 
 fn fibril_effect_in(line: &Words) -> Entry
-    ensures { result ≡ fibril_effect_in (nth (texts line.now.items)) }
+    ensures { result ≡ fibril_effect_in (nth (texts line.now)) }
 {
-    let task = owner_of(word(line, 2));
-    let fibril = fibril_of(word(line, 2));
-    let kind = word(line, 3);
-    if kind == b"sent".as_slice() {
+    let task = owner_of(line.word(2));
+    let fibril = fibril_of(line.word(2));
+    let kind = line.word(3);
+    if is(kind, b"sent") {
         return Entry::Sent {
             task,
             fibril,
-            call: CallNo(number_of(word(line, 4))),
-            slot: slot_in(word(line, 5), word(line, 6)),
+            call: CallNo(number_of(line.word(4))),
+            slot: slot_in(line.word(5), line.word(6)),
         };
     }
-    if kind == b"gets".as_slice() {
+    if is(kind, b"gets") {
         return Entry::Gets {
             task,
             fibril,
-            call: CallNo(number_of(word(line, 4))),
-            slot: slot_in(word(line, 5), word(line, 6)),
+            call: CallNo(number_of(line.word(4))),
+            slot: slot_in(line.word(5), line.word(6)),
             reply: gets_in(line),
         };
     }
-    if kind == b"blocks".as_slice() {
+    if is(kind, b"blocks") {
         return Entry::Blocks {
             task,
             fibril,
             why: why_in(line),
         };
     }
-    if kind == b"starts".as_slice() {
+    if is(kind, b"starts") {
         return Entry::Starts {
             task,
             fibril,
-            label: label_of(word(line, 4)),
+            label: label_of(line.word(4)),
         };
     }
     exchange_effect_in(line)
 }
 
 fn effect_in(line: &Words) -> Entry
-    ensures { result ≡ effect_in (nth (texts line.now.items)) }
+    ensures { result ≡ effect_in (nth (texts line.now)) }
 {
-    let kind = word(line, 2);
-    if kind == b"=".as_slice() {
+    let kind = line.word(2);
+    if is(kind, b"=") {
         return Entry::Outcome(outcome_in(line));
     }
-    if kind == b"call".as_slice() {
+    if is(kind, b"call") {
         return call_effect_in(line);
     }
-    if kind == b"phone".as_slice() {
+    if is(kind, b"phone") {
         return Entry::PhoneIs {
-            phone: label_of(word(line, 3)),
+            phone: label_of(line.word(3)),
             state: state_in(line),
         };
     }
-    if kind == b"area".as_slice() {
+    if is(kind, b"area") {
         return Entry::AreaMade {
-            task: task_of(word(line, 3)),
-            base: number_of(word(line, 4)),
-            pages: number_of(word(line, 5)),
-            rights: number_of(word(line, 6)),
-            store: StoreNo(number_of(word(line, 8))),
+            task: task_of(line.word(3)),
+            base: number_of(line.word(4)),
+            pages: number_of(line.word(5)),
+            rights: number_of(line.word(6)),
+            store: StoreNo(number_of(line.word(8))),
         };
     }
-    if kind == b"unarea".as_slice() {
+    if is(kind, b"unarea") {
         return Entry::AreaGone {
-            task: task_of(word(line, 3)),
-            base: number_of(word(line, 4)),
+            task: task_of(line.word(3)),
+            base: number_of(line.word(4)),
         };
     }
-    if kind == b"write".as_slice() {
+    if is(kind, b"write") {
         return Entry::Wrote {
-            task: task_of(word(line, 3)),
-            at: number_of(word(line, 4)),
-            count: number_of(word(line, 5)),
-            store: StoreNo(number_of(word(line, 7))),
+            task: task_of(line.word(3)),
+            at: number_of(line.word(4)),
+            count: number_of(line.word(5)),
+            store: StoreNo(number_of(line.word(7))),
         };
     }
     fibril_effect_in(line)
 }
 
 fn head_in(line: &Words) -> Entry
-    ensures { result ≡ head_in (nth (texts line.now.items)) }
+    ensures { result ≡ head_in (nth (texts line.now)) }
 {
-    if word(line, 0) == b"kill".as_slice() {
-        return Entry::Kill(task_of(word(line, 1)));
+    if is(line.word(0), b"kill") {
+        return Entry::Kill(task_of(line.word(1)));
     }
-    if word(line, 0) == b"spawn".as_slice() {
-        return Entry::Spawn(task_of(word(line, 1)));
+    if is(line.word(0), b"spawn") {
+        return Entry::Spawn(task_of(line.word(1)));
     }
-    if word(line, 1) == b"ended".as_slice() {
-        return Entry::Gone(task_of(word(line, 0)));
+    if is(line.word(1), b"ended") {
+        return Entry::Gone(task_of(line.word(0)));
     }
-    Entry::Head(task_of(word(line, 0)), request_in(line))
+    Entry::Head(task_of(line.word(0)), request_in(line))
 }
 
-fn entry_in(line: &Words) -> Entry
-    ensures { result ≡ entry_in (nth (texts line.now.items)) }
+pub fn entry_in(line: &Words) -> Entry
+    ensures { result ≡ entry_in (nth (texts line.now)) }
 {
-    if word(line, 0).is_empty() {
+    if line.word(0).is_empty() {
         effect_in(line)
     } else {
         head_in(line)
@@ -241,8 +241,8 @@ fn entry_in(line: &Words) -> Entry
 }
 
 /// The entry whose text is this line, which has these words, and a line feed.
-pub fn entry_of<'a>(words: &Words, line: &'a [u8], comparison: &mut Comparison<'a>) -> Option<Entry>
-    requires { HasWords (texts words.now.items) line.now }
+fn entry_of<'a>(words: &Words, line: &'a [u8], comparison: &mut Comparison<'a>) -> Option<Entry>
+    requires { HasWords (texts words.now) line.now }
     ensures some { IfSome result (λ e. text_of_entry e ≡ line.now ++ 10 ∷ []) }
     ensures built { IfSome result (λ e. IsBuilt e) }
     ensures none { IfNone result ((e : Entry) → IsBuilt e → text_of_entry e ≡ line.now ++ 10 ∷ []

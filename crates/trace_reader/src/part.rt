@@ -1,9 +1,10 @@
 //! The parts of a line. Each reader gives something for any bytes; what it gives counts only where
 //! the entry's own text is the line.
-ghost use Rattle.std.specs.Prelude.{◌≡◌, ◌≤◌, ◌<◌, ◌==◌, ℕ, [], length};
-ghost use Rattle.trace_reader.specs.Words.{part, number_of, small_of, task_of, label_of, code_of, named, find, rows, before, behind, owner_of, fibril_of, digit_of, bytes_of};
-ghost use Rattle.trace_reader.specs.Read.{HasWords, args_in, msg_in, reply_in, nth, texts};
+ghost use Rattle.std.specs.Prelude.{◌≡◌, ◌≤◌, ◌<◌, ◌==◌, ◌+◌, ◌*◌, ℕ, [], length, drop};
+ghost use Rattle.trace_reader.specs.Words.{number_after, number_of, small_of, task_of, label_of, code_of, named, find, rows, before, behind, owner_of, fibril_of, digit_of, bytes_of};
+ghost use Rattle.trace_reader.specs.Read.{HasWords, is, args_in, msg_in, reply_in, nth, texts};
 
+use crate::first_words::Words;
 use arrayvec::ArrayVec;
 use ipc_ids::{Code, FibrilNo, Label, Msg, PhoneNo, Reply, Short, TaskNo};
 
@@ -36,21 +37,34 @@ fn cut(text: &[u8], mark: u8) -> (&[u8], &[u8])
     }
 }
 
-/// The part of the text with this index, as it is cut at each mark.
-pub fn part(text: &[u8], mark: u8, index: usize) -> &[u8]
-    ensures { result.now ≡ part mark index text.now }
+/// Goes past bytes that end no word, since they are above a space, and tells how many. It stops at the
+/// first other one, or near the end.
+#[inline(always)]
+fn length_above_space(text: &[u8]) -> usize
+    ensures skips { result + length (before 32 (before 10 (drop result text.now)))
+        ≡ length (before 32 (before 10 text.now)) }
+    ensures within { result ≤ length text.now }
 {
+    let mut count = 0;
     let mut rest = text;
-    let mut left = index;
-    while left > 0 {
-        rest = cut(rest, mark).1;
-        left -= 1;
+    while let [a, b, c, d, behind @ ..] = rest {
+        if *a <= b' ' {
+            return count;
+        }
+        if *b <= b' ' {
+            return count + 1;
+        }
+        if *c <= b' ' {
+            return count + 2;
+        }
+        if *d <= b' ' {
+            return count + 3;
+        }
+        count += 4;
+        rest = behind;
     }
-    cut(rest, mark).0
+    count
 }
-
-/// The first words of a line, as it is cut at each space. No entry has more than thirteen.
-pub type Words<'a> = ArrayVec<&'a [u8], 13>;
 
 /// How many bytes stand before the first space or line feed.
 fn length_of_word(text: &[u8]) -> usize
@@ -59,7 +73,7 @@ fn length_of_word(text: &[u8]) -> usize
 {
     let mut count = 0;
     for byte in text {
-        if *byte <= b' ' && (*byte == b' ' || *byte == b'\n') {
+        if *byte == b' ' || *byte == b'\n' {
             return count;
         }
         count += 1;
@@ -70,47 +84,89 @@ fn length_of_word(text: &[u8]) -> usize
 /// Adds the first words of the line that the bytes begin with, and tells how many bytes that line
 /// has: all of them, where there is no line feed.
 pub fn first_line<'a>(bytes: &'a [u8], words: &mut Words<'a>) -> usize
-    requires { words.old.items ≡ [] }
-    ensures words { HasWords (texts words.new.items) (before 10 bytes.now) }
+    requires { words.old ≡ [] }
+    ensures words { HasWords (texts words.new) (before 10 bytes.now) }
     ensures length { result ≡ length (before 10 bytes.now) }
     ensures within { result ≤ length bytes.now }
 {
     let mut rest = bytes;
-    let mut left = 13u64;
-    while left > 0 {
-        let count = length_of_word(rest);
+    while !words.is_full() {
+        let count = length_above_space(rest);
+        if count < rest.len() && rest[count] == b' ' {
+            words.push(&rest[..count]);
+            rest = &rest[count + 1..];
+            continue;
+        }
+        // The line ends here, or goes on with a byte that no entry's text has.
+        let count = count + length_of_word(&rest[count..]);
         words.push(&rest[..count]);
         if count == rest.len() || rest[count] == b'\n' {
             return bytes.len() - rest.len() + count;
         }
         rest = &rest[count + 1..];
-        left -= 1;
     }
     bytes.len() - rest.len() + length_before(rest, b'\n')
 }
 
-/// The word with this index; no bytes where there is none.
-pub fn word<'a>(line: &Words<'a>, index: usize) -> &'a [u8]
-    ensures { result.now ≡ nth (texts line.now.items) index }
+/// Whether the word is this one. It is compared byte by byte: where `name` is known when the code is
+/// compiled, no loop is left.
+#[inline(always)]
+pub fn is(word: &[u8], name: &[u8]) -> bool
+    ensures { result ≡ is word.now name.now }
 {
-    match line.as_slice().get(index) {
-        Some(word) => word,
-        None => &[],
+    if word.len() != name.len() {
+        return false;
+    }
+    for i in 0..name.len() {
+        if word[i] != name[i] {
+            return false;
+        }
+    }
+    true
+}
+
+/// The number that these digits spell behind those of a number, two at a time. A zero is the byte 48,
+/// so two of them come to 528, which is taken off.
+#[inline(always)]
+fn number_after(start: u64, digits: &[u8]) -> u64
+    ensures { result ≡ number_after start digits.now }
+{
+    let mut number = start;
+    let mut rest = digits;
+    while let [a, b, behind @ ..] = rest {
+        number = number
+            .wrapping_mul(100)
+            .wrapping_add(u64::from(*a) * 10 + u64::from(*b))
+            .wrapping_sub(528);
+        rest = behind;
+    }
+    match rest {
+        [last, ..] => number
+            .wrapping_mul(10)
+            .wrapping_add(u64::from(*last))
+            .wrapping_sub(48),
+        [] => number,
     }
 }
 
-/// The number that digits spell, as far as 64 bits have it; something for any other bytes.
+/// The number that digits spell, as far as 64 bits have it; something for any other bytes. It takes
+/// four digits at a time, and then what is left.
 #[tactic(auto, unfolding(crate::specs::Words::number_of))]
 pub fn number_of(word: &[u8]) -> u64
     ensures { result ≡ number_of word.now }
 {
     let mut number = 0u64;
-    for byte in word {
+    let mut rest = word;
+    while let [a, b, c, d, behind @ ..] = rest {
+        let high = u64::from(*a) * 10 + u64::from(*b);
+        let low = u64::from(*c) * 10 + u64::from(*d);
         number = number
-            .wrapping_mul(10)
-            .wrapping_add(u64::from(*byte).saturating_sub(48));
+            .wrapping_mul(10_000)
+            .wrapping_add(high * 100 + low)
+            .wrapping_sub(53_328);
+        rest = behind;
     }
-    number
+    number_after(number, rest)
 }
 
 pub fn small_of(word: &[u8]) -> u32
@@ -136,9 +192,11 @@ pub fn task_of(word: &[u8]) -> TaskNo
 pub fn label_of(word: &[u8]) -> Label
     ensures { result ≡ label_of word.now }
 {
+    let (task, behind) = cut(word, b'.');
+    let (phone, _) = cut(behind, b'.');
     Label {
-        task: task_of(part(word, b'.', 0)),
-        phone: PhoneNo(small_of(part(word, b'.', 1))),
+        task: task_of(task),
+        phone: PhoneNo(small_of(phone)),
     }
 }
 
@@ -159,7 +217,7 @@ fn look_up(table: &[(&[u8], u64)], word: &[u8]) -> Option<u64>
     ensures { result ≡ find (rows table.now) word.now }
 {
     for (name, value) in table {
-        if *name == word {
+        if is(name, word) {
             return Some(*value);
         }
     }
@@ -184,33 +242,33 @@ pub fn code_of(word: &[u8]) -> Code
 /// Five numbers, in the words from this one on.
 fn args_at(line: &Words, first: usize) -> [u64; 5]
     requires { first ≤ 17 }
-    ensures { result ≡ args_in (nth (texts line.now.items)) first }
+    ensures { result ≡ args_in (nth (texts line.now)) first }
 {
     [
-        number_of(word(line, first)),
-        number_of(word(line, first + 1)),
-        number_of(word(line, first + 2)),
-        number_of(word(line, first + 3)),
-        number_of(word(line, first + 4)),
+        number_of(line.word(first)),
+        number_of(line.word(first + 1)),
+        number_of(line.word(first + 2)),
+        number_of(line.word(first + 3)),
+        number_of(line.word(first + 4)),
     ]
 }
 
 pub fn msg_at(line: &Words, first: usize) -> Msg
     requires { first ≤ 16 }
-    ensures { result ≡ msg_in (nth (texts line.now.items)) first }
+    ensures { result ≡ msg_in (nth (texts line.now)) first }
 {
     Msg {
-        method: number_of(word(line, first)),
+        method: number_of(line.word(first)),
         args: args_at(line, first + 1),
     }
 }
 
 pub fn reply_at(line: &Words, first: usize) -> Reply
     requires { first ≤ 16 }
-    ensures { result ≡ reply_in (nth (texts line.now.items)) first }
+    ensures { result ≡ reply_in (nth (texts line.now)) first }
 {
     Reply {
-        code: code_of(word(line, first)),
+        code: code_of(line.word(first)),
         args: args_at(line, first + 1),
     }
 }
@@ -219,13 +277,13 @@ pub fn reply_at(line: &Words, first: usize) -> Reply
 pub fn owner_of(word: &[u8]) -> TaskNo
     ensures { result ≡ owner_of word.now }
 {
-    task_of(part(word, b'/', 0))
+    task_of(cut(word, b'/').0)
 }
 
 pub fn fibril_of(word: &[u8]) -> FibrilNo
     ensures { result ≡ fibril_of word.now }
 {
-    FibrilNo(number_of(part(word, b'/', 1)))
+    FibrilNo(number_of(cut(cut(word, b'/').1, b'/').0))
 }
 
 /// What a digit is worth.

@@ -5,8 +5,9 @@ ghost use Rattle.trace_print.specs.Text.{text_of, text_of_entry};
 ghost use Rattle.trace_reader.specs.Line.{IsBuilt};
 ghost use Rattle.trace_reader.specs.Trace.{IsFirstBad, IsTrace, AreBuilt, IsNoLine, IsOnly};
 
-use crate::line::entry_of;
-use crate::part::{Words, first_line};
+use crate::first_words::Words;
+use crate::line::entry_in;
+use crate::part::first_line;
 use ipc_ids::{Entry, NoMemory, Trace};
 use std::alloc::Global;
 use trace_print::Comparison;
@@ -23,6 +24,7 @@ pub enum TraceFault {
 /// What reads entries one after the other. It takes no memory.
 #[derive(Drop)]
 pub struct Reader<'a> {
+    words: Words<'a>,
     comparison: Comparison<'a>,
 }
 
@@ -30,6 +32,7 @@ impl<'a> Reader<'a> {
     /// Before the first entry.
     pub fn new() -> Reader<'a> {
         Reader {
+            words: Words::new(),
             comparison: Comparison::new(),
         }
     }
@@ -42,14 +45,16 @@ impl<'a> Reader<'a> {
         ensures shorter { IfSome result (λ first. length first.1.now < length bytes.now) }
         ensures none { IfNone result (IsNoLine bytes.now) }
     {
-        let mut words = Words::new();
-        let count = first_line(bytes, &mut words);
+        self.words.clear();
+        let count = first_line(bytes, &mut self.words);
         if count == bytes.len() {
             return None;
         }
-        match entry_of(&words, &bytes[..count], &mut self.comparison) {
-            Some(entry) => Some((entry, &bytes[count + 1..])),
-            None => None,
+        let entry = entry_in(&self.words);
+        if self.comparison.is_of(&entry, &bytes[..count]) {
+            Some((entry, &bytes[count + 1..]))
+        } else {
+            None
         }
     }
 }

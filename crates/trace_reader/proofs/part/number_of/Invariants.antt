@@ -1,6 +1,9 @@
-use Rattle.std.proofs.Common.{◌≡◌, drop}
+use Rattle.std.proofs.Common.{◌≡◌, length}
 use Rattle.trace_reader.specs.Words.{number_after}
 use Rattle.trace_reader.proofs.part.number_of.Given as goal
 
-abbrev pub invariant-loop-byte : goal.invariant-loop-byte
-invariant-loop-byte l = number_after l.number (drop l.byte-index l.word) ≡ number_after 0 l.word
+abbrev pub invariant-loop-rest : goal.invariant-loop-rest
+invariant-loop-rest l = number_after l.number l.rest ≡ number_after 0 l.word
+
+abbrev pub decreases-loop-rest : goal.decreases-loop-rest
+decreases-loop-rest l = length l.rest
