@@ -1,5 +1,5 @@
 -- The keys by number as they stand in pages of eight numbers.
-use Rattle.std.specs.Prelude.{◌≡◌, ℕ, zero, suc, ◌+◌, ◌*◌, nat_eq, List, [], ◌∷◌, ◌++◌, Option, None, Some, replicate, slice_index_or, refl}
+use Rattle.std.specs.Prelude.{◌≡◌, ℕ, zero, suc, ◌+◌, ◌*◌, false, nat_eq, cond, List, [], ◌∷◌, ◌++◌, Option, None, Some, replicate, slice_index_or, refl}
 use Rattle.std.specs.Coded.{Coded, code_by, coded×, coded_ℕ}
 use Rattle.std.specs.Ordering.{nat_cmp}
 use Rattle.std.specs.FinMap.{FinMap, code, from_entries}
@@ -30,6 +30,38 @@ key_at (Some page) lane = key_in page lane
 -- the page of no calls
 abbrev pub no_calls : Page
 no_calls = record { keys = replicate 8 4294967295 }
+
+-- the lane has this key, and the others keep theirs
+abbrev pub SetsLane : ℕ → Option ℕ → Page → Page → Type 0
+SetsLane lane key old new = (n : ℕ) → key_in new n ≡ cond (nat_eq lane n) key (key_in old n)
+
+-- the lanes of this page that may be there have the keys of that one
+abbrev pub HoldsPage : Option Page → Page → Type 0
+HoldsPage found page = (lane : ℕ) → key_at found lane ≡ key_in page lane
+
+-- and the other way round
+abbrev pub IsPageOf : Page → Option Page → Type 0
+IsPageOf page found = (lane : ℕ) → key_in page lane ≡ key_at found lane
+
+-- no lane has a key
+abbrev pub HasNoCalls : Option Page → Type 0
+HasNoCalls found = (lane : ℕ) → key_at found lane ≡ None
+
+-- the other lanes keep their keys
+abbrev pub LanesStay : ℕ → Option Page → Option Page → Type 0
+LanesStay lane old new = (n : ℕ) → nat_eq lane n ≡ false → key_at new n ≡ key_at old n
+
+-- the pages under the other numbers stay
+abbrev pub PagesStay : ℕ → (ℕ → Option Page) → (ℕ → Option Page) → Type 0
+PagesStay number old new = (n : ℕ) → nat_eq number n ≡ false → new n ≡ old n
+
+-- the pages without the one under this number
+abbrev pub without : ℕ → (ℕ → Option Page) → ℕ → Option Page
+without number pages n = cond (nat_eq number n) None (pages n)
+
+-- these pages are those
+abbrev pub AreThose : (ℕ → Option Page) → (ℕ → Option Page) → Type 0
+AreThose pages others = (n : ℕ) → pages n ≡ others n
 
 -- the entries with one more, if there is a key
 abbrev pub with_key : ℕ → Option ℕ → List (ℕ × ℕ) → List (ℕ × ℕ)

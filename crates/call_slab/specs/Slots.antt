@@ -9,6 +9,7 @@ use Rattle.slab.specs.Slab as slab
 use Rattle.call_slab.specs.declared.call.Call.{Call}
 use Rattle.call_slab.specs.declared.slots.Slot.{Slot}
 use Rattle.call_slab.specs.declared.links.Links.{Links}
+use Rattle.call_slab.specs.Links.{no_links}
 
 -- the slots by key, and how many are ready for a call
 pub record SlotsState : Type 0 where
@@ -33,6 +34,10 @@ vacancy (Some s) = if s.name == 0 then 1 else 0
 pub record AreReady (s : Slab Slot) (ready : List ℕ) : Type 0 where
   pub once : (key : ℕ) → count_by (nat_eq key) ready ≤ vacancy (slab.get s key)
   pub small : (key : ℕ) → IsSome (slab.get s key) → key < 4294967295
+
+-- a slot with this number and this call, with no links
+abbrev pub slot_with : ℕ → Call → Slot
+slot_with name call = record { name = name; call = call; links = no_links }
 
 -- the slot under this key changes
 abbrev pub at_key : (Slot → Slot) → FinMap nat_cmp Slot → ℕ → FinMap nat_cmp Slot

@@ -1,10 +1,6 @@
 //! The record of a call, as `call_t` of HelenOS, and the queues of an answerbox.
 
-ghost use Rattle.std.specs.Prelude.{◌≡◌};
-
-use ipc_ids::{Buffer, CallNo, Code, Label, Msg, PhoneNo, Reply, TaskNo};
-use std::alloc::Global;
-use std::mem::replace;
+use ipc_ids::{Buffer, CallNo, Label, Msg, Reply, TaskNo};
 
 /// A queue of a task's answerbox.
 #[derive(Clone, Copy, Debug, PartialEq, Eq)]
@@ -41,56 +37,4 @@ pub struct Call {
     pub place: Place,
     /// When the call came to its place: greater than that of every call that came before.
     pub stamp: u64,
-}
-
-impl Call {
-    /// What stands where there is no call.
-    pub(crate) fn none(alloc: Global) -> Call {
-        let label = Label {
-            task: TaskNo(0),
-            phone: PhoneNo(0),
-        };
-        let msg = Msg {
-            method: 0,
-            args: [0; 5],
-        };
-        Call {
-            number: CallNo(0),
-            caller: None,
-            from: label,
-            label,
-            request: msg,
-            msg,
-            reply: Reply {
-                code: Code(0),
-                args: [0; 5],
-            },
-            discard: false,
-            buffer: Buffer::new(alloc),
-            reserved: None,
-            place: Place::Answers(TaskNo(0)),
-            stamp: 0,
-        }
-    }
-
-    /// Takes the call, with its bytes, out of a record that has no more use.
-    #[inline(always)]
-    pub(crate) fn take(&mut self, alloc: Global) -> Call
-        ensures { result ≡ self.old }
-    {
-        Call {
-            number: self.number,
-            caller: self.caller,
-            from: self.from,
-            label: self.label,
-            request: self.request,
-            msg: self.msg,
-            reply: self.reply,
-            discard: self.discard,
-            buffer: replace(&mut self.buffer, Buffer::new(alloc)),
-            reserved: self.reserved,
-            place: self.place,
-            stamp: self.stamp,
-        }
-    }
 }

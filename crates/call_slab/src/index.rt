@@ -7,6 +7,7 @@ ghost use Rattle.std.specs.FinMap.{empty, insert, remove};
 ghost use Rattle.std.specs.FinMap as fin;
 ghost use Rattle.indexmap.specs.IndexMap.{get, spare, IsUnique};
 ghost use Rattle.call_slab.specs.Index.{key_in, key_at, no_calls};
+ghost use Rattle.call_slab.specs.Index.{AreThose, HasNoCalls, HoldsPage, IsPageOf, LanesStay, PagesStay, SetsLane, without};
 
 use crate::links::{CallKey, NO_KEY, kept, link};
 use indexmap::IndexMap;
@@ -44,7 +45,7 @@ impl Page {
     #[inline(always)]
     fn set(&mut self, lane: usize, key: Option<CallKey>)
         requires { lane < 8 }
-        ensures { (n : ℕ) → key_in self.new n ≡ (if nat_eq lane n then key else key_in self.old n) }
+        ensures { SetsLane lane key self.old self.new }
     {
         self.keys[lane] = kept(key);
     }
@@ -178,11 +179,10 @@ fn key_among(pages: &IndexMap<u64, Page>, number: u64, lane: usize) -> Option<Ca
 #[inline(never)]
 fn turn_page(pages: &mut IndexMap<u64, Page>, from: u64, page: Page, to: u64) -> Page
     requires room { 0 < spare pages.old }
-    requires other { nat_eq from to ≡ false }
     requires apart { get nat_eq pages.old from ≡ None }
-    ensures page { (lane : ℕ) → key_in result lane ≡ key_at (get nat_eq pages.old to) lane }
-    ensures put { (lane : ℕ) → key_at (get nat_eq pages.new from) lane ≡ key_in page lane }
-    ensures others { (n : ℕ) → nat_eq from n ≡ false → get nat_eq pages.new n ≡ (if nat_eq to n then None else get nat_eq pages.old n) }
+    ensures page { IsPageOf result (get nat_eq pages.old to) }
+    ensures put { HoldsPage (get nat_eq pages.new from) page }
+    ensures others { PagesStay from (without to (get nat_eq pages.old)) (get nat_eq pages.new) }
     ensures unique { IsUnique nat_eq pages.new }
     ensures spare { spare pages.old ≤ spare pages.new + 1 }
 {
@@ -193,8 +193,8 @@ fn turn_page(pages: &mut IndexMap<u64, Page>, from: u64, page: Page, to: u64) ->
 
 /// Takes this page out; it has no calls where it is not there.
 fn take_page(pages: &mut IndexMap<u64, Page>, number: u64) -> Page
-    ensures page { (lane : ℕ) → key_in result lane ≡ key_at (get nat_eq pages.old number) lane }
-    ensures pages { (n : ℕ) → get nat_eq pages.new n ≡ (if nat_eq number n then None else get nat_eq pages.old n) }
+    ensures page { IsPageOf result (get nat_eq pages.old number) }
+    ensures pages { AreThose (get nat_eq pages.new) (without number (get nat_eq pages.old)) }
     ensures unique { IsUnique nat_eq pages.new }
     ensures spare { spare pages.old ≤ spare pages.new }
 {
@@ -209,8 +209,8 @@ fn keep_page(pages: &mut IndexMap<u64, Page>, number: u64, page: Page)
     requires room { 0 < spare pages.old }
     requires new { get nat_eq pages.old number ≡ None }
     requires unique { IsUnique nat_eq pages.old }
-    ensures page { (lane : ℕ) → key_at (get nat_eq pages.new number) lane ≡ key_in page lane }
-    ensures others { (n : ℕ) → nat_eq number n ≡ false → get nat_eq pages.new n ≡ get nat_eq pages.old n }
+    ensures page { HoldsPage (get nat_eq pages.new number) page }
+    ensures others { PagesStay number (get nat_eq pages.old) (get nat_eq pages.new) }
     ensures unique { IsUnique nat_eq pages.new }
     ensures spare { spare pages.old ≤ spare pages.new + 1 }
 {
@@ -224,8 +224,8 @@ fn keep_page(pages: &mut IndexMap<u64, Page>, number: u64, page: Page)
 fn clear_among(pages: &mut IndexMap<u64, Page>, number: u64, lane: usize)
     requires { lane < 8 }
     ensures lane { key_at (get nat_eq pages.new number) lane ≡ None }
-    ensures lanes { (n : ℕ) → nat_eq lane n ≡ false → key_at (get nat_eq pages.new number) n ≡ key_at (get nat_eq pages.old number) n }
-    ensures others { (n : ℕ) → nat_eq number n ≡ false → get nat_eq pages.new n ≡ get nat_eq pages.old n }
+    ensures lanes { LanesStay lane (get nat_eq pages.old number) (get nat_eq pages.new number) }
+    ensures others { PagesStay number (get nat_eq pages.old) (get nat_eq pages.new) }
     ensures unique { IsUnique nat_eq pages.new }
     ensures spare { spare pages.old ≤ spare pages.new }
 {
@@ -238,9 +238,9 @@ fn clear_among(pages: &mut IndexMap<u64, Page>, number: u64, lane: usize)
 fn clear_lane(pages: &mut IndexMap<u64, Page>, number: u64, lane: usize) -> bool
     requires { lane < 8 }
     ensures lane { key_at (get nat_eq pages.new number) lane ≡ None }
-    ensures lanes { (n : ℕ) → nat_eq lane n ≡ false → key_at (get nat_eq pages.new number) n ≡ key_at (get nat_eq pages.old number) n }
-    ensures others { (n : ℕ) → nat_eq number n ≡ false → get nat_eq pages.new n ≡ get nat_eq pages.old n }
-    ensures empty { IsTrue result → (n : ℕ) → key_at (get nat_eq pages.new number) n ≡ None }
+    ensures lanes { LanesStay lane (get nat_eq pages.old number) (get nat_eq pages.new number) }
+    ensures others { PagesStay number (get nat_eq pages.old) (get nat_eq pages.new) }
+    ensures empty { IsTrue result → HasNoCalls (get nat_eq pages.new number) }
     ensures unique { IsUnique nat_eq pages.new }
     ensures spare { spare pages.old ≤ spare pages.new }
 {

@@ -2,12 +2,11 @@
 ghost use Rattle.std.specs.Prelude.{◌≡◌, ◌+◌, ◌<◌, ◌≤◌, None, Some, IsSome, OnOk};
 ghost use Rattle.std.specs.FinMap.{empty, get, insert, remove};
 ghost use Rattle.call_slab.specs.Calls.{call_of, links_of};
-ghost use Rattle.call_slab.specs.Links.{no_links};
-ghost use Rattle.call_slab.specs.Slots.{with_links};
+ghost use Rattle.call_slab.specs.Slots.{slot_with, with_links};
 
-use crate::call::Call;
+use crate::call::{Call, Place};
 use crate::links::{CallKey, KeptLinks, Links, NO_KEY};
-use ipc_ids::NoMemory;
+use ipc_ids::{Buffer, CallNo, Code, Label, Msg, NoMemory, PhoneNo, Reply, TaskNo};
 use slab::Slab;
 use std::alloc::Global;
 use std::marker::Model;
@@ -29,7 +28,7 @@ impl Slot {
     {
         Slot {
             name: 0,
-            call: Call::none(alloc),
+            call: no_call(alloc),
             links: KeptLinks::none(),
         }
     }
@@ -42,9 +41,59 @@ impl Slot {
     {
         Slot {
             name: replace(&mut self.name, 0),
-            call: self.call.take(alloc),
+            call: take(&mut self.call, alloc),
             links: self.links.same(),
         }
+    }
+}
+
+/// What stands where there is no call.
+fn no_call(alloc: Global) -> Call {
+    let label = Label {
+        task: TaskNo(0),
+        phone: PhoneNo(0),
+    };
+    let msg = Msg {
+        method: 0,
+        args: [0; 5],
+    };
+    Call {
+        number: CallNo(0),
+        caller: None,
+        from: label,
+        label,
+        request: msg,
+        msg,
+        reply: Reply {
+            code: Code(0),
+            args: [0; 5],
+        },
+        discard: false,
+        buffer: Buffer::new(alloc),
+        reserved: None,
+        place: Place::Answers(TaskNo(0)),
+        stamp: 0,
+    }
+}
+
+/// Takes the call, with its bytes, out of a record that has no more use.
+#[inline(always)]
+fn take(call: &mut Call, alloc: Global) -> Call
+    ensures { result ≡ call.old }
+{
+    Call {
+        number: call.number,
+        caller: call.caller,
+        from: call.from,
+        label: call.label,
+        request: call.request,
+        msg: call.msg,
+        reply: call.reply,
+        discard: call.discard,
+        buffer: replace(&mut call.buffer, Buffer::new(alloc)),
+        reserved: call.reserved,
+        place: call.place,
+        stamp: call.stamp,
     }
 }
 
@@ -76,8 +125,7 @@ impl Slots {
     ghost use Rattle.std.specs.Borrow.{sem};
     ghost use Rattle.std.specs.FinMap.{empty, get, insert, remove};
     ghost use Rattle.call_slab.specs.Calls.{call_of, links_of};
-    ghost use Rattle.call_slab.specs.Links.{no_links};
-    ghost use Rattle.call_slab.specs.Slots.{with_links};
+    ghost use Rattle.call_slab.specs.Slots.{slot_with, with_links};
     ghost use Rattle.call_slab.specs.Lends.{lends_slot_call};
 
     /// No slots; it takes no memory.
@@ -139,7 +187,7 @@ impl Slots {
         requires room { 0 < self.old.spare }
         requires named { 0 < name }
         ensures fresh { get self.old.slots result ≡ None }
-        ensures slots { self.new.slots ≡ insert self.old.slots result (record { name = name; call = call; links = no_links }) }
+        ensures slots { self.new.slots ≡ insert self.old.slots result (slot_with name call) }
         ensures spare { self.new.spare + 1 ≡ self.old.spare }
     {
         let key = self.ready.pop().unwrap();

@@ -5,6 +5,7 @@
 //! says goes into the registers.
 #![tactic(auto)]
 
+mod operations;
 mod raw;
 
 pub use raw::RawProgram;

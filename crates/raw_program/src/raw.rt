@@ -9,6 +9,7 @@ ghost use Rattle.raw_program.specs.Raw.{with_register, with_five, at_next, at_pl
 ghost use Rattle.raw_program.specs.Raw.{after_outcome, after_at};
 ghost use Rattle.raw_program.specs.Raw.{wanted, after, entries, taken};
 
+use crate::operations::Operations;
 use ipc_ids::{Code, Msg, NoMemory, Op, Outcome, Program, Reply, Request, Trace, Value};
 use std::alloc::Global;
 use std::marker::Model;
@@ -16,7 +17,7 @@ use std::marker::Model;
 /// Operations, the number of the next one, the registers `r0` to `r31`, and how many outcomes came.
 #[derive(Drop)]
 pub struct RawProgram {
-    ops: Vec<Op>,
+    ops: Operations,
     place: usize,
     registers: [u64; 32],
     taken: u64,
@@ -28,7 +29,7 @@ impl Model for RawProgram {
     ghost Value = { RawState };
 
     ghost view = { λ a. record {
-      ops = a.ops.items;
+      ops = a.ops;
       place = a.place;
       registers = a.registers;
       taken = a.taken;
@@ -81,7 +82,7 @@ impl RawProgram {
         ensures { IfOk result (λ raw. raw ≡ started ops.now) }
     {
         Ok(RawProgram {
-            ops: copies_of(alloc, ops)?,
+            ops: Operations::copy_of(alloc, ops)?,
             place: 0,
             registers: [0; 32],
             taken: 0,
@@ -311,39 +312,6 @@ impl RawProgram {
     {
         self.place = to as usize;
     }
-}
-
-/// Each operation once more.
-fn copies_of(alloc: Global, ops: &[Op]) -> Result<Vec<Op>, NoMemory>
-    ensures { IfOk result (λ copies. copies.items ≡ ops.now) }
-{
-    let mut copies = Vec::with_capacity(alloc, ops.len())?;
-    for op in ops {
-        push_copy(&mut copies, op)?;
-    }
-    Ok(copies)
-}
-
-/// Adds the same operation once more. A call, the commonest one, is copied in place.
-#[inline(always)]
-fn push_copy(copies: &mut Vec<Op>, op: &Op) -> Result<(), NoMemory>
-    ensures { OnOk result (copies.new.items ≡ copies.old.items ++ op.now ∷ []) }
-{
-    if let Op::Call {
-        phone,
-        method,
-        args,
-    } = op
-    {
-        copies.push(Op::Call {
-            phone: *phone,
-            method: *method,
-            args: *args,
-        })?;
-        return Ok(());
-    }
-    copies.push(op.copy())?;
-    Ok(())
 }
 
 fn value_in(registers: &[u64], value: Value) -> u64
