@@ -1,4 +1,5 @@
 pub mod AreaLaw
+pub mod Buffer
 pub mod Codes
 pub mod Digits
 pub mod Doings
