@@ -30,7 +30,7 @@ pub length_ended : (o : FibrilOrder) → length (end_current o).fibrils ≡ leng
 length_ended o = ended_by (first_with Ready o.fibrils) where
   ended_by : (q : Option Fibril) → length (found_over o q).fibrils ≡ length o.fibrils
   ended_by None = refl
-  ended_by (Some x) = length_put o (record { number = x.number; status = Ended; stamp = x.stamp })
+  ended_by (Some x) = length_put o (record { number = x.number; status = Ended; stamp = 0 })
 
 length_times : (n : ℕ) (o : FibrilOrder) (w : Why) → length (wake_times n o w).fibrils ≡ length o.fibrils
 length_times zero o w = refl

@@ -4,5 +4,6 @@ pub mod Firsts
 pub mod Live
 pub mod Orders
 pub mod Places
+pub mod Rebuilt
 pub mod Searches
 pub mod Waking

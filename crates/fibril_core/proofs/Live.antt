@@ -1,17 +1,22 @@
 -- A search over the fibrils that have not ended finds what a search over all finds, and a change of one fibril changes
 -- both lists alike.
-use Rattle.std.proofs.Common.{◌≡◌, ℕ, zero, suc, ◌+◌, ◌-◌, ◌<◌, ◌≤◌, Bool, true, false, List, [], ◌∷◌, ◌++◌, fold, take, drop, length, Option, Some, None, refl, ap, sym, ◌∙◌, subst, arith}
+use Rattle.std.proofs.Common.{◌≡◌, ℕ, zero, suc, ◌+◌, ◌-◌, ◌<◌, ◌≤◌, Bool, true, false, List, [], ◌∷◌, ◌++◌, fold, take, drop, length, get_or, Option, Some, None, Err, ◌⊎◌, inl, inr, refl, ap, sym, ◌∙◌, arith}
 use Rattle.std.specs.Prelude.{◌==◌, if◌then◌else◌, map, slice_get, slice_set, nat_lt, IsSome}
 use Rattle.std.specs.List.{filter}
-use Rattle.std.proofs.lemmas.Bool.{eq-eqb, ne_eqb}
+use Rattle.std.specs.List.Sorted.{IsNonDecreasingBy, IsBinarySearchResult}
+use Rattle.std.specs.Ordering.{nat_cmp, ordering_index}
+use Rattle.std.proofs.lemmas.Cmp.{ranked}
+use Rattle.std.proofs.lemmas.List.Kept.{IsNonDecreasingBy-filter}
+use Rattle.std.proofs.lemmas.Option.{slice_get-get_or, get_or_from_slice_get}
+use Rattle.std.proofs.lemmas.Bool.{cases_lt, eq-eqb, ne_eqb}
 use Rattle.std.proofs.lemmas.Bool.Decides.{nat_tests}
 use Rattle.ipc_ids.specs.declared.numbers.FibrilNo.{FibrilNo}
 use Rattle.fibril_core.specs.declared.fibrils.Status.{Status}
 use Rattle.fibril_core.specs.declared.fibrils.Status.TheVariants.{Ready, Blocked, Ended}
 use Rattle.fibril_core.specs.declared.fibrils.Fibril.{Fibril}
-use Rattle.fibril_core.specs.Fibrils.{FibrilOrder, same_status, sooner, first_with, number_of, fibril_at, why_at, why_of}
-use Rattle.fibril_core.specs.LiveFibrils.{goes_on, is_live, GoesOn, AreNumbered, AreLive, put_in, replaced, is_other}
-use Rattle.fibril_core.proofs.Places.{within, length_set}
+use Rattle.fibril_core.specs.Fibrils.{FibrilOrder, same_status, sooner, first_with, fibril_at, why_in, why_at, why_of}
+use Rattle.fibril_core.specs.LiveFibrils.{goes_on, is_live, GoesOn, AreNumbered, AreLive, replaced, is_other}
+use Rattle.fibril_core.proofs.Places.{within}
 use Rattle.fibril_core.proofs.Firsts.{first_there, same_status_is}
 
 -- searches
@@ -138,6 +143,10 @@ is_less i n h = grind (arith, nat_tests)
 before_suc : (i : ℕ) → suc i - 1 ≡ i
 before_suc i = omega arith
 
+-- the record stands under its number, where there is a fibril of this number
+abbrev pub put_in : List Fibril → Fibril → List Fibril
+put_in xs x = if nat_lt (x.number.0 - 1) (length xs) then slice_set xs (x.number.0 - 1) x else xs
+
 -- where the fibril stands, one record less its number
 put_at : (xs : List Fibril) (i : ℕ) (y : Fibril) → y.number.0 ≡ suc i → i < length xs → put_in xs y ≡ slice_set xs i y
 put_at xs i y number less = rw (number, before_suc i, is_less i (length xs) less) refl
@@ -190,17 +199,8 @@ length_map : (y : Fibril) (xs : List Fibril) → length (map (replaced y) xs) �
 length_map y [] = refl
 length_map y (x ∷ xs) = ap suc (length_map y xs)
 
-length_put_in : (xs : List Fibril) (y : Fibril) → length (put_in xs y) ≡ length xs
-length_put_in xs y = put_by (nat_lt (y.number.0 - 1) (length xs)) where
-  put_by : (b : Bool) → length (if b then slice_set xs (y.number.0 - 1) y else xs) ≡ length xs
-  put_by true = length_set xs (y.number.0 - 1) y
-  put_by false = refl
-
 pub written_map : (new xs : List Fibril) (y : Fibril) (n : ℕ) → new ≡ map (replaced y) xs → length xs ≡ n → take n (new ++ drop (length new) xs) ≡ map (replaced y) xs
 written_map new xs y n e h = rw e (written (map (replaced y) xs) xs n (length_map y xs ∙ h) h)
-
-pub written_put : (new xs : List Fibril) (y : Fibril) (n : ℕ) → new ≡ put_in xs y → length xs ≡ n → take n (new ++ drop (length new) xs) ≡ put_in xs y
-written_put new xs y n e h = rw e (written (put_in xs y) xs n (length_put_in xs y ∙ h) h)
 
 -- which fibrils have not ended
 
@@ -213,12 +213,6 @@ found_goes_on live o s x are goes e =
     let number : x.number.0 ≡ suc one.place = without_zero x.number.0 one.place (numbered_at 0 o.fibrils one.place x are.numbered one.there) in
     rw (number, one.there) (going x s goes one.status)
 
-pub number_goes_on : (live : List Fibril) (o : FibrilOrder) (s : Status) (f : FibrilNo) → AreLive live o.fibrils → goes_on s ≡ true → number_of (first_with s o.fibrils) ≡ Some f → GoesOn (fibril_at o f.0)
-number_goes_on live o s f are goes e = by (first_with s o.fibrils) refl e where
-  by : (q : Option Fibril) → first_with s o.fibrils ≡ q → number_of q ≡ Some f → GoesOn (fibril_at o f.0)
-  by None is h = absurd (cc h)
-  by (Some x) is h = let same : x.number ≡ f = cc in subst (λ (g : FibrilNo). GoesOn (fibril_at o g.0)) same (found_goes_on live o s x are goes is)
-
 pub blocked_goes_on : (o : FibrilOrder) (f : FibrilNo) → IsSome (why_of o f) → GoesOn (fibril_at o f.0)
 blocked_goes_on o f h = by (fibril_at o f.0) h where
   blocked_by : (x : Fibril) (s : Status) → x.status ≡ s → IsSome (why_at (Some x)) → is_live x ≡ true
@@ -229,3 +223,81 @@ blocked_goes_on o f h = by (fibril_at o f.0) h where
   by : (q : Option Fibril) → IsSome (why_at q) → GoesOn q
   by None h = absurd (cc h)
   by (Some x) h = blocked_by x x.status refl h
+
+-- where a fibril stands
+record Place (xs : List Fibril) (x : Fibril) : Type 0 where
+  place : ℕ
+  there : slice_get xs place ≡ Some x
+
+behind : (z : Fibril) (xs : List Fibril) (x : Fibril) → Place xs x → Place (z ∷ xs) x
+behind z xs x p = record { place = suc p.place; there = p.there }
+
+in_all : (xs : List Fibril) (i : ℕ) (x : Fibril) → slice_get (filter is_live xs) i ≡ Some x → Place xs x
+in_all [] i x there = absurd (cc there)
+in_all (z ∷ xs) i x there = by (is_live z) i (λ j. in_all xs j x) there where
+  by : (b : Bool) (j : ℕ) → ((k : ℕ) → slice_get (filter is_live xs) k ≡ Some x → Place xs x) → slice_get (if b then z ∷ filter is_live xs else filter is_live xs) j ≡ Some x → Place (z ∷ xs) x
+  by true zero rest h = record { place = 0; there = h }
+  by true (suc j) rest h = behind z xs x (rest j h)
+  by false j rest h = behind z xs x (rest j h)
+
+in_live : (xs : List Fibril) (i : ℕ) (x : Fibril) → slice_get xs i ≡ Some x → is_live x ≡ true → Place (filter is_live xs) x
+in_live [] i x there lives = absurd (cc there)
+in_live (z ∷ xs) zero x there lives = let same : z ≡ x = cc in let is : is_live z ≡ true = rw same lives in rw is (record { place = 0; there = there })
+in_live (z ∷ xs) (suc i) x there lives = by (is_live z) (in_live xs i x there lives) where
+  by : (b : Bool) → Place (filter is_live xs) x → Place (if b then z ∷ filter is_live xs else filter is_live xs) x
+  by true p = behind z (filter is_live xs) x p
+  by false p = p
+
+-- the numbers of those that have not ended rise
+
+all_rise : (xs : List Fibril) → AreNumbered 0 xs → IsNonDecreasingBy (λ x. x.number.0) xs
+all_rise xs are i j d less within =
+    let first = numbered_at 0 xs i (get_or xs i d) are (slice_get-get_or xs i d (omega arith)) in
+    let second = numbered_at 0 xs j (get_or xs j d) are (slice_get-get_or xs j d within) in omega arith
+
+live_rise : (live xs : List Fibril) → AreLive live xs → IsNonDecreasingBy (λ x. x.number.0) live
+live_rise live xs are = rw are.those (IsNonDecreasingBy-filter (λ (x : Fibril). x.number.0) is_live xs (all_rise xs are.numbered))
+
+pub compared_rise : (live xs : List Fibril) (n : ℕ) → AreLive live xs → IsNonDecreasingBy (λ x. ordering_index (nat_cmp x.number.0 n)) live
+compared_rise live xs n are i j d less within =
+    let rise = live_rise live xs are i j d less within in grind (arith, nat_tests)
+
+-- what a fibril is blocked on is what its record among those says, where it is among them
+
+pub why_here : (live : List Fibril) (o : FibrilOrder) (n i : ℕ) (d : Fibril) → AreLive live o.fibrils → i < length live → (get_or live i d).number.0 ≡ n → why_at (fibril_at o n) ≡ why_in (get_or live i d).status
+why_here live o n i d are less is =
+    let x = get_or live i d in
+    let one = in_all o.fibrils i x (ap (λ (l : List Fibril). slice_get l i) (sym are.those) ∙ slice_get-get_or live i d less) in
+    let number : n ≡ suc one.place = sym is ∙ without_zero x.number.0 one.place (numbered_at 0 o.fibrils one.place x are.numbered one.there) in
+    rw (number, one.there) refl
+
+why_over : (x : Fibril) → is_live x ≡ false → why_in x.status ≡ None
+why_over x e = by x.status e where
+  by : (s : Status) → goes_on s ≡ false → why_in s ≡ None
+  by Ready h = refl
+  by (Blocked w) h = absurd (cc h)
+  by Ended h = refl
+
+pub why_nowhere : (live : List Fibril) (o : FibrilOrder) (n : ℕ) (d : Fibril) → AreLive live o.fibrils → ((k : ℕ) → k < length live → (get_or live k d).number.0 ≡ n → ⊥) → why_at (fibril_at o n) ≡ None
+why_nowhere live o zero d are none = refl
+why_nowhere live o (suc i) d are none = by (slice_get o.fibrils i) refl where
+  lives_by : (x : Fibril) (b : Bool) → slice_get o.fibrils i ≡ Some x → is_live x ≡ b → why_in x.status ≡ None
+  lives_by x false there e = why_over x e
+  lives_by x true there e =
+      let one = in_live o.fibrils i x there e in
+      let at : slice_get live one.place ≡ Some x = ap (λ (l : List Fibril). slice_get l one.place) are.those ∙ one.there in
+      let number = without_zero x.number.0 i (numbered_at 0 o.fibrils i x are.numbered there) in
+      absurd (none one.place (within live one.place x at) (ap (λ (y : Fibril). y.number.0) (get_or_from_slice_get live one.place x d at) ∙ number))
+
+  by : (q : Option Fibril) → slice_get o.fibrils i ≡ q → why_at q ≡ None
+  by None e = refl
+  by (Some x) e = lives_by x (is_live x) e refl
+
+pub why_searched : (live : List Fibril) (o : FibrilOrder) (n k : ℕ) → AreLive live o.fibrils → IsBinarySearchResult (λ x. nat_cmp x.number.0 n) live (Err k) → why_at (fibril_at o n) ≡ None
+why_searched live o n k are found =
+    let d : Fibril = record { number = record { 0 = 0 }; status = Ended; stamp = 0 } in
+    let parts = found (compared_rise live o.fibrils n are) in
+    why_nowhere live o n d are (λ i h is. by i (cases_lt i k) (λ less. ranked _ n _ (sym (parts.0 i d (omega arith) less))) (λ more. ranked _ n _ (sym (parts.1 i d more h))) is) where
+      by : {m : ℕ} (i : ℕ) → (i < k) ⊎ (k ≤ i) → (i < k → m < n) → (k ≤ i → n < m) → m ≡ n → ⊥
+      by i (inl h) below above e = let l = below h in omega arith
+      by i (inr h) below above e = let l = above h in omega arith

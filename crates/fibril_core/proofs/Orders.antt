@@ -8,6 +8,7 @@ use Rattle.fibril_core.specs.declared.fibrils.Status.TheVariants.{Ready, Ended}
 use Rattle.fibril_core.specs.declared.fibrils.Fibril.{Fibril}
 use Rattle.fibril_core.specs.Fibrils.{FibrilOrder, no_fibrils, same_status, first_with, number_of, fibril_at, why_at, why_of, spawned, put_fibril, with_status, make_ready, found_with, found_over, end_current}
 use Rattle.fibril_core.specs.FibrilLaws.{status_in, status_of, stamp_in, stamp_of, IsSound, IsFirst, HasNone, Becomes}
+use Rattle.fibril_core.specs.LiveFibrils.{is_live}
 use Rattle.fibril_core.proofs.Places.{set_here, set_elsewhere, which, which_pushed, within}
 use Rattle.fibril_core.proofs.Firsts.{same_status_is, status_is_same, first_there, first_least, first_none}
 
@@ -65,11 +66,11 @@ no_number o s e = none_by (first_with s o.fibrils) refl e where
   none_by (Some x) is h = absurd (cc h)
 
 -- a fibril changes, with a stamp that no other has
-pub sound_set : (o : FibrilOrder) (i : ℕ) (y : Fibril) (next : ℕ) → IsSound o → i < length o.fibrils → y.number.0 ≡ i + 1 → y.stamp < next → o.next_stamp ≤ next → ((j : ℕ) (x : Fibril) → slice_get o.fibrils j ≡ Some x → x.stamp ≡ y.stamp → j ≡ i) → IsSound (record { fibrils = slice_set o.fibrils i y; next_stamp = next })
+pub sound_set : (o : FibrilOrder) (i : ℕ) (y : Fibril) (next : ℕ) → IsSound o → i < length o.fibrils → y.number.0 ≡ i + 1 → y.stamp < next → o.next_stamp ≤ next → ((j : ℕ) (x : Fibril) → slice_get o.fibrils j ≡ Some x → is_live x ≡ true → is_live y ≡ true → x.stamp ≡ y.stamp → j ≡ i) → IsSound (record { fibrils = slice_set o.fibrils i y; next_stamp = next })
 sound_set o i y next sound h number below later own = record {
   numbered = λ j x there. numbered_by j x (which o.fibrils i j y x h there);
   stamped = λ j x there. stamped_by j x (which o.fibrils i j y x h there);
-  apart = λ j k a b s t e. apart_by j k a b (which o.fibrils i j y a h s) (which o.fibrils i k y b h t) e;
+  apart = λ j k a b s t d c e. apart_by j k a b (which o.fibrils i j y a h s) (which o.fibrils i k y b h t) d c e;
 } where
   numbered_by : (j : ℕ) (x : Fibril) → ((j ≡ i) × (y ≡ x)) ⊎ ((j ≢ i) × (slice_get o.fibrils j ≡ Some x)) → x.number.0 ≡ j + 1
   numbered_by j x (inl h) = rw (← h.1, h.0) number
@@ -79,11 +80,11 @@ sound_set o i y next sound h number below later own = record {
   stamped_by j x (inl h) = rw (← h.1) below
   stamped_by j x (inr h) = let less = sound.stamped j x h.1 in omega arith
 
-  apart_by : (j k : ℕ) (a b : Fibril) → ((j ≡ i) × (y ≡ a)) ⊎ ((j ≢ i) × (slice_get o.fibrils j ≡ Some a)) → ((k ≡ i) × (y ≡ b)) ⊎ ((k ≢ i) × (slice_get o.fibrils k ≡ Some b)) → a.stamp ≡ b.stamp → j ≡ k
-  apart_by j k a b (inl g) (inl h) e = g.0 ∙ sym h.0
-  apart_by j k a b (inl g) (inr h) e = g.0 ∙ sym (own k b h.1 (sym e ∙ ap (λ (x : Fibril). x.stamp) (sym g.1)))
-  apart_by j k a b (inr g) (inl h) e = own j a g.1 (e ∙ ap (λ (x : Fibril). x.stamp) (sym h.1)) ∙ sym h.0
-  apart_by j k a b (inr g) (inr h) e = sound.apart j k a b g.1 h.1 e
+  apart_by : (j k : ℕ) (a b : Fibril) → ((j ≡ i) × (y ≡ a)) ⊎ ((j ≢ i) × (slice_get o.fibrils j ≡ Some a)) → ((k ≡ i) × (y ≡ b)) ⊎ ((k ≢ i) × (slice_get o.fibrils k ≡ Some b)) → is_live a ≡ true → is_live b ≡ true → a.stamp ≡ b.stamp → j ≡ k
+  apart_by j k a b (inl g) (inl h) d c e = g.0 ∙ sym h.0
+  apart_by j k a b (inl g) (inr h) d c e = g.0 ∙ sym (own k b h.1 c (rw g.1 d) (sym e ∙ ap (λ (x : Fibril). x.stamp) (sym g.1)))
+  apart_by j k a b (inr g) (inl h) d c e = own j a g.1 d (rw h.1 c) (e ∙ ap (λ (x : Fibril). x.stamp) (sym h.1)) ∙ sym h.0
+  apart_by j k a b (inr g) (inr h) d c e = sound.apart j k a b g.1 h.1 d c e
 
 -- no fibril has the next stamp
 no_next : (o : FibrilOrder) → IsSound o → (i j : ℕ) (x : Fibril) → slice_get o.fibrils j ≡ Some x → x.stamp ≡ o.next_stamp → j ≡ i
@@ -103,7 +104,7 @@ sound_status_at : (o : FibrilOrder) (n : ℕ) (s : Status) (x : Fibril) → IsSo
 sound_status_at o zero s x sound there = absurd (cc there)
 sound_status_at o (suc i) s x sound there =
     let h = within o.fibrils i x there in
-    subst (λ (p : FibrilOrder). IsSound p) (sym (status_set o i s h)) (sound_set o i (record { number = record { 0 = suc i }; status = s; stamp = o.next_stamp }) (o.next_stamp + 1) sound h (by_suc i) (omega arith) (omega arith) (no_next o sound i))
+    subst (λ (p : FibrilOrder). IsSound p) (sym (status_set o i s h)) (sound_set o i (record { number = record { 0 = suc i }; status = s; stamp = o.next_stamp }) (o.next_stamp + 1) sound h (by_suc i) (omega arith) (omega arith) (λ j z that d c e. no_next o sound i j z that e))
 
 pub sound_status : (o : FibrilOrder) (f : FibrilNo) (s : Status) (x : Fibril) → IsSound o → fibril_at o f.0 ≡ Some x → IsSound (with_status o f s)
 sound_status o f s x sound there = sound_status_at o f.0 s x sound there
@@ -153,13 +154,13 @@ found_becomes o s new f sound e =
     subst (λ (q : Option FibrilNo). Becomes o (found_with o new q) f.0 new) (sym e) (becomes o f new there.fibril sound there.there)
 
 pub sound_none : IsSound no_fibrils
-sound_none = record { numbered = λ i x h. absurd (cc h); stamped = λ i x h. absurd (cc h); apart = λ i j x y g h e. absurd (cc g) }
+sound_none = record { numbered = λ i x h. absurd (cc h); stamped = λ i x h. absurd (cc h); apart = λ i j x y g h d c e. absurd (cc g) }
 
 pub sound_spawned : (o : FibrilOrder) → IsSound o → IsSound (spawned o)
 sound_spawned o sound = let y : Fibril = record { number = record { 0 = length o.fibrils + 1 }; status = Ready; stamp = o.next_stamp } in record {
   numbered = λ j x there. numbered_by j x (which_pushed o.fibrils j y x there);
   stamped = λ j x there. stamped_by j x (which_pushed o.fibrils j y x there);
-  apart = λ j k a b s t e. apart_by j k a b (which_pushed o.fibrils j y a s) (which_pushed o.fibrils k y b t) e;
+  apart = λ j k a b s t d c e. apart_by j k a b (which_pushed o.fibrils j y a s) (which_pushed o.fibrils k y b t) d c e;
 } where
   new : Fibril
   new = record { number = record { 0 = length o.fibrils + 1 }; status = Ready; stamp = o.next_stamp }
@@ -172,20 +173,24 @@ sound_spawned o sound = let y : Fibril = record { number = record { 0 = length o
   stamped_by j x (inl h) = rw (← h.1) (omega arith)
   stamped_by j x (inr h) = let less = sound.stamped j x h in omega arith
 
-  apart_by : (j k : ℕ) (a b : Fibril) → ((j ≡ length o.fibrils) × (new ≡ a)) ⊎ (slice_get o.fibrils j ≡ Some a) → ((k ≡ length o.fibrils) × (new ≡ b)) ⊎ (slice_get o.fibrils k ≡ Some b) → a.stamp ≡ b.stamp → j ≡ k
-  apart_by j k a b (inl g) (inl h) e = g.0 ∙ sym h.0
-  apart_by j k a b (inl g) (inr h) e = sym (no_next o sound j k b h (sym e ∙ ap (λ (x : Fibril). x.stamp) (sym g.1)))
-  apart_by j k a b (inr g) (inl h) e = no_next o sound k j a g (e ∙ ap (λ (x : Fibril). x.stamp) (sym h.1))
-  apart_by j k a b (inr g) (inr h) e = sound.apart j k a b g h e
+  apart_by : (j k : ℕ) (a b : Fibril) → ((j ≡ length o.fibrils) × (new ≡ a)) ⊎ (slice_get o.fibrils j ≡ Some a) → ((k ≡ length o.fibrils) × (new ≡ b)) ⊎ (slice_get o.fibrils k ≡ Some b) → is_live a ≡ true → is_live b ≡ true → a.stamp ≡ b.stamp → j ≡ k
+  apart_by j k a b (inl g) (inl h) d c e = g.0 ∙ sym h.0
+  apart_by j k a b (inl g) (inr h) d c e = sym (no_next o sound j k b h (sym e ∙ ap (λ (x : Fibril). x.stamp) (sym g.1)))
+  apart_by j k a b (inr g) (inl h) d c e = no_next o sound k j a g (e ∙ ap (λ (x : Fibril). x.stamp) (sym h.1))
+  apart_by j k a b (inr g) (inr h) d c e = sound.apart j k a b g h d c e
 
--- the present fibril ends and keeps its stamp
+-- a stamp was given where a fibril is there
+some_stamp : (o : FibrilOrder) (i : ℕ) (x : Fibril) → IsSound o → slice_get o.fibrils i ≡ Some x → 0 < o.next_stamp
+some_stamp o i x sound there = let less = sound.stamped i x there in omega arith
+
+-- the present fibril ends
 pub sound_ended : (o : FibrilOrder) → IsSound o → IsSound (end_current o)
 sound_ended o sound = sound_by (first_with Ready o.fibrils) refl where
-  ended_at : (x : Fibril) (n : ℕ) → x.number.0 ≡ n → fibril_at o n ≡ Some x → IsSound (put_fibril o (record { number = record { 0 = n }; status = Ended; stamp = x.stamp }))
+  ended_at : (x : Fibril) (n : ℕ) → x.number.0 ≡ n → fibril_at o n ≡ Some x → IsSound (put_fibril o (record { number = record { 0 = n }; status = Ended; stamp = 0 }))
   ended_at x zero e there = absurd (cc there)
   ended_at x (suc i) e there =
       let h = within o.fibrils i x there in
-      rw (before_suc i, is_less i (length o.fibrils) h) (sound_set o i (record { number = record { 0 = suc i }; status = Ended; stamp = x.stamp }) o.next_stamp sound h (by_suc i) (sound.stamped i x there) (omega arith) (λ j y that same. sound.apart j i y x that there same))
+      rw (before_suc i, is_less i (length o.fibrils) h) (sound_set o i (record { number = record { 0 = suc i }; status = Ended; stamp = 0 }) o.next_stamp sound h (by_suc i) (some_stamp o i x sound there) (omega arith) (λ j y that d c same. absurd (cc c)))
 
   sound_by : (q : Option Fibril) → first_with Ready o.fibrils ≡ q → IsSound (found_over o q)
   sound_by None e = sound

@@ -102,14 +102,14 @@ begins o w sound = record {
   order = λ m n h g e f l. absurd (both h e);
 }
 
--- two that are there have different stamps
-differ : (q : FibrilOrder) (m n : ℕ) (s t : Status) → IsSound q → status_of q m ≡ Some s → status_of q n ≡ Some t → stamp_of q m ≡ stamp_of q n → m ≡ n
-differ q zero n s t sound h g e = absurd (cc h)
-differ q (suc i) zero s t sound h g e = absurd (cc g)
-differ q (suc i) (suc j) s t sound h g e =
-    let a = has (slice_get q.fibrils i) s h in
-    let b = has (slice_get q.fibrils j) t g in
-    ap suc (sound.apart i j a.fibril b.fibril a.there b.there (sym (ap stamp_in a.there) ∙ e ∙ ap stamp_in b.there))
+-- two that are blocked have different stamps
+differ : (q : FibrilOrder) (m n : ℕ) (v w : Why) → IsSound q → status_of q m ≡ Some (Blocked v) → status_of q n ≡ Some (Blocked w) → stamp_of q m ≡ stamp_of q n → m ≡ n
+differ q zero n v w sound h g e = absurd (cc h)
+differ q (suc i) zero v w sound h g e = absurd (cc g)
+differ q (suc i) (suc j) v w sound h g e =
+    let a = has (slice_get q.fibrils i) (Blocked v) h in
+    let b = has (slice_get q.fibrils j) (Blocked w) g in
+    ap suc (sound.apart i j a.fibril b.fibril a.there b.there (rw a.status refl) (rw b.status refl) (sym (ap stamp_in a.there) ∙ e ∙ ap stamp_in b.there))
 
 less_of : (a b c d : ℕ) → a ≤ b → (a ≡ b → ⊥) → a ≡ c → b ≡ d → c < d
 less_of a b c d h apart e f = grind (arith, cases_eq a b)
@@ -153,7 +153,7 @@ goes_on o q p w k s =
       before_by here now keeps m n h g e (inl c) (inr d) =
           let is : status_of q n ≡ Some (Blocked w) = sym (ap status_in (keeps n d)) ∙ e in
           let least = s.first.least n is in
-          let apart : stamp_of q s.number ≡ stamp_of q n → ⊥ = λ t. d (sym (differ q s.number n (Blocked w) (Blocked w) k.sound s.first.here is t)) in
+          let apart : stamp_of q s.number ≡ stamp_of q n → ⊥ = λ t. d (sym (differ q s.number n w w k.sound s.first.here is t)) in
           let mine : stamp_of q s.number ≡ stamp_of o s.number = ap stamp_in here in
           let its : stamp_of q n ≡ stamp_of o n = ap stamp_in (k.waits n is) in
           rw c (less_of (stamp_of q s.number) (stamp_of q n) (stamp_of o s.number) (stamp_of o n) least apart mine its)

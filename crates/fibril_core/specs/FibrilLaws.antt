@@ -1,10 +1,11 @@
 -- What the calls on fibrils come to, in the words of numbers, statuses and stamps.
-use Rattle.std.specs.Prelude.{◌≡◌, ◌≢◌, ℕ, ◌+◌, ◌<◌, ◌≤◌, Option, None, Some, slice_get}
+use Rattle.std.specs.Prelude.{◌≡◌, ◌≢◌, ℕ, ◌+◌, ◌<◌, ◌≤◌, true, Option, None, Some, slice_get}
 use Rattle.ipc_ids.specs.declared.message.Why.{Why}
 use Rattle.fibril_core.specs.declared.fibrils.Status.{Status}
 use Rattle.fibril_core.specs.declared.fibrils.Status.TheVariants.{Ready, Blocked}
 use Rattle.fibril_core.specs.declared.fibrils.Fibril.{Fibril}
 use Rattle.fibril_core.specs.Fibrils.{FibrilOrder, fibril_at}
+use Rattle.fibril_core.specs.LiveFibrils.{is_live}
 
 -- the status of a fibril, if there is one
 abbrev pub status_in : Option Fibril → Option Status
@@ -24,11 +25,12 @@ stamp_in (Some x) = x.stamp
 abbrev pub stamp_of : FibrilOrder → ℕ → ℕ
 stamp_of o n = stamp_in (fibril_at o n)
 
--- each fibril has the number of its place, from 1 on, and a stamp that no other has, below the next one
+-- each fibril has the number of its place, from 1 on, and a stamp below the next one; no two that have not ended
+-- have one stamp
 pub record IsSound (o : FibrilOrder) : Type 0 where
   pub numbered : (i : ℕ) (x : Fibril) → slice_get o.fibrils i ≡ Some x → x.number.0 ≡ i + 1
   pub stamped : (i : ℕ) (x : Fibril) → slice_get o.fibrils i ≡ Some x → x.stamp < o.next_stamp
-  pub apart : (i j : ℕ) (x y : Fibril) → slice_get o.fibrils i ≡ Some x → slice_get o.fibrils j ≡ Some y → x.stamp ≡ y.stamp → i ≡ j
+  pub apart : (i j : ℕ) (x y : Fibril) → slice_get o.fibrils i ≡ Some x → slice_get o.fibrils j ≡ Some y → is_live x ≡ true → is_live y ≡ true → x.stamp ≡ y.stamp → i ≡ j
 
 -- the fibril with this number has this status, and no other with this status has a smaller stamp
 pub record IsFirst (o : FibrilOrder) (status : Status) (n : ℕ) : Type 0 where

@@ -128,10 +128,10 @@ block_on o w = found_with o (Blocked w) (current o)
 abbrev pub yield_now : FibrilOrder → FibrilOrder
 yield_now o = found_with o Ready (current o)
 
--- the fibril that is found ends
+-- the fibril that is found ends, and nothing but its number is kept
 abbrev pub found_over : FibrilOrder → Option Fibril → FibrilOrder
 found_over o None = o
-found_over o (Some x) = put_fibril o (record x { status = Ended })
+found_over o (Some x) = put_fibril o (record x { status = Ended; stamp = 0 })
 
 -- the present fibril ends
 abbrev pub end_current : FibrilOrder → FibrilOrder

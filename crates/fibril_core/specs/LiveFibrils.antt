@@ -1,6 +1,6 @@
--- The fibrils that have not ended, which are the only ones that a search goes over.
-use Rattle.std.specs.Prelude.{◌≡◌, ℕ, suc, ◌-◌, ◌==◌, Bool, true, false, not, if◌then◌else◌, List, [], ◌∷◌, length, Option, None, Some, nat_lt, slice_set, ⊤}
-use Rattle.std.specs.List.{filter}
+-- The fibrils that have not ended, which are the only ones that are kept, and all fibrils as these give them.
+use Rattle.std.specs.Prelude.{◌≡◌, ℕ, zero, suc, ◌==◌, Bool, true, false, not, if◌then◌else◌, List, [], ◌∷◌, ◌++◌, Option, None, Some, ⊤}
+use Rattle.std.specs.List.{filter, find}
 use Rattle.ipc_ids.specs.declared.numbers.FibrilNo.{FibrilNo}
 use Rattle.fibril_core.specs.declared.fibrils.Status.{Status}
 use Rattle.fibril_core.specs.declared.fibrils.Status.TheVariants.{Ready, Blocked, Ended}
@@ -31,10 +31,6 @@ pub record AreLive (live xs : List Fibril) : Type 0 where
   pub numbered : AreNumbered 0 xs
   pub those : live ≡ filter is_live xs
 
--- the record stands under its number, where there is a fibril of this number
-abbrev pub put_in : List Fibril → Fibril → List Fibril
-put_in xs x = if nat_lt (x.number.0 - 1) (length xs) then slice_set xs (x.number.0 - 1) x else xs
-
 -- the first record where both have one number, else the second
 abbrev pub replaced : Fibril → Fibril → Fibril
 replaced y x = if x.number.0 == y.number.0 then y else x
@@ -43,6 +39,20 @@ replaced y x = if x.number.0 == y.number.0 then y else x
 abbrev pub is_other : FibrilNo → Fibril → Bool
 is_other f x = not (x.number.0 == f.0)
 
--- the lesser of two numbers
-abbrev pub lesser : ℕ → ℕ → ℕ
-lesser n m = if nat_lt n m then n else m
+-- whether the fibril has this number
+abbrev pub has_number : ℕ → Fibril → Bool
+has_number n x = x.number.0 == n
+
+-- a fibril that has ended, of which nothing but its number is kept
+abbrev pub ended : ℕ → Fibril
+ended n = record { number = record { 0 = n }; status = Ended; stamp = 0 }
+
+-- the fibril that is found, else one that has ended
+abbrev pub found_or_ended : ℕ → Option Fibril → Fibril
+found_or_ended n None = ended n
+found_or_ended n (Some x) = x
+
+-- all n fibrils by rising number, from those that have not ended
+abbrev pub all_of : ℕ → List Fibril → List Fibril
+all_of zero live = []
+all_of (suc n) live = all_of n live ++ found_or_ended (suc n) (find (has_number (suc n)) live) ∷ []

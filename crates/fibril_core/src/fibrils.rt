@@ -9,7 +9,7 @@ ghost use Rattle.fibril_core.specs.Fibrils.{next_number, why_in, why_of, IsWithi
 ghost use Rattle.fibril_core.specs.Fibrils.{with_status, block_on, yield_now};
 ghost use Rattle.fibril_core.specs.Fibrils.{end_current, make_ready, wake_first, wake_all};
 ghost use Rattle.fibril_core.specs.Fibrils.{fibril_at, number_of};
-ghost use Rattle.fibril_core.specs.LiveFibrils.{AreLive, goes_on, GoesOn, put_in, replaced, is_other};
+ghost use Rattle.fibril_core.specs.LiveFibrils.{AreLive, goes_on, GoesOn, replaced, is_other};
 
 use ipc_ids::{CallNo, FibrilNo, NoMemory, Why};
 use std::alloc::Global;
@@ -23,7 +23,7 @@ pub enum Status {
     Ended,
 }
 
-/// A fibril. The stamp says when it last became ready or blocked.
+/// A fibril. The stamp says when it last became ready or blocked, and is 0 once it has ended.
 #[derive(Clone, Copy)]
 pub struct Fibril {
     pub number: FibrilNo,
@@ -34,9 +34,10 @@ pub struct Fibril {
 /// The fibrils of a task, with room for `spare` more.
 #[derive(Drop)]
 pub struct Fibrils {
-    fibrils: Vec<Fibril>,
-    /// Those that have not ended, by rising number. No search goes over the others.
+    /// Those that have not ended, by rising number. The others take no memory.
     live: Vec<Fibril>,
+    /// How many were ever made.
+    made: u64,
     next_stamp: u64,
 }
 
@@ -44,17 +45,16 @@ impl Model for Fibrils {
     ghost use Rattle.std.specs.Prelude.{◌-◌, vec_len};
     ghost use Rattle.std.specs.Vec.{vec_capacity};
     ghost use Rattle.fibril_core.specs.Fibrils.{FibrilsState};
-    ghost use Rattle.fibril_core.specs.LiveFibrils.{AreLive, lesser};
+    ghost use Rattle.fibril_core.specs.LiveFibrils.{AreLive, all_of};
 
     ghost Value = { FibrilsState };
 
     ghost view = { λ a. record {
-      order = record { fibrils = a.fibrils.items; next_stamp = a.next_stamp };
-      spare = lesser (vec_capacity a.fibrils - vec_len a.fibrils)
-          (vec_capacity a.live - vec_len a.live);
+      order = record { fibrils = all_of a.made a.live.items; next_stamp = a.next_stamp };
+      spare = vec_capacity a.live - vec_len a.live;
     } };
 
-    ghost invariant = { λ a. AreLive a.live.items a.fibrils.items };
+    ghost invariant = { λ a. AreLive a.live.items (all_of a.made a.live.items) };
 }
 
 impl Fibrils {
@@ -63,8 +63,8 @@ impl Fibrils {
         ensures { result.order ≡ no_fibrils }
     {
         Fibrils {
-            fibrils: Vec::new(alloc),
             live: Vec::new(alloc),
+            made: 0,
             next_stamp: 1,
         }
     }
@@ -80,25 +80,24 @@ impl Fibrils {
         ensures full { OnErr result (self.old.spare ≡ 0) }
         ensures spare { self.old.spare ≤ self.new.spare }
     {
-        if self.live.reserve(1).is_err() {
-            return Err(NoMemory);
-        }
-        match self.fibrils.reserve(1) {
+        match self.live.reserve(1) {
             Ok(()) => Ok(()),
             Err(_) => Err(NoMemory),
         }
     }
 
     /// The number that the next fibril gets.
+    #[tactic(auto, using(crate::proofs::Rebuilt::length_all))]
     pub fn next_number(&self) -> FibrilNo
         requires bounds { IsWithinBounds self.now.order }
         ensures { result ≡ next_number self.now.order }
     {
-        FibrilNo(self.fibrils.len() as u64 + 1)
+        FibrilNo(self.made + 1)
     }
 
     /// Makes a fibril, which is ready behind the others, and gives its number. There is room for
     /// it.
+    #[tactic(auto, using(crate::proofs::Rebuilt::length_all))]
     pub fn spawn_reserved(&mut self) -> FibrilNo
         requires room { 0 < self.old.spare }
         requires bounds { IsWithinBounds self.old.order }
@@ -106,14 +105,13 @@ impl Fibrils {
         ensures order { self.new.order ≡ spawned self.old.order }
         ensures spare { self.old.spare ≤ self.new.spare + 1 }
     {
-        let number = FibrilNo(self.fibrils.len() as u64 + 1);
-        let fibril = Fibril {
+        let number = FibrilNo(self.made + 1);
+        self.live.push_reserved(Fibril {
             number,
             status: Status::Ready,
             stamp: self.next_stamp,
-        };
-        self.fibrils.push_reserved(fibril);
-        self.live.push_reserved(fibril);
+        });
+        self.made += 1;
         self.next_stamp += 1;
         number
     }
@@ -154,12 +152,9 @@ impl Fibrils {
     pub fn why(&self, f: FibrilNo) -> Option<Why>
         ensures { result ≡ why_of self.now.order f }
     {
-        if f.0 == 0 {
-            return None;
-        }
-        match self.fibrils.get(f.0 as usize - 1) {
-            Some(fibril) => why_in(fibril.status),
-            None => None,
+        match self.live.binary_search_by_key(&f.0, |x| x.number.0) {
+            Ok(i) => why_in(self.live[i].status),
+            Err(_) => None,
         }
     }
 
@@ -187,18 +182,14 @@ impl Fibrils {
         }
     }
 
-    /// The present fibril ends. It keeps its stamp.
-    #[tactic(auto, using(crate::proofs::Live::first_live))]
+    /// The present fibril ends. Nothing but its number is kept.
     pub fn end_current(&mut self)
         requires current { IsSome (current self.old.order) }
         ensures order { self.new.order ≡ end_current self.old.order }
         ensures spare { self.old.spare ≤ self.new.spare }
     {
-        if let Some(fibril) = first_with(&self.live, Status::Ready) {
-            let mut over = *fibril;
-            over.status = Status::Ended;
-            forget(&mut self.live, over.number);
-            put(&mut self.fibrils, over);
+        if let Some(f) = self.first(Status::Ready) {
+            forget(&mut self.live, f);
         }
     }
 
@@ -245,12 +236,13 @@ impl Fibrils {
         self.wake_all(Why::Phone);
     }
 
+    #[tactic(auto, using(crate::proofs::Rebuilt::length_all))]
     fn wake_all(&mut self, why: Why)
         requires bounds { IsWithinBounds self.old.order }
         ensures order { self.new.order ≡ wake_all self.old.order why }
         ensures spare { self.new.spare ≡ self.old.spare }
     {
-        for _ in 0..self.fibrils.len() {
+        for _ in 0..self.made {
             match self.first(Status::Blocked(why)) {
                 Some(f) => self.stamp(f, Status::Ready),
                 None => break,
@@ -286,18 +278,7 @@ impl Fibrils {
             stamp,
         };
         replace(&mut self.live, fibril);
-        put(&mut self.fibrils, fibril);
         self.next_stamp = stamp + 1;
-    }
-}
-
-/// The record stands under its number, where there is a fibril of this number.
-fn put(fibrils: &mut [Fibril], fibril: Fibril)
-    ensures { fibrils.new ≡ put_in fibrils.old fibril }
-{
-    let i = (fibril.number.0 as usize).saturating_sub(1);
-    if i < fibrils.len() {
-        fibrils[i] = fibril;
     }
 }
 

@@ -1,32 +1,27 @@
-use Rattle.std.proofs.Common.{rules, ◌≡◌, Some, refl, ap, sym, ◌∙◌}
-use Rattle.fibril_core.specs.declared.fibrils.Fibril.{Fibril}
-use Rattle.fibril_core.specs.declared.fibrils.Status.TheVariants.{Ready, Ended}
-use Rattle.fibril_core.specs.Fibrils.{FibrilOrder, FibrilsState, first_with, fibril_at}
-use Rattle.fibril_core.specs.LiveFibrils.{GoesOn}
-use Rattle.fibril_core.proofs.Live.{first_live, found_goes_on, written_put, end_live}
+use Rattle.std.proofs.Common.{ap, sym, subst, refl, ◌≡◌, Some, ◌∙◌}
+use Rattle.fibril_core.specs.declared.fibrils.Status.TheVariants.{Ready}
+use Rattle.fibril_core.specs.Fibrils.{FibrilOrder, FibrilsState, fibril_at, first_with, number_of}
+use Rattle.fibril_core.specs.LiveFibrils.{GoesOn, all_of}
+use Rattle.fibril_core.proofs.Rebuilt.{end_gives, named_over}
 use Rattle.fibril_core.proofs.fibrils.Fibrils.end_current.Goals as goal
 
 pub invariant_of-self : goal.invariant_of-self
 invariant_of-self c =
     let live = c.self.inside.live.items in
-    let all = c.self.inside.fibrils.items in
-    let o : FibrilOrder = record { fibrils = all; next_stamp = c.self.inside.next_stamp } in
-    let x : Fibril = c.in-Some.fibril.now in
-    let y : Fibril = record { number = x.number; status = Ended; stamp = x.stamp } in
-    let here : first_with Ready live ≡ Some x = search rules in
-    let there : first_with Ready all ≡ Some x = sym (first_live Ready live all refl c.self.invariant) ∙ here in
-    let goes : GoesOn (fibril_at o y.number.0) = found_goes_on live o Ready x c.self.invariant refl there in
-    let two = written_put c.put.new.fibrils all y c.self.inside.fibrils.len (search rules) (search rules) in
-    rw (c.forget.ensures.items, two) (end_live live o y c.self.invariant goes refl)
+    let made = c.self.inside.made in
+    let next = c.self.inside.next_stamp in
+    let o : FibrilOrder = record { fibrils = all_of made live; next_stamp = next } in
+    let f = c.in-Some.f in
+    let goes : GoesOn (fibril_at o f.0) = subst (λ (p : FibrilOrder). GoesOn (fibril_at p f.0)) (sym (ap (λ (s : FibrilsState). s.order) c.self.view_is)) c.in-Some.ensures.goes_on in
+    rw c.forget.ensures.items (end_gives made live f next c.self.invariant goes).are
 
 pub returns-in-Some-clause-order : goal.returns-in-Some-clause-order
 returns-in-Some-clause-order c =
     let live = c.self.inside.live.items in
-    let all = c.self.inside.fibrils.items in
-    let o : FibrilOrder = record { fibrils = all; next_stamp = c.self.inside.next_stamp } in
-    let x : Fibril = c.in-Some.fibril.now in
-    let y : Fibril = record { number = x.number; status = Ended; stamp = x.stamp } in
-    let here : first_with Ready live ≡ Some x = search rules in
-    let there : first_with Ready all ≡ Some x = sym (first_live Ready live all refl c.self.invariant) ∙ here in
-    let two = written_put c.put.new.fibrils all y c.self.inside.fibrils.len (search rules) (search rules) in
-    rw (two, ← ap (λ (s : FibrilsState). s.order) c.self.view_is, there) refl
+    let made = c.self.inside.made in
+    let next = c.self.inside.next_stamp in
+    let o : FibrilOrder = record { fibrils = all_of made live; next_stamp = next } in
+    let f = c.in-Some.f in
+    let goes : GoesOn (fibril_at o f.0) = subst (λ (p : FibrilOrder). GoesOn (fibril_at p f.0)) (sym (ap (λ (s : FibrilsState). s.order) c.self.view_is)) c.in-Some.ensures.goes_on in
+    let named : number_of (first_with Ready c.args.self.now.order.fibrils) ≡ Some f = sym c.first.ensures.number ∙ c.in-Some.is in
+    rw (c.forget.ensures.items, (end_gives made live f next c.self.invariant goes).all, named_over c.args.self.now.order (first_with Ready c.args.self.now.order.fibrils) f named, ← ap (λ (s : FibrilsState). s.order) c.self.view_is) refl
