@@ -199,8 +199,8 @@ over_kept p o f None kept first h = absurd (cc h)
 over_kept p o f (Some x) kept first h =
     let is : x.number ≡ f = cc h in
     subst (λ (g : FibrilNo). KeptFibrils (Ends g.0 ∷ p) (found_over o (Some x))) is
-    (put_ended p o (record x { status = Ended }) kept (first_lives p o Ready x kept refl first)
-    refl)
+    (put_ended p o (record x { status = Ended; stamp = 0 }) kept
+    (first_lives p o Ready x kept refl first) refl)
 
 -- the present fibril ends
 pub end_fibrils : (p : List Fact) (o : FibrilOrder) (f : FibrilNo) → KeptFibrils p o →
