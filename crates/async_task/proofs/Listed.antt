@@ -178,9 +178,13 @@ key_is i (e ∷ es) k h = by (nat_eq i e.0) refl h (λ g. key_is i es k g)
     by true is g more = let same : e.0 ≡ k = cc in sym same ∙ sym (is_eq i e.0 is)
     by false is g more = more g
 
+pub stands_there : (i : ℕ) (es : List (ℕ × Context)) (k p : ℕ) (t : Context) → k ≡ i →
+    slice_get es p ≡ Some (k, t) → StandsAt es i (Some p)
+stands_there i es k p t same there = (t, subst (λ (n : ℕ). slice_get es p ≡ Some (n, t)) same there)
+
 pub stands : (i : ℕ) (es : List (ℕ × Context)) (k p : ℕ) (t : Context) → lookup_key (nat_eq i) es ≡ Some k →
     slice_get es p ≡ Some (k, t) → StandsAt es i (Some p)
-stands i es k p t h there = (t, subst (λ (n : ℕ). slice_get es p ≡ Some (n, t)) (key_is i es k h) there)
+stands i es k p t h there = stands_there i es k p t (key_is i es k h) there
 
 -- what an entry that was found by its position gives
 pub got : (i : ℕ) (es : List (ℕ × Context)) (p k : ℕ) (t : Context) → StandsAt es i (Some p) →
@@ -243,7 +247,3 @@ module _ {S : Type 0} (n : ℕ) (m : IndexMap ℕ Context S) (i p : ℕ) (unique
   value_below w =
       below_set n m.entries (with_value_at m p w).entries i h.0 w below
       (found_at m.entries p i h.0 unique h.1) (value_set w)
-
-pub stands_there : (i : ℕ) (es : List (ℕ × Context)) (k p : ℕ) (t : Context) → k ≡ i →
-    slice_get es p ≡ Some (k, t) → StandsAt es i (Some p)
-stands_there i es k p t same there = (t, subst (λ (n : ℕ). slice_get es p ≡ Some (n, t)) same there)

@@ -1,6 +1,7 @@
 //! What the fibrils of a task keep, each at the place that its number gives it.
 //!
-//! What an ended fibril kept is given back: only those that run take memory.
+//! What stands at a place lies in a map until it is removed. So what an ended fibril kept takes no
+//! memory, and the places themselves take none.
 ghost use Rattle.std.specs.Prelude.{◌≡◌, ◌<◌, ◌++◌, ◌∷◌, [], None, Some, OnOk, slice_set};
 ghost use Rattle.std.specs.Option.{option_copied, option_copied_mut};
 ghost use Rattle.async_task.specs.Kept.{kept_at, StandsAt};
@@ -11,7 +12,7 @@ use ipc_ids::NoMemory;
 use std::alloc::Global;
 use std::marker::Model;
 
-/// No more places than these are made.
+/// How many places there may be.
 const MOST: usize = 1 << 62;
 
 /// What the fibrils keep.
@@ -21,7 +22,7 @@ pub(crate) struct Contexts {
     made: usize,
     // What stands at the places where something does.
     kept: IndexMap<usize, Context>,
-    // Where among the entries what changed last stood then, which is looked at first.
+    // Where among the entries that stood which was changed last. It is looked at first.
     last: usize,
 }
 

@@ -1,4 +1,4 @@
-use Rattle.async_task.proofs.Listed.{listed_push, below_push}
+use Rattle.async_task.proofs.Listed.{listed_push}
 use Rattle.async_task.proofs.contexts.Contexts.push.Goals as goal
 
 pub returns : goal.returns

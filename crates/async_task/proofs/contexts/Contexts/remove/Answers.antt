@@ -1,5 +1,5 @@
 use Rattle.std.proofs.Common.{None}
-use Rattle.async_task.proofs.Listed.{listed_set, below_remove}
+use Rattle.async_task.proofs.Listed.{listed_set}
 use Rattle.async_task.proofs.contexts.Contexts.remove.Goals as goal
 
 pub returns : goal.returns
