@@ -1,6 +1,6 @@
 -- What becomes of a begin whose connect call meets the limit.
 use Rattle.std.proofs.Common.{ℕ, suc, ◌-◌, ◌≡◌, ◌≢◌, ◌⊎◌, inl, inr, Bool, true, false}
-use Rattle.std.proofs.Common.{length, Option, Some, None, List, refl, sym, ◌∙◌, ap, subst, arith}
+use Rattle.std.proofs.Common.{Option, Some, None, List, refl, sym, ◌∙◌, ap, subst, arith}
 use Rattle.std.specs.Prelude.{⊤, if◌then◌else◌, ◌==◌, ◌||◌, slice_index, position}
 use Rattle.std.specs.List.{find}
 use Rattle.std.proofs.lemmas.Bool.{eq-eqb, eqb-true}
