@@ -72,7 +72,7 @@ task cs =
       me = record { 0 = 1 };
       bodies = [];
       order = no_fibrils;
-      contexts = new_context 0 ∷ [];
+      contexts = Some (new_context 0) ∷ [];
       conns = cs;
       pool = no_sessions;
       awaited = [];
@@ -102,7 +102,7 @@ short_in (Some t) = if t.short then 1 else 0
 
 -- a begin whose connect call met the limit is told ELIMIT, and goes on behind it
 told_the_limit : Remembers (record { 0 = 1 }) (new_context 0) (task [])
-    (record (task []) { contexts = after_refused (new_context 0) elimit ∷ [] }) → ⊥
+    (record (task []) { contexts = Some (after_refused (new_context 0) elimit) ∷ [] }) → ⊥
 told_the_limit law = let e : 1 ≡ 0 = ap place_in law.here in omega (arith, e)
 
 -- it forgets the limit

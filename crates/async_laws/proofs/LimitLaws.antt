@@ -1,7 +1,7 @@
 -- What becomes of a begin whose connect call meets the limit.
 use Rattle.std.proofs.Common.{ℕ, suc, ◌-◌, ◌≡◌, ◌≢◌, ◌⊎◌, inl, inr, Bool, true, false}
-use Rattle.std.proofs.Common.{length, Option, Some, None, List, refl, sym, ◌∙◌, ap, subst, arith}
-use Rattle.std.specs.Prelude.{⊤, if◌then◌else◌, ◌==◌, ◌||◌, slice_get, slice_index, position}
+use Rattle.std.proofs.Common.{Option, Some, None, List, refl, sym, ◌∙◌, ap, subst, arith}
+use Rattle.std.specs.Prelude.{⊤, if◌then◌else◌, ◌==◌, ◌||◌, slice_index, position}
 use Rattle.std.specs.List.{find}
 use Rattle.std.proofs.lemmas.Bool.{eq-eqb, eqb-true}
 use Rattle.ipc_ids.specs.declared.numbers.CallNo.{CallNo}
@@ -32,7 +32,6 @@ use Rattle.fibril_core.specs.FibrilLaws.{status_of}
 use Rattle.fibril_core.specs.Conns as conns
 use Rattle.fibril_core.specs.Conns.{conn_of_fibril, conn_of_label, fibril_of, route_answer, closes, take_answer}
 use Rattle.fibril_core.proofs.Orders.{first_number, ready_becomes}
-use Rattle.fibril_core.proofs.Places.{which_pushed}
 use Rattle.async_sessions.specs.declared.sessions.Session.{Session}
 use Rattle.async_sessions.specs.declared.sessions.Exchange.{Exchange}
 use Rattle.async_sessions.specs.declared.sessions.Begin.{Begin}
@@ -53,6 +52,7 @@ use Rattle.async_task.specs.Turns as turn
 use Rattle.async_task.specs.Contexts.{slot_at, handle_at, value_of, with_slot, with_short, at_next, with_received}
 use Rattle.async_task.specs.Contexts.{new_context, after_done, after_refused, after_accepted, after_answered}
 use Rattle.async_task.specs.Contexts.{after_begun}
+use Rattle.async_task.specs.Kept.{kept_at}
 use Rattle.async_task.specs.Contexts.{after_ended, after_outcome}
 use Rattle.async_task.specs.AsyncState.{AsyncState, Transition, context_at, with_context, present_op}
 use Rattle.async_task.specs.Turns.{turn_now}
@@ -74,7 +74,8 @@ use Rattle.async_laws.specs.LimitLaws.{Remembers, IsToConnect, RefusalsAreRememb
 use Rattle.async_laws.specs.LimitLaws.{AnswersAreRemembered, TheShortDoNotConnect, WasRefused, WasAnswered}
 use Rattle.async_laws.specs.LimitLaws.{OnlyTheLimitMakesShort, TellsNoLimit, NobodyIsToldTheLimit}
 use Rattle.async_laws.proofs.AnswerFacts.{waiter_of, find_waiting}
-use Rattle.async_laws.proofs.NoLostWakes.{IsPresent, present_is, context_get, context_set, unless_is, answers_as}
+use Rattle.async_laws.proofs.NoLostWakes.{IsPresent, present_is, context_get, context_set, context_push, kept_left}
+use Rattle.async_laws.proofs.NoLostWakes.{unless_is, answers_as}
 use Rattle.async_laws.proofs.TakenCalls.{context_apart, present_number, waiting_number}
 
 -- ---- a begin that met the limit sends no connect call
@@ -107,10 +108,10 @@ remembers : (a b : AsyncState) (f : FibrilNo) (t : Context) → suc (f.0 - 1) �
     b.contexts ≡ a.contexts → b.pool ≡ a.pool → status_of b.order f.0 ≡ Some Ready →
     Remembers f t a (with_context b f (with_short t true))
 remembers a b f t own keeps same pool ready = record {
-  here = context_set b f t (with_short t true) (ap (λ (ts : List Context). slice_get ts (f.0 - 1)) same ∙ keeps);
+  here = context_set b f t (with_short t true) (ap (λ (ts : List (Option Context)). kept_at ts (f.0 - 1)) same ∙ keeps);
   others = λ g some other.
       context_apart b f g (with_short t true) (λ e. other (omega (arith, e, some, own)))
-      ∙ ap (λ (ts : List Context). slice_get ts (g.0 - 1)) same;
+      ∙ ap (λ (ts : List (Option Context)). kept_at ts (g.0 - 1)) same;
   ready = ready;
   pool = pool;
 }
@@ -251,26 +252,26 @@ outcome_short t _ = refl
 -- what each part of an event keeps, where X is to say of the fibril at a place that it met the limit
 module _ (X : ℕ → Type 0) (a : AsyncState) where
   abbrev Was : ℕ → Type 0
-  Was i = (t : Context) × (slice_get a.contexts i ≡ Some t) × (t.short ≡ true)
+  Was i = (t : Context) × (kept_at a.contexts i ≡ Some t) × (t.short ≡ true)
 
   abbrev KeepsShort : AsyncState → Type 0
-  KeepsShort b = (i : ℕ) (u : Context) → slice_get b.contexts i ≡ Some u → u.short ≡ true → Was i ⊎ X i
+  KeepsShort b = (i : ℕ) (u : Context) → kept_at b.contexts i ≡ Some u → u.short ≡ true → Was i ⊎ X i
 
   abbrev Fair : Transition → Type 0
   Fair s = KeepsShort s.state × TellsNoLimit s.entries
 
   same_short : (b : AsyncState) → b.contexts ≡ a.contexts → KeepsShort b
-  same_short b same i u at short = inl (u, ap (λ (ts : List Context). slice_get ts i) (sym same) ∙ at, short)
+  same_short b same i u at short = inl (u, ap (λ (ts : List (Option Context)). kept_at ts i) (sym same) ∙ at, short)
 
   put_short : (b : AsyncState) (f : FibrilNo) (t u : Context) → b.contexts ≡ a.contexts → context_at a f ≡ Some t →
       (u.short ≡ true → (t.short ≡ true) ⊎ X (f.0 - 1)) → KeepsShort (with_context b f u)
   put_short b f t u same is keeps i x at short = by (context_get b f u x i at)
     where
       new : f.0 - 1 ≡ i → (t.short ≡ true) ⊎ X (f.0 - 1) → Was i ⊎ X i
-      new e (inl h) = inl (t, subst (λ (j : ℕ). slice_get a.contexts j ≡ Some t) e is, h)
+      new e (inl h) = inl (t, subst (λ (j : ℕ). kept_at a.contexts j ≡ Some t) e is, h)
       new e (inr h) = inr (subst X e h)
 
-      by : ((f.0 - 1 ≡ i) × (u ≡ x)) ⊎ (slice_get b.contexts i ≡ Some x) → Was i ⊎ X i
+      by : ((f.0 - 1 ≡ i) × (u ≡ x)) ⊎ (kept_at b.contexts i ≡ Some x) → Was i ⊎ X i
       by (inl e) = new e.0 (keeps (ap (λ (c : Context). c.short) e.1 ∙ short))
       by (inr e) = same_short b same i x e short
 
@@ -423,10 +424,10 @@ module _ (X : ℕ → Type 0) (a : AsyncState) where
       by (Some c) = found c (closes msg.method c)
 
   pushed : (b : AsyncState) (x : Context) → x.short ≡ false → KeepsShort b → KeepsShort (with_fibril b x)
-  pushed b x new h i u at short = by (which_pushed b.contexts i x u at)
+  pushed b x new h i u at short = by (context_push b.contexts i x u at)
     where
-      by : ((i ≡ length b.contexts) × (x ≡ u)) ⊎ (slice_get b.contexts i ≡ Some u) → Was i ⊎ X i
-      by (inl e) = absurd (cc (new, ap (λ (c : Context). c.short) e.1, short))
+      by : (x ≡ u) ⊎ (kept_at b.contexts i ≡ Some u) → Was i ⊎ X i
+      by (inl e) = absurd (cc (new, ap (λ (c : Context). c.short) e, short))
       by (inr e) = h i u e short
 
   started : (n : CallNo) (msg : Msg) (from : Label) (body : ℕ) (label : Label) →
@@ -538,7 +539,7 @@ manages a o is = (same_short (Met a o) a a refl, tt)
 
 turns : (a : AsyncState) (o : Outcome) (s : Turn) → KeepsWakes a → turn_now a ≡ s → Fair (Met a o) a (step_in a o s)
 turns a o (turn.Work n c) kept is = (same_short (Met a o) a (step_in a o (turn.Work n c)).state refl, tt)
-turns a o (turn.Run f t None) kept is = (same_short (Met a o) a (step_in a o (turn.Run f t None)).state refl, tt)
+turns a o (turn.Run f t None) kept is = (λ i u at short. inl (u, kept_left a.contexts (f.0 - 1) i u at, short), tt)
 turns a o (turn.Run f t (Some p)) kept is = does (Met a o) a f t now.context p o met
   where
     now : IsPresent a f t
@@ -573,7 +574,7 @@ only_the_limit_makes_short a o f u kept some at short =
         let n : suc (f.0 - 1) ≡ f.0 = omega (arith, some) in
         ap (λ (i : ℕ). let y : FibrilNo = record { 0 = i } in y) n
 
-    by : ((t : Context) × (slice_get a.contexts (f.0 - 1) ≡ Some t) × (t.short ≡ true)) ⊎ Met a o (f.0 - 1) →
+    by : ((t : Context) × (kept_at a.contexts (f.0 - 1) ≡ Some t) × (t.short ≡ true)) ⊎ Met a o (f.0 - 1) →
         ((t : Context) × (context_at a f ≡ Some t) × (t.short ≡ true)) ⊎ (WasRefused a o f ⊎ WasAnswered a o f)
     by (inl h) = inl h
     by (inr h) = inr (subst (λ (g : FibrilNo). WasRefused a o g ⊎ WasAnswered a o g) own h)

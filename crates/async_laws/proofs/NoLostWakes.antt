@@ -2,7 +2,7 @@
 use Rattle.std.proofs.Common.{ℕ, zero, suc, ◌+◌, ◌-◌, ◌≡◌, ◌≢◌, ◌≤◌, ◌<◌, ◌⊎◌, inl, inr, Bool, true, false}
 use Rattle.std.proofs.Common.{length, Option, Some, None, List, [], ◌∷◌, ◌++◌, refl, sym, ◌∙◌, ap, subst, arith}
 use Rattle.std.specs.Prelude.{if◌then◌else◌, ◌==◌, nat_lt, slice_get, slice_set, slice_index, replicate}
-use Rattle.std.specs.Prelude.{position}
+use Rattle.std.specs.Prelude.{position, is_some}
 use Rattle.std.specs.List.{find, filter}
 use Rattle.std.proofs.lemmas.Bool.{cases_eq, eq-eqb, ne_eqb, eqb-true, cases_Bool}
 use Rattle.std.proofs.lemmas.Bool.Decides.{nat_tests}
@@ -65,11 +65,13 @@ use Rattle.async_task.specs.declared.context.Slot.TheVariants as slot
 use Rattle.async_task.specs.declared.context.Context.{Context}
 use Rattle.async_task.specs.Turns.{Turn}
 use Rattle.async_task.specs.Turns as turn
+use Rattle.async_task.specs.Kept.{kept_at}
 use Rattle.async_task.specs.Contexts.{slot_in, slot_at, handle_at, value_of, with_slot, new_context}
 use Rattle.async_task.specs.Contexts.{at_next, with_received, after_refused, after_accepted}
 use Rattle.async_task.specs.Contexts.{after_answered, with_short, after_begun, after_ended, after_done}
 use Rattle.async_task.specs.Contexts.{after_outcome}
-use Rattle.async_task.specs.AsyncState.{AsyncState, context_at, with_context, present_op, AreServed}
+use Rattle.async_task.specs.AsyncState.{AsyncState, context_at, with_context, without_context}
+use Rattle.async_task.specs.AsyncState.{present_op, AreServed}
 use Rattle.async_task.specs.Turns.{turn_of, fibril_turn, work_turn, turn_now}
 use Rattle.async_task.specs.Wanted.{unless_held, phone_by, plan_begin, plan_close, any_waits, bare_msg}
 use Rattle.async_task.specs.Calls.{after_raw, call_slot, send_over, wait_slot, next_call, with_taken}
@@ -223,12 +225,13 @@ blocks a f w kept is due = record {
 
 -- what a fibril keeps changes
 
-abbrev pub put_in : Context → Option Context → Option Context
+-- what stands at a place once that was written at another one or there
+abbrev pub put_in : Option Context → Option (Option Context) → Option Context
 put_in v None = None
-put_in v (Some x) = Some v
+put_in v (Some x) = v
 
-set_get : (xs : List Context) (i j : ℕ) (v : Context) →
-    slice_get (slice_set xs i v) j ≡ if i == j then put_in v (slice_get xs j) else slice_get xs j
+set_get : (xs : List (Option Context)) (i j : ℕ) (v : Option Context) →
+    kept_at (slice_set xs i v) j ≡ if i == j then put_in v (slice_get xs j) else kept_at xs j
 set_get [] i j v = grind (arith, cases_Bool (i == j))
 set_get (x ∷ xs) zero zero v = grind (arith, eq-eqb, ne_eqb)
 set_get (x ∷ xs) zero (suc j) v = grind (arith, eq-eqb, ne_eqb)
@@ -236,47 +239,55 @@ set_get (x ∷ xs) (suc i) zero v = grind (arith, eq-eqb, ne_eqb)
 set_get (x ∷ xs) (suc i) (suc j) v =
     grind (arith, set_get xs i j v, eq-eqb, ne_eqb, cases_eq i j)
 
+-- where something stands, that is written
+set_kept : (xs : List (Option Context)) (i : ℕ) (t : Context) (v : Option Context) →
+    kept_at xs i ≡ Some t → kept_at (slice_set xs i v) i ≡ v
+set_kept [] i t v h = absurd (cc h)
+set_kept (x ∷ xs) zero t v h = refl
+set_kept (x ∷ xs) (suc i) t v h = set_kept xs i t v h
+
+-- what is left once one was taken away stood there
+pub kept_left : (xs : List (Option Context)) (i j : ℕ) (x : Context) →
+    kept_at (slice_set xs i None) j ≡ Some x → kept_at xs j ≡ Some x
+kept_left [] i j x h = h
+kept_left (y ∷ ys) zero zero x h = absurd (cc h)
+kept_left (y ∷ ys) zero (suc j) x h = h
+kept_left (y ∷ ys) (suc i) zero x h = h
+kept_left (y ∷ ys) (suc i) (suc j) x h = kept_left ys i j x h
+
 pub context_get : (a : AsyncState) (f : FibrilNo) (u x : Context) (i : ℕ) →
-    slice_get (with_context a f u).contexts i ≡ Some x →
-    ((f.0 - 1 ≡ i) × (u ≡ x)) ⊎ (slice_get a.contexts i ≡ Some x)
-context_get a f u x i h = by (nat_lt (f.0 - 1) (length a.contexts)) h
+    kept_at (with_context a f u).contexts i ≡ Some x →
+    ((f.0 - 1 ≡ i) × (u ≡ x)) ⊎ (kept_at a.contexts i ≡ Some x)
+context_get a f u x i h = by (is_some (context_at a f)) h
   where
     look : (b : Bool) → ((f.0 - 1) == i) ≡ b →
-        (if b then put_in u (slice_get a.contexts i) else slice_get a.contexts i) ≡ Some x →
-        ((f.0 - 1 ≡ i) × (u ≡ x)) ⊎ (slice_get a.contexts i ≡ Some x)
+        (if b then put_in (Some u) (slice_get a.contexts i) else kept_at a.contexts i) ≡ Some x →
+        ((f.0 - 1 ≡ i) × (u ≡ x)) ⊎ (kept_at a.contexts i ≡ Some x)
     look true e g = put (slice_get a.contexts i) g
       where
-        put : (q : Option Context) → put_in u q ≡ Some x →
-            ((f.0 - 1 ≡ i) × (u ≡ x)) ⊎ (slice_get a.contexts i ≡ Some x)
+        put : (q : Option (Option Context)) → put_in (Some u) q ≡ Some x →
+            ((f.0 - 1 ≡ i) × (u ≡ x)) ⊎ (kept_at a.contexts i ≡ Some x)
         put None k = absurd (cc k)
         put (Some y) k = inl (eqb-true (f.0 - 1) i e, cc k)
     look false e g = inr g
 
     by : (b : Bool) →
-        slice_get (if b then slice_set a.contexts (f.0 - 1) u else a.contexts) i ≡ Some x →
-        ((f.0 - 1 ≡ i) × (u ≡ x)) ⊎ (slice_get a.contexts i ≡ Some x)
-    by true g = look ((f.0 - 1) == i) refl (sym (set_get a.contexts (f.0 - 1) i u) ∙ g)
+        kept_at (if b then slice_set a.contexts (f.0 - 1) (Some u) else a.contexts) i ≡ Some x →
+        ((f.0 - 1 ≡ i) × (u ≡ x)) ⊎ (kept_at a.contexts i ≡ Some x)
+    by true g = look ((f.0 - 1) == i) refl (sym (set_get a.contexts (f.0 - 1) i (Some u)) ∙ g)
     by false g = inr g
 
 -- what a fibril keeps that is there
-pub context_now : (a : AsyncState) (f : FibrilNo) (t u x : Context) → context_at a f ≡ Some t →
-    context_at (with_context a f u) f ≡ Some x → u ≡ x
-context_now a f t u x is h = by (nat_lt (f.0 - 1) (length a.contexts)) refl h
-  where
-    by : (b : Bool) → nat_lt (f.0 - 1) (length a.contexts) ≡ b →
-        slice_get (if b then slice_set a.contexts (f.0 - 1) u else a.contexts) (f.0 - 1) ≡ Some x →
-        u ≡ x
-    by true e g = grind (arith, set_get a.contexts (f.0 - 1) (f.0 - 1) u, eq-eqb, is, g)
-    by false e g = absurd (grind (arith, nat_tests, slice_get_past a.contexts (f.0 - 1), e, is))
-
 pub context_set : (a : AsyncState) (f : FibrilNo) (t u : Context) → context_at a f ≡ Some t →
     context_at (with_context a f u) f ≡ Some u
-context_set a f t u is = by (nat_lt (f.0 - 1) (length a.contexts)) refl
-  where
-    by : (b : Bool) → nat_lt (f.0 - 1) (length a.contexts) ≡ b →
-        slice_get (if b then slice_set a.contexts (f.0 - 1) u else a.contexts) (f.0 - 1) ≡ Some u
-    by true e = grind (arith, set_get a.contexts (f.0 - 1) (f.0 - 1) u, eq-eqb, is)
-    by false e = absurd (grind (arith, nat_tests, slice_get_past a.contexts (f.0 - 1), e, is))
+context_set a f t u is =
+    ap (λ (q : Option Context). kept_at
+    (if is_some q then slice_set a.contexts (f.0 - 1) (Some u) else a.contexts) (f.0 - 1)) is
+    ∙ set_kept a.contexts (f.0 - 1) t (Some u) is
+
+pub context_now : (a : AsyncState) (f : FibrilNo) (t u x : Context) → context_at a f ≡ Some t →
+    context_at (with_context a f u) f ≡ Some x → u ≡ x
+context_now a f t u x is h = cc (context_set a f t u is, h)
 
 -- what the calls say that the new slots have sent
 abbrev pub Sends : AsyncState → FibrilNo → Context → Context → Type 0
@@ -302,7 +313,7 @@ keeps_context a f t u kept is sends = record {
         (k < 8) × (waiting n.0 a.awaited ≡ Some (record { fibril = suc i; slot = Some k }))
     sent_by i k n runs same (inl h) =
         kept.slots i k n t runs
-        (subst (λ (j : ℕ). slice_get a.contexts j ≡ Some t) same is) h
+        (subst (λ (j : ℕ). kept_at a.contexts j ≡ Some t) same is) h
     sent_by i k n runs same (inr h) = (
       h.0,
       subst (λ (j : ℕ). waiting n.0 a.awaited ≡ Some (record { fibril = suc j; slot = Some k }))
@@ -311,7 +322,7 @@ keeps_context a f t u kept is sends = record {
 
     slots_by : (i k : ℕ) (n : CallNo) (x : Context) →
         has_ended_at (slice_get a.order.fibrils i) ≡ false → slot_at x k ≡ slot.Sent n →
-        ((f.0 - 1 ≡ i) × (u ≡ x)) ⊎ (slice_get a.contexts i ≡ Some x) →
+        ((f.0 - 1 ≡ i) × (u ≡ x)) ⊎ (kept_at a.contexts i ≡ Some x) →
         (k < 8) × (waiting n.0 a.awaited ≡ Some (record { fibril = suc i; slot = Some k }))
     slots_by i k n x runs g (inl h) =
         sent_by i k n runs h.0 (sends k n (subst (λ (y : Context). slot_at y k ≡ slot.Sent n) (sym h.1) g))
@@ -801,7 +812,7 @@ waiter_slot q f g j k h i =
 forgets : (a : AsyncState) (n : CallNo) → Keeps a →
     ((f : FibrilNo) → why_of a.order f ≡ Some (why.Answer n) → ⊥) →
     ((i k : ℕ) (t : Context) → has_ended_at (slice_get a.order.fibrils i) ≡ false →
-    slice_get a.contexts i ≡ Some t → slot_at t k ≡ slot.Sent n → ⊥) → Keeps (forget_call a n)
+    kept_at a.contexts i ≡ Some t → slot_at t k ≡ slot.Sent n → ⊥) → Keeps (forget_call a n)
 forgets a n kept no_fibril no_slot =
     expects a (forget_call a n).awaited kept
     (λ f m h g. (
@@ -903,13 +914,13 @@ gives_slot a f n k t u kept awaited none is left =
     )
 
     no_slot : (i j : ℕ) (x : Context) → has_ended_at (slice_get a.order.fibrils i) ≡ false →
-        slice_get b.contexts i ≡ Some x → slot_at x j ≡ slot.Sent n →
-        ((f.0 - 1 ≡ i) × (u ≡ x)) ⊎ (slice_get a.contexts i ≡ Some x) → ⊥
+        kept_at b.contexts i ≡ Some x → slot_at x j ≡ slot.Sent n →
+        ((f.0 - 1 ≡ i) × (u ≡ x)) ⊎ (kept_at a.contexts i ≡ Some x) → ⊥
     no_slot i j x runs at h (inl e) =
         let was : (slot_at t j ≡ slot.Sent n) × (j ≡ k → k < 8 → ⊥) =
         left j n (subst (λ (y : Context). slot_at y j ≡ slot.Sent n) (sym e.1) h) in
         let before : (j < 8) × (waiting n.0 a.awaited ≡ Some (record { fibril = suc i; slot = Some j })) =
-        kept.slots i j n t runs (subst (λ (p : ℕ). slice_get a.contexts p ≡ Some t) e.0 is) was.0 in
+        kept.slots i j n t runs (subst (λ (p : ℕ). kept_at a.contexts p ≡ Some t) e.0 is) was.0 in
         let place : (suc i ≡ f.0) × (j ≡ k) = place_is i j before.1 in
         was.1 place.1 (subst (λ (p : ℕ). p < 8) place.1 before.0)
     no_slot i j x runs at h (inr e) =
@@ -922,22 +933,16 @@ gives_slot a f n k t u kept awaited none is left =
         still (subst (λ (y : Context). slot_at y j ≡ slot.Sent n) one h) place before.0 at same
       where
         still : slot_at t j ≡ slot.Sent n → (suc i ≡ f.0) × (j ≡ k) → j < 8 →
-            slice_get b.contexts i ≡ Some x → i ≡ f.0 - 1 → ⊥
+            kept_at b.contexts i ≡ Some x → i ≡ f.0 - 1 → ⊥
         still g place less there same =
             let now : u ≡ x = changed_one there same in
             (left j n (subst (λ (y : Context). slot_at y j ≡ slot.Sent n) (sym now) h)).1 place.1
             (subst (λ (p : ℕ). p < 8) place.1 less)
           where
-            changed_one : slice_get b.contexts i ≡ Some x → i ≡ f.0 - 1 → u ≡ x
-            changed_one there same = by (nat_lt (f.0 - 1) (length a.contexts)) refl there
-              where
-                by : (c : Bool) → nat_lt (f.0 - 1) (length a.contexts) ≡ c →
-                    slice_get (if c then slice_set a.contexts (f.0 - 1) u else a.contexts) i ≡ Some x →
-                    u ≡ x
-                by true e k =
-                    grind (arith, set_get a.contexts (f.0 - 1) i u, same, eq-eqb, is, k)
-                by false e k =
-                    absurd (grind (arith, nat_tests, slice_get_past a.contexts (f.0 - 1), e, is))
+            changed_one : kept_at b.contexts i ≡ Some x → i ≡ f.0 - 1 → u ≡ x
+            changed_one there same =
+                context_now a f t u x is
+                (subst (λ (p : ℕ). kept_at b.contexts p ≡ Some x) same there)
 
 answered_left : (t : Context) (k : ℕ) (n : CallNo) (r : Reply) (s : Slot) → (s ≡ slot.Closed) ⊎ (s ≡ slot.Answered n r) →
     (j : ℕ) (m : CallNo) → slot_at (with_slot t k s) j ≡ slot.Sent m →
@@ -1085,8 +1090,8 @@ closed_all zero k = refl
 closed_all (suc n) zero = refl
 closed_all (suc n) (suc k) = closed_all n k
 
-context_push : (xs : List Context) (j : ℕ) (v x : Context) →
-    slice_get (xs ++ v ∷ []) j ≡ Some x → (v ≡ x) ⊎ (slice_get xs j ≡ Some x)
+pub context_push : (xs : List (Option Context)) (j : ℕ) (v x : Context) →
+    kept_at (xs ++ Some v ∷ []) j ≡ Some x → (v ≡ x) ⊎ (kept_at xs j ≡ Some x)
 context_push [] zero v x h = inl (cc h)
 context_push [] (suc j) v x h = absurd (cc h)
 context_push (y ∷ xs) zero v x h = inr h
@@ -1109,7 +1114,7 @@ adds_fibril a t kept closed =
   where
     by : (i k : ℕ) (n : CallNo) (x : Context) →
         has_ended_at (slice_get (spawned a.order).fibrils i) ≡ false → slot_at x k ≡ slot.Sent n →
-        (t ≡ x) ⊎ (slice_get a.contexts i ≡ Some x) →
+        (t ≡ x) ⊎ (kept_at a.contexts i ≡ Some x) →
         (k < 8) × (waiting n.0 a.awaited ≡ Some (record { fibril = suc i; slot = Some k }))
     by i k n x runs g (inl is) =
         let at : slot_in (slice_get t.slots k) ≡ slot.Sent n =
@@ -1212,15 +1217,26 @@ keeps_others f n (w ∷ ws) d h away =
       away,
     )
 
+drops_context : (a : AsyncState) (f : FibrilNo) → Keeps a → Keeps (without_context a f)
+drops_context a f kept = record {
+  wakes = λ g w h.
+      carry a (without_context a f) g w (λ n i v. v) (λ s i v. v) (λ i v. v) (λ i v. v)
+      (kept.wakes g w h);
+  slots = λ i k n x runs h g. kept.slots i k n x runs (kept_left a.contexts (f.0 - 1) i x h) g;
+  order = kept.order;
+  pool = kept.pool;
+  conns = kept.conns;
+}
+
 ends_fibril : (a : AsyncState) (f : FibrilNo) (t : Context) → Keeps a → IsPresent a f t →
     Keeps (end_fibril a f).state
 ends_fibril a f t kept now =
-    works (record c { awaited = ws }) _
-    (expects c ws two
+    works (record d { awaited = ws }) _
+    (expects d ws three
     (λ g n h i. (i.0, keeps_others f n.0 a.awaited (record { fibril = g.0; slot = i.0 }) i.1 (away g (why.Answer n) h)))
     (λ i k n x runs h g.
     let was : (k < 8) × (waiting n.0 a.awaited ≡ Some (record { fibril = suc i; slot = Some k })) =
-    two.slots i k n x runs h g in (
+    three.slots i k n x runs h g in (
       was.0,
       keeps_others f n.0 a.awaited (record { fibril = suc i; slot = Some k }) was.1
           (λ same. over_here i runs same),
@@ -1234,6 +1250,9 @@ ends_fibril a f t kept now =
 
     c : AsyncState
     c = record b { conns = finish f a.conns }
+
+    d : AsyncState
+    d = without_context c f
 
     ws : List Awaited
     ws = filter (is_of_other_fibril f) a.awaited
@@ -1249,6 +1268,9 @@ ends_fibril a f t kept now =
         (sound_finished a.conns f kept.conns)
         (λ g h quiet. still_quiet g a.conns (finish f a.conns)
         (finish_others a.conns f g kept.conns (away g why.Message h)) quiet)
+
+    three : Keeps d
+    three = drops_context c f two
 
     over_here : (i : ℕ) → has_ended_at (slice_get (end_current a.order).fibrils i) ≡ false →
         suc i ≡ f.0 → ⊥

@@ -1,7 +1,8 @@
 -- What a fibril is told by `next`.
 use Rattle.std.proofs.Common.{ℕ, zero, suc, ◌+◌, ◌-◌, ◌^◌, ◌≡◌, ◌≢◌, ◌<◌, ◌≤◌, ◌⊎◌, inl, inr, Bool, true, false}
 use Rattle.std.proofs.Common.{length, Option, Some, None, List, [], ◌∷◌, ◌++◌, refl, sym, ◌∙◌, ap, subst, arith}
-use Rattle.std.specs.Prelude.{if◌then◌else◌, ◌&&◌, nat_lt, slice_get, slice_set, slice_index}
+use Rattle.std.specs.Prelude.{if◌then◌else◌, ◌&&◌, is_some, nat_lt, slice_get, slice_set}
+use Rattle.std.specs.Prelude.{slice_index}
 use Rattle.std.proofs.lemmas.Bool.{eq-eqb, ne_eqb}
 use Rattle.std.proofs.lemmas.Bool.Decides.{nat_tests}
 use Rattle.ipc_ids.specs.declared.numbers.CallNo.{CallNo}
@@ -33,6 +34,7 @@ use Rattle.async_task.specs.declared.context.Context.{Context}
 use Rattle.async_task.specs.Turns.{Turn}
 use Rattle.async_task.specs.Turns as turn
 use Rattle.async_task.specs.Contexts.{new_context, at_next, with_received}
+use Rattle.async_task.specs.Kept.{kept_at, kept_in}
 use Rattle.async_task.specs.Connections.{reach_holder, start_connection, connect_call, called_label}
 use Rattle.async_task.specs.AsyncState.{AsyncState, context_at, with_context}
 use Rattle.async_task.specs.Turns.{turn_now}
@@ -187,11 +189,14 @@ less_is i j h = grind (arith, nat_tests)
 
 pub context_apart : (b : AsyncState) (f g : FibrilNo) (u : Context) → (g.0 - 1 ≡ f.0 - 1 → ⊥) →
     context_at (with_context b f u) g ≡ context_at b g
-context_apart b f g u other = by (nat_lt (f.0 - 1) (length b.contexts))
+context_apart b f g u other = by (is_some (context_at b f))
   where
-    by : (x : Bool) → slice_get (if x then slice_set b.contexts (f.0 - 1) u else b.contexts) (g.0 - 1) ≡
-        slice_get b.contexts (g.0 - 1)
-    by true = set_elsewhere b.contexts (f.0 - 1) (g.0 - 1) u other
+    by : (x : Bool) →
+        kept_at (if x then slice_set b.contexts (f.0 - 1) (Some u) else b.contexts) (g.0 - 1) ≡
+        kept_at b.contexts (g.0 - 1)
+    by true =
+        ap (λ (q : Option (Option Context)). kept_in q)
+        (set_elsewhere b.contexts (f.0 - 1) (g.0 - 1) (Some u) other)
     by false = refl
 
 takes : (a b : AsyncState) (f : FibrilNo) (t : Context) (n : CallNo) (msg : Msg) (label : Label) →
@@ -199,13 +204,13 @@ takes : (a b : AsyncState) (f : FibrilNo) (t : Context) (n : CallNo) (msg : Msg)
     Takes f t n msg label a (with_context b f (at_next (with_received t n msg label)))
 takes a b f t n msg label own keeps many same = record {
   now = now;
-  here = context_set b f t now (ap (λ (ts : List Context). slice_get ts (f.0 - 1)) same ∙ keeps);
+  here = context_set b f t now (ap (λ (ts : List (Option Context)). kept_at ts (f.0 - 1)) same ∙ keeps);
   registers = tells t n msg label many;
   place = λ h. ap (λ (x : Bool). if x then t.place + 1 else t.place) (less_is t.place (2 ^ 62) h);
   rest = refl;
   others = λ g some other.
       context_apart b f g now (λ e. other (omega (arith, e, some, own)))
-      ∙ ap (λ (ts : List Context). slice_get ts (g.0 - 1)) same;
+      ∙ ap (λ (ts : List (Option Context)). kept_at ts (g.0 - 1)) same;
 }
   where
     now : Context
@@ -373,10 +378,11 @@ waiters_hear_hangups a n msg label f t c kept now w none =
 -- a fibril that a connection starts
 
 with_length : (b : AsyncState) (f : FibrilNo) (u : Context) → length (with_context b f u).contexts ≡ length b.contexts
-with_length b f u = by (nat_lt (f.0 - 1) (length b.contexts))
+with_length b f u = by (is_some (context_at b f))
   where
-    by : (x : Bool) → length (if x then slice_set b.contexts (f.0 - 1) u else b.contexts) ≡ length b.contexts
-    by true = length_set b.contexts (f.0 - 1) u
+    by : (x : Bool) →
+        length (if x then slice_set b.contexts (f.0 - 1) (Some u) else b.contexts) ≡ length b.contexts
+    by true = length_set b.contexts (f.0 - 1) (Some u)
     by false = refl
 
 hand_length : (d : AsyncState) (f : FibrilNo) (s : Taken) (q : Option Context) →
@@ -407,8 +413,8 @@ started_ones_know_their_call a n msg label body now asks is =
     subst (λ (x : AsyncState). KnowsItsCall n msg label body a x) (sym state) (record {
       now = new;
       here =
-          ap (λ (i : ℕ). slice_get (before.contexts ++ new ∷ []) i) (sym (holder_length b holder))
-          ∙ push_here before.contexts new;
+          ap (λ (i : ℕ). slice_get (before.contexts ++ Some new ∷ []) i) (sym (holder_length b holder))
+          ∙ push_here before.contexts (Some new);
       registers = tells (new_context body) n msg label refl;
       rest = refl;
     })

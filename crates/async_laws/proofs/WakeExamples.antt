@@ -43,7 +43,7 @@ blocked w ws cs o =
       me = record { 0 = 1 };
       bodies = [];
       order = alone w;
-      contexts = new_context 0 ∷ [];
+      contexts = Some (new_context 0) ∷ [];
       conns = cs;
       pool = o;
       awaited = ws;

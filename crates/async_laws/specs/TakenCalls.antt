@@ -102,7 +102,7 @@ WaitersHearHangups =
 -- the fibril of a connection that starts stands before that body, with the connect call in its registers
 pub record KnowsItsCall (n : CallNo) (msg : Msg) (label : Label) (body : ℕ) (a after : AsyncState) : Type 0 where
   pub now : Context
-  pub here : slice_get after.contexts (length a.contexts) ≡ Some now
+  pub here : slice_get after.contexts (length a.contexts) ≡ Some (Some now)
   pub registers : TellCall n msg label (replicate 32 0) now.registers
   pub rest : now ≡ record (new_context body) { registers = now.registers }
 

@@ -1,3 +1,4 @@
+pub mod Listed
 pub mod Served
 pub mod Waits
 pub mod Bounds

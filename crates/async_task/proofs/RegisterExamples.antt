@@ -59,7 +59,7 @@ at place registers held =
 abbrev before : Op → Slot → List Conn → AsyncState
 before operation held conns =
     record (started me (record { connection = false; ops = operation ∷ [] } ∷ [])) {
-      contexts = at 0 (100 ∷ 101 ∷ 102 ∷ 103 ∷ 104 ∷ 105 ∷ 106 ∷ 107 ∷ 108 ∷ 109 ∷ 110 ∷ 111 ∷ 112 ∷ 113 ∷ 114 ∷ 115 ∷ 116 ∷ 117 ∷ 118 ∷ 119 ∷ 120 ∷ 121 ∷ 122 ∷ 123 ∷ 124 ∷ 125 ∷ 126 ∷ 127 ∷ 128 ∷ 129 ∷ 130 ∷ 131 ∷ []) held ∷ [];
+      contexts = Some (at 0 (100 ∷ 101 ∷ 102 ∷ 103 ∷ 104 ∷ 105 ∷ 106 ∷ 107 ∷ 108 ∷ 109 ∷ 110 ∷ 111 ∷ 112 ∷ 113 ∷ 114 ∷ 115 ∷ 116 ∷ 117 ∷ 118 ∷ 119 ∷ 120 ∷ 121 ∷ 122 ∷ 123 ∷ 124 ∷ 125 ∷ 126 ∷ 127 ∷ 128 ∷ 129 ∷ 130 ∷ 131 ∷ []) held) ∷ [];
       conns = conns;
     }
 
@@ -77,7 +77,7 @@ call_accepted_asks : wanted (before (op.CallSlot 0 (Number 3) (Number 512) zeros
 call_accepted_asks = refl
 
 call_accepted : (step (before (op.CallSlot 0 (Number 3) (Number 512) zeros) slot.Closed []) (got.Accepted call)).state.contexts
-    ≡ at 1 (0 ∷ 9 ∷ 102 ∷ 103 ∷ 104 ∷ 105 ∷ 106 ∷ 107 ∷ 108 ∷ 109 ∷ 110 ∷ 111 ∷ 112 ∷ 113 ∷ 114 ∷ 115 ∷ 116 ∷ 117 ∷ 118 ∷ 119 ∷ 120 ∷ 121 ∷ 122 ∷ 123 ∷ 124 ∷ 125 ∷ 126 ∷ 127 ∷ 128 ∷ 129 ∷ 130 ∷ 131 ∷ []) (slot.Sent call) ∷ []
+    ≡ Some (at 1 (0 ∷ 9 ∷ 102 ∷ 103 ∷ 104 ∷ 105 ∷ 106 ∷ 107 ∷ 108 ∷ 109 ∷ 110 ∷ 111 ∷ 112 ∷ 113 ∷ 114 ∷ 115 ∷ 116 ∷ 117 ∷ 118 ∷ 119 ∷ 120 ∷ 121 ∷ 122 ∷ 123 ∷ 124 ∷ 125 ∷ 126 ∷ 127 ∷ 128 ∷ 129 ∷ 130 ∷ 131 ∷ []) (slot.Sent call)) ∷ []
 call_accepted = refl
 
 call_accepted_tells : (step (before (op.CallSlot 0 (Number 3) (Number 512) zeros) slot.Closed []) (got.Accepted call)).entries ≡ entry.Sent me first call (Some 0) ∷ []
@@ -87,7 +87,7 @@ call_refused_asks : wanted (before (op.CallSlot 0 (Number 3) (Number 512) zeros)
 call_refused_asks = refl
 
 call_refused : (step (before (op.CallSlot 0 (Number 3) (Number 512) zeros) slot.Closed []) (got.Refused (record { 0 = 5 }))).state.contexts
-    ≡ at 1 (5 ∷ 101 ∷ 102 ∷ 103 ∷ 104 ∷ 105 ∷ 106 ∷ 107 ∷ 108 ∷ 109 ∷ 110 ∷ 111 ∷ 112 ∷ 113 ∷ 114 ∷ 115 ∷ 116 ∷ 117 ∷ 118 ∷ 119 ∷ 120 ∷ 121 ∷ 122 ∷ 123 ∷ 124 ∷ 125 ∷ 126 ∷ 127 ∷ 128 ∷ 129 ∷ 130 ∷ 131 ∷ []) slot.Closed ∷ []
+    ≡ Some (at 1 (5 ∷ 101 ∷ 102 ∷ 103 ∷ 104 ∷ 105 ∷ 106 ∷ 107 ∷ 108 ∷ 109 ∷ 110 ∷ 111 ∷ 112 ∷ 113 ∷ 114 ∷ 115 ∷ 116 ∷ 117 ∷ 118 ∷ 119 ∷ 120 ∷ 121 ∷ 122 ∷ 123 ∷ 124 ∷ 125 ∷ 126 ∷ 127 ∷ 128 ∷ 129 ∷ 130 ∷ 131 ∷ []) slot.Closed) ∷ []
 call_refused = refl
 
 call_refused_tells : (step (before (op.CallSlot 0 (Number 3) (Number 512) zeros) slot.Closed []) (got.Refused (record { 0 = 5 }))).entries ≡ []
@@ -97,7 +97,7 @@ call_from_a_used_slot_asks : wanted (before (op.CallSlot 0 (Number 3) (Number 51
 call_from_a_used_slot_asks = refl
 
 call_from_a_used_slot : (step (before (op.CallSlot 0 (Number 3) (Number 512) zeros) (slot.Sent call) []) got.Done).state.contexts
-    ≡ at 1 (8 ∷ 101 ∷ 102 ∷ 103 ∷ 104 ∷ 105 ∷ 106 ∷ 107 ∷ 108 ∷ 109 ∷ 110 ∷ 111 ∷ 112 ∷ 113 ∷ 114 ∷ 115 ∷ 116 ∷ 117 ∷ 118 ∷ 119 ∷ 120 ∷ 121 ∷ 122 ∷ 123 ∷ 124 ∷ 125 ∷ 126 ∷ 127 ∷ 128 ∷ 129 ∷ 130 ∷ 131 ∷ []) (slot.Sent call) ∷ []
+    ≡ Some (at 1 (8 ∷ 101 ∷ 102 ∷ 103 ∷ 104 ∷ 105 ∷ 106 ∷ 107 ∷ 108 ∷ 109 ∷ 110 ∷ 111 ∷ 112 ∷ 113 ∷ 114 ∷ 115 ∷ 116 ∷ 117 ∷ 118 ∷ 119 ∷ 120 ∷ 121 ∷ 122 ∷ 123 ∷ 124 ∷ 125 ∷ 126 ∷ 127 ∷ 128 ∷ 129 ∷ 130 ∷ 131 ∷ []) (slot.Sent call)) ∷ []
 call_from_a_used_slot = refl
 
 call_from_a_used_slot_tells : (step (before (op.CallSlot 0 (Number 3) (Number 512) zeros) (slot.Sent call) []) got.Done).entries ≡ entry.RefusedOp me first ebusy ∷ []
@@ -107,7 +107,7 @@ send_without_an_exchange_asks : wanted (before (op.Send 0 0 (Number 512) zeros) 
 send_without_an_exchange_asks = refl
 
 send_without_an_exchange : (step (before (op.Send 0 0 (Number 512) zeros) slot.Closed []) got.Done).state.contexts
-    ≡ at 1 (1 ∷ 101 ∷ 102 ∷ 103 ∷ 104 ∷ 105 ∷ 106 ∷ 107 ∷ 108 ∷ 109 ∷ 110 ∷ 111 ∷ 112 ∷ 113 ∷ 114 ∷ 115 ∷ 116 ∷ 117 ∷ 118 ∷ 119 ∷ 120 ∷ 121 ∷ 122 ∷ 123 ∷ 124 ∷ 125 ∷ 126 ∷ 127 ∷ 128 ∷ 129 ∷ 130 ∷ 131 ∷ []) slot.Closed ∷ []
+    ≡ Some (at 1 (1 ∷ 101 ∷ 102 ∷ 103 ∷ 104 ∷ 105 ∷ 106 ∷ 107 ∷ 108 ∷ 109 ∷ 110 ∷ 111 ∷ 112 ∷ 113 ∷ 114 ∷ 115 ∷ 116 ∷ 117 ∷ 118 ∷ 119 ∷ 120 ∷ 121 ∷ 122 ∷ 123 ∷ 124 ∷ 125 ∷ 126 ∷ 127 ∷ 128 ∷ 129 ∷ 130 ∷ 131 ∷ []) slot.Closed) ∷ []
 send_without_an_exchange = refl
 
 send_without_an_exchange_tells : (step (before (op.Send 0 0 (Number 512) zeros) slot.Closed []) got.Done).entries ≡ entry.RefusedOp me first enoent ∷ []
@@ -117,7 +117,7 @@ wait_for_a_closed_slot_asks : wanted (before (op.Wait 0) slot.Closed []) ≡ ask
 wait_for_a_closed_slot_asks = refl
 
 wait_for_a_closed_slot : (step (before (op.Wait 0) slot.Closed []) got.Done).state.contexts
-    ≡ at 1 (1 ∷ 101 ∷ 102 ∷ 103 ∷ 104 ∷ 105 ∷ 106 ∷ 107 ∷ 108 ∷ 109 ∷ 110 ∷ 111 ∷ 112 ∷ 113 ∷ 114 ∷ 115 ∷ 116 ∷ 117 ∷ 118 ∷ 119 ∷ 120 ∷ 121 ∷ 122 ∷ 123 ∷ 124 ∷ 125 ∷ 126 ∷ 127 ∷ 128 ∷ 129 ∷ 130 ∷ 131 ∷ []) slot.Closed ∷ []
+    ≡ Some (at 1 (1 ∷ 101 ∷ 102 ∷ 103 ∷ 104 ∷ 105 ∷ 106 ∷ 107 ∷ 108 ∷ 109 ∷ 110 ∷ 111 ∷ 112 ∷ 113 ∷ 114 ∷ 115 ∷ 116 ∷ 117 ∷ 118 ∷ 119 ∷ 120 ∷ 121 ∷ 122 ∷ 123 ∷ 124 ∷ 125 ∷ 126 ∷ 127 ∷ 128 ∷ 129 ∷ 130 ∷ 131 ∷ []) slot.Closed) ∷ []
 wait_for_a_closed_slot = refl
 
 wait_for_a_closed_slot_tells : (step (before (op.Wait 0) slot.Closed []) got.Done).entries ≡ entry.RefusedOp me first enoent ∷ []
@@ -127,7 +127,7 @@ wait_where_the_answer_is_asks : wanted (before (op.Wait 0) (slot.Answered call r
 wait_where_the_answer_is_asks = refl
 
 wait_where_the_answer_is : (step (before (op.Wait 0) (slot.Answered call reply) []) got.Done).state.contexts
-    ≡ at 1 (0 ∷ 101 ∷ 102 ∷ 103 ∷ 104 ∷ 105 ∷ 106 ∷ 107 ∷ 108 ∷ 9 ∷ 5 ∷ 1 ∷ 2 ∷ 3 ∷ 4 ∷ 5 ∷ 116 ∷ 117 ∷ 118 ∷ 119 ∷ 120 ∷ 121 ∷ 122 ∷ 123 ∷ 124 ∷ 125 ∷ 126 ∷ 127 ∷ 128 ∷ 129 ∷ 130 ∷ 131 ∷ []) slot.Closed ∷ []
+    ≡ Some (at 1 (0 ∷ 101 ∷ 102 ∷ 103 ∷ 104 ∷ 105 ∷ 106 ∷ 107 ∷ 108 ∷ 9 ∷ 5 ∷ 1 ∷ 2 ∷ 3 ∷ 4 ∷ 5 ∷ 116 ∷ 117 ∷ 118 ∷ 119 ∷ 120 ∷ 121 ∷ 122 ∷ 123 ∷ 124 ∷ 125 ∷ 126 ∷ 127 ∷ 128 ∷ 129 ∷ 130 ∷ 131 ∷ []) slot.Closed) ∷ []
 wait_where_the_answer_is = refl
 
 wait_where_the_answer_is_tells : (step (before (op.Wait 0) (slot.Answered call reply) []) got.Done).entries ≡ []
@@ -137,7 +137,7 @@ wait_where_it_is_not_asks : wanted (before (op.Wait 0) (slot.Sent call) []) ≡ 
 wait_where_it_is_not_asks = refl
 
 wait_where_it_is_not : (step (before (op.Wait 0) (slot.Sent call) []) got.Done).state.contexts
-    ≡ at 0 (100 ∷ 101 ∷ 102 ∷ 103 ∷ 104 ∷ 105 ∷ 106 ∷ 107 ∷ 108 ∷ 109 ∷ 110 ∷ 111 ∷ 112 ∷ 113 ∷ 114 ∷ 115 ∷ 116 ∷ 117 ∷ 118 ∷ 119 ∷ 120 ∷ 121 ∷ 122 ∷ 123 ∷ 124 ∷ 125 ∷ 126 ∷ 127 ∷ 128 ∷ 129 ∷ 130 ∷ 131 ∷ []) (slot.Sent call) ∷ []
+    ≡ Some (at 0 (100 ∷ 101 ∷ 102 ∷ 103 ∷ 104 ∷ 105 ∷ 106 ∷ 107 ∷ 108 ∷ 109 ∷ 110 ∷ 111 ∷ 112 ∷ 113 ∷ 114 ∷ 115 ∷ 116 ∷ 117 ∷ 118 ∷ 119 ∷ 120 ∷ 121 ∷ 122 ∷ 123 ∷ 124 ∷ 125 ∷ 126 ∷ 127 ∷ 128 ∷ 129 ∷ 130 ∷ 131 ∷ []) (slot.Sent call)) ∷ []
 wait_where_it_is_not = refl
 
 wait_where_it_is_not_tells : (step (before (op.Wait 0) (slot.Sent call) []) got.Done).entries ≡ entry.Blocks me first (why.Answer call) ∷ []
@@ -147,7 +147,7 @@ next_without_a_connection_asks : wanted (before op.Next slot.Closed []) ≡ ask.
 next_without_a_connection_asks = refl
 
 next_without_a_connection : (step (before op.Next slot.Closed []) got.Done).state.contexts
-    ≡ at 1 (1 ∷ 101 ∷ 102 ∷ 103 ∷ 104 ∷ 105 ∷ 106 ∷ 107 ∷ 108 ∷ 109 ∷ 110 ∷ 111 ∷ 112 ∷ 113 ∷ 114 ∷ 115 ∷ 116 ∷ 117 ∷ 118 ∷ 119 ∷ 120 ∷ 121 ∷ 122 ∷ 123 ∷ 124 ∷ 125 ∷ 126 ∷ 127 ∷ 128 ∷ 129 ∷ 130 ∷ 131 ∷ []) slot.Closed ∷ []
+    ≡ Some (at 1 (1 ∷ 101 ∷ 102 ∷ 103 ∷ 104 ∷ 105 ∷ 106 ∷ 107 ∷ 108 ∷ 109 ∷ 110 ∷ 111 ∷ 112 ∷ 113 ∷ 114 ∷ 115 ∷ 116 ∷ 117 ∷ 118 ∷ 119 ∷ 120 ∷ 121 ∷ 122 ∷ 123 ∷ 124 ∷ 125 ∷ 126 ∷ 127 ∷ 128 ∷ 129 ∷ 130 ∷ 131 ∷ []) slot.Closed) ∷ []
 next_without_a_connection = refl
 
 next_without_a_connection_tells : (step (before op.Next slot.Closed []) got.Done).entries ≡ entry.RefusedOp me first enoent ∷ []
@@ -157,7 +157,7 @@ next_where_a_call_waits_asks : wanted (before op.Next slot.Closed (open_connecti
 next_where_a_call_waits_asks = refl
 
 next_where_a_call_waits : (step (before op.Next slot.Closed (open_connection ∷ [])) got.Done).state.contexts
-    ≡ at 1 (0 ∷ 101 ∷ 9 ∷ 600 ∷ 1 ∷ 2 ∷ 3 ∷ 4 ∷ 5 ∷ 109 ∷ 110 ∷ 111 ∷ 112 ∷ 113 ∷ 114 ∷ 115 ∷ 7 ∷ 8 ∷ 118 ∷ 119 ∷ 120 ∷ 121 ∷ 122 ∷ 123 ∷ 124 ∷ 125 ∷ 126 ∷ 127 ∷ 128 ∷ 129 ∷ 130 ∷ 131 ∷ []) slot.Closed ∷ []
+    ≡ Some (at 1 (0 ∷ 101 ∷ 9 ∷ 600 ∷ 1 ∷ 2 ∷ 3 ∷ 4 ∷ 5 ∷ 109 ∷ 110 ∷ 111 ∷ 112 ∷ 113 ∷ 114 ∷ 115 ∷ 7 ∷ 8 ∷ 118 ∷ 119 ∷ 120 ∷ 121 ∷ 122 ∷ 123 ∷ 124 ∷ 125 ∷ 126 ∷ 127 ∷ 128 ∷ 129 ∷ 130 ∷ 131 ∷ []) slot.Closed) ∷ []
 next_where_a_call_waits = refl
 
 next_where_a_call_waits_tells : (step (before op.Next slot.Closed (open_connection ∷ [])) got.Done).entries ≡ []
@@ -167,7 +167,7 @@ next_of_a_closed_connection_asks : wanted (before op.Next slot.Closed (closed_co
 next_of_a_closed_connection_asks = refl
 
 next_of_a_closed_connection : (step (before op.Next slot.Closed (closed_connection ∷ [])) got.Done).state.contexts
-    ≡ at 1 (0 ∷ 101 ∷ 0 ∷ 0 ∷ 0 ∷ 0 ∷ 0 ∷ 0 ∷ 0 ∷ 109 ∷ 110 ∷ 111 ∷ 112 ∷ 113 ∷ 114 ∷ 115 ∷ 7 ∷ 8 ∷ 118 ∷ 119 ∷ 120 ∷ 121 ∷ 122 ∷ 123 ∷ 124 ∷ 125 ∷ 126 ∷ 127 ∷ 128 ∷ 129 ∷ 130 ∷ 131 ∷ []) slot.Closed ∷ []
+    ≡ Some (at 1 (0 ∷ 101 ∷ 0 ∷ 0 ∷ 0 ∷ 0 ∷ 0 ∷ 0 ∷ 0 ∷ 109 ∷ 110 ∷ 111 ∷ 112 ∷ 113 ∷ 114 ∷ 115 ∷ 7 ∷ 8 ∷ 118 ∷ 119 ∷ 120 ∷ 121 ∷ 122 ∷ 123 ∷ 124 ∷ 125 ∷ 126 ∷ 127 ∷ 128 ∷ 129 ∷ 130 ∷ 131 ∷ []) slot.Closed) ∷ []
 next_of_a_closed_connection = refl
 
 next_of_a_closed_connection_tells : (step (before op.Next slot.Closed (closed_connection ∷ [])) got.Done).entries ≡ []
@@ -177,7 +177,7 @@ yield_asks : wanted (before op.Yield slot.Closed []) ≡ ask.Nothing
 yield_asks = refl
 
 yield : (step (before op.Yield slot.Closed []) got.Done).state.contexts
-    ≡ at 1 (100 ∷ 101 ∷ 102 ∷ 103 ∷ 104 ∷ 105 ∷ 106 ∷ 107 ∷ 108 ∷ 109 ∷ 110 ∷ 111 ∷ 112 ∷ 113 ∷ 114 ∷ 115 ∷ 116 ∷ 117 ∷ 118 ∷ 119 ∷ 120 ∷ 121 ∷ 122 ∷ 123 ∷ 124 ∷ 125 ∷ 126 ∷ 127 ∷ 128 ∷ 129 ∷ 130 ∷ 131 ∷ []) slot.Closed ∷ []
+    ≡ Some (at 1 (100 ∷ 101 ∷ 102 ∷ 103 ∷ 104 ∷ 105 ∷ 106 ∷ 107 ∷ 108 ∷ 109 ∷ 110 ∷ 111 ∷ 112 ∷ 113 ∷ 114 ∷ 115 ∷ 116 ∷ 117 ∷ 118 ∷ 119 ∷ 120 ∷ 121 ∷ 122 ∷ 123 ∷ 124 ∷ 125 ∷ 126 ∷ 127 ∷ 128 ∷ 129 ∷ 130 ∷ 131 ∷ []) slot.Closed) ∷ []
 yield = refl
 
 yield_tells : (step (before op.Yield slot.Closed []) got.Done).entries ≡ []
@@ -187,7 +187,7 @@ open_a_session_asks : wanted (before (op.OpenSession 0 (Number 3) Atomic) slot.C
 open_a_session_asks = refl
 
 open_a_session : (step (before (op.OpenSession 0 (Number 3) Atomic) slot.Closed []) got.Done).state.contexts
-    ≡ at 1 (0 ∷ 101 ∷ 102 ∷ 103 ∷ 104 ∷ 105 ∷ 106 ∷ 107 ∷ 108 ∷ 109 ∷ 110 ∷ 111 ∷ 112 ∷ 113 ∷ 114 ∷ 115 ∷ 116 ∷ 117 ∷ 118 ∷ 119 ∷ 120 ∷ 121 ∷ 122 ∷ 123 ∷ 124 ∷ 125 ∷ 126 ∷ 127 ∷ 128 ∷ 129 ∷ 130 ∷ 131 ∷ []) slot.Closed ∷ []
+    ≡ Some (at 1 (0 ∷ 101 ∷ 102 ∷ 103 ∷ 104 ∷ 105 ∷ 106 ∷ 107 ∷ 108 ∷ 109 ∷ 110 ∷ 111 ∷ 112 ∷ 113 ∷ 114 ∷ 115 ∷ 116 ∷ 117 ∷ 118 ∷ 119 ∷ 120 ∷ 121 ∷ 122 ∷ 123 ∷ 124 ∷ 125 ∷ 126 ∷ 127 ∷ 128 ∷ 129 ∷ 130 ∷ 131 ∷ []) slot.Closed) ∷ []
 open_a_session = refl
 
 open_a_session_tells : (step (before (op.OpenSession 0 (Number 3) Atomic) slot.Closed []) got.Done).entries ≡ []
@@ -197,7 +197,7 @@ begin_without_a_session_asks : wanted (before (op.Begin 0 0) slot.Closed []) ≡
 begin_without_a_session_asks = refl
 
 begin_without_a_session : (step (before (op.Begin 0 0) slot.Closed []) got.Done).state.contexts
-    ≡ at 1 (1 ∷ 101 ∷ 102 ∷ 103 ∷ 104 ∷ 105 ∷ 106 ∷ 107 ∷ 108 ∷ 109 ∷ 110 ∷ 111 ∷ 112 ∷ 113 ∷ 114 ∷ 115 ∷ 116 ∷ 117 ∷ 118 ∷ 119 ∷ 120 ∷ 121 ∷ 122 ∷ 123 ∷ 124 ∷ 125 ∷ 126 ∷ 127 ∷ 128 ∷ 129 ∷ 130 ∷ 131 ∷ []) slot.Closed ∷ []
+    ≡ Some (at 1 (1 ∷ 101 ∷ 102 ∷ 103 ∷ 104 ∷ 105 ∷ 106 ∷ 107 ∷ 108 ∷ 109 ∷ 110 ∷ 111 ∷ 112 ∷ 113 ∷ 114 ∷ 115 ∷ 116 ∷ 117 ∷ 118 ∷ 119 ∷ 120 ∷ 121 ∷ 122 ∷ 123 ∷ 124 ∷ 125 ∷ 126 ∷ 127 ∷ 128 ∷ 129 ∷ 130 ∷ 131 ∷ []) slot.Closed) ∷ []
 begin_without_a_session = refl
 
 begin_without_a_session_tells : (step (before (op.Begin 0 0) slot.Closed []) got.Done).entries ≡ entry.RefusedOp me first enoent ∷ []
@@ -207,7 +207,7 @@ end_without_an_exchange_asks : wanted (before (op.End 0) slot.Closed []) ≡ ask
 end_without_an_exchange_asks = refl
 
 end_without_an_exchange : (step (before (op.End 0) slot.Closed []) got.Done).state.contexts
-    ≡ at 1 (1 ∷ 101 ∷ 102 ∷ 103 ∷ 104 ∷ 105 ∷ 106 ∷ 107 ∷ 108 ∷ 109 ∷ 110 ∷ 111 ∷ 112 ∷ 113 ∷ 114 ∷ 115 ∷ 116 ∷ 117 ∷ 118 ∷ 119 ∷ 120 ∷ 121 ∷ 122 ∷ 123 ∷ 124 ∷ 125 ∷ 126 ∷ 127 ∷ 128 ∷ 129 ∷ 130 ∷ 131 ∷ []) slot.Closed ∷ []
+    ≡ Some (at 1 (1 ∷ 101 ∷ 102 ∷ 103 ∷ 104 ∷ 105 ∷ 106 ∷ 107 ∷ 108 ∷ 109 ∷ 110 ∷ 111 ∷ 112 ∷ 113 ∷ 114 ∷ 115 ∷ 116 ∷ 117 ∷ 118 ∷ 119 ∷ 120 ∷ 121 ∷ 122 ∷ 123 ∷ 124 ∷ 125 ∷ 126 ∷ 127 ∷ 128 ∷ 129 ∷ 130 ∷ 131 ∷ []) slot.Closed) ∷ []
 end_without_an_exchange = refl
 
 end_without_an_exchange_tells : (step (before (op.End 0) slot.Closed []) got.Done).entries ≡ entry.RefusedOp me first enoent ∷ []
@@ -217,7 +217,7 @@ close_without_a_session_asks : wanted (before (op.Close 0) slot.Closed []) ≡ a
 close_without_a_session_asks = refl
 
 close_without_a_session : (step (before (op.Close 0) slot.Closed []) got.Done).state.contexts
-    ≡ at 1 (1 ∷ 101 ∷ 102 ∷ 103 ∷ 104 ∷ 105 ∷ 106 ∷ 107 ∷ 108 ∷ 109 ∷ 110 ∷ 111 ∷ 112 ∷ 113 ∷ 114 ∷ 115 ∷ 116 ∷ 117 ∷ 118 ∷ 119 ∷ 120 ∷ 121 ∷ 122 ∷ 123 ∷ 124 ∷ 125 ∷ 126 ∷ 127 ∷ 128 ∷ 129 ∷ 130 ∷ 131 ∷ []) slot.Closed ∷ []
+    ≡ Some (at 1 (1 ∷ 101 ∷ 102 ∷ 103 ∷ 104 ∷ 105 ∷ 106 ∷ 107 ∷ 108 ∷ 109 ∷ 110 ∷ 111 ∷ 112 ∷ 113 ∷ 114 ∷ 115 ∷ 116 ∷ 117 ∷ 118 ∷ 119 ∷ 120 ∷ 121 ∷ 122 ∷ 123 ∷ 124 ∷ 125 ∷ 126 ∷ 127 ∷ 128 ∷ 129 ∷ 130 ∷ 131 ∷ []) slot.Closed) ∷ []
 close_without_a_session = refl
 
 close_without_a_session_tells : (step (before (op.Close 0) slot.Closed []) got.Done).entries ≡ entry.RefusedOp me first enoent ∷ []
@@ -227,7 +227,7 @@ answer_asks : wanted (before (op.Answer (Register 2) (Number 0) zeros) slot.Clos
 answer_asks = refl
 
 answer : (step (before (op.Answer (Register 2) (Number 0) zeros) slot.Closed []) got.Done).state.contexts
-    ≡ at 1 (0 ∷ 101 ∷ 102 ∷ 103 ∷ 104 ∷ 105 ∷ 106 ∷ 107 ∷ 108 ∷ 109 ∷ 110 ∷ 111 ∷ 112 ∷ 113 ∷ 114 ∷ 115 ∷ 116 ∷ 117 ∷ 118 ∷ 119 ∷ 120 ∷ 121 ∷ 122 ∷ 123 ∷ 124 ∷ 125 ∷ 126 ∷ 127 ∷ 128 ∷ 129 ∷ 130 ∷ 131 ∷ []) slot.Closed ∷ []
+    ≡ Some (at 1 (0 ∷ 101 ∷ 102 ∷ 103 ∷ 104 ∷ 105 ∷ 106 ∷ 107 ∷ 108 ∷ 109 ∷ 110 ∷ 111 ∷ 112 ∷ 113 ∷ 114 ∷ 115 ∷ 116 ∷ 117 ∷ 118 ∷ 119 ∷ 120 ∷ 121 ∷ 122 ∷ 123 ∷ 124 ∷ 125 ∷ 126 ∷ 127 ∷ 128 ∷ 129 ∷ 130 ∷ 131 ∷ []) slot.Closed) ∷ []
 answer = refl
 
 answer_tells : (step (before (op.Answer (Register 2) (Number 0) zeros) slot.Closed []) got.Done).entries ≡ []
@@ -237,7 +237,7 @@ answer_refused_asks : wanted (before (op.Answer (Register 2) (Number 0) zeros) s
 answer_refused_asks = refl
 
 answer_refused : (step (before (op.Answer (Register 2) (Number 0) zeros) slot.Closed []) (got.Refused enoent)).state.contexts
-    ≡ at 1 (1 ∷ 101 ∷ 102 ∷ 103 ∷ 104 ∷ 105 ∷ 106 ∷ 107 ∷ 108 ∷ 109 ∷ 110 ∷ 111 ∷ 112 ∷ 113 ∷ 114 ∷ 115 ∷ 116 ∷ 117 ∷ 118 ∷ 119 ∷ 120 ∷ 121 ∷ 122 ∷ 123 ∷ 124 ∷ 125 ∷ 126 ∷ 127 ∷ 128 ∷ 129 ∷ 130 ∷ 131 ∷ []) slot.Closed ∷ []
+    ≡ Some (at 1 (1 ∷ 101 ∷ 102 ∷ 103 ∷ 104 ∷ 105 ∷ 106 ∷ 107 ∷ 108 ∷ 109 ∷ 110 ∷ 111 ∷ 112 ∷ 113 ∷ 114 ∷ 115 ∷ 116 ∷ 117 ∷ 118 ∷ 119 ∷ 120 ∷ 121 ∷ 122 ∷ 123 ∷ 124 ∷ 125 ∷ 126 ∷ 127 ∷ 128 ∷ 129 ∷ 130 ∷ 131 ∷ []) slot.Closed) ∷ []
 answer_refused = refl
 
 answer_refused_tells : (step (before (op.Answer (Register 2) (Number 0) zeros) slot.Closed []) (got.Refused enoent)).entries ≡ []
@@ -247,7 +247,7 @@ set_asks : wanted (before (op.Set 5 (Register 6)) slot.Closed []) ≡ ask.Nothin
 set_asks = refl
 
 set : (step (before (op.Set 5 (Register 6)) slot.Closed []) got.Done).state.contexts
-    ≡ at 1 (100 ∷ 101 ∷ 102 ∷ 103 ∷ 104 ∷ 106 ∷ 106 ∷ 107 ∷ 108 ∷ 109 ∷ 110 ∷ 111 ∷ 112 ∷ 113 ∷ 114 ∷ 115 ∷ 116 ∷ 117 ∷ 118 ∷ 119 ∷ 120 ∷ 121 ∷ 122 ∷ 123 ∷ 124 ∷ 125 ∷ 126 ∷ 127 ∷ 128 ∷ 129 ∷ 130 ∷ 131 ∷ []) slot.Closed ∷ []
+    ≡ Some (at 1 (100 ∷ 101 ∷ 102 ∷ 103 ∷ 104 ∷ 106 ∷ 106 ∷ 107 ∷ 108 ∷ 109 ∷ 110 ∷ 111 ∷ 112 ∷ 113 ∷ 114 ∷ 115 ∷ 116 ∷ 117 ∷ 118 ∷ 119 ∷ 120 ∷ 121 ∷ 122 ∷ 123 ∷ 124 ∷ 125 ∷ 126 ∷ 127 ∷ 128 ∷ 129 ∷ 130 ∷ 131 ∷ []) slot.Closed) ∷ []
 set = refl
 
 set_tells : (step (before (op.Set 5 (Register 6)) slot.Closed []) got.Done).entries ≡ []
@@ -257,7 +257,7 @@ jump_asks : wanted (before (op.Jump 7) slot.Closed []) ≡ ask.Nothing
 jump_asks = refl
 
 jump : (step (before (op.Jump 7) slot.Closed []) got.Done).state.contexts
-    ≡ at 7 (100 ∷ 101 ∷ 102 ∷ 103 ∷ 104 ∷ 105 ∷ 106 ∷ 107 ∷ 108 ∷ 109 ∷ 110 ∷ 111 ∷ 112 ∷ 113 ∷ 114 ∷ 115 ∷ 116 ∷ 117 ∷ 118 ∷ 119 ∷ 120 ∷ 121 ∷ 122 ∷ 123 ∷ 124 ∷ 125 ∷ 126 ∷ 127 ∷ 128 ∷ 129 ∷ 130 ∷ 131 ∷ []) slot.Closed ∷ []
+    ≡ Some (at 7 (100 ∷ 101 ∷ 102 ∷ 103 ∷ 104 ∷ 105 ∷ 106 ∷ 107 ∷ 108 ∷ 109 ∷ 110 ∷ 111 ∷ 112 ∷ 113 ∷ 114 ∷ 115 ∷ 116 ∷ 117 ∷ 118 ∷ 119 ∷ 120 ∷ 121 ∷ 122 ∷ 123 ∷ 124 ∷ 125 ∷ 126 ∷ 127 ∷ 128 ∷ 129 ∷ 130 ∷ 131 ∷ []) slot.Closed) ∷ []
 jump = refl
 
 jump_tells : (step (before (op.Jump 7) slot.Closed []) got.Done).entries ≡ []
@@ -267,7 +267,7 @@ jumpeq_where_equal_asks : wanted (before (op.JumpEqual (Register 3) (Number 103)
 jumpeq_where_equal_asks = refl
 
 jumpeq_where_equal : (step (before (op.JumpEqual (Register 3) (Number 103) 7) slot.Closed []) got.Done).state.contexts
-    ≡ at 7 (100 ∷ 101 ∷ 102 ∷ 103 ∷ 104 ∷ 105 ∷ 106 ∷ 107 ∷ 108 ∷ 109 ∷ 110 ∷ 111 ∷ 112 ∷ 113 ∷ 114 ∷ 115 ∷ 116 ∷ 117 ∷ 118 ∷ 119 ∷ 120 ∷ 121 ∷ 122 ∷ 123 ∷ 124 ∷ 125 ∷ 126 ∷ 127 ∷ 128 ∷ 129 ∷ 130 ∷ 131 ∷ []) slot.Closed ∷ []
+    ≡ Some (at 7 (100 ∷ 101 ∷ 102 ∷ 103 ∷ 104 ∷ 105 ∷ 106 ∷ 107 ∷ 108 ∷ 109 ∷ 110 ∷ 111 ∷ 112 ∷ 113 ∷ 114 ∷ 115 ∷ 116 ∷ 117 ∷ 118 ∷ 119 ∷ 120 ∷ 121 ∷ 122 ∷ 123 ∷ 124 ∷ 125 ∷ 126 ∷ 127 ∷ 128 ∷ 129 ∷ 130 ∷ 131 ∷ []) slot.Closed) ∷ []
 jumpeq_where_equal = refl
 
 jumpeq_where_equal_tells : (step (before (op.JumpEqual (Register 3) (Number 103) 7) slot.Closed []) got.Done).entries ≡ []
@@ -277,7 +277,7 @@ jumpeq_where_different_asks : wanted (before (op.JumpEqual (Register 3) (Registe
 jumpeq_where_different_asks = refl
 
 jumpeq_where_different : (step (before (op.JumpEqual (Register 3) (Register 4) 7) slot.Closed []) got.Done).state.contexts
-    ≡ at 1 (100 ∷ 101 ∷ 102 ∷ 103 ∷ 104 ∷ 105 ∷ 106 ∷ 107 ∷ 108 ∷ 109 ∷ 110 ∷ 111 ∷ 112 ∷ 113 ∷ 114 ∷ 115 ∷ 116 ∷ 117 ∷ 118 ∷ 119 ∷ 120 ∷ 121 ∷ 122 ∷ 123 ∷ 124 ∷ 125 ∷ 126 ∷ 127 ∷ 128 ∷ 129 ∷ 130 ∷ 131 ∷ []) slot.Closed ∷ []
+    ≡ Some (at 1 (100 ∷ 101 ∷ 102 ∷ 103 ∷ 104 ∷ 105 ∷ 106 ∷ 107 ∷ 108 ∷ 109 ∷ 110 ∷ 111 ∷ 112 ∷ 113 ∷ 114 ∷ 115 ∷ 116 ∷ 117 ∷ 118 ∷ 119 ∷ 120 ∷ 121 ∷ 122 ∷ 123 ∷ 124 ∷ 125 ∷ 126 ∷ 127 ∷ 128 ∷ 129 ∷ 130 ∷ 131 ∷ []) slot.Closed) ∷ []
 jumpeq_where_different = refl
 
 jumpeq_where_different_tells : (step (before (op.JumpEqual (Register 3) (Register 4) 7) slot.Closed []) got.Done).entries ≡ []
@@ -287,7 +287,7 @@ jumpne_where_equal_asks : wanted (before (op.JumpDiffer (Register 3) (Number 103
 jumpne_where_equal_asks = refl
 
 jumpne_where_equal : (step (before (op.JumpDiffer (Register 3) (Number 103) 7) slot.Closed []) got.Done).state.contexts
-    ≡ at 1 (100 ∷ 101 ∷ 102 ∷ 103 ∷ 104 ∷ 105 ∷ 106 ∷ 107 ∷ 108 ∷ 109 ∷ 110 ∷ 111 ∷ 112 ∷ 113 ∷ 114 ∷ 115 ∷ 116 ∷ 117 ∷ 118 ∷ 119 ∷ 120 ∷ 121 ∷ 122 ∷ 123 ∷ 124 ∷ 125 ∷ 126 ∷ 127 ∷ 128 ∷ 129 ∷ 130 ∷ 131 ∷ []) slot.Closed ∷ []
+    ≡ Some (at 1 (100 ∷ 101 ∷ 102 ∷ 103 ∷ 104 ∷ 105 ∷ 106 ∷ 107 ∷ 108 ∷ 109 ∷ 110 ∷ 111 ∷ 112 ∷ 113 ∷ 114 ∷ 115 ∷ 116 ∷ 117 ∷ 118 ∷ 119 ∷ 120 ∷ 121 ∷ 122 ∷ 123 ∷ 124 ∷ 125 ∷ 126 ∷ 127 ∷ 128 ∷ 129 ∷ 130 ∷ 131 ∷ []) slot.Closed) ∷ []
 jumpne_where_equal = refl
 
 jumpne_where_equal_tells : (step (before (op.JumpDiffer (Register 3) (Number 103) 7) slot.Closed []) got.Done).entries ≡ []
@@ -297,7 +297,7 @@ jumpne_where_different_asks : wanted (before (op.JumpDiffer (Register 3) (Regist
 jumpne_where_different_asks = refl
 
 jumpne_where_different : (step (before (op.JumpDiffer (Register 3) (Register 4) 7) slot.Closed []) got.Done).state.contexts
-    ≡ at 7 (100 ∷ 101 ∷ 102 ∷ 103 ∷ 104 ∷ 105 ∷ 106 ∷ 107 ∷ 108 ∷ 109 ∷ 110 ∷ 111 ∷ 112 ∷ 113 ∷ 114 ∷ 115 ∷ 116 ∷ 117 ∷ 118 ∷ 119 ∷ 120 ∷ 121 ∷ 122 ∷ 123 ∷ 124 ∷ 125 ∷ 126 ∷ 127 ∷ 128 ∷ 129 ∷ 130 ∷ 131 ∷ []) slot.Closed ∷ []
+    ≡ Some (at 7 (100 ∷ 101 ∷ 102 ∷ 103 ∷ 104 ∷ 105 ∷ 106 ∷ 107 ∷ 108 ∷ 109 ∷ 110 ∷ 111 ∷ 112 ∷ 113 ∷ 114 ∷ 115 ∷ 116 ∷ 117 ∷ 118 ∷ 119 ∷ 120 ∷ 121 ∷ 122 ∷ 123 ∷ 124 ∷ 125 ∷ 126 ∷ 127 ∷ 128 ∷ 129 ∷ 130 ∷ 131 ∷ []) slot.Closed) ∷ []
 jumpne_where_different = refl
 
 jumpne_where_different_tells : (step (before (op.JumpDiffer (Register 3) (Register 4) 7) slot.Closed []) got.Done).entries ≡ []
@@ -314,7 +314,7 @@ serving_asks : wanted serving ≡ ask.Receive
 serving_asks = refl
 
 connection_starts : (step serving (got.Received call connected label)).state.contexts
-    ≡ at 0 (0 ∷ 0 ∷ 9 ∷ 2 ∷ 1 ∷ 2 ∷ 3 ∷ 4 ∷ 130 ∷ 0 ∷ 0 ∷ 0 ∷ 0 ∷ 0 ∷ 0 ∷ 0 ∷ 7 ∷ 8 ∷ 0 ∷ 0 ∷ 0 ∷ 0 ∷ 0 ∷ 0 ∷ 0 ∷ 0 ∷ 0 ∷ 0 ∷ 0 ∷ 0 ∷ 0 ∷ 0 ∷ []) slot.Closed ∷ []
+    ≡ Some (at 0 (0 ∷ 0 ∷ 9 ∷ 2 ∷ 1 ∷ 2 ∷ 3 ∷ 4 ∷ 130 ∷ 0 ∷ 0 ∷ 0 ∷ 0 ∷ 0 ∷ 0 ∷ 0 ∷ 7 ∷ 8 ∷ 0 ∷ 0 ∷ 0 ∷ 0 ∷ 0 ∷ 0 ∷ 0 ∷ 0 ∷ 0 ∷ 0 ∷ 0 ∷ 0 ∷ 0 ∷ 0 ∷ []) slot.Closed) ∷ []
 connection_starts = refl
 
 connection_tells : (step serving (got.Received call connected label)).entries

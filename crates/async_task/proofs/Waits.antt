@@ -13,6 +13,7 @@ use Rattle.fibril_core.specs.Fibrils.{why_of}
 use Rattle.fibril_core.specs.LiveFibrils.{is_live, AreLive}
 use Rattle.fibril_core.proofs.Live.{numbered_at}
 use Rattle.async_task.specs.declared.context.Context.{Context}
+use Rattle.async_task.specs.Kept.{kept_at}
 use Rattle.async_task.specs.AsyncState.{AsyncState}
 use Rattle.async_task.specs.Wanted.{is_blocked, begins_in, waits_for, any_waits}
 
@@ -107,7 +108,7 @@ and_left : (a b : Bool) → (a && b) ≡ true → b ≡ true
 and_left true b e = e
 and_left false b e = absurd (cc e)
 
-within : (ts : List Context) (i : ℕ) (t : Context) → slice_get ts i ≡ Some t → i < length ts
+within : (ts : List (Option Context)) (i : ℕ) (t : Context) → kept_at ts i ≡ Some t → i < length ts
 within [] i t h = absurd (cc h)
 within (u ∷ ts) zero t h = omega arith
 within (u ∷ ts) (suc i) t h = let less = within ts i t h in omega arith
@@ -118,15 +119,15 @@ before_suc i = omega arith
 -- one that waits keeps something
 has_context : (a : AsyncState) (s i : ℕ) → waits_for a s (record { 0 = suc i }) ≡ true →
     i < length a.contexts
-has_context a s i is = by (slice_get a.contexts i) refl begins
+has_context a s i is = by (kept_at a.contexts i) refl begins
   where
-    begins : begins_in a s (slice_get a.contexts i) ≡ true
+    begins : begins_in a s (kept_at a.contexts i) ≡ true
     begins =
-        subst (λ (k : ℕ). begins_in a s (slice_get a.contexts k) ≡ true) (before_suc i)
+        subst (λ (k : ℕ). begins_in a s (kept_at a.contexts k) ≡ true) (before_suc i)
         (and_left (is_blocked (why_of a.order (record { 0 = suc i })))
-        (begins_in a s (slice_get a.contexts (suc i - 1))) is)
+        (begins_in a s (kept_at a.contexts (suc i - 1))) is)
 
-    by : (q : Option Context) → slice_get a.contexts i ≡ q → begins_in a s q ≡ true →
+    by : (q : Option Context) → kept_at a.contexts i ≡ q → begins_in a s q ≡ true →
         i < length a.contexts
     by None e h = absurd (cc h)
     by (Some t) e h = within a.contexts i t e

@@ -1,7 +1,7 @@
 -- The state of an async task, what a step of it gives, and within which bounds it is safe.
 use Rattle.std.specs.Prelude.{ℕ, ◌≡◌, ◌+◌, ◌-◌, ◌^◌, ◌<◌, ◌≤◌, ◌++◌, if◌then◌else◌, List, [], ◌∷◌}
 use Rattle.std.specs.Prelude.{length}
-use Rattle.std.specs.Prelude.{⊤, Option, None, Some, nat_lt, slice_get, slice_set}
+use Rattle.std.specs.Prelude.{⊤, Option, None, Some, is_some, slice_get, slice_set}
 use Rattle.ipc_ids.specs.declared.numbers.TaskNo.{TaskNo}
 use Rattle.ipc_ids.specs.declared.numbers.CallNo.{CallNo}
 use Rattle.ipc_ids.specs.declared.numbers.FibrilNo.{FibrilNo}
@@ -16,15 +16,16 @@ use Rattle.async_sessions.specs.Sessions.{Open}
 use Rattle.async_task.specs.declared.awaited.Awaited.{Awaited}
 use Rattle.async_task.specs.declared.context.Context.{Context}
 use Rattle.async_task.specs.Contexts.{new_context}
+use Rattle.async_task.specs.Kept.{kept_at}
 
--- the task's own number; its bodies; its fibrils, by their stamps and by what each keeps; its
--- connections, sessions and exchanges; the calls whose answers are awaited; the answers that it
+-- the task's own number; its bodies; its fibrils, by their stamps and by what each keeps, which is
+-- nothing once it has ended; its connections, sessions and exchanges; the calls whose answers are awaited; the answers that it
 -- owes
 pub record AsyncState : Type 0 where
   pub me : TaskNo
   pub bodies : List Body
   pub order : FibrilOrder
-  pub contexts : List Context
+  pub contexts : List (Option Context)
   pub conns : List Conn
   pub pool : Open
   pub awaited : List Awaited
@@ -92,27 +93,31 @@ pub record Grows (n : ℕ) (a after : AsyncState) : Type 0 where
 abbrev pub without_entries : AsyncState → Transition
 without_entries a = record { state = a; entries = [] }
 
--- what the fibril with this number keeps
+-- what the fibril with this number keeps; nothing where there is none or it has ended
 abbrev pub context_at : AsyncState → FibrilNo → Option Context
-context_at a f = slice_get a.contexts (f.0 - 1)
+context_at a f = kept_at a.contexts (f.0 - 1)
 
 -- that or, where there is none, a new one
 abbrev pub or_new : Option Context → Context
 or_new (Some t) = t
 or_new None = new_context 0
 
--- what the fibril with this number keeps; a new context where there is no such fibril
+-- what the fibril with this number keeps; a new context where it keeps nothing
 abbrev pub context_or_new : AsyncState → FibrilNo → Context
 context_or_new a f = or_new (context_at a f)
 
--- it keeps that from now on
+-- it keeps that from now on, if it kept something
 abbrev pub with_context : AsyncState → FibrilNo → Context → AsyncState
 with_context a f t =
     record a {
       contexts =
-          if nat_lt (f.0 - 1) (length a.contexts) then slice_set a.contexts (f.0 - 1) t
+          if is_some (context_at a f) then slice_set a.contexts (f.0 - 1) (Some t)
           else a.contexts;
     }
+
+-- it keeps nothing from now on
+abbrev pub without_context : AsyncState → FibrilNo → AsyncState
+without_context a f = record a { contexts = slice_set a.contexts (f.0 - 1) None }
 
 -- the operation at a place of a body
 abbrev pub op_in : Option Body → ℕ → Option Op

@@ -24,7 +24,7 @@ use Rattle.fibril_core.specs.Conns as conns
 use Rattle.async_task.specs.declared.context.Context.{Context}
 use Rattle.async_task.specs.Contexts.{new_context, at_next, with_received}
 use Rattle.async_task.specs.AsyncState.{AsyncState, Transition, without_entries, context_at}
-use Rattle.async_task.specs.AsyncState.{with_context}
+use Rattle.async_task.specs.AsyncState.{with_context, without_context}
 use Rattle.async_task.specs.Answers.{is_of_other_fibril}
 use Rattle.async_task.specs.Wanted.{bare_msg}
 
@@ -81,7 +81,7 @@ with_connection a label f = record a { conns = conns.start label f a.conns }
 
 -- a new fibril, which keeps that
 abbrev pub with_fibril : AsyncState → Context → AsyncState
-with_fibril a t = record a { order = spawned a.order; contexts = a.contexts ++ t ∷ [] }
+with_fibril a t = record a { order = spawned a.order; contexts = a.contexts ++ Some t ∷ [] }
 
 -- a connection starts, with a fibril in that body
 abbrev pub start_connection :
@@ -119,7 +119,7 @@ abbrev pub end_owing : AsyncState → FibrilNo → List (CallNo × Code) → Tra
 end_owing a f owed =
     record {
       state =
-          record a {
+          record (without_context a f) {
             order = end_current a.order;
             awaited = filter (is_of_other_fibril f) a.awaited;
             work = a.work ++ owed;

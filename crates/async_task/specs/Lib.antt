@@ -1,5 +1,7 @@
 pub mod AsyncState
 pub mod Contexts
+pub mod Kept
+pub mod Lends
 pub mod Turns
 pub mod Wanted
 pub mod Calls

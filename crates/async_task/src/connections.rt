@@ -13,7 +13,7 @@ ghost use Rattle.async_task.specs.Connections.{end_owing, end_fibril};
 
 use crate::awaited::forget_calls_of;
 use crate::context::Context;
-use crate::machine::Machine;
+use crate::machine::{Machine, place_of};
 use fibril_core::{Owed, Routed, Taken};
 use ipc_ids::methods::CONNECT_ME_TO;
 use ipc_ids::{
@@ -87,10 +87,7 @@ impl Machine {
         ensures conns { self.new.conn_room ≡ self.old.conn_room }
     {
         self.fibrils.reserve()?;
-        match self.contexts.reserve(1) {
-            Ok(()) => Ok(()),
-            Err(_) => Err(NoMemory),
-        }
+        self.contexts.reserve()
     }
 
     /// A connection starts, with its fibril. An older one with that label is closed.
@@ -144,7 +141,7 @@ impl Machine {
         ensures { self.new.state ≡ with_fibril self.old.state t }
     {
         self.fibrils.spawn_reserved();
-        self.contexts.push_reserved(t);
+        self.contexts.push(t);
     }
 
     /// The older connection of a label finds itself closed.
@@ -261,6 +258,7 @@ impl Machine {
         ensures { Does self.new out.old out.new (end_owing self.old.state f owed.now) }
     {
         self.fibrils.end_current();
+        self.contexts.remove(place_of(f));
         forget_calls_of(&mut self.awaited, f);
         add_work(&mut self.work, owed.as_slice());
         out.push(Entry::Ends {

@@ -12,6 +12,7 @@ mod awaited;
 mod calls;
 mod connections;
 mod context;
+mod contexts;
 mod exchanges;
 mod machine;
 mod program;

@@ -11,6 +11,7 @@ ghost use Rattle.async_task.specs.Steps.{bare_task};
 
 use crate::awaited::Awaited;
 use crate::context::{Context, Slot};
+use crate::contexts::Contexts;
 use async_sessions::Sessions;
 use fibril_core::{Conns, Fibrils};
 use ipc_ids::{
@@ -25,7 +26,7 @@ pub(crate) struct Machine {
     pub(crate) me: TaskNo,
     pub(crate) bodies: Bodies,
     pub(crate) fibrils: Fibrils,
-    pub(crate) contexts: Vec<Context>,
+    pub(crate) contexts: Contexts,
     pub(crate) conns: Conns,
     pub(crate) sessions: Sessions,
     pub(crate) awaited: Vec<Awaited>,
@@ -44,7 +45,7 @@ impl Model for Machine {
         me = m.me;
         bodies = m.bodies;
         order = m.fibrils.order;
-        contexts = m.contexts.items;
+        contexts = m.contexts.kept;
         conns = m.conns.conns;
         pool = m.sessions.now;
         awaited = m.awaited.items;
@@ -52,7 +53,7 @@ impl Model for Machine {
       };
       room = record {
         fibrils = m.fibrils.spare;
-        contexts = vec_capacity m.contexts - vec_len m.contexts;
+        contexts = m.contexts.spare;
         exchanges = m.sessions.spare;
         awaited = vec_capacity m.awaited - vec_len m.awaited;
         work = vec_capacity m.work - vec_len m.work;
@@ -70,7 +71,7 @@ impl Machine {
             me,
             bodies,
             fibrils: Fibrils::new(alloc),
-            contexts: Vec::new(alloc),
+            contexts: Contexts::new(alloc),
             conns: Conns::new(alloc),
             sessions: Sessions::new(alloc),
             awaited: Vec::new(alloc),
@@ -277,7 +278,7 @@ impl Machine {
 }
 
 /// Where stands what a fibril keeps.
-fn place_of(f: FibrilNo) -> usize
+pub(crate) fn place_of(f: FibrilNo) -> usize
     ensures { result ≡ f.0 - 1 }
 {
     (f.0 as usize).saturating_sub(1)
