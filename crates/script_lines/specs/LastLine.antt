@@ -28,6 +28,15 @@ last_op_of last = option_and_then last_in last.body
 abbrev pub last_op : Draft → Option Op
 last_op draft = option_and_then last_op_of draft.last
 
+-- the last task takes its last operation, if it has one
+abbrev pub TakesLastOp : Draft → Type 0
+TakesLastOp draft = (op : Op) → last_op draft ≡ Some op → IfSome (taker draft) (λ kind. IsOpOf kind op)
+
+-- the last operation, and what the last task takes, are as before
+pub record KeepsLastOp (old new : Draft) : Type 0 where
+  pub op : last_op new ≡ last_op old
+  pub taker : taker new ≡ taker old
+
 -- one more operation of the last task or template
 abbrev pub op_of_last : ScriptParts → Op → Result ScriptParts Reason
 op_of_last w op = with_op (part w) op >>= λ plan. Ok (with_part w plan)

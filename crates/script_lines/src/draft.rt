@@ -3,7 +3,7 @@ ghost use Rattle.std.specs.Prelude.{◌≡◌, ◌≢◌, ◌≤◌, ◌==◌, [
 ghost use Rattle.ipc_ids.specs.declared.op.Op.{Op};
 ghost use Rattle.script_lines.specs.declared.plan.Kind.TheVariants.{Naming};
 ghost use Rattle.script_lines.specs.Draft.{last_plan, last_plans, plan_of, IsStep, IsWhole, is_wired, limit_at, leads_to_service, if_any, first_body, new_task, is_async, is_full, has_no_task, present, last_is_async, takes_bodies, taken_by, taker, with_service, with_task, with_body, with_wire, with_op, task_with_body, task_with_op, body_with_op, HasHeadOf, HasLastBody, Follows};
-ghost use Rattle.script_lines.specs.LastLine.{last_in, last_op_of, last_op};
+ghost use Rattle.script_lines.specs.LastLine.{last_in, last_op_of, last_op, TakesLastOp, KeepsLastOp};
 ghost use Rattle.script_lines.specs.Names.{is_ns};
 ghost use Rattle.script_lines.specs.Plan.{nothing};
 ghost use Rattle.script_lines.specs.ScriptParts.{no_parts, script_of_parts, PartsFit, parts_of, AreWhole};
@@ -203,14 +203,13 @@ impl LastTask {
     #[inline(always)]
     fn add_op(&mut self, op: Op) -> Result<(), LineFault>
         requires of_kind { IfSome (taken_by self.old) (λ kind. IsOpOf kind op) }
-        requires last_body { HasLastBody self.old }
-        requires sound { IsSoundTask (last_plan self.old) }
+        requires sound { IsSoundTask (last_plan self.old) × HasLastBody self.old }
         ensures value { Follows result (last_plan self.new) (task_with_op op (last_plan self.old)) }
         ensures head { HasHeadOf (last_plan self.old) (last_plan self.new) }
         ensures sound { OnOk result
             (IsSoundTask (last_plan self.new) × HasLastBody self.new) }
-        ensures last { OnOk result (last_op_of self.new ≡ Some op) }
-        ensures taken_by { taken_by self.new ≡ taken_by self.old }
+        ensures last { OnOk result ((last_op_of self.new ≡ Some op)
+            × (taken_by self.new ≡ taken_by self.old)) }
     {
         match &mut self.body {
             None => Err(LineFault::Bad(Reason::OutOfPlace)),
@@ -455,8 +454,8 @@ impl Draft {
         requires whole { IsWhole self.old }
         ensures value { IsStep result self.old self.new (λ plan. with_op plan op) }
         ensures whole { OnOk result (IsWhole self.new) }
-        ensures last { OnOk result (last_op self.new ≡ Some op) }
-        ensures taker { taker self.new ≡ taker self.old }
+        ensures last { OnOk result ((last_op self.new ≡ Some op)
+            × (taker self.new ≡ taker self.old)) }
     {
         match &mut self.last {
             None => Err(LineFault::Bad(Reason::OutOfPlace)),
@@ -478,14 +477,12 @@ impl Draft {
     /// Gives the last task its last operation once more.
     #[inline(always)]
     pub fn repeat_op(&mut self) -> Result<(), LineFault>
-        requires fits { (op : Op) → last_op self.old ≡ Some op
-            → IfSome (taker self.old) (λ kind. IsOpOf kind op) }
+        requires fits { TakesLastOp self.old }
         requires whole { IsWhole self.old }
         ensures value { (op : Op) → last_op self.old ≡ Some op
             → IsStep result self.old self.new (λ plan. with_op plan op) }
         ensures whole { OnOk result (IsWhole self.new) }
-        ensures last { OnOk result (last_op self.new ≡ last_op self.old) }
-        ensures taker { taker self.new ≡ taker self.old }
+        ensures last { OnOk result (KeepsLastOp self.old self.new) }
     {
         match self.last_op() {
             None => Err(LineFault::Bad(Reason::OutOfPlace)),

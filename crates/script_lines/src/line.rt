@@ -6,7 +6,7 @@ ghost use Rattle.script_lines.specs.declared.plan.Kind.TheVariants.{Naming, Raw}
 ghost use Rattle.script_lines.specs.Text.{texts, first_line, behind};
 ghost use Rattle.script_lines.specs.Line.{kind_of, counted_kind_of, service_kind_of, number_up_to, most_behind, head, plain_task, counted_task, service_task, task_of, template_of, wire_of, ns, task, template, body, wire, operation, body_of_last, operation_of_last, after_words, after_line};
 ghost use Rattle.script_lines.specs.Draft.{IsStep, IsWhole, Follows, with_new, plan_of, taker, present};
-ghost use Rattle.script_lines.specs.LastLine.{last_op, SaysLastOp, IsFirstLine, Keeps, last_draft, op_of_last};
+ghost use Rattle.script_lines.specs.LastLine.{last_op, SaysLastOp, TakesLastOp, KeepsLastOp, IsFirstLine, Keeps, last_draft, op_of_last};
 ghost use Rattle.script_lines.specs.Ranges.{IsOpOf};
 ghost use Rattle.script_lines.specs.declared.word.OpVerb.TheVariants.{Call};
 ghost use Rattle.script_lines.specs.ScriptParts.{parts_of, AreWhole};
@@ -307,9 +307,8 @@ fn add_call(draft: &mut Draft, words: &[&[u8]]) -> Result<(), LineFault>
     requires whole { IsWhole draft.old }
     ensures value { IsStep result draft.old draft.new
         (λ plan. operation plan Call (texts words.now)) }
-    ensures whole { OnOk result (IsWhole draft.new) }
-    ensures last { OnOk result (SaysLastOp draft.new
-        (λ w. operation_of_last w Call (texts words.now))) }
+    ensures whole { OnOk result (IsWhole draft.new
+        × SaysLastOp draft.new (λ w. operation_of_last w Call (texts words.now))) }
 {
     let (phone, method, args) = two_and_arguments(words)?;
     draft.add_op(Op::Call {
@@ -326,9 +325,8 @@ fn add_any_operation(draft: &mut Draft, verb: OpVerb, words: &[&[u8]]) -> Result
     requires { IsWhole draft.old }
     ensures value { IsStep result draft.old draft.new
         (λ plan. operation plan verb (texts words.now)) }
-    ensures whole { OnOk result (IsWhole draft.new) }
-    ensures last { OnOk result (SaysLastOp draft.new
-        (λ w. operation_of_last w verb (texts words.now))) }
+    ensures whole { OnOk result (IsWhole draft.new
+        × SaysLastOp draft.new (λ w. operation_of_last w verb (texts words.now))) }
 {
     let op = op_in(draft.present(), verb, words)?;
     draft.add_op(op)
@@ -338,9 +336,8 @@ fn add_operation(draft: &mut Draft, verb: OpVerb, words: &[&[u8]]) -> Result<(),
     requires { IsWhole draft.old }
     ensures value { IsStep result draft.old draft.new
         (λ plan. operation plan verb (texts words.now)) }
-    ensures whole { OnOk result (IsWhole draft.new) }
-    ensures last { OnOk result (SaysLastOp draft.new
-        (λ w. operation_of_last w verb (texts words.now))) }
+    ensures whole { OnOk result (IsWhole draft.new
+        × SaysLastOp draft.new (λ w. operation_of_last w verb (texts words.now))) }
 {
     match (draft.present(), verb) {
         (Some(Kind::Raw), OpVerb::Call) => add_call(draft, words),
@@ -375,8 +372,7 @@ fn add_operation_to_last(
     requires { AreWhole drafts.old }
     ensures value { Follows result (parts_of drafts.new)
         (operation_of_last (parts_of drafts.old) verb (texts words.now)) }
-    ensures whole { OnOk result (AreWhole drafts.new) }
-    ensures last { OnOk result (SaysLastOp (last_draft drafts.new)
+    ensures whole { OnOk result (AreWhole drafts.new × SaysLastOp (last_draft drafts.new)
         (λ w. operation_of_last w verb (texts words.now))) }
 {
     match drafts.on_template {
@@ -390,9 +386,8 @@ fn add_words(drafts: &mut Drafts, alloc: Global, words: &[&[u8]]) -> Result<bool
     requires { AreWhole drafts.old }
     ensures value { Follows result (parts_of drafts.new)
         (after_words (parts_of drafts.old) (texts words.now)) }
-    ensures whole { OnOk result (AreWhole drafts.new) }
-    ensures last { IfOk result (λ is_op. is_op ≡ true
-        → SaysLastOp (last_draft drafts.new) (λ w. after_words w (texts words.now))) }
+    ensures whole { IfOk result (λ is_op. AreWhole drafts.new × (is_op ≡ true
+        → SaysLastOp (last_draft drafts.new) (λ w. after_words w (texts words.now)))) }
 {
     let [first, others @ ..] = words else {
         return Ok(false);
@@ -436,15 +431,11 @@ fn add_words(drafts: &mut Drafts, alloc: Global, words: &[&[u8]]) -> Result<bool
 /// Gives the last task or template its last operation once more.
 #[inline(always)]
 fn repeat_op(drafts: &mut Drafts) -> Result<(), LineFault>
-    requires fits { (op : Op) → last_op (last_draft drafts.old) ≡ Some op
-        → IfSome (taker (last_draft drafts.old)) (λ kind. IsOpOf kind op) }
-    requires whole { AreWhole drafts.old }
+    requires { AreWhole drafts.old × TakesLastOp (last_draft drafts.old) }
     ensures value { (op : Op) → last_op (last_draft drafts.old) ≡ Some op
         → Follows result (parts_of drafts.new) (op_of_last (parts_of drafts.old) op) }
-    ensures whole { OnOk result (AreWhole drafts.new) }
-    ensures last { OnOk result
-        (last_op (last_draft drafts.new) ≡ last_op (last_draft drafts.old)) }
-    ensures taker { taker (last_draft drafts.new) ≡ taker (last_draft drafts.old) }
+    ensures whole { OnOk result (AreWhole drafts.new
+        × KeepsLastOp (last_draft drafts.old) (last_draft drafts.new)) }
 {
     match drafts.on_template {
         true => drafts.templates.repeat_op(),
