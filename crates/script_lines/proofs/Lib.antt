@@ -11,3 +11,4 @@ mod OperationExamples
 pub mod Verbs
 pub mod Faultless
 pub mod NearPlaces
+pub mod LastLines

@@ -8,3 +8,4 @@ pub mod Sound
 pub mod Text
 pub mod Word
 pub mod ScriptParts
+pub mod LastLine

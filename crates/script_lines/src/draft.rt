@@ -1,7 +1,9 @@
 //! A script that is still read: its last task may get more operations.
-ghost use Rattle.std.specs.Prelude.{◌≡◌, ◌≢◌, ◌≤◌, ◌==◌, [], ◌++◌, length, true, None, Ok, IfOk, IfSome, OnOk};
+ghost use Rattle.std.specs.Prelude.{◌≡◌, ◌≢◌, ◌≤◌, ◌==◌, [], ◌++◌, length, true, None, Some, Ok, IfOk, IfSome, OnOk, option_copied};
+ghost use Rattle.ipc_ids.specs.declared.op.Op.{Op};
 ghost use Rattle.script_lines.specs.declared.plan.Kind.TheVariants.{Naming};
 ghost use Rattle.script_lines.specs.Draft.{last_plan, last_plans, plan_of, IsStep, IsWhole, is_wired, limit_at, leads_to_service, if_any, first_body, new_task, is_async, is_full, has_no_task, present, last_is_async, takes_bodies, taken_by, taker, with_service, with_task, with_body, with_wire, with_op, task_with_body, task_with_op, body_with_op, HasHeadOf, HasLastBody, Follows};
+ghost use Rattle.script_lines.specs.LastLine.{last_in, last_op_of, last_op, TakesLastOp, KeepsLastOp};
 ghost use Rattle.script_lines.specs.Names.{is_ns};
 ghost use Rattle.script_lines.specs.Plan.{nothing};
 ghost use Rattle.script_lines.specs.ScriptParts.{no_parts, script_of_parts, PartsFit, parts_of, AreWhole};
@@ -110,6 +112,7 @@ fn first_body(alloc: Global, kind: Kind) -> Option<Body>
 fn add_op_to(body: &mut Body, op: Op) -> Result<(), LineFault>
     ensures value { Follows result body.new (body_with_op op body.old) }
     ensures connection { body.new.connection ≡ body.old.connection }
+    ensures last { OnOk result (last_in body.new ≡ Some op) }
 {
     if body.ops.as_slice().len() >= MOST_OPERATIONS {
         return Err(LineFault::Bad(Reason::TooMany));
@@ -200,16 +203,28 @@ impl LastTask {
     #[inline(always)]
     fn add_op(&mut self, op: Op) -> Result<(), LineFault>
         requires of_kind { IfSome (taken_by self.old) (λ kind. IsOpOf kind op) }
-        requires last_body { HasLastBody self.old }
-        requires sound { IsSoundTask (last_plan self.old) }
+        requires sound { IsSoundTask (last_plan self.old) × HasLastBody self.old }
         ensures value { Follows result (last_plan self.new) (task_with_op op (last_plan self.old)) }
         ensures head { HasHeadOf (last_plan self.old) (last_plan self.new) }
         ensures sound { OnOk result
             (IsSoundTask (last_plan self.new) × HasLastBody self.new) }
+        ensures last { OnOk result ((last_op_of self.new ≡ Some op)
+            × (taken_by self.new ≡ taken_by self.old)) }
     {
         match &mut self.body {
             None => Err(LineFault::Bad(Reason::OutOfPlace)),
             Some(body) => add_op_to(body, op),
+        }
+    }
+
+    /// The last operation of the last body.
+    #[inline(always)]
+    fn last_op(&self) -> Option<&Op>
+        ensures { option_copied result ≡ last_op_of self.now }
+    {
+        match &self.body {
+            None => None,
+            Some(body) => body.ops.as_slice().last(),
         }
     }
 
@@ -439,10 +454,42 @@ impl Draft {
         requires whole { IsWhole self.old }
         ensures value { IsStep result self.old self.new (λ plan. with_op plan op) }
         ensures whole { OnOk result (IsWhole self.new) }
+        ensures last { OnOk result ((last_op self.new ≡ Some op)
+            × (taker self.new ≡ taker self.old)) }
     {
         match &mut self.last {
             None => Err(LineFault::Bad(Reason::OutOfPlace)),
             Some(last) => last.add_op(op),
+        }
+    }
+
+    /// The last operation of the last task.
+    #[inline(always)]
+    fn last_op(&self) -> Option<&Op>
+        ensures { option_copied result ≡ last_op self.now }
+    {
+        match &self.last {
+            None => None,
+            Some(last) => last.last_op(),
+        }
+    }
+
+    /// Gives the last task its last operation once more.
+    #[inline(always)]
+    pub fn repeat_op(&mut self) -> Result<(), LineFault>
+        requires fits { TakesLastOp self.old }
+        requires whole { IsWhole self.old }
+        ensures value { (op : Op) → last_op self.old ≡ Some op
+            → IsStep result self.old self.new (λ plan. with_op plan op) }
+        ensures whole { OnOk result (IsWhole self.new) }
+        ensures last { OnOk result (KeepsLastOp self.old self.new) }
+    {
+        match self.last_op() {
+            None => Err(LineFault::Bad(Reason::OutOfPlace)),
+            Some(op) => {
+                let op = op.copy();
+                self.add_op(op)
+            }
         }
     }
 

@@ -1,10 +1,13 @@
 //! What one line adds to a script.
-ghost use Rattle.std.specs.Prelude.{◌≡◌, ◌≢◌, ◌≤◌, IfSome, IfOk, OnOk, Some};
+ghost use Rattle.std.specs.Prelude.{◌≡◌, ◌≢◌, ◌≤◌, IfSome, IfOk, OnOk, Some, true};
+ghost use Rattle.ipc_ids.specs.declared.op.Op.{Op};
 ghost use Rattle.std.specs.Option.{ForSome, option_map};
 ghost use Rattle.script_lines.specs.declared.plan.Kind.TheVariants.{Naming, Raw};
 ghost use Rattle.script_lines.specs.Text.{texts, first_line, behind};
 ghost use Rattle.script_lines.specs.Line.{kind_of, counted_kind_of, service_kind_of, number_up_to, most_behind, head, plain_task, counted_task, service_task, task_of, template_of, wire_of, ns, task, template, body, wire, operation, body_of_last, operation_of_last, after_words, after_line};
 ghost use Rattle.script_lines.specs.Draft.{IsStep, IsWhole, Follows, with_new, plan_of, taker, present};
+ghost use Rattle.script_lines.specs.LastLine.{last_op, SaysLastOp, TakesLastOp, KeepsLastOp, IsFirstLine, Keeps, last_draft, op_of_last};
+ghost use Rattle.script_lines.specs.Ranges.{IsOpOf};
 ghost use Rattle.script_lines.specs.declared.word.OpVerb.TheVariants.{Call};
 ghost use Rattle.script_lines.specs.ScriptParts.{parts_of, AreWhole};
 ghost use Rattle.script_lines.specs.Sound.{HeadFits};
@@ -304,7 +307,8 @@ fn add_call(draft: &mut Draft, words: &[&[u8]]) -> Result<(), LineFault>
     requires whole { IsWhole draft.old }
     ensures value { IsStep result draft.old draft.new
         (λ plan. operation plan Call (texts words.now)) }
-    ensures whole { OnOk result (IsWhole draft.new) }
+    ensures whole { OnOk result (IsWhole draft.new
+        × SaysLastOp draft.new (λ w. operation_of_last w Call (texts words.now))) }
 {
     let (phone, method, args) = two_and_arguments(words)?;
     draft.add_op(Op::Call {
@@ -321,7 +325,8 @@ fn add_any_operation(draft: &mut Draft, verb: OpVerb, words: &[&[u8]]) -> Result
     requires { IsWhole draft.old }
     ensures value { IsStep result draft.old draft.new
         (λ plan. operation plan verb (texts words.now)) }
-    ensures whole { OnOk result (IsWhole draft.new) }
+    ensures whole { OnOk result (IsWhole draft.new
+        × SaysLastOp draft.new (λ w. operation_of_last w verb (texts words.now))) }
 {
     let op = op_in(draft.present(), verb, words)?;
     draft.add_op(op)
@@ -331,7 +336,8 @@ fn add_operation(draft: &mut Draft, verb: OpVerb, words: &[&[u8]]) -> Result<(),
     requires { IsWhole draft.old }
     ensures value { IsStep result draft.old draft.new
         (λ plan. operation plan verb (texts words.now)) }
-    ensures whole { OnOk result (IsWhole draft.new) }
+    ensures whole { OnOk result (IsWhole draft.new
+        × SaysLastOp draft.new (λ w. operation_of_last w verb (texts words.now))) }
 {
     match (draft.present(), verb) {
         (Some(Kind::Raw), OpVerb::Call) => add_call(draft, words),
@@ -366,7 +372,8 @@ fn add_operation_to_last(
     requires { AreWhole drafts.old }
     ensures value { Follows result (parts_of drafts.new)
         (operation_of_last (parts_of drafts.old) verb (texts words.now)) }
-    ensures whole { OnOk result (AreWhole drafts.new) }
+    ensures whole { OnOk result (AreWhole drafts.new × SaysLastOp (last_draft drafts.new)
+        (λ w. operation_of_last w verb (texts words.now))) }
 {
     match drafts.on_template {
         true => add_operation(&mut drafts.templates, verb, words),
@@ -374,58 +381,130 @@ fn add_operation_to_last(
     }
 }
 
-fn add_words(drafts: &mut Drafts, alloc: Global, words: &[&[u8]]) -> Result<(), LineFault>
+/// Adds what the words of a line say, and tells whether that is an operation.
+fn add_words(drafts: &mut Drafts, alloc: Global, words: &[&[u8]]) -> Result<bool, LineFault>
     requires { AreWhole drafts.old }
     ensures value { Follows result (parts_of drafts.new)
         (after_words (parts_of drafts.old) (texts words.now)) }
-    ensures whole { OnOk result (AreWhole drafts.new) }
+    ensures whole { IfOk result (λ is_op. AreWhole drafts.new × (is_op ≡ true
+        → SaysLastOp (last_draft drafts.new) (λ w. after_words w (texts words.now)))) }
 {
     let [first, others @ ..] = words else {
-        return Ok(());
+        return Ok(false);
     };
     match verb_of(*first) {
         None => Err(LineFault::Bad(Reason::UnknownOperation)),
         Some(Verb::Ns) => {
             add_service(&mut drafts.tasks, alloc, others)?;
             drafts.on_template = false;
-            Ok(())
+            Ok(false)
         }
         Some(Verb::Task) => {
             add_task(&mut drafts.tasks, alloc, &drafts.templates.names, others)?;
             drafts.on_template = false;
-            Ok(())
+            Ok(false)
         }
         Some(Verb::Template) => {
             add_template(&mut drafts.templates, alloc, &drafts.tasks.names, others)?;
             drafts.on_template = true;
-            Ok(())
+            Ok(false)
         }
-        Some(Verb::Fibril) => add_body_to_last(drafts, alloc, false, others),
-        Some(Verb::Connection) => add_body_to_last(drafts, alloc, true, others),
-        Some(Verb::Wire) => add_wire(&mut drafts.tasks, others),
-        Some(Verb::Op(verb)) => add_operation_to_last(drafts, verb, others),
+        Some(Verb::Fibril) => {
+            add_body_to_last(drafts, alloc, false, others)?;
+            Ok(false)
+        }
+        Some(Verb::Connection) => {
+            add_body_to_last(drafts, alloc, true, others)?;
+            Ok(false)
+        }
+        Some(Verb::Wire) => {
+            add_wire(&mut drafts.tasks, others)?;
+            Ok(false)
+        }
+        Some(Verb::Op(verb)) => {
+            add_operation_to_last(drafts, verb, others)?;
+            Ok(true)
+        }
     }
 }
 
-/// Adds what the first line of a text says, and returns what stands behind it; `None` where it is
-/// the last.
+/// Gives the last task or template its last operation once more.
+#[inline(always)]
+fn repeat_op(drafts: &mut Drafts) -> Result<(), LineFault>
+    requires { AreWhole drafts.old × TakesLastOp (last_draft drafts.old) }
+    ensures value { (op : Op) → last_op (last_draft drafts.old) ≡ Some op
+        → Follows result (parts_of drafts.new) (op_of_last (parts_of drafts.old) op) }
+    ensures whole { OnOk result (AreWhole drafts.new
+        × KeepsLastOp (last_draft drafts.old) (last_draft drafts.new)) }
+{
+    match drafts.on_template {
+        true => drafts.templates.repeat_op(),
+        false => drafts.tasks.repeat_op(),
+    }
+}
+
+/// The first line of a text with its line feed, where it is an operation and has one.
+#[inline(always)]
+fn line_to_keep<'a>(is_op: bool, text: &'a [u8], others: Option<&'a [u8]>) -> Option<&'a [u8]>
+    requires { option_map (λ t. t.now) others ≡ behind text.now }
+    ensures { IfSome result (λ line. (is_op ≡ true) × IsFirstLine line.now text.now) }
+{
+    match others {
+        Some(others) if is_op => Some(&text[..text.len() - others.len()]),
+        _ => None,
+    }
+}
+
+/// Adds what the first line of a text says, and keeps the line where it is an operation.
+#[inline(never)]
 #[tactic(auto, unfolding(crate::specs::Line::after_line))]
-pub fn add_line<'a>(
+fn add_new_line<'a>(
     drafts: &mut Drafts,
     alloc: Global,
     words: &mut Vec<&'a [u8]>,
+    kept: &mut Option<&'a [u8]>,
     text: &'a [u8],
 ) -> Result<Option<&'a [u8]>, LineFault>
     requires { AreWhole drafts.old }
     ensures value { Follows result (parts_of drafts.new)
         (after_line (parts_of drafts.old) (first_line text.now)) }
     ensures whole { OnOk result (AreWhole drafts.new) }
+    ensures kept { OnOk result (Keeps drafts.new kept.new) }
     ensures behind { IfOk result (λ others. option_map (λ t. t.now) others ≡ behind text.now) }
 {
     let (allowed, others) = split_line(text, words)?;
     if !allowed {
         return Err(LineFault::Bad(Reason::BadByte));
     }
-    add_words(drafts, alloc, words.as_slice())?;
+    let is_op = add_words(drafts, alloc, words.as_slice())?;
+    *kept = line_to_keep(is_op, text, others);
     Ok(others)
+}
+
+/// Adds what the first line of a text says, and returns what stands behind it; `None` where it is
+/// the last. A line that was an operation is kept, and where it stands there once more it is not
+/// split into its words again.
+#[inline(always)]
+pub fn add_line<'a>(
+    drafts: &mut Drafts,
+    alloc: Global,
+    words: &mut Vec<&'a [u8]>,
+    kept: &mut Option<&'a [u8]>,
+    text: &'a [u8],
+) -> Result<Option<&'a [u8]>, LineFault>
+    requires whole { AreWhole drafts.old }
+    requires kept { Keeps drafts.old kept.old }
+    ensures value { Follows result (parts_of drafts.new)
+        (after_line (parts_of drafts.old) (first_line text.now)) }
+    ensures whole { OnOk result (AreWhole drafts.new) }
+    ensures kept { OnOk result (Keeps drafts.new kept.new) }
+    ensures behind { IfOk result (λ others. option_map (λ t. t.now) others ≡ behind text.now) }
+{
+    match *kept {
+        Some(line) if text.starts_with(line) => match repeat_op(drafts) {
+            Ok(()) => Ok(Some(&text[line.len()..])),
+            Err(fault) => Err(fault),
+        },
+        _ => add_new_line(drafts, alloc, words, kept, text),
+    }
 }

@@ -19,11 +19,12 @@ fn add_lines(drafts: &mut Drafts, alloc: Global, text: &[u8]) -> Result<(), Scri
     ensures whole { OnOk result (AreWhole drafts.new) }
 {
     let mut words = Vec::new(alloc);
+    let mut kept = None;
     let mut left = Some(text);
     let mut line = 0;
     while let Some(text) = left {
         line += 1;
-        match add_line(drafts, alloc, &mut words, text) {
+        match add_line(drafts, alloc, &mut words, &mut kept, text) {
             Ok(others) => left = others,
             Err(LineFault::NoMemory) => return Err(ScriptFault::NoMemory),
             Err(LineFault::Bad(reason)) => return Err(ScriptFault::Bad { line, reason }),

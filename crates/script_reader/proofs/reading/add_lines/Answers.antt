@@ -17,6 +17,7 @@ loop-left-preserved c =
       told = sym (next_line after_line (c.loop-left.line + 1) (parts_of c.loop-left.drafts) (parts_of c.add_line.new.drafts) text (here c.in-Ok.others) c.in-Ok.ensures.behind c.in-Ok.ensures.value) ∙ told;
       few = omega (arith, few, less_left text (here c.in-Ok.others) c.in-Ok.ensures.behind);
       whole = c.in-Ok.ensures.whole;
+      kept = c.in-Ok.ensures.kept;
     }
 
 pub returns-in-Err-Bad-clause-value : goal.returns-in-Err-Bad-clause-value
