@@ -19,8 +19,8 @@ use Rattle.async_task.specs.Contexts.{new_context}
 use Rattle.async_task.specs.Kept.{kept_at}
 
 -- the task's own number; its bodies; its fibrils, by their stamps and by what each keeps, which is
--- nothing once it has ended; its connections, sessions and exchanges; the calls whose answers are awaited; the answers that it
--- owes
+-- nothing once it has ended; its connections, sessions and exchanges; the calls whose answers are
+-- awaited; the answers that it owes
 pub record AsyncState : Type 0 where
   pub me : TaskNo
   pub bodies : List Body
