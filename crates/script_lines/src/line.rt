@@ -1,5 +1,5 @@
 //! What one line adds to a script.
-ghost use Rattle.std.specs.Prelude.{◌≡◌, ◌≢◌, ◌≤◌, IfSome, IfOk, OnOk, Some, true};
+ghost use Rattle.std.specs.Prelude.{◌≡◌, ◌≢◌, ◌≤◌, ◌++◌, length, drop, IfSome, IfOk, OnOk, Some, IsTrue, true};
 ghost use Rattle.ipc_ids.specs.declared.op.Op.{Op};
 ghost use Rattle.std.specs.Option.{ForSome, option_map};
 ghost use Rattle.script_lines.specs.declared.plan.Kind.TheVariants.{Naming, Raw};
@@ -455,8 +455,23 @@ fn line_to_keep<'a>(is_op: bool, text: &'a [u8], others: Option<&'a [u8]>) -> Op
     }
 }
 
+/// Whether a text begins with a line. A byte near the line's end is looked at first: two lines that
+/// differ mostly differ there.
+#[inline(always)]
+#[tactic(auto, using(crate::proofs::LastLines::begins))]
+fn begins_with(text: &[u8], line: &[u8]) -> bool
+    ensures within { IsTrue result → length line.now ≤ length text.now }
+    ensures front { IsTrue result → text.now ≡ line.now ++ drop (length line.now) text.now }
+{
+    let at = line.len().saturating_sub(2);
+    match (text.get(at), line.get(at)) {
+        (Some(found), Some(wanted)) if *found == *wanted => text.starts_with(line),
+        _ => false,
+    }
+}
+
 /// Adds what the first line of a text says, and keeps the line where it is an operation.
-#[inline(never)]
+#[inline(always)]
 #[tactic(auto, unfolding(crate::specs::Line::after_line))]
 fn add_new_line<'a>(
     drafts: &mut Drafts,
@@ -501,7 +516,7 @@ pub fn add_line<'a>(
     ensures behind { IfOk result (λ others. option_map (λ t. t.now) others ≡ behind text.now) }
 {
     match *kept {
-        Some(line) if text.starts_with(line) => match repeat_op(drafts) {
+        Some(line) if begins_with(text, line) => match repeat_op(drafts) {
             Ok(()) => Ok(Some(&text[line.len()..])),
             Err(fault) => Err(fault),
         },
