@@ -1,15 +1,15 @@
 //! Fibrils by number, and since when each is ready or blocked.
 ghost use Rattle.std.specs.Prelude.{◌≡◌, ◌+◌, ◌^◌, ◌<◌, ◌≤◌, OnOk, OnErr, IfOk, IsSome, length};
-ghost use Rattle.std.specs.Prelude.{IfSome, true, map, vec_len};
-ghost use Rattle.std.specs.List.{filter};
-ghost use Rattle.std.specs.Vec.{vec_capacity};
+ghost use Rattle.std.specs.Prelude.{◌≢◌, ℕ, Some, IfSome, true, slice_get};
+ghost use Rattle.std.specs.Option.{IfNone};
+ghost use Rattle.std.specs.List.Sorted.{IsNonDecreasingBy};
 ghost use Rattle.std.specs.Option.{option_copied};
 ghost use Rattle.fibril_core.specs.Fibrils.{no_fibrils, first_with, current, first_blocked};
 ghost use Rattle.fibril_core.specs.Fibrils.{next_number, why_in, why_of, IsWithinBounds, spawned};
 ghost use Rattle.fibril_core.specs.Fibrils.{with_status, block_on, yield_now};
 ghost use Rattle.fibril_core.specs.Fibrils.{end_current, make_ready, wake_first, wake_all};
 ghost use Rattle.fibril_core.specs.Fibrils.{fibril_at, number_of};
-ghost use Rattle.fibril_core.specs.LiveFibrils.{AreLive, goes_on, GoesOn, replaced, is_other};
+ghost use Rattle.fibril_core.specs.LiveFibrils.{AreLive, goes_on, GoesOn};
 
 use ipc_ids::{CallNo, FibrilNo, NoMemory, Why};
 use std::alloc::Global;
@@ -152,9 +152,9 @@ impl Fibrils {
     pub fn why(&self, f: FibrilNo) -> Option<Why>
         ensures { result ≡ why_of self.now.order f }
     {
-        match self.live.binary_search_by_key(&f.0, |x| x.number.0) {
-            Ok(i) => why_in(self.live[i].status),
-            Err(_) => None,
+        match place_of(&self.live, f) {
+            Some(i) => why_in(self.live[i].status),
+            None => None,
         }
     }
 
@@ -189,7 +189,9 @@ impl Fibrils {
         ensures spare { self.old.spare ≤ self.new.spare }
     {
         if let Some(f) = self.first(Status::Ready) {
-            forget(&mut self.live, f);
+            if let Some(i) = place_of(&self.live, f) {
+                self.live.remove(i);
+            }
         }
     }
 
@@ -272,39 +274,27 @@ impl Fibrils {
         ensures spare { self.new.spare ≡ self.old.spare }
     {
         let stamp = self.next_stamp;
-        let fibril = Fibril {
-            number: f,
-            status,
-            stamp,
-        };
-        replace(&mut self.live, fibril);
-        self.next_stamp = stamp + 1;
+        if let Some(i) = place_of(&self.live, f) {
+            self.live[i] = Fibril {
+                number: f,
+                status,
+                stamp,
+            };
+            self.next_stamp = stamp + 1;
+        }
     }
 }
 
-/// The record stands in the place of the one with its number.
-fn replace(fibrils: &mut [Fibril], fibril: Fibril)
-    ensures { fibrils.new ≡ map (replaced fibril) fibrils.old }
+/// Where the record with this number stands among these, which stand by rising number.
+fn place_of(live: &[Fibril], f: FibrilNo) -> Option<usize>
+    requires rise { IsNonDecreasingBy (λ x. x.number.0) live.now }
+    ensures found { IfSome result (λ i. number_of (slice_get live.now i) ≡ Some f) }
+    ensures none { IfNone result ((i : ℕ) → number_of (slice_get live.now i) ≢ Some f) }
 {
-    for x in fibrils.iter_mut() {
-        *x = replaced(*x, fibril);
+    match live.binary_search_by_key(&f.0, |x| x.number.0) {
+        Ok(i) => Some(i),
+        Err(_) => None,
     }
-}
-
-/// The record with this number is gone.
-fn forget(fibrils: &mut Vec<Fibril>, f: FibrilNo)
-    ensures items { fibrils.new.items ≡ filter (is_other f) fibrils.old.items }
-    ensures fewer { vec_len fibrils.new ≤ vec_len fibrils.old }
-    ensures capacity { vec_capacity fibrils.new ≡ vec_capacity fibrils.old }
-{
-    fibrils.retain(|x| x.number.0 != f.0);
-}
-
-/// The one record, or the other where both have one number.
-fn replaced(x: Fibril, fibril: Fibril) -> Fibril
-    ensures { result ≡ replaced fibril x }
-{
-    if x.number == fibril.number { fibril } else { x }
 }
 
 /// What this status is blocked on.
