@@ -15,9 +15,8 @@ use Rattle.fibril_core.specs.declared.fibrils.Status.{Status}
 use Rattle.fibril_core.specs.declared.fibrils.Status.TheVariants.{Ready, Blocked, Ended}
 use Rattle.fibril_core.specs.declared.fibrils.Fibril.{Fibril}
 use Rattle.fibril_core.specs.Fibrils.{FibrilOrder, same_status, sooner, first_with, fibril_at, number_of, why_in, why_at, why_of}
-use Rattle.fibril_core.specs.LiveFibrils.{goes_on, is_live, GoesOn, AreNumbered, AreLive, replaced, is_other}
+use Rattle.fibril_core.specs.LiveFibrils.{goes_on, is_live, GoesOn, AreNumbered, AreLive, replaced, is_other, count}
 use Rattle.fibril_core.proofs.Places.{within}
-use Rattle.fibril_core.proofs.Firsts.{first_there, same_status_is}
 
 -- searches
 
@@ -40,6 +39,9 @@ found_live s best (x ∷ xs) goes = found_by (is_live x) refl (λ next. found_li
 
 pub first_live : (s : Status) (live xs : List Fibril) → goes_on s ≡ true → AreLive live xs → first_with s live ≡ first_with s xs
 first_live s live xs goes are = rw are.those (found_live s None xs goes)
+
+pub length_live : (live xs : List Fibril) → AreLive live xs → length live ≡ count is_live xs
+length_live live xs are = ap length are.those
 
 -- numbers
 
@@ -148,7 +150,7 @@ abbrev pub put_in : List Fibril → Fibril → List Fibril
 put_in xs x = if nat_lt (x.number.0 - 1) (length xs) then slice_set xs (x.number.0 - 1) x else xs
 
 -- where the fibril stands, one record less its number
-put_at : (xs : List Fibril) (i : ℕ) (y : Fibril) → y.number.0 ≡ suc i → i < length xs → put_in xs y ≡ slice_set xs i y
+pub put_at : (xs : List Fibril) (i : ℕ) (y : Fibril) → y.number.0 ≡ suc i → i < length xs → put_in xs y ≡ slice_set xs i y
 put_at xs i y number less = rw (number, before_suc i, is_less i (length xs) less) refl
 
 -- a fibril that has not ended stands at a place, and has the number of it
@@ -187,15 +189,6 @@ end_live live o y are goes is =
     })
 
 -- which fibrils have not ended
-
-going : (x : Fibril) (s : Status) → goes_on s ≡ true → same_status x.status s ≡ true → is_live x ≡ true
-going x s goes same = let is : x.status ≡ s = same_status_is x.status s same in rw is goes
-
-pub found_goes_on : (live : List Fibril) (o : FibrilOrder) (s : Status) (x : Fibril) → AreLive live o.fibrils → goes_on s ≡ true → first_with s o.fibrils ≡ Some x → GoesOn (fibril_at o x.number.0)
-found_goes_on live o s x are goes e =
-    let one = first_there s o.fibrils x e in
-    let number : x.number.0 ≡ suc one.place = without_zero x.number.0 one.place (numbered_at 0 o.fibrils one.place x are.numbered one.there) in
-    rw (number, one.there) (going x s goes one.status)
 
 pub blocked_goes_on : (o : FibrilOrder) (f : FibrilNo) → IsSome (why_of o f) → GoesOn (fibril_at o f.0)
 blocked_goes_on o f h = by (fibril_at o f.0) h where

@@ -1,10 +1,11 @@
 -- The fibrils that have not ended, which are the only ones that are kept, and all fibrils as these give them.
-use Rattle.std.specs.Prelude.{◌≡◌, ℕ, zero, suc, ◌==◌, Bool, true, false, not, if◌then◌else◌, List, [], ◌∷◌, ◌++◌, Option, None, Some, ⊤}
+use Rattle.std.specs.Prelude.{◌≡◌, ℕ, zero, suc, ◌-◌, ◌==◌, Bool, true, false, not, if◌then◌else◌, List, [], ◌∷◌, ◌++◌, length, nat_lt, Option, None, Some, ⊤}
 use Rattle.std.specs.List.{filter, find}
 use Rattle.ipc_ids.specs.declared.numbers.FibrilNo.{FibrilNo}
 use Rattle.fibril_core.specs.declared.fibrils.Status.{Status}
 use Rattle.fibril_core.specs.declared.fibrils.Status.TheVariants.{Ready, Blocked, Ended}
 use Rattle.fibril_core.specs.declared.fibrils.Fibril.{Fibril}
+use Rattle.fibril_core.specs.Fibrils.{FibrilsState, same_status}
 
 -- whether a fibril with this status has not ended
 abbrev pub goes_on : Status → Bool
@@ -56,3 +57,19 @@ found_or_ended n (Some x) = x
 abbrev pub all_of : ℕ → List Fibril → List Fibril
 all_of zero live = []
 all_of (suc n) live = all_of n live ++ found_or_ended (suc n) (find (has_number (suc n)) live) ∷ []
+
+-- whether the fibril is ready
+abbrev pub is_ready : Fibril → Bool
+is_ready x = same_status x.status Ready
+
+-- how many fibrils pass a test
+abbrev pub count : (Fibril → Bool) → List Fibril → ℕ
+count p xs = length (filter p xs)
+
+-- the lesser of two numbers
+abbrev pub lesser : ℕ → ℕ → ℕ
+lesser n m = if nat_lt n m then n else m
+
+-- how many more fibrils there is room for, where a queue has room for so many of those that have not ended
+abbrev pub spare_of : FibrilsState → ℕ → ℕ
+spare_of s held = lesser s.spare (held - count is_live s.order.fibrils)

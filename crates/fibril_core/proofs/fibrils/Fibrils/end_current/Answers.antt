@@ -1,44 +1,32 @@
-use Rattle.std.proofs.Common.{ap, sym, subst, refl, ◌≡◌, Some, ◌∙◌}
-use Rattle.fibril_core.specs.declared.fibrils.Status.TheVariants.{Ready}
-use Rattle.fibril_core.specs.Fibrils.{FibrilOrder, FibrilsState, fibril_at, first_with, number_of}
-use Rattle.fibril_core.specs.LiveFibrils.{GoesOn, all_of}
-use Rattle.fibril_core.proofs.Live.{live_rise, place_within, remove_at_place, found_somewhere}
-use Rattle.fibril_core.proofs.Rebuilt.{end_gives, named_over}
+use Rattle.std.proofs.Common.{◌≤◌, ap, sym, ◌∙◌, subst}
+use Rattle.std.specs.VecDeque.{deque_capacity}
+use Rattle.fibril_core.specs.Fibrils.{FibrilsState, end_current}
+use Rattle.fibril_core.specs.LiveFibrils.{spare_of}
+use Rattle.fibril_core.proofs.Queues.{front_goes_on, queue_end, at_front, end_named, end_none, no_current, spare_ended}
 use Rattle.fibril_core.proofs.fibrils.Fibrils.end_current.Goals as goal
 
-pub place_of-requires : goal.place_of-requires
-place_of-requires c = record { rise = rw c.deref.ensures.value (live_rise c.self.inside.live.items _ c.self.invariant) }
-
-pub remove-requires : goal.remove-requires
-remove-requires c = rw (← c.deref.ensures.len) (place_within c.deref.result.now c.in-Some-place_of.i c.in-Some.f c.in-Some-place_of.ensures.found)
+pub end-requires : goal.end-requires
+end-requires c = record { goes_on = front_goes_on _ c.in-Some.f _ _ (at_front _ _ _ _ _ c.self.invariant c.in-Some.ensures.items) }
 
 pub invariant_of-self : goal.invariant_of-self
 invariant_of-self c =
-    let live = c.self.inside.live.items in
-    let made = c.self.inside.made in
-    let next = c.self.inside.next_stamp in
-    let o : FibrilOrder = record { fibrils = all_of made live; next_stamp = next } in
-    let f = c.in-Some.f in
-    let goes : GoesOn (fibril_at o f.0) = subst (λ (p : FibrilOrder). GoesOn (fibril_at p f.0)) (sym (ap (λ (s : FibrilsState). s.order) c.self.view_is)) c.in-Some.ensures.goes_on in
-    rw (c.remove.ensures.items, remove_at_place live (all_of made live) c.in-Some-place_of.i f c.self.invariant (rw c.deref.ensures.value at c.in-Some-place_of.ensures.found))
-    (end_gives made live f next c.self.invariant goes).are
+    rw (c.end.ensures.order, c.pop_front.ensures.capacity)
+    (queue_end _ c.in-Some.f _ _ (at_front _ _ _ _ _ c.self.invariant c.in-Some.ensures.items))
 
-pub returns-in-Some-place_of-clause-order : goal.returns-in-Some-place_of-clause-order
-returns-in-Some-place_of-clause-order c =
-    let live = c.self.inside.live.items in
-    let made = c.self.inside.made in
-    let next = c.self.inside.next_stamp in
-    let o : FibrilOrder = record { fibrils = all_of made live; next_stamp = next } in
-    let f = c.in-Some.f in
-    let goes : GoesOn (fibril_at o f.0) = subst (λ (p : FibrilOrder). GoesOn (fibril_at p f.0)) (sym (ap (λ (s : FibrilsState). s.order) c.self.view_is)) c.in-Some.ensures.goes_on in
-    let named : number_of (first_with Ready c.args.self.now.order.fibrils) ≡ Some f = sym c.first.ensures.number ∙ c.in-Some.is in
-    let removed = remove_at_place live (all_of made live) c.in-Some-place_of.i f c.self.invariant (rw c.deref.ensures.value at c.in-Some-place_of.ensures.found) in
-    rw (c.remove.ensures.items, removed, (end_gives made live f next c.self.invariant goes).all, named_over c.args.self.now.order (first_with Ready c.args.self.now.order.fibrils) f named, ← ap (λ (s : FibrilsState). s.order) c.self.view_is) refl
+pub returns-in-Some-clause-order : goal.returns-in-Some-clause-order
+returns-in-Some-clause-order c =
+    let queued = at_front c.self.inside.live.order c.self.inside.ready.items c.in-Some.f c.pop_front.new.self.items _ c.self.invariant c.in-Some.ensures.items in
+    c.end.ensures.order ∙ sym (end_named _ c.in-Some.f _ _ queued)
+    ∙ ap (λ (s : FibrilsState). end_current s.order) c.self.view_is
 
-pub returns-in_default-place_of-clause-order : goal.returns-in_default-place_of-clause-order
-returns-in_default-place_of-clause-order c =
-    let live = c.self.inside.live.items in
-    let o : FibrilOrder = record { fibrils = all_of c.self.inside.made live; next_stamp = c.self.inside.next_stamp } in
-    let f = c.in-Some.f in
-    let goes : GoesOn (fibril_at o f.0) = subst (λ (p : FibrilOrder). GoesOn (fibril_at p f.0)) (sym (ap (λ (s : FibrilsState). s.order) c.self.view_is)) c.in-Some.ensures.goes_on in
-    absurd (found_somewhere live o f c.self.invariant goes (rw c.deref.ensures.value at c.in_default-place_of.ensures.none))
+pub returns-in-Some-clause-spare : goal.returns-in-Some-clause-spare
+returns-in-Some-clause-spare c =
+    let queued = at_front c.self.inside.live.order c.self.inside.ready.items c.in-Some.f c.pop_front.new.self.items _ c.self.invariant c.in-Some.ensures.items in
+    subst (λ (s : FibrilsState). s.spare ≤ spare_of c.end.new.self (deque_capacity c.pop_front.new.self)) c.self.view_is
+    (spare_ended c.self.inside.live c.end.new.self c.in-Some.f _ _ _ queued c.end.ensures.order c.end.ensures.spare c.pop_front.ensures.capacity)
+
+pub returns-in_default-clause-order : goal.returns-in_default-clause-order
+returns-in_default-clause-order c =
+    let none = no_current c.self.inside.live.order _ _ _ c.self.invariant c.in_default.ensures.items c.in_default.ensures.rest in
+    end_none c.self.inside.live.order none
+    ∙ ap (λ (s : FibrilsState). end_current s.order) c.self.view_is
