@@ -1,14 +1,9 @@
 -- How many fibrils pass a test, after a change of one of them.
 use Rattle.std.proofs.Common.{◌≡◌, ℕ, zero, suc, ◌+◌, ◌<◌, ◌≤◌, Bool, true, false, List, [], ◌∷◌, ◌++◌, length, Some, refl, arith}
 use Rattle.std.specs.Prelude.{if◌then◌else◌, slice_get, slice_set}
-use Rattle.std.specs.List.{filter}
+use Rattle.std.specs.List.{filter, remove}
 use Rattle.fibril_core.specs.declared.fibrils.Fibril.{Fibril}
-use Rattle.fibril_core.specs.LiveFibrils.{count}
-
--- a fibril that passes counts for one
-abbrev pub one : Bool → ℕ
-one true = 1
-one false = 0
+use Rattle.fibril_core.specs.LiveFibrils.{count, one}
 
 pub count_set : (p : Fibril → Bool) (xs : List Fibril) (i : ℕ) (x y : Fibril) → slice_get xs i ≡ Some x → count p (slice_set xs i y) + one (p x) ≡ count p xs + one (p y)
 count_set p [] i x y there = absurd (cc there)
@@ -32,6 +27,36 @@ count_push p (z ∷ xs) x = by (p z) (count_push p xs x) where
   by : (b : Bool) → count p (xs ++ x ∷ []) ≡ count p xs + one (p x) → length (if b then z ∷ filter p (xs ++ x ∷ []) else filter p (xs ++ x ∷ [])) ≡ length (if b then z ∷ filter p xs else filter p xs) + one (p x)
   by true e = omega arith
   by false e = e
+
+-- one that is there counts
+pub count_has : (p : Fibril → Bool) (xs : List Fibril) (i : ℕ) (x : Fibril) → slice_get xs i ≡ Some x → one (p x) ≤ count p xs
+count_has p [] i x there = absurd (cc there)
+count_has p (z ∷ xs) zero x there = let same : z ≡ x = cc in rw same (by (p x)) where
+  by : (b : Bool) → one b ≤ length (if b then x ∷ filter p xs else filter p xs)
+  by true = omega arith
+  by false = omega arith
+count_has p (z ∷ xs) (suc i) x there = by (p z) (count_has p xs i x there) where
+  by : (b : Bool) → one (p x) ≤ count p xs → one (p x) ≤ length (if b then z ∷ filter p xs else filter p xs)
+  by true e = omega arith
+  by false e = e
+
+pub count_all : (p : Fibril → Bool) (xs : List Fibril) → count p xs ≤ length xs
+count_all p [] = omega arith
+count_all p (x ∷ xs) = by (p x) (count_all p xs) where
+  by : (b : Bool) → count p xs ≤ length xs → length (if b then x ∷ filter p xs else filter p xs) ≤ length (x ∷ xs)
+  by true e = omega arith
+  by false e = omega arith
+
+pub count_remove : (p : Fibril → Bool) (xs : List Fibril) (i : ℕ) (x : Fibril) → slice_get xs i ≡ Some x → count p (remove xs i) + one (p x) ≡ count p xs
+count_remove p [] i x there = absurd (cc there)
+count_remove p (z ∷ xs) zero x there = let same : z ≡ x = cc in rw same (by (p x)) where
+  by : (b : Bool) → length (filter p xs) + one b ≡ length (if b then x ∷ filter p xs else filter p xs)
+  by true = omega arith
+  by false = omega arith
+count_remove p (z ∷ xs) (suc i) x there = by (p z) (one (p x)) (count_remove p xs i x there) where
+  by : (b : Bool) (k : ℕ) → count p (remove xs i) + k ≡ count p xs → length (if b then z ∷ filter p (remove xs i) else filter p (remove xs i)) + k ≡ length (if b then z ∷ filter p xs else filter p xs)
+  by true k e = omega arith
+  by false k e = e
 
 -- where all that pass the first test pass the second
 module _ (p q : Fibril → Bool) (both : (x : Fibril) → p x ≡ true → q x ≡ true) where

@@ -9,12 +9,12 @@ use Rattle.fibril_core.specs.declared.fibrils.Status.TheVariants.{Ready, Blocked
 use Rattle.fibril_core.specs.declared.fibrils.Fibril.{Fibril}
 use Rattle.fibril_core.specs.Fibrils.{FibrilOrder, same_status, fibril_at, why_at, why_in, why_of, current, first_blocked, first_with, with_status, found_with, spawned, next_number, number_of, put_fibril, found_over, end_current, FibrilsState}
 use Rattle.fibril_core.specs.FibrilLaws.{status_in, IsSound, IsQueue, IsQueued, numbers}
-use Rattle.fibril_core.specs.LiveFibrils.{goes_on, is_live, is_ready, GoesOn, ended, count, lesser, spare_of}
+use Rattle.fibril_core.specs.LiveFibrils.{one, goes_on, is_live, is_ready, GoesOn, ended, count, lesser, spare_of}
 use Rattle.fibril_core.proofs.Places.{within}
 use Rattle.fibril_core.proofs.Orders.{Has, has, has_same, first_number, status_set, becomes, sound_status, sound_spawned, sound_ended}
 use Rattle.fibril_core.proofs.Rebuilt.{named_over}
 use Rattle.fibril_core.proofs.Ready.{head_is_current, none_is_current, block_leaves, yield_turns, wake_joins, spawn_joins, put_set, end_leaves}
-use Rattle.fibril_core.proofs.Counts.{one, count_set, count_push, count_few, count_less}
+use Rattle.fibril_core.proofs.Counts.{count_set, count_push, count_few, count_less}
 
 numbers_push : (q : List FibrilNo) (f : FibrilNo) → numbers (q ++ f ∷ []) ≡ numbers q ++ f.0 ∷ []
 numbers_push [] f = refl

@@ -1,6 +1,7 @@
 -- The fibrils that have not ended, which are the only ones that are kept, and all fibrils as these give them.
 use Rattle.std.specs.Prelude.{◌≡◌, ℕ, zero, suc, ◌-◌, ◌==◌, Bool, true, false, not, if◌then◌else◌, List, [], ◌∷◌, ◌++◌, length, nat_lt, Option, None, Some, ⊤}
 use Rattle.std.specs.List.{filter, find}
+use Rattle.ipc_ids.specs.declared.message.Why.TheVariants as why
 use Rattle.ipc_ids.specs.declared.numbers.FibrilNo.{FibrilNo}
 use Rattle.fibril_core.specs.declared.fibrils.Status.{Status}
 use Rattle.fibril_core.specs.declared.fibrils.Status.TheVariants.{Ready, Blocked, Ended}
@@ -73,3 +74,23 @@ lesser n m = if nat_lt n m then n else m
 -- how many more fibrils there is room for, where a queue has room for so many of those that have not ended
 abbrev pub spare_of : FibrilsState → ℕ → ℕ
 spare_of s held = lesser s.spare (held - count is_live s.order.fibrils)
+
+-- whether a status waits for a mutex or a phone
+abbrev pub waits : Status → Bool
+waits (Blocked (why.Mutex s)) = true
+waits (Blocked why.Phone) = true
+waits _ = false
+
+-- whether the fibril waits for a mutex or a phone
+abbrev pub is_waiting : Fibril → Bool
+is_waiting x = waits x.status
+
+-- one where a test holds, else none
+abbrev pub one : Bool → ℕ
+one true = 1
+one false = 0
+
+-- the first list is those of the second that have not ended, and so many of them wait for a mutex or a phone
+pub record AreLiveWaiting (live xs : List Fibril) (n : ℕ) : Type 0 where
+  pub are : AreLive live xs
+  pub waiting : n ≡ count is_waiting live

@@ -7,6 +7,7 @@ ghost use Rattle.fibril_core.specs.Fibrils.{no_fibrils, first_with, next_number,
 ghost use Rattle.fibril_core.specs.Fibrils.{IsWithinBounds, spawned, with_status, put_fibril};
 ghost use Rattle.fibril_core.specs.Fibrils.{fibril_at, number_of};
 ghost use Rattle.fibril_core.specs.LiveFibrils.{AreLive, goes_on, GoesOn, is_live, count, ended};
+ghost use Rattle.fibril_core.specs.LiveFibrils.{one, waits};
 
 use crate::fibrils::{Fibril, Status};
 use ipc_ids::{FibrilNo, NoMemory, Why};
@@ -21,13 +22,15 @@ pub(crate) struct LiveFibrils {
     /// How many were ever made.
     made: u64,
     next_stamp: u64,
+    /// How many are blocked on a mutex or a phone.
+    waiting: usize,
 }
 
 impl Model for LiveFibrils {
     ghost use Rattle.std.specs.Prelude.{◌-◌, vec_len};
     ghost use Rattle.std.specs.Vec.{vec_capacity};
     ghost use Rattle.fibril_core.specs.Fibrils.{FibrilsState};
-    ghost use Rattle.fibril_core.specs.LiveFibrils.{AreLive, all_of};
+    ghost use Rattle.fibril_core.specs.LiveFibrils.{AreLiveWaiting, all_of};
 
     ghost Value = { FibrilsState };
 
@@ -36,7 +39,8 @@ impl Model for LiveFibrils {
       spare = vec_capacity a.fibrils - vec_len a.fibrils;
     } };
 
-    ghost invariant = { λ a. AreLive a.fibrils.items (all_of a.made a.fibrils.items) };
+    ghost invariant = { λ a.
+        AreLiveWaiting a.fibrils.items (all_of a.made a.fibrils.items) a.waiting };
 }
 
 impl LiveFibrils {
@@ -48,6 +52,7 @@ impl LiveFibrils {
             fibrils: Vec::new(alloc),
             made: 0,
             next_stamp: 1,
+            waiting: 0,
         }
     }
 
@@ -129,6 +134,9 @@ impl LiveFibrils {
         requires status { goes_on status ≡ true }
         ensures { result ≡ number_of (first_with status self.now.order.fibrils) }
     {
+        if self.waiting == 0 && waiters_in(status) == 1 {
+            return None;
+        }
         match first_with(&self.fibrils, status) {
             Some(fibril) => Some(fibril.number),
             None => None,
@@ -145,6 +153,8 @@ impl LiveFibrils {
     {
         let stamp = self.next_stamp;
         if let Some(i) = place_of(&self.fibrils, f) {
+            self.waiting -= waiters_in(self.fibrils[i].status);
+            self.waiting += waiters_in(status);
             self.fibrils[i] = Fibril {
                 number: f,
                 status,
@@ -161,7 +171,8 @@ impl LiveFibrils {
         ensures spare { self.old.spare ≤ self.new.spare }
     {
         if let Some(i) = place_of(&self.fibrils, f) {
-            self.fibrils.remove(i);
+            let fibril = self.fibrils.remove(i);
+            self.waiting -= waiters_in(fibril.status);
         }
     }
 }
@@ -185,6 +196,16 @@ fn why_in(status: Status) -> Option<Why>
     match status {
         Status::Blocked(why) => Some(why),
         Status::Ready | Status::Ended => None,
+    }
+}
+
+/// One where this status waits for a mutex or a phone, else none.
+fn waiters_in(status: Status) -> usize
+    ensures { result ≡ one (waits status) }
+{
+    match status {
+        Status::Blocked(Why::Mutex(_) | Why::Phone) => 1,
+        _ => 0,
     }
 }
 
