@@ -1,42 +1,43 @@
 -- How many fibrils pass a test, after a change of one of them.
 use Rattle.std.proofs.Common.{◌≡◌, ℕ, zero, suc, ◌+◌, ◌<◌, ◌≤◌, Bool, true, false, List, [], ◌∷◌, ◌++◌, length, Some, refl, arith}
 use Rattle.std.specs.Prelude.{if◌then◌else◌, slice_get, slice_set}
+use Rattle.std.specs.Int.{from_bool}
 use Rattle.std.specs.List.{filter, remove}
 use Rattle.fibril_core.specs.declared.fibrils.Fibril.{Fibril}
-use Rattle.fibril_core.specs.LiveFibrils.{count, one}
+use Rattle.fibril_core.specs.LiveFibrils.{count}
 
-pub count_set : (p : Fibril → Bool) (xs : List Fibril) (i : ℕ) (x y : Fibril) → slice_get xs i ≡ Some x → count p (slice_set xs i y) + one (p x) ≡ count p xs + one (p y)
+pub count_set : (p : Fibril → Bool) (xs : List Fibril) (i : ℕ) (x y : Fibril) → slice_get xs i ≡ Some x → count p (slice_set xs i y) + from_bool (p x) ≡ count p xs + from_bool (p y)
 count_set p [] i x y there = absurd (cc there)
 count_set p (z ∷ xs) zero x y there = let same : z ≡ x = cc in rw same (set_by (p x) (p y)) where
-  set_by : (b c : Bool) → length (if c then y ∷ filter p xs else filter p xs) + one b ≡ length (if b then x ∷ filter p xs else filter p xs) + one c
+  set_by : (b c : Bool) → length (if c then y ∷ filter p xs else filter p xs) + from_bool b ≡ length (if b then x ∷ filter p xs else filter p xs) + from_bool c
   set_by true true = refl
   set_by true false = omega arith
   set_by false true = omega arith
   set_by false false = refl
-count_set p (z ∷ xs) (suc i) x y there = set_by (p z) (one (p x)) (one (p y)) (count_set p xs i x y there) where
+count_set p (z ∷ xs) (suc i) x y there = set_by (p z) (from_bool (p x)) (from_bool (p y)) (count_set p xs i x y there) where
   set_by : (b : Bool) (j k : ℕ) → count p (slice_set xs i y) + j ≡ count p xs + k → length (if b then z ∷ filter p (slice_set xs i y) else filter p (slice_set xs i y)) + j ≡ length (if b then z ∷ filter p xs else filter p xs) + k
   set_by true j k e = omega arith
   set_by false j k e = e
 
-pub count_push : (p : Fibril → Bool) (xs : List Fibril) (x : Fibril) → count p (xs ++ x ∷ []) ≡ count p xs + one (p x)
+pub count_push : (p : Fibril → Bool) (xs : List Fibril) (x : Fibril) → count p (xs ++ x ∷ []) ≡ count p xs + from_bool (p x)
 count_push p [] x = by (p x) where
-  by : (b : Bool) → length (if b then x ∷ [] else []) ≡ 0 + one b
+  by : (b : Bool) → length (if b then x ∷ [] else []) ≡ 0 + from_bool b
   by true = refl
   by false = refl
 count_push p (z ∷ xs) x = by (p z) (count_push p xs x) where
-  by : (b : Bool) → count p (xs ++ x ∷ []) ≡ count p xs + one (p x) → length (if b then z ∷ filter p (xs ++ x ∷ []) else filter p (xs ++ x ∷ [])) ≡ length (if b then z ∷ filter p xs else filter p xs) + one (p x)
+  by : (b : Bool) → count p (xs ++ x ∷ []) ≡ count p xs + from_bool (p x) → length (if b then z ∷ filter p (xs ++ x ∷ []) else filter p (xs ++ x ∷ [])) ≡ length (if b then z ∷ filter p xs else filter p xs) + from_bool (p x)
   by true e = omega arith
   by false e = e
 
 -- one that is there counts
-pub count_has : (p : Fibril → Bool) (xs : List Fibril) (i : ℕ) (x : Fibril) → slice_get xs i ≡ Some x → one (p x) ≤ count p xs
+pub count_has : (p : Fibril → Bool) (xs : List Fibril) (i : ℕ) (x : Fibril) → slice_get xs i ≡ Some x → from_bool (p x) ≤ count p xs
 count_has p [] i x there = absurd (cc there)
 count_has p (z ∷ xs) zero x there = let same : z ≡ x = cc in rw same (by (p x)) where
-  by : (b : Bool) → one b ≤ length (if b then x ∷ filter p xs else filter p xs)
+  by : (b : Bool) → from_bool b ≤ length (if b then x ∷ filter p xs else filter p xs)
   by true = omega arith
   by false = omega arith
 count_has p (z ∷ xs) (suc i) x there = by (p z) (count_has p xs i x there) where
-  by : (b : Bool) → one (p x) ≤ count p xs → one (p x) ≤ length (if b then z ∷ filter p xs else filter p xs)
+  by : (b : Bool) → from_bool (p x) ≤ count p xs → from_bool (p x) ≤ length (if b then z ∷ filter p xs else filter p xs)
   by true e = omega arith
   by false e = e
 
@@ -47,13 +48,13 @@ count_all p (x ∷ xs) = by (p x) (count_all p xs) where
   by true e = omega arith
   by false e = omega arith
 
-pub count_remove : (p : Fibril → Bool) (xs : List Fibril) (i : ℕ) (x : Fibril) → slice_get xs i ≡ Some x → count p (remove xs i) + one (p x) ≡ count p xs
+pub count_remove : (p : Fibril → Bool) (xs : List Fibril) (i : ℕ) (x : Fibril) → slice_get xs i ≡ Some x → count p (remove xs i) + from_bool (p x) ≡ count p xs
 count_remove p [] i x there = absurd (cc there)
 count_remove p (z ∷ xs) zero x there = let same : z ≡ x = cc in rw same (by (p x)) where
-  by : (b : Bool) → length (filter p xs) + one b ≡ length (if b then x ∷ filter p xs else filter p xs)
+  by : (b : Bool) → length (filter p xs) + from_bool b ≡ length (if b then x ∷ filter p xs else filter p xs)
   by true = omega arith
   by false = omega arith
-count_remove p (z ∷ xs) (suc i) x there = by (p z) (one (p x)) (count_remove p xs i x there) where
+count_remove p (z ∷ xs) (suc i) x there = by (p z) (from_bool (p x)) (count_remove p xs i x there) where
   by : (b : Bool) (k : ℕ) → count p (remove xs i) + k ≡ count p xs → length (if b then z ∷ filter p (remove xs i) else filter p (remove xs i)) + k ≡ length (if b then z ∷ filter p xs else filter p xs)
   by true k e = omega arith
   by false k e = e

@@ -2,6 +2,7 @@
 use Rattle.std.proofs.Common.{◌≡◌, ◌≢◌, ℕ, zero, suc, ◌+◌, ◌-◌, ◌<◌, ◌≤◌, Bool, true, false, List, [], ◌∷◌, ◌++◌, drop, length, Option, Some, None, refl, ap, sym, ◌∙◌, subst, arith}
 use Rattle.std.specs.Prelude.{if◌then◌else◌, slice_get, nat_lt, IsSome}
 use Rattle.std.proofs.lemmas.Bool.Decides.{nat_tests}
+use Rattle.std.specs.Int.{from_bool}
 use Rattle.ipc_ids.specs.declared.numbers.FibrilNo.{FibrilNo}
 use Rattle.ipc_ids.specs.declared.message.Why.{Why}
 use Rattle.fibril_core.specs.declared.fibrils.Status.{Status}
@@ -9,7 +10,7 @@ use Rattle.fibril_core.specs.declared.fibrils.Status.TheVariants.{Ready, Blocked
 use Rattle.fibril_core.specs.declared.fibrils.Fibril.{Fibril}
 use Rattle.fibril_core.specs.Fibrils.{FibrilOrder, same_status, fibril_at, why_at, why_in, why_of, current, first_blocked, first_with, with_status, found_with, spawned, next_number, number_of, put_fibril, found_over, end_current, FibrilsState}
 use Rattle.fibril_core.specs.FibrilLaws.{status_in, IsSound, IsQueue, IsQueued, numbers}
-use Rattle.fibril_core.specs.LiveFibrils.{one, goes_on, is_live, is_ready, GoesOn, ended, count, lesser, spare_of}
+use Rattle.fibril_core.specs.LiveFibrils.{goes_on, is_live, is_ready, GoesOn, ended, count, lesser, spare_of}
 use Rattle.fibril_core.proofs.Places.{within}
 use Rattle.fibril_core.proofs.Orders.{Has, has, has_same, first_number, status_set, becomes, sound_status, sound_spawned, sound_ended}
 use Rattle.fibril_core.proofs.Rebuilt.{named_over}
@@ -28,16 +29,16 @@ pushed : (o : FibrilOrder) (q : List FibrilNo) (f : FibrilNo) → IsQueue o (num
 pushed o q f queue = subst (λ (l : List ℕ). IsQueue o l) (sym (numbers_push q f)) queue
 
 -- how many pass a test after a fibril has a new status
-count_at : (p : Fibril → Bool) (o : FibrilOrder) (n : ℕ) (s : Status) (x : Fibril) → fibril_at o n ≡ Some x → count p (with_status o (record { 0 = n }) s).fibrils + one (p x) ≡ count p o.fibrils + one (p (record { number = record { 0 = n }; status = s; stamp = o.next_stamp }))
+count_at : (p : Fibril → Bool) (o : FibrilOrder) (n : ℕ) (s : Status) (x : Fibril) → fibril_at o n ≡ Some x → count p (with_status o (record { 0 = n }) s).fibrils + from_bool (p x) ≡ count p o.fibrils + from_bool (p (record { number = record { 0 = n }; status = s; stamp = o.next_stamp }))
 count_at p o zero s x there = absurd (cc there)
 count_at p o (suc i) s x there =
     let y : Fibril = record { number = record { 0 = suc i }; status = s; stamp = o.next_stamp } in
-    subst (λ (q : FibrilOrder). count p q.fibrils + one (p x) ≡ count p o.fibrils + one (p y)) (sym (status_set o i s (within o.fibrils i x there))) (count_set p o.fibrils i x y there)
+    subst (λ (q : FibrilOrder). count p q.fibrils + from_bool (p x) ≡ count p o.fibrils + from_bool (p y)) (sym (status_set o i s (within o.fibrils i x there))) (count_set p o.fibrils i x y there)
 
 -- and after it has ended
-count_ended : (p : Fibril → Bool) (o : FibrilOrder) (n : ℕ) (x : Fibril) → fibril_at o n ≡ Some x → count p (put_fibril o (ended n)).fibrils + one (p x) ≡ count p o.fibrils + one (p (ended n))
+count_ended : (p : Fibril → Bool) (o : FibrilOrder) (n : ℕ) (x : Fibril) → fibril_at o n ≡ Some x → count p (put_fibril o (ended n)).fibrils + from_bool (p x) ≡ count p o.fibrils + from_bool (p (ended n))
 count_ended p o zero x there = absurd (cc there)
-count_ended p o (suc i) x there = subst (λ (q : FibrilOrder). count p q.fibrils + one (p x) ≡ count p o.fibrils + one (p (ended (suc i)))) (sym (put_set o i (ended (suc i)) refl (within o.fibrils i x there))) (count_set p o.fibrils i x (ended (suc i)) there)
+count_ended p o (suc i) x there = subst (λ (q : FibrilOrder). count p q.fibrils + from_bool (p x) ≡ count p o.fibrils + from_bool (p (ended (suc i)))) (sym (put_set o i (ended (suc i)) refl (within o.fibrils i x there))) (count_set p o.fibrils i x (ended (suc i)) there)
 
 -- which are live
 

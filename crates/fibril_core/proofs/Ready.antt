@@ -169,7 +169,7 @@ spawn_joins o q sound queue = joined o (spawned o) (length o.fibrils + 1) q here
   behind (suc j) h g = let that = has (slice_get o.fibrils j) Ready g in rw (others (suc j) h, that.there, there) (sound.stamped j that.fibril that.there)
 
   absent_at : (n : ℕ) → n ≡ suc (length o.fibrils) → status_of o n ≢ Some Ready
-  absent_at zero e g = cc g
+  absent_at zero e g = cc
   absent_at (suc i) e g = let that = has (slice_get o.fibrils i) Ready g in let less = within o.fibrils i that.fibril that.there in omega arith
 
   absent : status_of o (length o.fibrils + 1) ≢ Some Ready

@@ -85,11 +85,6 @@ waits _ = false
 abbrev pub is_waiting : Fibril → Bool
 is_waiting x = waits x.status
 
--- one where a test holds, else none
-abbrev pub one : Bool → ℕ
-one true = 1
-one false = 0
-
 -- the first list is those of the second that have not ended, and so many of them wait for a mutex or a phone
 pub record AreLiveWaiting (live xs : List Fibril) (n : ℕ) : Type 0 where
   pub are : AreLive live xs

@@ -151,8 +151,8 @@ impl Fibrils {
         ensures order { self.new.order ≡ block_on self.old.order why }
         ensures spare { self.new.spare ≡ self.old.spare }
     {
-        if let Some(f) = self.ready.pop_front() {
-            self.live.stamp(f, Status::Blocked(why));
+        if let Some(present) = self.ready.pop_front() {
+            self.live.stamp(present, Status::Blocked(why));
         }
     }
 
@@ -163,9 +163,9 @@ impl Fibrils {
         ensures order { self.new.order ≡ yield_now self.old.order }
         ensures spare { self.new.spare ≡ self.old.spare }
     {
-        if let Some(f) = self.ready.pop_front() {
-            self.live.stamp(f, Status::Ready);
-            self.ready.push_back_reserved(f);
+        if let Some(present) = self.ready.pop_front() {
+            self.live.stamp(present, Status::Ready);
+            self.ready.push_back_reserved(present);
         }
     }
 
@@ -175,8 +175,8 @@ impl Fibrils {
         ensures order { self.new.order ≡ end_current self.old.order }
         ensures spare { self.old.spare ≤ self.new.spare }
     {
-        if let Some(f) = self.ready.pop_front() {
-            self.live.end(f);
+        if let Some(present) = self.ready.pop_front() {
+            self.live.end(present);
         }
     }
 

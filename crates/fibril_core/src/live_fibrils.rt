@@ -7,7 +7,7 @@ ghost use Rattle.fibril_core.specs.Fibrils.{no_fibrils, first_with, next_number,
 ghost use Rattle.fibril_core.specs.Fibrils.{IsWithinBounds, spawned, with_status, put_fibril};
 ghost use Rattle.fibril_core.specs.Fibrils.{fibril_at, number_of};
 ghost use Rattle.fibril_core.specs.LiveFibrils.{AreLive, goes_on, GoesOn, is_live, count, ended};
-ghost use Rattle.fibril_core.specs.LiveFibrils.{one, waits};
+ghost use Rattle.fibril_core.specs.LiveFibrils.{waits};
 
 use crate::fibrils::{Fibril, Status};
 use ipc_ids::{FibrilNo, NoMemory, Why};
@@ -134,7 +134,7 @@ impl LiveFibrils {
         requires status { goes_on status ≡ true }
         ensures { result ≡ number_of (first_with status self.now.order.fibrils) }
     {
-        if self.waiting == 0 && waiters_in(status) == 1 {
+        if self.waiting == 0 && waits(status) {
             return None;
         }
         match first_with(&self.fibrils, status) {
@@ -153,8 +153,8 @@ impl LiveFibrils {
     {
         let stamp = self.next_stamp;
         if let Some(i) = place_of(&self.fibrils, f) {
-            self.waiting -= waiters_in(self.fibrils[i].status);
-            self.waiting += waiters_in(status);
+            self.waiting -= usize::from(waits(self.fibrils[i].status));
+            self.waiting += usize::from(waits(status));
             self.fibrils[i] = Fibril {
                 number: f,
                 status,
@@ -172,7 +172,7 @@ impl LiveFibrils {
     {
         if let Some(i) = place_of(&self.fibrils, f) {
             let fibril = self.fibrils.remove(i);
-            self.waiting -= waiters_in(fibril.status);
+            self.waiting -= usize::from(waits(fibril.status));
         }
     }
 }
@@ -199,14 +199,11 @@ fn why_in(status: Status) -> Option<Why>
     }
 }
 
-/// One where this status waits for a mutex or a phone, else none.
-fn waiters_in(status: Status) -> usize
-    ensures { result ≡ one (waits status) }
+/// Whether this status waits for a mutex or a phone.
+fn waits(status: Status) -> bool
+    ensures { result ≡ waits status }
 {
-    match status {
-        Status::Blocked(Why::Mutex(_) | Why::Phone) => 1,
-        _ => 0,
-    }
+    matches!(status, Status::Blocked(Why::Mutex(_) | Why::Phone))
 }
 
 /// The fibril that has had this status longest.

@@ -15,7 +15,7 @@ pub overflow_sub-self : goal.overflow_sub-self
 overflow_sub-self c =
     let live = c.self.inside.fibrils.items in
     let there = stands_there live c.in-Some.i c.args.f c.remove-fibril.result (rw c.deref.ensures.value at c.in-Some.ensures.found) c.remove-fibril.ensures.value in
-    rw c.waiters_in.ensures (waiting_has live _ _ c.in-Some.i c.remove-fibril.result c.self.invariant there)
+    rw (c.from.ensures, c.waits.ensures) (waiting_has live _ _ c.in-Some.i c.remove-fibril.result c.self.invariant there)
 
 pub invariant_of-self : goal.invariant_of-self
 invariant_of-self c =
@@ -29,7 +29,7 @@ invariant_of-self c =
     let there = stands_there live c.in-Some.i f c.remove-fibril.result found c.remove-fibril.ensures.value in
     record {
       are = rw (c.remove-fibril.ensures.items, remove_at_place live (all_of made live) c.in-Some.i f c.self.invariant.are found) (end_gives made live f next c.self.invariant.are goes).are;
-      waiting = rw (c.waiters_in.ensures, c.remove-fibril.ensures.items) (waiting_remove live (all_of made live) c.self.inside.waiting c.in-Some.i c.remove-fibril.result c.self.invariant there);
+      waiting = rw (c.from.ensures, c.waits.ensures, c.remove-fibril.ensures.items) (waiting_remove live (all_of made live) c.self.inside.waiting c.in-Some.i c.remove-fibril.result c.self.invariant there);
     }
 
 pub returns-in-Some-clause-order : goal.returns-in-Some-clause-order

@@ -1,8 +1,8 @@
 use Rattle.std.proofs.Common.{◌≤◌, length, refl, ap, sym, subst, arith}
 use Rattle.fibril_core.specs.declared.fibrils.Fibril.{Fibril}
 use Rattle.fibril_core.specs.Fibrils.{FibrilOrder, FibrilsState, fibril_at}
-use Rattle.fibril_core.specs.LiveFibrils.{GoesOn, all_of, waits}
-use Rattle.fibril_core.proofs.Live.{live_rise, place_within, set_at_place, found_somewhere, stands_there, waiting_has, waiting_few, waiting_set, one_few}
+use Rattle.fibril_core.specs.LiveFibrils.{GoesOn, all_of}
+use Rattle.fibril_core.proofs.Live.{live_rise, place_within, set_at_place, found_somewhere, stands_there, waiting_has, waiting_few, waiting_set, at_most_one}
 use Rattle.fibril_core.proofs.Rebuilt.{stamp_gives}
 use Rattle.fibril_core.proofs.live_fibrils.LiveFibrils.stamp.Goals as goal
 
@@ -16,13 +16,13 @@ pub overflow_sub-self : goal.overflow_sub-self
 overflow_sub-self c =
     let live = c.self.inside.fibrils.items in
     let there = stands_there live c.in-Some.i c.args.f c.index.result.now (rw c.deref.ensures.value at c.in-Some.ensures.found) c.index.ensures in
-    rw c.waiters_in.ensures (waiting_has live _ _ c.in-Some.i c.index.result.now c.self.invariant there)
+    rw (c.from.ensures, c.waits.ensures) (waiting_has live _ _ c.in-Some.i c.index.result.now c.self.invariant there)
 
 pub overflow_add-self : goal.overflow_add-self
 overflow_add-self c =
     let few : c.self.inside.waiting ≤ length c.deref.result.now = rw c.deref.ensures.value (waiting_few c.self.inside.fibrils.items _ _ c.self.invariant) in
-    let one_more = one_few (waits c.args.status) in
-    let added = c.waiters_in-in-Some.ensures in
+    let one_more = at_most_one c.waits-in-Some.result in
+    let added = c.from-in-Some.ensures in
     let bound = c.deref.type_inv.1 in omega arith
 
 pub index_mut-requires : goal.index_mut-requires
@@ -39,7 +39,7 @@ invariant_of-self c =
     let there = stands_there live c.in-Some.i c.args.f c.index.result.now found c.index.ensures in
     record {
       are = rw (set_at_place live (all_of made live) c.in-Some.i y c.self.invariant.are found) (stamp_gives made live y c.self.inside.next_stamp c.self.invariant.are goes c.requires.status).are;
-      waiting = rw (c.waiters_in.ensures, c.waiters_in-in-Some.ensures) (waiting_set live (all_of made live) c.self.inside.waiting c.in-Some.i c.index.result.now y c.self.invariant there);
+      waiting = rw (c.from.ensures, c.waits.ensures, c.from-in-Some.ensures, c.waits-in-Some.ensures) (waiting_set live (all_of made live) c.self.inside.waiting c.in-Some.i c.index.result.now y c.self.invariant there);
     }
 
 pub returns-in-Some-clause-order : goal.returns-in-Some-clause-order
