@@ -1,9 +1,12 @@
 pub mod Bounds
 pub mod Connections
+pub mod Counts
 pub mod Firsts
 pub mod Live
 pub mod Orders
 pub mod Places
+pub mod Queues
+pub mod Ready
 pub mod Rebuilt
 pub mod Searches
 pub mod Waking

@@ -1,8 +1,9 @@
 -- A search over the fibrils that have not ended finds what a search over all finds, and a change of one fibril changes
 -- both lists alike.
-use Rattle.std.proofs.Common.{◌≡◌, ℕ, zero, suc, ◌+◌, ◌-◌, ◌<◌, ◌≤◌, Bool, true, false, List, [], ◌∷◌, ◌++◌, fold, take, drop, length, get_or, Option, Some, None, Err, ◌⊎◌, inl, inr, refl, ap, sym, ◌∙◌, arith}
+use Rattle.std.proofs.Common.{◌≡◌, ◌≢◌, ℕ, zero, suc, ◌+◌, ◌-◌, ◌<◌, ◌≤◌, Bool, true, false, List, [], ◌∷◌, ◌++◌, fold, length, get_or, Option, Some, None, Err, ◌⊎◌, inl, inr, refl, ap, sym, ◌∙◌, subst, arith}
 use Rattle.std.specs.Prelude.{◌==◌, if◌then◌else◌, map, slice_get, slice_set, nat_lt, IsSome}
-use Rattle.std.specs.List.{filter}
+use Rattle.std.specs.Int.{from_bool}
+use Rattle.std.specs.List.{filter, remove}
 use Rattle.std.specs.List.Sorted.{IsNonDecreasingBy, IsBinarySearchResult}
 use Rattle.std.specs.Ordering.{nat_cmp, ordering_index}
 use Rattle.std.proofs.lemmas.Cmp.{ranked}
@@ -14,9 +15,10 @@ use Rattle.ipc_ids.specs.declared.numbers.FibrilNo.{FibrilNo}
 use Rattle.fibril_core.specs.declared.fibrils.Status.{Status}
 use Rattle.fibril_core.specs.declared.fibrils.Status.TheVariants.{Ready, Blocked, Ended}
 use Rattle.fibril_core.specs.declared.fibrils.Fibril.{Fibril}
-use Rattle.fibril_core.specs.Fibrils.{FibrilOrder, same_status, sooner, first_with, fibril_at, why_in, why_at, why_of}
-use Rattle.fibril_core.specs.LiveFibrils.{goes_on, is_live, GoesOn, AreNumbered, AreLive, replaced, is_other}
+use Rattle.fibril_core.specs.Fibrils.{FibrilOrder, same_status, sooner, first_with, fibril_at, number_of, why_in, why_at, why_of}
+use Rattle.fibril_core.specs.LiveFibrils.{goes_on, is_live, GoesOn, AreNumbered, AreLive, AreLiveWaiting, replaced, is_other, count, waits, is_waiting}
 use Rattle.fibril_core.proofs.Places.{within}
+use Rattle.fibril_core.proofs.Counts.{count_has, count_all, count_push, count_set, count_remove}
 use Rattle.fibril_core.proofs.Firsts.{first_there, same_status_is}
 
 -- searches
@@ -40,6 +42,26 @@ found_live s best (x ∷ xs) goes = found_by (is_live x) refl (λ next. found_li
 
 pub first_live : (s : Status) (live xs : List Fibril) → goes_on s ≡ true → AreLive live xs → first_with s live ≡ first_with s xs
 first_live s live xs goes are = rw are.those (found_live s None xs goes)
+
+pub length_live : (live xs : List Fibril) → AreLive live xs → length live ≡ count is_live xs
+length_live live xs are = ap length are.those
+
+-- where none waits for a mutex or a phone, none is found that does
+pub none_waits : (s : Status) (live xs : List Fibril) (n : ℕ) → AreLiveWaiting live xs n → n ≡ 0 → waits s ≡ true → first_with s xs ≡ None
+none_waits s live xs n are none waiting = sym (first_live s live xs (waits_goes_on s waiting) are.are) ∙ none_by (first_with s live) refl where
+  waits_goes_on : (t : Status) → waits t ≡ true → goes_on t ≡ true
+  waits_goes_on Ready h = absurd (cc h)
+  waits_goes_on (Blocked w) h = refl
+  waits_goes_on Ended h = absurd (cc h)
+
+  none_by : (q : Option Fibril) → first_with s live ≡ q → q ≡ None
+  none_by None e = refl
+  none_by (Some x) e =
+      let found = first_there s live x e in
+      let same : x.status ≡ s = same_status_is x.status s found.status in
+      let few : from_bool (waits x.status) ≤ count is_waiting live = count_has is_waiting live found.place x found.there in
+      let here : from_bool (waits x.status) ≡ 1 = rw (same, waiting) refl in
+      let all = are.waiting in absurd (omega arith)
 
 -- numbers
 
@@ -148,7 +170,7 @@ abbrev pub put_in : List Fibril → Fibril → List Fibril
 put_in xs x = if nat_lt (x.number.0 - 1) (length xs) then slice_set xs (x.number.0 - 1) x else xs
 
 -- where the fibril stands, one record less its number
-put_at : (xs : List Fibril) (i : ℕ) (y : Fibril) → y.number.0 ≡ suc i → i < length xs → put_in xs y ≡ slice_set xs i y
+pub put_at : (xs : List Fibril) (i : ℕ) (y : Fibril) → y.number.0 ≡ suc i → i < length xs → put_in xs y ≡ slice_set xs i y
 put_at xs i y number less = rw (number, before_suc i, is_less i (length xs) less) refl
 
 -- a fibril that has not ended stands at a place, and has the number of it
@@ -186,32 +208,7 @@ end_live live o y are goes is =
       those = ap (λ (l : List Fibril). filter (is_other y.number) l) are.those ∙ sym (live_ended 0 o.fibrils one.place one.fibril y are.numbered one.there one.lives is number);
     })
 
--- what is written back into a list by a part of its own length is that part
-
-written : (ys xs : List Fibril) (n : ℕ) → length ys ≡ n → length xs ≡ n → take n (ys ++ drop (length ys) xs) ≡ ys
-written [] xs zero e h = refl
-written [] xs (suc n) e h = absurd (omega arith)
-written (y ∷ ys) [] n e h = absurd (omega arith)
-written (y ∷ ys) (x ∷ xs) zero e h = absurd (omega arith)
-written (y ∷ ys) (x ∷ xs) (suc n) e h = ap (λ (l : List Fibril). y ∷ l) (written ys xs n (omega arith) (omega arith))
-
-length_map : (y : Fibril) (xs : List Fibril) → length (map (replaced y) xs) ≡ length xs
-length_map y [] = refl
-length_map y (x ∷ xs) = ap suc (length_map y xs)
-
-pub written_map : (new xs : List Fibril) (y : Fibril) (n : ℕ) → new ≡ map (replaced y) xs → length xs ≡ n → take n (new ++ drop (length new) xs) ≡ map (replaced y) xs
-written_map new xs y n e h = rw e (written (map (replaced y) xs) xs n (length_map y xs ∙ h) h)
-
 -- which fibrils have not ended
-
-going : (x : Fibril) (s : Status) → goes_on s ≡ true → same_status x.status s ≡ true → is_live x ≡ true
-going x s goes same = let is : x.status ≡ s = same_status_is x.status s same in rw is goes
-
-pub found_goes_on : (live : List Fibril) (o : FibrilOrder) (s : Status) (x : Fibril) → AreLive live o.fibrils → goes_on s ≡ true → first_with s o.fibrils ≡ Some x → GoesOn (fibril_at o x.number.0)
-found_goes_on live o s x are goes e =
-    let one = first_there s o.fibrils x e in
-    let number : x.number.0 ≡ suc one.place = without_zero x.number.0 one.place (numbered_at 0 o.fibrils one.place x are.numbered one.there) in
-    rw (number, one.there) (going x s goes one.status)
 
 pub blocked_goes_on : (o : FibrilOrder) (f : FibrilNo) → IsSome (why_of o f) → GoesOn (fibril_at o f.0)
 blocked_goes_on o f h = by (fibril_at o f.0) h where
@@ -255,21 +252,51 @@ all_rise xs are i j d less within =
     let first = numbered_at 0 xs i (get_or xs i d) are (slice_get-get_or xs i d (omega arith)) in
     let second = numbered_at 0 xs j (get_or xs j d) are (slice_get-get_or xs j d within) in omega arith
 
-live_rise : (live xs : List Fibril) → AreLive live xs → IsNonDecreasingBy (λ x. x.number.0) live
+pub live_rise : (live xs : List Fibril) → AreLive live xs → IsNonDecreasingBy (λ x. x.number.0) live
 live_rise live xs are = rw are.those (IsNonDecreasingBy-filter (λ (x : Fibril). x.number.0) is_live xs (all_rise xs are.numbered))
 
-pub compared_rise : (live xs : List Fibril) (n : ℕ) → AreLive live xs → IsNonDecreasingBy (λ x. ordering_index (nat_cmp x.number.0 n)) live
-compared_rise live xs n are i j d less within =
-    let rise = live_rise live xs are i j d less within in grind (arith, nat_tests)
+compared_rise : (live : List Fibril) (n : ℕ) → IsNonDecreasingBy (λ x. x.number.0) live → IsNonDecreasingBy (λ x. ordering_index (nat_cmp x.number.0 n)) live
+compared_rise live n rises i j d less within =
+    let rise = rises i j d less within in grind (arith, nat_tests)
+
+-- what a search by the number finds, and that it finds what is there
+
+-- the record that a place has, where it has one with this number
+record Named (q : Option Fibril) (f : FibrilNo) : Type 0 where
+  pub fibril : Fibril
+  pub there : q ≡ Some fibril
+  pub number : fibril.number ≡ f
+
+named : (q : Option Fibril) (f : FibrilNo) → number_of q ≡ Some f → Named q f
+named None f e = absurd (cc e)
+named (Some x) f e = record { fibril = x; there = refl; number = cc }
+
+same_no : (f g : FibrilNo) → f.0 ≡ g.0 → f ≡ g
+same_no f g e = ap (λ (n : ℕ). record { 0 = n }) e
+
+pub place_found : (live : List Fibril) (f : FibrilNo) (i : ℕ) (d : Fibril) → i < length live → (get_or live i d).number.0 ≡ f.0 → number_of (slice_get live i) ≡ Some f
+place_found live f i d less is = rw (slice_get-get_or live i d less) (ap Some (same_no (get_or live i d).number f is))
+
+pub place_none : (live : List Fibril) (f : FibrilNo) (k : ℕ) → IsNonDecreasingBy (λ x. x.number.0) live → IsBinarySearchResult (λ x. nat_cmp x.number.0 f.0) live (Err k) → (i : ℕ) → number_of (slice_get live i) ≢ Some f
+place_none live f k rises found i e =
+    let one = named (slice_get live i) f e in
+    let d = one.fibril in
+    let parts = found (compared_rise live f.0 rises) in
+    let h = within live i d one.there in
+    let is : (get_or live i d).number.0 ≡ f.0 = ap (λ (y : Fibril). y.number.0) (get_or_from_slice_get live i d d one.there) ∙ ap (λ (g : FibrilNo). g.0) one.number in
+    by i (cases_lt i k) (λ less. ranked _ f.0 _ (sym (parts.0 i d (omega arith) less))) (λ more. ranked _ f.0 _ (sym (parts.1 i d more h))) is where
+      by : {m : ℕ} (i : ℕ) → (i < k) ⊎ (k ≤ i) → (i < k → m < f.0) → (k ≤ i → f.0 < m) → m ≡ f.0 → ⊥
+      by i (inl h) below above e = let l = below h in omega arith
+      by i (inr h) below above e = let l = above h in omega arith
 
 -- what a fibril is blocked on is what its record among those says, where it is among them
 
-pub why_here : (live : List Fibril) (o : FibrilOrder) (n i : ℕ) (d : Fibril) → AreLive live o.fibrils → i < length live → (get_or live i d).number.0 ≡ n → why_at (fibril_at o n) ≡ why_in (get_or live i d).status
-why_here live o n i d are less is =
-    let x = get_or live i d in
-    let one = in_all o.fibrils i x (ap (λ (l : List Fibril). slice_get l i) (sym are.those) ∙ slice_get-get_or live i d less) in
-    let number : n ≡ suc one.place = sym is ∙ without_zero x.number.0 one.place (numbered_at 0 o.fibrils one.place x are.numbered one.there) in
-    rw (number, one.there) refl
+pub why_here : (live : List Fibril) (o : FibrilOrder) (f : FibrilNo) (i : ℕ) (d : Fibril) → AreLive live o.fibrils → number_of (slice_get live i) ≡ Some f → why_at (fibril_at o f.0) ≡ why_in (get_or live i d).status
+why_here live o f i d are is =
+    let x = named (slice_get live i) f is in
+    let one = in_all o.fibrils i x.fibril (ap (λ (l : List Fibril). slice_get l i) (sym are.those) ∙ x.there) in
+    let number : f.0 ≡ suc one.place = ap (λ (g : FibrilNo). g.0) (sym x.number) ∙ without_zero x.fibril.number.0 one.place (numbered_at 0 o.fibrils one.place x.fibril are.numbered one.there) in
+    rw (number, one.there, get_or_from_slice_get live i x.fibril d x.there) refl
 
 why_over : (x : Fibril) → is_live x ≡ false → why_in x.status ≡ None
 why_over x e = by x.status e where
@@ -278,26 +305,134 @@ why_over x e = by x.status e where
   by (Blocked w) h = absurd (cc h)
   by Ended h = refl
 
-pub why_nowhere : (live : List Fibril) (o : FibrilOrder) (n : ℕ) (d : Fibril) → AreLive live o.fibrils → ((k : ℕ) → k < length live → (get_or live k d).number.0 ≡ n → ⊥) → why_at (fibril_at o n) ≡ None
-why_nowhere live o zero d are none = refl
-why_nowhere live o (suc i) d are none = by (slice_get o.fibrils i) refl where
-  lives_by : (x : Fibril) (b : Bool) → slice_get o.fibrils i ≡ Some x → is_live x ≡ b → why_in x.status ≡ None
-  lives_by x false there e = why_over x e
-  lives_by x true there e =
-      let one = in_live o.fibrils i x there e in
-      let at : slice_get live one.place ≡ Some x = ap (λ (l : List Fibril). slice_get l one.place) are.those ∙ one.there in
-      let number = without_zero x.number.0 i (numbered_at 0 o.fibrils i x are.numbered there) in
-      absurd (none one.place (within live one.place x at) (ap (λ (y : Fibril). y.number.0) (get_or_from_slice_get live one.place x d at) ∙ number))
+not_nowhere : (live xs : List Fibril) (f : FibrilNo) (i : ℕ) (x : Fibril) → AreLive live xs → f.0 ≡ suc i → slice_get xs i ≡ Some x → is_live x ≡ true → ((k : ℕ) → number_of (slice_get live k) ≢ Some f) → ⊥
+not_nowhere live xs f i x are is there lives none =
+    let one = in_live xs i x there lives in
+    let at : slice_get live one.place ≡ Some x = ap (λ (l : List Fibril). slice_get l one.place) are.those ∙ one.there in
+    let number : x.number.0 ≡ f.0 = without_zero x.number.0 i (numbered_at 0 xs i x are.numbered there) ∙ sym is in
+    none one.place (ap number_of at ∙ ap Some (same_no x.number f number))
 
-  by : (q : Option Fibril) → slice_get o.fibrils i ≡ q → why_at q ≡ None
-  by None e = refl
-  by (Some x) e = lives_by x (is_live x) e refl
+pub why_nowhere : (live : List Fibril) (o : FibrilOrder) (f : FibrilNo) → AreLive live o.fibrils → ((k : ℕ) → number_of (slice_get live k) ≢ Some f) → why_at (fibril_at o f.0) ≡ None
+why_nowhere live o f are none = by_number f.0 refl where
+  lives_by : (i : ℕ) (x : Fibril) (b : Bool) → f.0 ≡ suc i → slice_get o.fibrils i ≡ Some x → is_live x ≡ b → why_in x.status ≡ None
+  lives_by i x false is there e = why_over x e
+  lives_by i x true is there e = absurd (not_nowhere live o.fibrils f i x are is there e none)
 
-pub why_searched : (live : List Fibril) (o : FibrilOrder) (n k : ℕ) → AreLive live o.fibrils → IsBinarySearchResult (λ x. nat_cmp x.number.0 n) live (Err k) → why_at (fibril_at o n) ≡ None
-why_searched live o n k are found =
-    let d : Fibril = record { number = record { 0 = 0 }; status = Ended; stamp = 0 } in
-    let parts = found (compared_rise live o.fibrils n are) in
-    why_nowhere live o n d are (λ i h is. by i (cases_lt i k) (λ less. ranked _ n _ (sym (parts.0 i d (omega arith) less))) (λ more. ranked _ n _ (sym (parts.1 i d more h))) is) where
-      by : {m : ℕ} (i : ℕ) → (i < k) ⊎ (k ≤ i) → (i < k → m < n) → (k ≤ i → n < m) → m ≡ n → ⊥
-      by i (inl h) below above e = let l = below h in omega arith
-      by i (inr h) below above e = let l = above h in omega arith
+  by : (i : ℕ) (q : Option Fibril) → f.0 ≡ suc i → slice_get o.fibrils i ≡ q → why_at q ≡ None
+  by i None is e = refl
+  by i (Some x) is e = lives_by i x (is_live x) is e refl
+
+  by_number : (n : ℕ) → f.0 ≡ n → why_at (fibril_at o n) ≡ None
+  by_number zero is = refl
+  by_number (suc i) is = by i (slice_get o.fibrils i) is refl
+
+-- one that has not ended is found
+pub found_somewhere : (live : List Fibril) (o : FibrilOrder) (f : FibrilNo) → AreLive live o.fibrils → GoesOn (fibril_at o f.0) → ((k : ℕ) → number_of (slice_get live k) ≢ Some f) → ⊥
+found_somewhere live o f are goes none = let one = stands o f.0 goes in not_nowhere live o.fibrils f one.place one.fibril are one.number one.there one.lives none
+
+-- a change of the one place where the number stands is a change of all with the number
+
+-- the numbers rise, and the first is above n
+abbrev Rises : ℕ → List Fibril → Type 0
+Rises n [] = Unit {0}
+Rises n (x ∷ xs) = (n < x.number.0) × Rises x.number.0 xs
+
+rises_from : (n m : ℕ) (xs : List Fibril) → n ≤ m → Rises m xs → Rises n xs
+rises_from n m [] h r = tt
+rises_from n m (x ∷ xs) h r = let less = r.0 in (omega arith, r.1)
+
+pub live_rises : (n : ℕ) (xs : List Fibril) → AreNumbered n xs → Rises n (filter is_live xs)
+live_rises n [] are = tt
+live_rises n (x ∷ xs) are = by (is_live x) (live_rises (suc n) xs are.1) where
+  above : n < x.number.0
+  above = let e = are.0 in omega arith
+
+  by : (b : Bool) → Rises (suc n) (filter is_live xs) → Rises n (if b then x ∷ filter is_live xs else filter is_live xs)
+  by true rest = (above, subst (λ (k : ℕ). Rises k (filter is_live xs)) (sym are.0) rest)
+  by false rest = rises_from n (suc n) (filter is_live xs) (omega arith) rest
+
+rises_at : (n : ℕ) (xs : List Fibril) (i : ℕ) (x : Fibril) → Rises n xs → slice_get xs i ≡ Some x → n < x.number.0
+rises_at n [] i x r there = absurd (cc there)
+rises_at n (z ∷ xs) zero x r there = let same : z ≡ x = cc in rw (← same) r.0
+rises_at n (z ∷ xs) (suc i) x r there = let less = r.0 in let more = rises_at z.number.0 xs i x r.1 there in omega arith
+
+map_same : (y : Fibril) (n : ℕ) (xs : List Fibril) → Rises n xs → y.number.0 ≤ n → map (replaced y) xs ≡ xs
+map_same y n [] r h = refl
+map_same y n (x ∷ xs) r h =
+    let less = r.0 in
+    rw (ne_eqb x.number.0 y.number.0 (λ e. absurd (omega arith)), map_same y x.number.0 xs r.1 (omega arith)) refl
+
+filter_same : (f : FibrilNo) (n : ℕ) (xs : List Fibril) → Rises n xs → f.0 ≤ n → filter (is_other f) xs ≡ xs
+filter_same f n [] r h = refl
+filter_same f n (x ∷ xs) r h =
+    let less = r.0 in
+    rw (ne_eqb x.number.0 f.0 (λ e. absurd (omega arith)), filter_same f x.number.0 xs r.1 (omega arith)) refl
+
+set_is_map : (n : ℕ) (xs : List Fibril) (i : ℕ) (x y : Fibril) → Rises n xs → slice_get xs i ≡ Some x → x.number.0 ≡ y.number.0 → slice_set xs i y ≡ map (replaced y) xs
+set_is_map n [] i x y r there is = absurd (cc there)
+set_is_map n (z ∷ xs) zero x y r there is =
+    let same : z ≡ x = cc in
+    let number : z.number.0 ≡ y.number.0 = rw same is in
+    rw (eq-eqb z.number.0 y.number.0 number, map_same y z.number.0 xs r.1 (omega arith)) refl
+set_is_map n (z ∷ xs) (suc i) x y r there is =
+    let more = rises_at z.number.0 xs i x r.1 there in
+    rw (ne_eqb z.number.0 y.number.0 (λ e. absurd (omega arith)), set_is_map z.number.0 xs i x y r.1 there is) refl
+
+remove_is_filter : (n : ℕ) (xs : List Fibril) (i : ℕ) (x : Fibril) (f : FibrilNo) → Rises n xs → slice_get xs i ≡ Some x → x.number.0 ≡ f.0 → remove xs i ≡ filter (is_other f) xs
+remove_is_filter n [] i x f r there is = absurd (cc there)
+remove_is_filter n (z ∷ xs) zero x f r there is =
+    let same : z ≡ x = cc in
+    let number : z.number.0 ≡ f.0 = rw same is in
+    rw (eq-eqb z.number.0 f.0 number, filter_same f z.number.0 xs r.1 (omega arith)) refl
+remove_is_filter n (z ∷ xs) (suc i) x f r there is =
+    let more = rises_at z.number.0 xs i x r.1 there in
+    rw (ne_eqb z.number.0 f.0 (λ e. absurd (omega arith)), ← remove_is_filter z.number.0 xs i x f r.1 there is) refl
+
+all_rises : (live xs : List Fibril) → AreLive live xs → Rises 0 live
+all_rises live xs are = rw are.those (live_rises 0 xs are.numbered)
+
+pub set_at_place : (live xs : List Fibril) (i : ℕ) (y : Fibril) → AreLive live xs → number_of (slice_get live i) ≡ Some y.number → slice_set live i y ≡ map (replaced y) live
+set_at_place live xs i y are is =
+    let x = named (slice_get live i) y.number is in
+    set_is_map 0 live i x.fibril y (all_rises live xs are) x.there (ap (λ (g : FibrilNo). g.0) x.number)
+
+pub remove_at_place : (live xs : List Fibril) (i : ℕ) (f : FibrilNo) → AreLive live xs → number_of (slice_get live i) ≡ Some f → remove live i ≡ filter (is_other f) live
+remove_at_place live xs i f are is =
+    let x = named (slice_get live i) f is in
+    remove_is_filter 0 live i x.fibril f (all_rises live xs are) x.there (ap (λ (g : FibrilNo). g.0) x.number)
+
+pub place_within : (live : List Fibril) (i : ℕ) (f : FibrilNo) → number_of (slice_get live i) ≡ Some f → i < length live
+place_within live i f is = let x = named (slice_get live i) f is in within live i x.fibril x.there
+
+-- how many wait for a mutex or a phone after a change of the one place
+
+pub stands_there : (live : List Fibril) (i : ℕ) (f : FibrilNo) (x : Fibril) → number_of (slice_get live i) ≡ Some f → x ≡ get_or live i x → slice_get live i ≡ Some x
+stands_there live i f x is e = slice_get-get_or live i x (place_within live i f is) ∙ ap Some (sym e)
+
+pub waiting_has : (live xs : List Fibril) (n i : ℕ) (x : Fibril) → AreLiveWaiting live xs n → slice_get live i ≡ Some x → from_bool (waits x.status) ≤ n
+waiting_has live xs n i x are there = let few = count_has is_waiting live i x there in let all = are.waiting in omega arith
+
+pub waiting_few : (live xs : List Fibril) (n : ℕ) → AreLiveWaiting live xs n → n ≤ length live
+waiting_few live xs n are = let few = count_all is_waiting live in let all = are.waiting in omega arith
+
+pub waiting_set : (live xs : List Fibril) (n i : ℕ) (x y : Fibril) → AreLiveWaiting live xs n → slice_get live i ≡ Some x → n - from_bool (waits x.status) + from_bool (waits y.status) ≡ count is_waiting (slice_set live i y)
+waiting_set live xs n i x y are there = by (from_bool (waits x.status)) (from_bool (waits y.status)) (count is_waiting (slice_set live i y)) (waiting_has live xs n i x are there) (count_set is_waiting live i x y there) where
+  by : (j k m : ℕ) → j ≤ n → m + j ≡ count is_waiting live + k → n - j + k ≡ m
+  by j k m h e = let all = are.waiting in omega arith
+
+pub waiting_remove : (live xs : List Fibril) (n i : ℕ) (x : Fibril) → AreLiveWaiting live xs n → slice_get live i ≡ Some x → n - from_bool (waits x.status) ≡ count is_waiting (remove live i)
+waiting_remove live xs n i x are there = by (from_bool (waits x.status)) (count is_waiting (remove live i)) (count_remove is_waiting live i x there) where
+  by : (j m : ℕ) → m + j ≡ count is_waiting live → n - j ≡ m
+  by j m e = let all = are.waiting in omega arith
+
+pub at_most_one : (b : Bool) → from_bool b ≤ 1
+at_most_one true = omega arith
+at_most_one false = omega arith
+
+pub waiting_push : (live xs ys : List Fibril) (n : ℕ) (y : Fibril) → AreLiveWaiting live xs n → waits y.status ≡ false → AreLive (live ++ y ∷ []) ys → AreLiveWaiting (live ++ y ∷ []) ys n
+waiting_push live xs ys n y are ready after = record {
+  are = after;
+  waiting = are.waiting ∙ sym (no_more (count is_waiting live) (rw ready at (count_push is_waiting live y)));
+} where
+  no_more : (k : ℕ) → count is_waiting (live ++ y ∷ []) ≡ k + 0 → count is_waiting (live ++ y ∷ []) ≡ k
+  no_more k e = omega arith

@@ -116,7 +116,7 @@ stamp_below o sound h (suc j) = below_by (slice_get o.fibrils j) refl where
   below_by None e = h
   below_by (Some x) e = sound.stamped j x e
 
-set_elsewhere_at : (o : FibrilOrder) (i : ℕ) (y : Fibril) (next : ℕ) (m : ℕ) → m ≢ suc i → fibril_at (record { fibrils = slice_set o.fibrils i y; next_stamp = next }) m ≡ fibril_at o m
+pub set_elsewhere_at : (o : FibrilOrder) (i : ℕ) (y : Fibril) (next : ℕ) (m : ℕ) → m ≢ suc i → fibril_at (record { fibrils = slice_set o.fibrils i y; next_stamp = next }) m ≡ fibril_at o m
 set_elsewhere_at o i y next zero h = refl
 set_elsewhere_at o i y next (suc j) h = set_elsewhere o.fibrils i j y (λ e. h (ap suc e))
 

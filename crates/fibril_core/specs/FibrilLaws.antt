@@ -1,11 +1,12 @@
 -- What the calls on fibrils come to, in the words of numbers, statuses and stamps.
-use Rattle.std.specs.Prelude.{◌≡◌, ◌≢◌, ℕ, ◌+◌, ◌<◌, ◌≤◌, true, Option, None, Some, slice_get}
+use Rattle.std.specs.Prelude.{◌≡◌, ◌≢◌, ℕ, ◌+◌, ◌<◌, ◌≤◌, true, List, map, length, Option, None, Some, slice_get}
 use Rattle.ipc_ids.specs.declared.message.Why.{Why}
+use Rattle.ipc_ids.specs.declared.numbers.FibrilNo.{FibrilNo}
 use Rattle.fibril_core.specs.declared.fibrils.Status.{Status}
 use Rattle.fibril_core.specs.declared.fibrils.Status.TheVariants.{Ready, Blocked}
 use Rattle.fibril_core.specs.declared.fibrils.Fibril.{Fibril}
 use Rattle.fibril_core.specs.Fibrils.{FibrilOrder, fibril_at}
-use Rattle.fibril_core.specs.LiveFibrils.{is_live}
+use Rattle.fibril_core.specs.LiveFibrils.{is_live, is_ready, count}
 
 -- the status of a fibril, if there is one
 abbrev pub status_in : Option Fibril → Option Status
@@ -55,3 +56,20 @@ pub record WakesAll (o after : FibrilOrder) (w : Why) : Type 0 where
   pub order : (m n : ℕ) → status_of o m ≡ Some (Blocked w) → status_of o n ≡ Some (Blocked w) → stamp_of o m < stamp_of o n → stamp_of after m < stamp_of after n
   pub behind : (m n : ℕ) → status_of o m ≢ Some (Blocked w) → status_of o n ≡ Some (Blocked w) → stamp_of after m < stamp_of after n
   pub others : (n : ℕ) → status_of o n ≢ Some (Blocked w) → fibril_at after n ≡ fibril_at o n
+
+-- these are the numbers of the ready fibrils, each with a smaller stamp than those behind it
+pub record IsQueue (o : FibrilOrder) (q : List ℕ) : Type 0 where
+  pub ready : (i n : ℕ) → slice_get q i ≡ Some n → status_of o n ≡ Some Ready
+  pub all : (n : ℕ) → status_of o n ≡ Some Ready → (i : ℕ) × (slice_get q i ≡ Some n)
+  pub rising : (i j n m : ℕ) → slice_get q i ≡ Some n → slice_get q j ≡ Some m → i < j → stamp_of o n < stamp_of o m
+
+-- the numbers of these
+abbrev pub numbers : List FibrilNo → List ℕ
+numbers q = map (λ f. f.0) q
+
+-- the order is sound, the queue is that of its ready fibrils, and has room for all that have not ended
+pub record IsQueued (o : FibrilOrder) (q : List FibrilNo) (held : ℕ) : Type 0 where
+  pub sound : IsSound o
+  pub queue : IsQueue o (numbers q)
+  pub length : length q ≡ count is_ready o.fibrils
+  pub room : count is_live o.fibrils ≤ held

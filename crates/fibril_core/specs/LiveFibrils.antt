@@ -1,10 +1,12 @@
 -- The fibrils that have not ended, which are the only ones that are kept, and all fibrils as these give them.
-use Rattle.std.specs.Prelude.{◌≡◌, ℕ, zero, suc, ◌==◌, Bool, true, false, not, if◌then◌else◌, List, [], ◌∷◌, ◌++◌, Option, None, Some, ⊤}
+use Rattle.std.specs.Prelude.{◌≡◌, ℕ, zero, suc, ◌-◌, ◌==◌, Bool, true, false, not, if◌then◌else◌, List, [], ◌∷◌, ◌++◌, length, nat_lt, Option, None, Some, ⊤}
 use Rattle.std.specs.List.{filter, find}
+use Rattle.ipc_ids.specs.declared.message.Why.TheVariants as why
 use Rattle.ipc_ids.specs.declared.numbers.FibrilNo.{FibrilNo}
 use Rattle.fibril_core.specs.declared.fibrils.Status.{Status}
 use Rattle.fibril_core.specs.declared.fibrils.Status.TheVariants.{Ready, Blocked, Ended}
 use Rattle.fibril_core.specs.declared.fibrils.Fibril.{Fibril}
+use Rattle.fibril_core.specs.Fibrils.{FibrilsState, same_status}
 
 -- whether a fibril with this status has not ended
 abbrev pub goes_on : Status → Bool
@@ -56,3 +58,34 @@ found_or_ended n (Some x) = x
 abbrev pub all_of : ℕ → List Fibril → List Fibril
 all_of zero live = []
 all_of (suc n) live = all_of n live ++ found_or_ended (suc n) (find (has_number (suc n)) live) ∷ []
+
+-- whether the fibril is ready
+abbrev pub is_ready : Fibril → Bool
+is_ready x = same_status x.status Ready
+
+-- how many fibrils pass a test
+abbrev pub count : (Fibril → Bool) → List Fibril → ℕ
+count p xs = length (filter p xs)
+
+-- the lesser of two numbers
+abbrev pub lesser : ℕ → ℕ → ℕ
+lesser n m = if nat_lt n m then n else m
+
+-- how many more fibrils there is room for, where a queue has room for so many of those that have not ended
+abbrev pub spare_of : FibrilsState → ℕ → ℕ
+spare_of s held = lesser s.spare (held - count is_live s.order.fibrils)
+
+-- whether a status waits for a mutex or a phone
+abbrev pub waits : Status → Bool
+waits (Blocked (why.Mutex s)) = true
+waits (Blocked why.Phone) = true
+waits _ = false
+
+-- whether the fibril waits for a mutex or a phone
+abbrev pub is_waiting : Fibril → Bool
+is_waiting x = waits x.status
+
+-- the first list is those of the second that have not ended, and so many of them wait for a mutex or a phone
+pub record AreLiveWaiting (live xs : List Fibril) (n : ℕ) : Type 0 where
+  pub are : AreLive live xs
+  pub waiting : n ≡ count is_waiting live

@@ -1,18 +1,14 @@
 //! Fibrils by number, and since when each is ready or blocked.
-ghost use Rattle.std.specs.Prelude.{◌≡◌, ◌+◌, ◌^◌, ◌<◌, ◌≤◌, OnOk, OnErr, IfOk, IsSome, length};
-ghost use Rattle.std.specs.Prelude.{IfSome, true, map, vec_len};
-ghost use Rattle.std.specs.List.{filter};
-ghost use Rattle.std.specs.Vec.{vec_capacity};
-ghost use Rattle.std.specs.Option.{option_copied};
-ghost use Rattle.fibril_core.specs.Fibrils.{no_fibrils, first_with, current, first_blocked};
-ghost use Rattle.fibril_core.specs.Fibrils.{next_number, why_in, why_of, IsWithinBounds, spawned};
-ghost use Rattle.fibril_core.specs.Fibrils.{with_status, block_on, yield_now};
+ghost use Rattle.std.specs.Prelude.{◌≡◌, ◌+◌, ◌^◌, ◌<◌, ◌≤◌, OnOk, OnErr, IfOk, IsSome};
+ghost use Rattle.fibril_core.specs.Fibrils.{no_fibrils, current, first_blocked, next_number};
+ghost use Rattle.fibril_core.specs.Fibrils.{why_of, IsWithinBounds, spawned, block_on, yield_now};
 ghost use Rattle.fibril_core.specs.Fibrils.{end_current, make_ready, wake_first, wake_all};
-ghost use Rattle.fibril_core.specs.Fibrils.{fibril_at, number_of};
-ghost use Rattle.fibril_core.specs.LiveFibrils.{AreLive, goes_on, GoesOn, replaced, is_other};
+ghost use Rattle.fibril_core.specs.LiveFibrils.{AreLive};
 
+use crate::live_fibrils::LiveFibrils;
 use ipc_ids::{CallNo, FibrilNo, NoMemory, Why};
 use std::alloc::Global;
+use std::collections::VecDeque;
 use std::marker::Model;
 
 /// Whether a fibril goes on.
@@ -34,27 +30,25 @@ pub struct Fibril {
 /// The fibrils of a task, with room for `spare` more.
 #[derive(Drop)]
 pub struct Fibrils {
-    /// Those that have not ended, by rising number. The others take no memory.
-    live: Vec<Fibril>,
-    /// How many were ever made.
-    made: u64,
-    next_stamp: u64,
+    live: LiveFibrils,
+    /// Those that are ready, by rising stamps. It has room for all that have not ended.
+    ready: VecDeque<FibrilNo>,
 }
 
 impl Model for Fibrils {
-    ghost use Rattle.std.specs.Prelude.{◌-◌, vec_len};
-    ghost use Rattle.std.specs.Vec.{vec_capacity};
+    ghost use Rattle.std.specs.VecDeque.{deque_capacity};
     ghost use Rattle.fibril_core.specs.Fibrils.{FibrilsState};
-    ghost use Rattle.fibril_core.specs.LiveFibrils.{AreLive, all_of};
+    ghost use Rattle.fibril_core.specs.FibrilLaws.{IsQueued};
+    ghost use Rattle.fibril_core.specs.LiveFibrils.{spare_of};
 
     ghost Value = { FibrilsState };
 
     ghost view = { λ a. record {
-      order = record { fibrils = all_of a.made a.live.items; next_stamp = a.next_stamp };
-      spare = vec_capacity a.live - vec_len a.live;
+      order = a.live.order;
+      spare = spare_of a.live (deque_capacity a.ready);
     } };
 
-    ghost invariant = { λ a. AreLive a.live.items (all_of a.made a.live.items) };
+    ghost invariant = { λ a. IsQueued a.live.order a.ready.items (deque_capacity a.ready) };
 }
 
 impl Fibrils {
@@ -63,9 +57,8 @@ impl Fibrils {
         ensures { result.order ≡ no_fibrils }
     {
         Fibrils {
-            live: Vec::new(alloc),
-            made: 0,
-            next_stamp: 1,
+            live: LiveFibrils::new(alloc),
+            ready: VecDeque::new(alloc),
         }
     }
 
@@ -80,24 +73,23 @@ impl Fibrils {
         ensures full { OnErr result (self.old.spare ≡ 0) }
         ensures spare { self.old.spare ≤ self.new.spare }
     {
-        match self.live.reserve(1) {
-            Ok(()) => Ok(()),
+        let more = self.live.len() + 1 - self.ready.len();
+        match self.ready.reserve(more) {
+            Ok(()) => self.live.reserve(),
             Err(_) => Err(NoMemory),
         }
     }
 
     /// The number that the next fibril gets.
-    #[tactic(auto, using(crate::proofs::Rebuilt::length_all))]
     pub fn next_number(&self) -> FibrilNo
         requires bounds { IsWithinBounds self.now.order }
         ensures { result ≡ next_number self.now.order }
     {
-        FibrilNo(self.made + 1)
+        FibrilNo(self.live.made() + 1)
     }
 
     /// Makes a fibril, which is ready behind the others, and gives its number. There is room for
     /// it.
-    #[tactic(auto, using(crate::proofs::Rebuilt::length_all))]
     pub fn spawn_reserved(&mut self) -> FibrilNo
         requires room { 0 < self.old.spare }
         requires bounds { IsWithinBounds self.old.order }
@@ -105,14 +97,8 @@ impl Fibrils {
         ensures order { self.new.order ≡ spawned self.old.order }
         ensures spare { self.old.spare ≤ self.new.spare + 1 }
     {
-        let number = FibrilNo(self.made + 1);
-        self.live.push_reserved(Fibril {
-            number,
-            status: Status::Ready,
-            stamp: self.next_stamp,
-        });
-        self.made += 1;
-        self.next_stamp += 1;
+        let number = self.live.spawn_reserved();
+        self.ready.push_back_reserved(number);
         number
     }
 
@@ -145,17 +131,17 @@ impl Fibrils {
     pub fn current(&self) -> Option<FibrilNo>
         ensures { result ≡ current self.now.order }
     {
-        self.first(Status::Ready)
+        match self.ready.front() {
+            Some(f) => Some(*f),
+            None => None,
+        }
     }
 
     /// What the fibril is blocked on, if it is. Takes no memory.
     pub fn why(&self, f: FibrilNo) -> Option<Why>
         ensures { result ≡ why_of self.now.order f }
     {
-        match self.live.binary_search_by_key(&f.0, |x| x.number.0) {
-            Ok(i) => why_in(self.live[i].status),
-            Err(_) => None,
-        }
+        self.live.why(f)
     }
 
     /// The present fibril blocks.
@@ -165,8 +151,8 @@ impl Fibrils {
         ensures order { self.new.order ≡ block_on self.old.order why }
         ensures spare { self.new.spare ≡ self.old.spare }
     {
-        if let Some(f) = self.first(Status::Ready) {
-            self.stamp(f, Status::Blocked(why));
+        if let Some(present) = self.ready.pop_front() {
+            self.live.stamp(present, Status::Blocked(why));
         }
     }
 
@@ -177,8 +163,9 @@ impl Fibrils {
         ensures order { self.new.order ≡ yield_now self.old.order }
         ensures spare { self.new.spare ≡ self.old.spare }
     {
-        if let Some(f) = self.first(Status::Ready) {
-            self.stamp(f, Status::Ready);
+        if let Some(present) = self.ready.pop_front() {
+            self.live.stamp(present, Status::Ready);
+            self.ready.push_back_reserved(present);
         }
     }
 
@@ -188,8 +175,8 @@ impl Fibrils {
         ensures order { self.new.order ≡ end_current self.old.order }
         ensures spare { self.old.spare ≤ self.new.spare }
     {
-        if let Some(f) = self.first(Status::Ready) {
-            forget(&mut self.live, f);
+        if let Some(present) = self.ready.pop_front() {
+            self.live.end(present);
         }
     }
 
@@ -200,7 +187,7 @@ impl Fibrils {
         ensures order { self.new.order ≡ make_ready self.old.order f }
         ensures spare { self.new.spare ≡ self.old.spare }
     {
-        self.stamp(f, Status::Ready);
+        self.make_ready(f);
     }
 
     /// Makes ready, and gives, the fibril that blocked first on the answer of this call.
@@ -210,9 +197,9 @@ impl Fibrils {
         ensures order { self.new.order ≡ wake_first self.old.order (Why.Answer call) }
         ensures spare { self.new.spare ≡ self.old.spare }
     {
-        let first = self.first(Status::Blocked(Why::Answer(call)));
+        let first = self.live.first(Status::Blocked(Why::Answer(call)));
         if let Some(f) = first {
-            self.stamp(f, Status::Ready);
+            self.make_ready(f);
         }
         first
     }
@@ -236,96 +223,27 @@ impl Fibrils {
         self.wake_all(Why::Phone);
     }
 
-    #[tactic(auto, using(crate::proofs::Rebuilt::length_all))]
     fn wake_all(&mut self, why: Why)
         requires bounds { IsWithinBounds self.old.order }
         ensures order { self.new.order ≡ wake_all self.old.order why }
         ensures spare { self.new.spare ≡ self.old.spare }
     {
-        for _ in 0..self.made {
-            match self.first(Status::Blocked(why)) {
-                Some(f) => self.stamp(f, Status::Ready),
+        for _ in 0..self.live.made() {
+            match self.live.first(Status::Blocked(why)) {
+                Some(f) => self.make_ready(f),
                 None => break,
             }
         }
     }
 
-    /// The fibril that has had this status longest.
-    #[tactic(auto, using(crate::proofs::Live::first_live))]
-    fn first(&self, status: Status) -> Option<FibrilNo>
-        requires status { goes_on status ≡ true }
-        ensures number { result ≡ number_of (first_with status self.now.order.fibrils) }
-        ensures goes_on { IfSome result (λ f. GoesOn (fibril_at self.now.order f.0)) }
-    {
-        match first_with(&self.live, status) {
-            Some(fibril) => Some(fibril.number),
-            None => None,
-        }
-    }
-
-    /// The fibril, which has not ended, has this status from now on.
-    fn stamp(&mut self, f: FibrilNo, status: Status)
+    /// A blocked fibril is ready behind the others.
+    fn make_ready(&mut self, f: FibrilNo)
+        requires blocked { IsSome (why_of self.old.order f) }
         requires few_stamps { self.old.order.next_stamp < 2 ^ 63 }
-        requires goes_on { GoesOn (fibril_at self.old.order f.0) }
-        requires status { goes_on status ≡ true }
-        ensures order { self.new.order ≡ with_status self.old.order f status }
+        ensures order { self.new.order ≡ make_ready self.old.order f }
         ensures spare { self.new.spare ≡ self.old.spare }
     {
-        let stamp = self.next_stamp;
-        let fibril = Fibril {
-            number: f,
-            status,
-            stamp,
-        };
-        replace(&mut self.live, fibril);
-        self.next_stamp = stamp + 1;
+        self.live.stamp(f, Status::Ready);
+        self.ready.push_back_reserved(f);
     }
-}
-
-/// The record stands in the place of the one with its number.
-fn replace(fibrils: &mut [Fibril], fibril: Fibril)
-    ensures { fibrils.new ≡ map (replaced fibril) fibrils.old }
-{
-    for x in fibrils.iter_mut() {
-        *x = replaced(*x, fibril);
-    }
-}
-
-/// The record with this number is gone.
-fn forget(fibrils: &mut Vec<Fibril>, f: FibrilNo)
-    ensures items { fibrils.new.items ≡ filter (is_other f) fibrils.old.items }
-    ensures fewer { vec_len fibrils.new ≤ vec_len fibrils.old }
-    ensures capacity { vec_capacity fibrils.new ≡ vec_capacity fibrils.old }
-{
-    fibrils.retain(|x| x.number.0 != f.0);
-}
-
-/// The one record, or the other where both have one number.
-fn replaced(x: Fibril, fibril: Fibril) -> Fibril
-    ensures { result ≡ replaced fibril x }
-{
-    if x.number == fibril.number { fibril } else { x }
-}
-
-/// What this status is blocked on.
-fn why_in(status: Status) -> Option<Why>
-    ensures { result ≡ why_in status }
-{
-    match status {
-        Status::Blocked(why) => Some(why),
-        Status::Ready | Status::Ended => None,
-    }
-}
-
-/// The fibril that has had this status longest.
-fn first_with(fibrils: &[Fibril], status: Status) -> Option<&Fibril>
-    ensures { option_copied result ≡ first_with status fibrils.now }
-{
-    let mut first: Option<&Fibril> = None;
-    for fibril in fibrils {
-        if fibril.status == status && first.is_none_or(|best| fibril.stamp < best.stamp) {
-            first = Some(fibril);
-        }
-    }
-    first
 }

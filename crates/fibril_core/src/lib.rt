@@ -9,6 +9,7 @@ mod conn;
 mod conns;
 mod fibrils;
 mod laws;
+mod live_fibrils;
 mod owed;
 #[cfg(test)]
 mod tests;

@@ -1,27 +1,32 @@
-use Rattle.std.proofs.Common.{ap, sym, subst, refl, ◌≡◌, Some, ◌∙◌}
-use Rattle.fibril_core.specs.declared.fibrils.Status.TheVariants.{Ready}
-use Rattle.fibril_core.specs.Fibrils.{FibrilOrder, FibrilsState, fibril_at, first_with, number_of}
-use Rattle.fibril_core.specs.LiveFibrils.{GoesOn, all_of}
-use Rattle.fibril_core.proofs.Rebuilt.{end_gives, named_over}
+use Rattle.std.proofs.Common.{◌≤◌, ap, sym, ◌∙◌, subst}
+use Rattle.std.specs.VecDeque.{deque_capacity}
+use Rattle.fibril_core.specs.Fibrils.{FibrilsState, end_current}
+use Rattle.fibril_core.specs.LiveFibrils.{spare_of}
+use Rattle.fibril_core.proofs.Queues.{front_goes_on, queue_end, at_front, end_named, end_none, no_current, spare_ended}
 use Rattle.fibril_core.proofs.fibrils.Fibrils.end_current.Goals as goal
+
+pub end-requires : goal.end-requires
+end-requires c = record { goes_on = front_goes_on _ c.in-Some.present _ _ (at_front _ _ _ _ _ c.self.invariant c.in-Some.ensures.items) }
 
 pub invariant_of-self : goal.invariant_of-self
 invariant_of-self c =
-    let live = c.self.inside.live.items in
-    let made = c.self.inside.made in
-    let next = c.self.inside.next_stamp in
-    let o : FibrilOrder = record { fibrils = all_of made live; next_stamp = next } in
-    let f = c.in-Some.f in
-    let goes : GoesOn (fibril_at o f.0) = subst (λ (p : FibrilOrder). GoesOn (fibril_at p f.0)) (sym (ap (λ (s : FibrilsState). s.order) c.self.view_is)) c.in-Some.ensures.goes_on in
-    rw c.forget.ensures.items (end_gives made live f next c.self.invariant goes).are
+    rw (c.end.ensures.order, c.pop_front.ensures.capacity)
+    (queue_end _ c.in-Some.present _ _ (at_front _ _ _ _ _ c.self.invariant c.in-Some.ensures.items))
 
 pub returns-in-Some-clause-order : goal.returns-in-Some-clause-order
 returns-in-Some-clause-order c =
-    let live = c.self.inside.live.items in
-    let made = c.self.inside.made in
-    let next = c.self.inside.next_stamp in
-    let o : FibrilOrder = record { fibrils = all_of made live; next_stamp = next } in
-    let f = c.in-Some.f in
-    let goes : GoesOn (fibril_at o f.0) = subst (λ (p : FibrilOrder). GoesOn (fibril_at p f.0)) (sym (ap (λ (s : FibrilsState). s.order) c.self.view_is)) c.in-Some.ensures.goes_on in
-    let named : number_of (first_with Ready c.args.self.now.order.fibrils) ≡ Some f = sym c.first.ensures.number ∙ c.in-Some.is in
-    rw (c.forget.ensures.items, (end_gives made live f next c.self.invariant goes).all, named_over c.args.self.now.order (first_with Ready c.args.self.now.order.fibrils) f named, ← ap (λ (s : FibrilsState). s.order) c.self.view_is) refl
+    let queued = at_front c.self.inside.live.order c.self.inside.ready.items c.in-Some.present c.pop_front.new.self.items _ c.self.invariant c.in-Some.ensures.items in
+    c.end.ensures.order ∙ sym (end_named _ c.in-Some.present _ _ queued)
+    ∙ ap (λ (s : FibrilsState). end_current s.order) c.self.view_is
+
+pub returns-in-Some-clause-spare : goal.returns-in-Some-clause-spare
+returns-in-Some-clause-spare c =
+    let queued = at_front c.self.inside.live.order c.self.inside.ready.items c.in-Some.present c.pop_front.new.self.items _ c.self.invariant c.in-Some.ensures.items in
+    subst (λ (s : FibrilsState). s.spare ≤ spare_of c.end.new.self (deque_capacity c.pop_front.new.self)) c.self.view_is
+    (spare_ended c.self.inside.live c.end.new.self c.in-Some.present _ _ _ queued c.end.ensures.order c.end.ensures.spare c.pop_front.ensures.capacity)
+
+pub returns-in_default-clause-order : goal.returns-in_default-clause-order
+returns-in_default-clause-order c =
+    let none = no_current c.self.inside.live.order _ _ _ c.self.invariant c.in_default.ensures.items c.in_default.ensures.rest in
+    end_none c.self.inside.live.order none
+    ∙ ap (λ (s : FibrilsState). end_current s.order) c.self.view_is

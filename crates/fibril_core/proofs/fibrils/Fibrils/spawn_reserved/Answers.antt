@@ -1,17 +1,18 @@
-use Rattle.std.proofs.Common.{◌+◌, refl}
-use Rattle.fibril_core.specs.declared.fibrils.Fibril.{Fibril}
-use Rattle.fibril_core.specs.declared.fibrils.Status.TheVariants.{Ready}
-use Rattle.fibril_core.proofs.Rebuilt.{spawn_gives, length_all}
+use Rattle.std.proofs.Common.{rules, ◌≡◌, ◌<◌, ◌≤◌, length, sym, subst, arith}
+use Rattle.std.specs.VecDeque.{deque_len, deque_capacity}
+use Rattle.fibril_core.specs.Fibrils.{FibrilsState}
+use Rattle.fibril_core.specs.LiveFibrils.{is_live, count}
+use Rattle.fibril_core.proofs.Queues.{queue_few, queue_spawn, spare_room}
 use Rattle.fibril_core.proofs.fibrils.Fibrils.spawn_reserved.Goals as goal
+
+pub push_back_reserved-requires : goal.push_back_reserved-requires
+push_back_reserved-requires c =
+    let room : count is_live c.self.inside.live.order.fibrils < deque_capacity c.self.inside.ready = spare_room c.self.inside.live _ (subst (λ (s : FibrilsState). 0 < s.spare) (sym c.self.view_is) c.requires.room) in
+    let few : length c.self.inside.ready.items ≤ count is_live c.self.inside.live.order.fibrils = queue_few c.self.inside.live.order c.self.inside.ready.items _ c.self.invariant in
+    let same : length c.self.inside.ready.items ≡ deque_len c.self.inside.ready = search rules in omega arith
 
 pub invariant_of-self : goal.invariant_of-self
 invariant_of-self c =
-    rw c.push_reserved.ensures.items
-    (spawn_gives c.self.inside.made c.self.inside.live.items _ c.self.invariant refl refl).are
-
-pub returns-clause-order : goal.returns-clause-order
-returns-clause-order c =
-    let made = c.self.inside.made in
-    let y : Fibril = record { number = record { 0 = made + 1 }; status = Ready; stamp = c.self.inside.next_stamp } in
-    let all = (spawn_gives made c.self.inside.live.items y c.self.invariant refl refl).all in
-    rw (c.push_reserved.ensures.items, all, ← c.self.view_is, length_all) refl
+    let room : count is_live c.self.inside.live.order.fibrils < deque_capacity c.self.inside.ready = spare_room c.self.inside.live _ (subst (λ (s : FibrilsState). 0 < s.spare) (sym c.self.view_is) c.requires.room) in
+    rw (c.spawn_reserved-number.ensures.order, c.push_back_reserved.ensures.items, c.push_back_reserved.ensures.capacity, c.spawn_reserved-number.ensures.number)
+    (queue_spawn c.self.inside.live.order c.self.inside.ready.items _ c.self.invariant room)
