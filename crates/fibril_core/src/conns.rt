@@ -1,11 +1,13 @@
 //! The connections of a task.
 ghost use Rattle.std.specs.Prelude.{◌≡◌, ◌+◌, ◌<◌, ◌≤◌, OnOk, OnErr, None, IfOk, IfSome, length};
-ghost use Rattle.std.specs.Prelude.{position, slice_get, remove};
+ghost use Rattle.std.specs.Prelude.{position, slice_get, remove, true};
 ghost use Rattle.std.specs.Option.{option_copied};
 ghost use Rattle.fibril_core.specs.Conns.{no_conns, serves, leads_to, conn_of_fibril};
 ghost use Rattle.fibril_core.specs.Conns.{conn_of_label, fibril_of, lose_labels, start};
 ghost use Rattle.fibril_core.specs.Conns.{take_answer, take_next, route_answer, route, owed_by};
 ghost use Rattle.fibril_core.specs.Conns.{finish};
+ghost use Rattle.fibril_core.specs.ConnIndex.{DoRise};
+ghost use Rattle.ipc_ids.specs.declared.numbers.Label.{Label};
 
 use crate::conn::{
     Conn, Queue, Routed, Taken, count_owed, fibril_of, lose_label, owed_by, route_to, take_first,
@@ -19,6 +21,9 @@ use std::marker::Model;
 #[derive(Drop)]
 pub struct Conns {
     conns: Vec<Conn>,
+    /// Whether the numbers of their fibrils rise. So they do where each connection gets a new
+    /// fibril.
+    rising: bool,
     alloc: Global,
 }
 
@@ -26,6 +31,7 @@ impl Model for Conns {
     ghost use Rattle.std.specs.Prelude.{◌-◌, vec_len};
     ghost use Rattle.std.specs.Vec.{vec_capacity};
     ghost use Rattle.fibril_core.specs.Conns.{ConnsState};
+    ghost use Rattle.fibril_core.specs.ConnIndex.{IsIndex};
 
     ghost Value = { ConnsState };
 
@@ -33,6 +39,8 @@ impl Model for Conns {
       conns = a.conns.items;
       spare = vec_capacity a.conns - vec_len a.conns;
     } };
+
+    ghost invariant = { λ a. IsIndex a.rising a.conns.items };
 }
 
 impl Conns {
@@ -42,6 +50,7 @@ impl Conns {
     {
         Conns {
             conns: Vec::new(alloc),
+            rising: true,
             alloc,
         }
     }
@@ -81,6 +90,7 @@ impl Conns {
         ensures conns { self.new.conns ≡ start label f self.old.conns }
         ensures spare { self.old.spare ≤ self.new.spare + 1 }
     {
+        self.rising = rise_with(&self.conns, self.rising, f);
         lose_labels(&mut self.conns, label);
         self.conns.push_reserved(Conn {
             fibril: f,
@@ -137,7 +147,7 @@ impl Conns {
         ensures conns { self.new.conns ≡ take_next f self.old.conns }
         ensures spare { self.old.spare ≤ self.new.spare }
     {
-        match place_of_fibril(&self.conns, f) {
+        match self.place_of_fibril(f) {
             Some(i) => take_first(&mut self.conns[i]),
             None => Taken::NoConnection,
         }
@@ -147,7 +157,7 @@ impl Conns {
     pub fn owed(&self, f: FibrilNo) -> u64
         ensures { result ≡ length (owed_by (conn_of_fibril f self.now.conns)) }
     {
-        match conn_of_fibril(&self.conns, f) {
+        match self.conn_of_fibril(f) {
             Some(conn) => count_owed(conn),
             None => 0,
         }
@@ -165,7 +175,7 @@ impl Conns {
         ensures unchanged { OnErr result (self.new.conns ≡ self.old.conns) }
         ensures spare { self.old.spare ≤ self.new.spare }
     {
-        match place_of_fibril(&self.conns, f) {
+        match self.place_of_fibril(f) {
             Some(i) => self.finish_at(i),
             None => Ok(Owed::new(self.alloc)),
         }
@@ -186,14 +196,27 @@ impl Conns {
             Err(e) => Err(e),
         }
     }
-}
 
-/// Where the connection of this fibril stands.
-fn place_of_fibril(conns: &[Conn], f: FibrilNo) -> Option<usize>
-    ensures place { result ≡ position (serves f) conns.now }
-    ensures in_range { IfSome result (λ i. i < length conns.now) }
-{
-    conns.iter().position(|conn| conn.fibril == f)
+    /// Where the connection of this fibril stands.
+    fn place_of_fibril(&self, f: FibrilNo) -> Option<usize>
+        ensures place { result ≡ position (serves f) self.now.conns }
+        ensures in_range { IfSome result (λ i. i < length self.now.conns) }
+    {
+        if self.rising {
+            return place_among_rising(&self.conns, f);
+        }
+        self.conns.iter().position(|conn| conn.fibril == f)
+    }
+
+    /// The connection of this fibril.
+    fn conn_of_fibril(&self, f: FibrilNo) -> Option<&Conn>
+        ensures { option_copied result ≡ conn_of_fibril f self.now.conns }
+    {
+        match self.place_of_fibril(f) {
+            Some(i) => self.conns.get(i),
+            None => None,
+        }
+    }
 }
 
 /// Where the connection to which the label leads stands.
@@ -206,13 +229,29 @@ fn place_of_label(conns: &[Conn], label: Label) -> Option<usize>
         .position(|conn| conn.routes && conn.label == label)
 }
 
-/// The connection of this fibril.
-fn conn_of_fibril(conns: &[Conn], f: FibrilNo) -> Option<&Conn>
-    ensures { option_copied result ≡ conn_of_fibril f conns.now }
+/// Where the connection of this fibril stands, among connections whose fibrils rise.
+fn place_among_rising(conns: &[Conn], f: FibrilNo) -> Option<usize>
+    requires rise { DoRise conns.now }
+    ensures place { result ≡ position (serves f) conns.now }
+    ensures in_range { IfSome result (λ i. i < length conns.now) }
 {
-    match place_of_fibril(conns, f) {
-        Some(i) => conns.get(i),
-        None => None,
+    match conns.binary_search_by_key(&f.0, |conn| conn.fibril.0) {
+        Ok(i) => Some(i),
+        Err(_) => None,
+    }
+}
+
+/// Whether the fibrils rise still when the connection of this one comes behind them.
+fn rise_with(conns: &[Conn], rising: bool, f: FibrilNo) -> bool
+    requires rise { rising ≡ true → DoRise conns.now }
+    ensures { result ≡ true → (label : Label) → DoRise (start label f conns.now) }
+{
+    if !rising {
+        return false;
+    }
+    match conns.last() {
+        Some(conn) => conn.fibril.0 < f.0,
+        None => true,
     }
 }
 
