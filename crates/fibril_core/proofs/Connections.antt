@@ -26,7 +26,7 @@ by_label label cs = find_is (leads_to label) cs conn_at (λ ys. refl) (λ ys i. 
 
 -- labels that are one
 
-same_label_is : (a b : Label) → same_label a b ≡ true → (a.task.0 ≡ b.task.0) × (a.phone.0 ≡ b.phone.0)
+pub same_label_is : (a b : Label) → same_label a b ≡ true → (a.task.0 ≡ b.task.0) × (a.phone.0 ≡ b.phone.0)
 same_label_is a b e = let h = and_parts (a.task.0 == b.task.0) (a.phone.0 == b.phone.0) e in (eqb-true a.task.0 b.task.0 h.0, eqb-true a.phone.0 b.phone.0 h.1)
 
 pub own_label : (a : Label) → same_label a a ≡ true
@@ -36,7 +36,7 @@ own_label a = rw (eq-eqb a.task.0 a.task.0 refl, eq-eqb a.phone.0 a.phone.0 refl
 same_as : (a b c : Label) → same_label a b ≡ true → same_label a c ≡ same_label b c
 same_as a b c e = let h = same_label_is a b e in rw (h.0, h.1) refl
 
-turned : (a b : Label) → same_label a b ≡ true → same_label b a ≡ true
+pub turned : (a b : Label) → same_label a b ≡ true → same_label b a ≡ true
 turned a b e = let h = same_label_is a b e in rw (h.0, h.1, eq-eqb b.task.0 b.task.0 refl, eq-eqb b.phone.0 b.phone.0 refl) refl
 
 leads : (label : Label) (c : Conn) → leads_to label c ≡ true → (c.routes ≡ true) × (same_label c.label label ≡ true)
@@ -112,7 +112,7 @@ sound_changed cs i c new sound there f r l fits =
       closed_by j a (inl h) = subst (λ (d : Conn). IsOpenOrClosed d) h.1 fits
       closed_by j a (inr h) = sound.closed j a h.1
 
-changes_at : (cs : List Conn) (i : ℕ) (c new : Conn) → IsSound cs → slice_get cs i ≡ Some c → c.fibril ≡ new.fibril → c.routes ≡ new.routes → c.label ≡ new.label → IsOpenOrClosed new → Changes c new cs (slice_set cs i new)
+pub changes_at : (cs : List Conn) (i : ℕ) (c new : Conn) → IsSound cs → slice_get cs i ≡ Some c → c.fibril ≡ new.fibril → c.routes ≡ new.routes → c.label ≡ new.label → IsOpenOrClosed new → Changes c new cs (slice_set cs i new)
 changes_at cs i c new sound there f r l fits =
     let after = sound_changed cs i c new sound there f r l fits in
     let here = set_here cs i new (within cs i c there) in
@@ -222,7 +222,7 @@ sound_taken cs f sound = sound_by (position (serves f) cs) where
 
 -- the end of a connection
 
-sound_removed : (cs : List Conn) (i : ℕ) → IsSound cs → i < length cs → IsSound (remove cs i)
+pub sound_removed : (cs : List Conn) (i : ℕ) → IsSound cs → i < length cs → IsSound (remove cs i)
 sound_removed cs i sound h = record {
   fibrils = λ j k a b s t e. skip_one i j k (sound.fibrils (skip i j) (skip i k) a b (sym (removed_at cs i j h) ∙ s) (sym (removed_at cs i k h) ∙ t) e);
   labels = λ j k a b label s t d e. skip_one i j k (sound.labels (skip i j) (skip i k) a b label (sym (removed_at cs i j h) ∙ s) (sym (removed_at cs i k h) ∙ t) d e);
@@ -235,11 +235,11 @@ sound_finished cs f sound = sound_by (position (serves f) cs) refl where
   sound_by None e = sound
   sound_by (Some i) e = let place = found_place (serves f) cs i e in sound_removed cs i sound (within cs i place.0 place.1)
 
-not_true : (b : Bool) → (b ≡ true → ⊥) → b ≡ false
+pub not_true : (b : Bool) → (b ≡ true → ⊥) → b ≡ false
 not_true true h = absurd (h refl)
 not_true false h = refl
 
-ends_at : (cs : List Conn) (i : ℕ) (c : Conn) → IsSound cs → slice_get cs i ≡ Some c → Ends c cs (remove cs i)
+pub ends_at : (cs : List Conn) (i : ℕ) (c : Conn) → IsSound cs → slice_get cs i ≡ Some c → Ends c cs (remove cs i)
 ends_at cs i c sound there =
     let h = within cs i c there in
     record {
