@@ -29,7 +29,8 @@ pub struct Conns {
     rising: bool,
     /// For each label that leads to a connection the fibril of that connection.
     labels: IndexMap<Label, FibrilNo>,
-    /// Where the connection stood to which a call went last. It is looked at first.
+    /// Where the connection stood that started last or that a call went to last. It is looked at
+    /// first.
     last: usize,
     alloc: Global,
 }
@@ -236,7 +237,7 @@ impl Conns {
         }
     }
 
-    /// The same by a search among the labels.
+    /// The same by the fibril that the label has in the map.
     fn search_label(&self, label: Label) -> Option<usize>
         ensures place { result ≡ position (leads_to label) self.now.conns }
         ensures in_range { IfSome result (λ i. i < length self.now.conns) }
