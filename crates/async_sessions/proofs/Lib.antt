@@ -2,3 +2,4 @@ pub mod Lookups
 pub mod Searches
 pub mod Answers
 pub mod Sound
+pub mod Rising

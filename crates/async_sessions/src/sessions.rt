@@ -8,7 +8,7 @@ ghost use Rattle.async_sessions.specs.Sessions.{held_by, phone_answer};
 ghost use Rattle.async_sessions.specs.Sessions.{end_answer, end_after, ended};
 ghost use Rattle.async_sessions.specs.Sessions.{close_answer, close_in, close_after};
 
-use crate::exchanges::{change, exchange_at, first_idle, is_any_begun};
+use crate::exchanges::{change, exchange_at, first_idle, is_any_begun, place_of};
 use ipc_ids::{Code, ExchangeMode, ExchangeNo, FibrilNo, NoMemory};
 use std::alloc::Global;
 use std::marker::Model;
@@ -82,6 +82,7 @@ pub enum Close {
 #[derive(Drop)]
 pub struct Sessions {
     sessions: [Option<Session>; 16],
+    /// By rising number.
     exchanges: Vec<Exchange>,
     next_number: u64,
     next_stamp: u64,
@@ -91,6 +92,7 @@ impl Model for Sessions {
     ghost use Rattle.std.specs.Prelude.{◌-◌, vec_len};
     ghost use Rattle.std.specs.Vec.{vec_capacity};
     ghost use Rattle.async_sessions.specs.Sessions.{SessionsState};
+    ghost use Rattle.async_sessions.specs.ExchangeOrder.{AreInOrder};
 
     ghost Value = { SessionsState };
 
@@ -103,6 +105,8 @@ impl Model for Sessions {
       };
       spare = vec_capacity a.exchanges - vec_len a.exchanges;
     } };
+
+    ghost invariant = { λ a. AreInOrder a.exchanges.items a.next_number };
 }
 
 impl Sessions {
@@ -326,7 +330,9 @@ impl Sessions {
     pub fn drop_exchange(&mut self, e: ExchangeNo)
         ensures after { self.new.now ≡ dropped self.old.now e }
     {
-        self.exchanges.retain(|x| x.number.0 != e.0);
+        if let Some(i) = place_of(&self.exchanges, e) {
+            self.exchanges.remove(i);
+        }
     }
 
     /// The connect call for a begin of the parallel session `s` was answered with that phone:

@@ -1,8 +1,11 @@
-use Rattle.std.proofs.Common.{arith}
-use Rattle.std.proofs.lemmas.Grind.{common_steps}
-use Rattle.std.proofs.lemmas.List.Edits.{map_over_more}
-use Rattle.async_sessions.specs.Sessions.{changed_one}
+use Rattle.std.proofs.Common.{sym}
+use Rattle.async_sessions.proofs.Rising.{change_at, change_none}
 use Rattle.async_sessions.proofs.exchanges.change.Goals as goal
 
-pub loop-x-preserved : goal.loop-x-preserved
-loop-x-preserved c = rw c.changed_one.ensures (grind (arith, common_steps, map_over_more (changed_one c.args.e c.args.held c.args.stamp)))
+pub returns-in-Some : goal.returns-in-Some
+returns-in-Some c =
+    change_at c.args.e c.args.held c.args.stamp c.args.exchanges.now c.in-Some.i _ c.requires.rise c.in-Some.ensures.found
+
+pub returns-in_default : goal.returns-in_default
+returns-in_default c =
+    sym (change_none c.args.e c.args.held c.args.stamp c.args.exchanges.now c.in_default.ensures.none)
