@@ -26,17 +26,17 @@ by_label label cs = find_is (leads_to label) cs conn_at (λ ys. refl) (λ ys i. 
 
 -- labels that are one
 
-same_label_is : (a b : Label) → same_label a b ≡ true → (a.task.0 ≡ b.task.0) × (a.phone.0 ≡ b.phone.0)
+pub same_label_is : (a b : Label) → same_label a b ≡ true → (a.task.0 ≡ b.task.0) × (a.phone.0 ≡ b.phone.0)
 same_label_is a b e = let h = and_parts (a.task.0 == b.task.0) (a.phone.0 == b.phone.0) e in (eqb-true a.task.0 b.task.0 h.0, eqb-true a.phone.0 b.phone.0 h.1)
 
-own_label : (a : Label) → same_label a a ≡ true
+pub own_label : (a : Label) → same_label a a ≡ true
 own_label a = rw (eq-eqb a.task.0 a.task.0 refl, eq-eqb a.phone.0 a.phone.0 refl) refl
 
 -- where one label leads no other does
 same_as : (a b c : Label) → same_label a b ≡ true → same_label a c ≡ same_label b c
 same_as a b c e = let h = same_label_is a b e in rw (h.0, h.1) refl
 
-turned : (a b : Label) → same_label a b ≡ true → same_label b a ≡ true
+pub turned : (a b : Label) → same_label a b ≡ true → same_label b a ≡ true
 turned a b e = let h = same_label_is a b e in rw (h.0, h.1, eq-eqb b.task.0 b.task.0 refl, eq-eqb b.phone.0 b.phone.0 refl) refl
 
 leads : (label : Label) (c : Conn) → leads_to label c ≡ true → (c.routes ≡ true) × (same_label c.label label ≡ true)
@@ -77,14 +77,14 @@ label_there cs i c label sound there h = by_label label cs ∙ find_one (leads_t
 -- one connection of several changes
 
 -- what stood at a place, with the same fibril and label
-record Was (cs : List Conn) (j : ℕ) (x : Conn) : Type 0 where
+pub record Was (cs : List Conn) (j : ℕ) (x : Conn) : Type 0 where
   pub conn : Conn
   pub there : slice_get cs j ≡ Some conn
   pub fibril : conn.fibril ≡ x.fibril
   pub routes : conn.routes ≡ x.routes
   pub label : conn.label ≡ x.label
 
-was : (cs : List Conn) (i j : ℕ) (c new x : Conn) → slice_get cs i ≡ Some c → c.fibril ≡ new.fibril → c.routes ≡ new.routes → c.label ≡ new.label → ((j ≡ i) × (new ≡ x)) ⊎ ((j ≢ i) × (slice_get cs j ≡ Some x)) → Was cs j x
+pub was : (cs : List Conn) (i j : ℕ) (c new x : Conn) → slice_get cs i ≡ Some c → c.fibril ≡ new.fibril → c.routes ≡ new.routes → c.label ≡ new.label → ((j ≡ i) × (new ≡ x)) ⊎ ((j ≢ i) × (slice_get cs j ≡ Some x)) → Was cs j x
 was cs i j c new x there f r l (inl h) = record {
   conn = c;
   there = rw h.0 there;
@@ -112,7 +112,7 @@ sound_changed cs i c new sound there f r l fits =
       closed_by j a (inl h) = subst (λ (d : Conn). IsOpenOrClosed d) h.1 fits
       closed_by j a (inr h) = sound.closed j a h.1
 
-changes_at : (cs : List Conn) (i : ℕ) (c new : Conn) → IsSound cs → slice_get cs i ≡ Some c → c.fibril ≡ new.fibril → c.routes ≡ new.routes → c.label ≡ new.label → IsOpenOrClosed new → Changes c new cs (slice_set cs i new)
+pub changes_at : (cs : List Conn) (i : ℕ) (c new : Conn) → IsSound cs → slice_get cs i ≡ Some c → c.fibril ≡ new.fibril → c.routes ≡ new.routes → c.label ≡ new.label → IsOpenOrClosed new → Changes c new cs (slice_set cs i new)
 changes_at cs i c new sound there f r l fits =
     let after = sound_changed cs i c new sound there f r l fits in
     let here = set_here cs i new (within cs i c there) in
@@ -125,25 +125,25 @@ changes_at cs i c new sound there f r l fits =
 
 -- routing and taking change the one that is found
 
-closed_routed : (call : CallNo) (msg : Msg) (c : Conn) → IsOpenOrClosed c → IsOpenOrClosed (route_to call msg c)
+pub closed_routed : (call : CallNo) (msg : Msg) (c : Conn) → IsOpenOrClosed c → IsOpenOrClosed (route_to call msg c)
 closed_routed call msg c fits = closed_by (closes msg.method c) where
   closed_by : (b : Bool) → IsOpenOrClosed (if b then record c { close_call = Some call; closed = true } else record c { queue = c.queue ++ record { call = call; msg = msg } ∷ [] })
   closed_by true h = absurd (cc h)
   closed_by false h = fits h
 
-fibril_routed : (call : CallNo) (msg : Msg) (c : Conn) → c.fibril ≡ (route_to call msg c).fibril
+pub fibril_routed : (call : CallNo) (msg : Msg) (c : Conn) → c.fibril ≡ (route_to call msg c).fibril
 fibril_routed call msg c = fibril_by (closes msg.method c) where
   fibril_by : (b : Bool) → c.fibril ≡ (if b then record c { close_call = Some call; closed = true } else record c { queue = c.queue ++ record { call = call; msg = msg } ∷ [] }).fibril
   fibril_by true = refl
   fibril_by false = refl
 
-routes_routed : (call : CallNo) (msg : Msg) (c : Conn) → c.routes ≡ (route_to call msg c).routes
+pub routes_routed : (call : CallNo) (msg : Msg) (c : Conn) → c.routes ≡ (route_to call msg c).routes
 routes_routed call msg c = routes_by (closes msg.method c) where
   routes_by : (b : Bool) → c.routes ≡ (if b then record c { close_call = Some call; closed = true } else record c { queue = c.queue ++ record { call = call; msg = msg } ∷ [] }).routes
   routes_by true = refl
   routes_by false = refl
 
-label_routed : (call : CallNo) (msg : Msg) (c : Conn) → c.label ≡ (route_to call msg c).label
+pub label_routed : (call : CallNo) (msg : Msg) (c : Conn) → c.label ≡ (route_to call msg c).label
 label_routed call msg c = label_by (closes msg.method c) where
   label_by : (b : Bool) → c.label ≡ (if b then record c { close_call = Some call; closed = true } else record c { queue = c.queue ++ record { call = call; msg = msg } ∷ [] }).label
   label_by true = refl
@@ -167,13 +167,13 @@ found_is : (p : Conn → Bool) (cs : List Conn) (c : Conn) (f : Found p cs) → 
 found_is p cs c f e = let other : conn_at cs (position p cs) ≡ Some f.conn = rw f.is_place f.there in cc
 
 -- what becomes of one that is found
-record Turned (p : Conn → Bool) (cs : List Conn) (c : Conn) : Type 0 where
+pub record Turned (p : Conn → Bool) (cs : List Conn) (c : Conn) : Type 0 where
   pub place : ℕ
   pub is_place : position p cs ≡ Some place
   pub there : slice_get cs place ≡ Some c
   pub passes : p c ≡ true
 
-turned_by : (p : Conn → Bool) (cs : List Conn) (c : Conn) → conn_at cs (position p cs) ≡ Some c → Turned p cs c
+pub turned_by : (p : Conn → Bool) (cs : List Conn) (c : Conn) → conn_at cs (position p cs) ≡ Some c → Turned p cs c
 turned_by p cs c e =
     let f = found p cs c e in
     let same = found_is p cs c f e in
@@ -222,7 +222,7 @@ sound_taken cs f sound = sound_by (position (serves f) cs) where
 
 -- the end of a connection
 
-sound_removed : (cs : List Conn) (i : ℕ) → IsSound cs → i < length cs → IsSound (remove cs i)
+pub sound_removed : (cs : List Conn) (i : ℕ) → IsSound cs → i < length cs → IsSound (remove cs i)
 sound_removed cs i sound h = record {
   fibrils = λ j k a b s t e. skip_one i j k (sound.fibrils (skip i j) (skip i k) a b (sym (removed_at cs i j h) ∙ s) (sym (removed_at cs i k h) ∙ t) e);
   labels = λ j k a b label s t d e. skip_one i j k (sound.labels (skip i j) (skip i k) a b label (sym (removed_at cs i j h) ∙ s) (sym (removed_at cs i k h) ∙ t) d e);
@@ -235,11 +235,11 @@ sound_finished cs f sound = sound_by (position (serves f) cs) refl where
   sound_by None e = sound
   sound_by (Some i) e = let place = found_place (serves f) cs i e in sound_removed cs i sound (within cs i place.0 place.1)
 
-not_true : (b : Bool) → (b ≡ true → ⊥) → b ≡ false
+pub not_true : (b : Bool) → (b ≡ true → ⊥) → b ≡ false
 not_true true h = absurd (h refl)
 not_true false h = refl
 
-ends_at : (cs : List Conn) (i : ℕ) (c : Conn) → IsSound cs → slice_get cs i ≡ Some c → Ends c cs (remove cs i)
+pub ends_at : (cs : List Conn) (i : ℕ) (c : Conn) → IsSound cs → slice_get cs i ≡ Some c → Ends c cs (remove cs i)
 ends_at cs i c sound there =
     let h = within cs i c there in
     record {
@@ -256,7 +256,7 @@ finish_ends cs f c sound e =
 
 -- the start of a connection
 
-lost_fibril : (label : Label) (c : Conn) → (lose_label label c).fibril ≡ c.fibril
+pub lost_fibril : (label : Label) (c : Conn) → (lose_label label c).fibril ≡ c.fibril
 lost_fibril label c = lost_by (leads_to label c) where
   lost_by : (b : Bool) → (if b then record c { routes = false; closed = true } else c).fibril ≡ c.fibril
   lost_by true = refl
@@ -320,7 +320,7 @@ starts cs label f none =
       no_turn other apart = not_true (same_label label other) (λ h. let back = turned label other h in cc)
 
 -- a connection that stands at a place after others lost their label
-record Lost (label : Label) (cs : List Conn) (j : ℕ) (x : Conn) : Type 0 where
+pub record Lost (label : Label) (cs : List Conn) (j : ℕ) (x : Conn) : Type 0 where
   pub conn : Conn
   pub there : slice_get cs j ≡ Some conn
   pub is : lose_label label conn ≡ x
@@ -337,7 +337,7 @@ closed_lost label c fits = closed_by (leads_to label c) where
   closed_by false h = fits h
 
 -- an older connection, or the new one
-newer : (label : Label) (f : FibrilNo) (cs : List Conn) (j : ℕ) (x : Conn) → slice_get (start label f cs) j ≡ Some x → ((j ≡ length (lose_labels label cs)) × (new_conn label f ≡ x)) ⊎ Lost label cs j x
+pub newer : (label : Label) (f : FibrilNo) (cs : List Conn) (j : ℕ) (x : Conn) → slice_get (start label f cs) j ≡ Some x → ((j ≡ length (lose_labels label cs)) × (new_conn label f ≡ x)) ⊎ Lost label cs j x
 newer label f cs j x e = newer_by (which_pushed (lose_labels label cs) j (new_conn label f) x e) where
   newer_by : ((j ≡ length (lose_labels label cs)) × (new_conn label f ≡ x)) ⊎ (slice_get (lose_labels label cs) j ≡ Some x) → ((j ≡ length (lose_labels label cs)) × (new_conn label f ≡ x)) ⊎ Lost label cs j x
   newer_by (inl h) = inl h

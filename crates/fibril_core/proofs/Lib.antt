@@ -1,4 +1,5 @@
 pub mod Bounds
+pub mod ConnIndex
 pub mod Connections
 pub mod Counts
 pub mod Firsts

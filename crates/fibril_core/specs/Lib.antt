@@ -3,3 +3,4 @@ pub mod Conns
 pub mod FibrilLaws
 pub mod LiveFibrils
 pub mod ConnLaws
+pub mod ConnIndex

@@ -1,16 +1,21 @@
 //! The connections of a task.
 ghost use Rattle.std.specs.Prelude.{◌≡◌, ◌+◌, ◌<◌, ◌≤◌, OnOk, OnErr, None, IfOk, IfSome, length};
-ghost use Rattle.std.specs.Prelude.{position, slice_get, remove};
+ghost use Rattle.std.specs.Prelude.{position, slice_get, remove, true};
 ghost use Rattle.std.specs.Option.{option_copied};
 ghost use Rattle.fibril_core.specs.Conns.{no_conns, serves, leads_to, conn_of_fibril};
 ghost use Rattle.fibril_core.specs.Conns.{conn_of_label, fibril_of, lose_labels, start};
 ghost use Rattle.fibril_core.specs.Conns.{take_answer, take_next, route_answer, route, owed_by};
 ghost use Rattle.fibril_core.specs.Conns.{finish};
+ghost use Rattle.fibril_core.specs.ConnIndex.{DoRise, KeepsLabel, ForgetsLabel};
+ghost use Rattle.fibril_core.specs.ConnLaws.{IsSound};
+ghost use Rattle.indexmap.specs.IndexMap.{spare};
+ghost use Rattle.ipc_ids.specs.declared.numbers.Label.{Label};
 
 use crate::conn::{
     Conn, Queue, Routed, Taken, count_owed, fibril_of, lose_label, owed_by, route_to, take_first,
 };
 use crate::owed::Owed;
+use indexmap::IndexMap;
 use ipc_ids::{CallNo, FibrilNo, Label, Msg, NoMemory};
 use std::alloc::Global;
 use std::marker::Model;
@@ -19,20 +24,31 @@ use std::marker::Model;
 #[derive(Drop)]
 pub struct Conns {
     conns: Vec<Conn>,
+    /// Whether the numbers of their fibrils rise. So they do where each connection gets a new
+    /// fibril.
+    rising: bool,
+    /// For each label that leads to a connection the fibril of that connection.
+    labels: IndexMap<Label, FibrilNo>,
+    /// Where the connection stood to which a call went last. It is looked at first.
+    last: usize,
     alloc: Global,
 }
 
 impl Model for Conns {
-    ghost use Rattle.std.specs.Prelude.{◌-◌, vec_len};
+    ghost use Rattle.std.specs.Prelude.{◌-◌, vec_len, min};
     ghost use Rattle.std.specs.Vec.{vec_capacity};
+    ghost use Rattle.indexmap.specs.IndexMap.{spare};
     ghost use Rattle.fibril_core.specs.Conns.{ConnsState};
+    ghost use Rattle.fibril_core.specs.ConnIndex.{IsIndex};
 
     ghost Value = { ConnsState };
 
     ghost view = { λ a. record {
       conns = a.conns.items;
-      spare = vec_capacity a.conns - vec_len a.conns;
+      spare = min (vec_capacity a.conns - vec_len a.conns) (spare a.labels);
     } };
+
+    ghost invariant = { λ a. IsIndex a.rising a.labels.entries a.conns.items };
 }
 
 impl Conns {
@@ -42,6 +58,9 @@ impl Conns {
     {
         Conns {
             conns: Vec::new(alloc),
+            rising: true,
+            labels: IndexMap::new(alloc),
+            last: 0,
             alloc,
         }
     }
@@ -50,7 +69,7 @@ impl Conns {
     pub fn holder(&self, label: Label) -> Option<FibrilNo>
         ensures { result ≡ fibril_of (conn_of_label label self.now.conns) }
     {
-        match place_of_label(&self.conns, label) {
+        match self.place_of_label(label) {
             Some(i) => fibril_of(self.conns.get(i)),
             None => None,
         }
@@ -67,10 +86,10 @@ impl Conns {
         ensures full { OnErr result (self.old.spare ≡ 0) }
         ensures spare { self.old.spare ≤ self.new.spare }
     {
-        match self.conns.reserve(1) {
-            Ok(()) => Ok(()),
-            Err(_) => Err(NoMemory),
+        if self.conns.reserve(1).is_err() || self.labels.reserve(1).is_err() {
+            return Err(NoMemory);
         }
+        Ok(())
     }
 
     /// Starts a connection, which the fibril serves. An older one with that label loses the label
@@ -81,7 +100,11 @@ impl Conns {
         ensures conns { self.new.conns ≡ start label f self.old.conns }
         ensures spare { self.old.spare ≤ self.new.spare + 1 }
     {
-        lose_labels(&mut self.conns, label);
+        let older = self.place_of_label(label);
+        self.rising = rise_with(&self.conns, self.rising, f);
+        lose_label_at(&mut self.conns, older, label);
+        keep_label(&mut self.labels, label, f);
+        self.last = self.conns.len();
         self.conns.push_reserved(Conn {
             fibril: f,
             label,
@@ -125,8 +148,11 @@ impl Conns {
         ensures unchanged { OnErr result (self.new.conns ≡ self.old.conns) }
         ensures spare { self.old.spare ≤ self.new.spare }
     {
-        match place_of_label(&self.conns, label) {
-            Some(i) => route_to(&mut self.conns[i], call, msg),
+        match self.place_of_label(label) {
+            Some(i) => {
+                self.last = i;
+                route_to(&mut self.conns[i], call, msg)
+            }
             None => Ok(Routed::Unknown),
         }
     }
@@ -137,7 +163,7 @@ impl Conns {
         ensures conns { self.new.conns ≡ take_next f self.old.conns }
         ensures spare { self.old.spare ≤ self.new.spare }
     {
-        match place_of_fibril(&self.conns, f) {
+        match self.place_of_fibril(f) {
             Some(i) => take_first(&mut self.conns[i]),
             None => Taken::NoConnection,
         }
@@ -147,7 +173,7 @@ impl Conns {
     pub fn owed(&self, f: FibrilNo) -> u64
         ensures { result ≡ length (owed_by (conn_of_fibril f self.now.conns)) }
     {
-        match conn_of_fibril(&self.conns, f) {
+        match self.conn_of_fibril(f) {
             Some(conn) => count_owed(conn),
             None => 0,
         }
@@ -165,7 +191,7 @@ impl Conns {
         ensures unchanged { OnErr result (self.new.conns ≡ self.old.conns) }
         ensures spare { self.old.spare ≤ self.new.spare }
     {
-        match place_of_fibril(&self.conns, f) {
+        match self.place_of_fibril(f) {
             Some(i) => self.finish_at(i),
             None => Ok(Owed::new(self.alloc)),
         }
@@ -180,47 +206,113 @@ impl Conns {
     {
         match owed_by(self.alloc, self.conns.get(i)) {
             Ok(owed) => {
-                let _over = self.conns.remove(i);
+                let over = self.conns.remove(i);
+                forget_label(&mut self.labels, &over);
                 Ok(owed)
             }
             Err(e) => Err(e),
         }
     }
-}
 
-/// Where the connection of this fibril stands.
-fn place_of_fibril(conns: &[Conn], f: FibrilNo) -> Option<usize>
-    ensures place { result ≡ position (serves f) conns.now }
-    ensures in_range { IfSome result (λ i. i < length conns.now) }
-{
-    conns.iter().position(|conn| conn.fibril == f)
-}
+    /// Where the connection of this fibril stands.
+    fn place_of_fibril(&self, f: FibrilNo) -> Option<usize>
+        ensures place { result ≡ position (serves f) self.now.conns }
+        ensures in_range { IfSome result (λ i. i < length self.now.conns) }
+    {
+        if self.rising {
+            return place_among_rising(&self.conns, f);
+        }
+        self.conns.iter().position(|conn| conn.fibril == f)
+    }
 
-/// Where the connection to which the label leads stands.
-fn place_of_label(conns: &[Conn], label: Label) -> Option<usize>
-    ensures place { result ≡ position (leads_to label) conns.now }
-    ensures in_range { IfSome result (λ i. i < length conns.now) }
-{
-    conns
-        .iter()
-        .position(|conn| conn.routes && conn.label == label)
-}
+    /// Where the connection to which the label leads stands.
+    fn place_of_label(&self, label: Label) -> Option<usize>
+        ensures place { result ≡ position (leads_to label) self.now.conns }
+        ensures in_range { IfSome result (λ i. i < length self.now.conns) }
+    {
+        match self.conns.get(self.last) {
+            Some(conn) if conn.routes && conn.label == label => Some(self.last),
+            _ => self.search_label(label),
+        }
+    }
 
-/// The connection of this fibril.
-fn conn_of_fibril(conns: &[Conn], f: FibrilNo) -> Option<&Conn>
-    ensures { option_copied result ≡ conn_of_fibril f conns.now }
-{
-    match place_of_fibril(conns, f) {
-        Some(i) => conns.get(i),
-        None => None,
+    /// The same by a search among the labels.
+    fn search_label(&self, label: Label) -> Option<usize>
+        ensures place { result ≡ position (leads_to label) self.now.conns }
+        ensures in_range { IfSome result (λ i. i < length self.now.conns) }
+    {
+        match self.labels.get(&label) {
+            Some(f) => self.place_of_fibril(*f),
+            None => None,
+        }
+    }
+
+    /// The connection of this fibril.
+    fn conn_of_fibril(&self, f: FibrilNo) -> Option<&Conn>
+        ensures { option_copied result ≡ conn_of_fibril f self.now.conns }
+    {
+        match self.place_of_fibril(f) {
+            Some(i) => self.conns.get(i),
+            None => None,
+        }
     }
 }
 
-/// The label leads to none of these from now on, and the one that it led to is closed.
-fn lose_labels(conns: &mut [Conn], label: Label)
+/// Where the connection of this fibril stands, among connections whose fibrils rise.
+fn place_among_rising(conns: &[Conn], f: FibrilNo) -> Option<usize>
+    requires rise { DoRise conns.now }
+    ensures place { result ≡ position (serves f) conns.now }
+    ensures in_range { IfSome result (λ i. i < length conns.now) }
+{
+    match conns.binary_search_by_key(&f.0, |conn| conn.fibril.0) {
+        Ok(i) => Some(i),
+        Err(_) => None,
+    }
+}
+
+/// Whether the fibrils rise still when the connection of this one comes behind them.
+fn rise_with(conns: &[Conn], rising: bool, f: FibrilNo) -> bool
+    requires rise { rising ≡ true → DoRise conns.now }
+    ensures { result ≡ true → (label : Label) → DoRise (start label f conns.now) }
+{
+    if !rising {
+        return false;
+    }
+    match conns.last() {
+        Some(conn) => conn.fibril.0 < f.0,
+        None => true,
+    }
+}
+
+/// The label leads to none of these from now on, and the one at this place, to which it led, is
+/// closed.
+fn lose_label_at(conns: &mut [Conn], place: Option<usize>, label: Label)
+    requires sound { IsSound conns.old }
+    requires place { place ≡ position (leads_to label) conns.old }
+    requires in_range { IfSome place (λ i. i < length conns.old) }
     ensures { conns.new ≡ lose_labels label conns.old }
 {
-    for conn in conns.iter_mut() {
-        lose_label(conn, label);
+    match place {
+        Some(i) => lose_label(&mut conns[i], label),
+        None => {}
+    }
+}
+
+/// The label leads to the connection of this fibril from now on. There is room for it.
+fn keep_label(labels: &mut IndexMap<Label, FibrilNo>, label: Label, f: FibrilNo)
+    requires room { 0 < spare labels.old }
+    ensures kept { KeepsLabel label f labels.old.entries labels.new.entries }
+    ensures room { spare labels.old ≤ spare labels.new + 1 }
+{
+    labels.insert(label, f).unwrap();
+}
+
+/// The label of a connection that is over leads nowhere from now on, where it led there.
+fn forget_label(labels: &mut IndexMap<Label, FibrilNo>, over: &Conn)
+    ensures forgotten { ForgetsLabel over.now labels.old.entries labels.new.entries }
+    ensures room { spare labels.old ≤ spare labels.new }
+{
+    if over.routes {
+        labels.swap_remove(&over.label);
     }
 }

@@ -1,11 +1,11 @@
 //! Numbers of tasks, phones, calls, stores, fibrils and exchanges, and the codes of answers.
 
 /// A task, from 1 on in the order in which tasks are added.
-#[derive(Clone, Copy, Debug, PartialEq, Eq)]
+#[derive(Clone, Copy, Debug, PartialEq, Eq, Hash)]
 pub struct TaskNo(pub u64);
 
 /// A phone of a task, from 0 on.
-#[derive(Clone, Copy, Debug, PartialEq, Eq)]
+#[derive(Clone, Copy, Debug, PartialEq, Eq, Hash)]
 pub struct PhoneNo(pub u32);
 
 /// A call, from 1 on in the order of acceptance. No number is used twice.
@@ -31,7 +31,7 @@ pub struct ExchangeNo(pub u64);
 pub struct Code(pub u64);
 
 /// A phone of a task: where a call comes from.
-#[derive(Clone, Copy, Debug, PartialEq, Eq)]
+#[derive(Clone, Copy, Debug, PartialEq, Eq, Hash)]
 pub struct Label {
     pub task: TaskNo,
     pub phone: PhoneNo,
