@@ -8,6 +8,7 @@ use Rattle.std.specs.List.Sorted.{IsNonDecreasingBy, IsBinarySearchResult}
 use Rattle.std.specs.Ordering.{nat_cmp, ordering_index}
 use Rattle.std.proofs.lemmas.Cmp.{ranked}
 use Rattle.std.proofs.lemmas.List.Kept.{IsNonDecreasingBy-filter}
+use Rattle.std.proofs.lemmas.List.Sums.{fold-append}
 use Rattle.std.proofs.lemmas.Option.{slice_get-get_or, get_or_from_slice_get}
 use Rattle.std.proofs.lemmas.Bool.{cases_lt, eq-eqb, ne_eqb}
 use Rattle.std.proofs.lemmas.Bool.Decides.{nat_tests}
@@ -16,7 +17,7 @@ use Rattle.fibril_core.specs.declared.fibrils.Status.{Status}
 use Rattle.fibril_core.specs.declared.fibrils.Status.TheVariants.{Ready, Blocked, Ended}
 use Rattle.fibril_core.specs.declared.fibrils.Fibril.{Fibril}
 use Rattle.fibril_core.specs.Fibrils.{FibrilOrder, same_status, sooner, first_with, fibril_at, number_of, why_in, why_at, why_of}
-use Rattle.fibril_core.specs.LiveFibrils.{goes_on, is_live, GoesOn, AreNumbered, AreLive, AreLiveWaiting, replaced, is_other, count, waits, is_waiting}
+use Rattle.fibril_core.specs.LiveFibrils.{goes_on, is_live, GoesOn, AreNumbered, AreLive, AreLiveWaiting, replaced, is_other, count, first_from, waits, is_waiting}
 use Rattle.fibril_core.proofs.Places.{within}
 use Rattle.fibril_core.proofs.Counts.{count_has, count_all, count_push, count_set, count_remove}
 use Rattle.fibril_core.proofs.Firsts.{first_there, same_status_is}
@@ -42,6 +43,10 @@ found_live s best (x ∷ xs) goes = found_by (is_live x) refl (λ next. found_li
 
 pub first_live : (s : Status) (live xs : List Fibril) → goes_on s ≡ true → AreLive live xs → first_with s live ≡ first_with s xs
 first_live s live xs goes are = rw are.those (found_live s None xs goes)
+
+-- a search in two parts of a list, one after the other
+pub first_in_parts : (s : Status) (front back : List Fibril) → first_from s (first_from s None front) back ≡ first_with s (front ++ back)
+first_in_parts s front back = sym (fold-append (choose s) None front back)
 
 pub length_live : (live xs : List Fibril) → AreLive live xs → length live ≡ count is_live xs
 length_live live xs are = ap length are.those

@@ -1,12 +1,12 @@
 -- The fibrils that have not ended, which are the only ones that are kept, and all fibrils as these give them.
-use Rattle.std.specs.Prelude.{◌≡◌, ℕ, zero, suc, ◌-◌, ◌==◌, Bool, true, false, not, if◌then◌else◌, List, [], ◌∷◌, ◌++◌, length, nat_lt, Option, None, Some, ⊤}
+use Rattle.std.specs.Prelude.{◌≡◌, ℕ, zero, suc, ◌-◌, ◌==◌, Bool, true, false, not, if◌then◌else◌, List, [], ◌∷◌, ◌++◌, length, nat_lt, fold, Option, None, Some, ⊤}
 use Rattle.std.specs.List.{filter, find}
 use Rattle.ipc_ids.specs.declared.message.Why.TheVariants as why
 use Rattle.ipc_ids.specs.declared.numbers.FibrilNo.{FibrilNo}
 use Rattle.fibril_core.specs.declared.fibrils.Status.{Status}
 use Rattle.fibril_core.specs.declared.fibrils.Status.TheVariants.{Ready, Blocked, Ended}
 use Rattle.fibril_core.specs.declared.fibrils.Fibril.{Fibril}
-use Rattle.fibril_core.specs.Fibrils.{FibrilsState, same_status}
+use Rattle.fibril_core.specs.Fibrils.{FibrilsState, same_status, sooner}
 
 -- whether a fibril with this status has not ended
 abbrev pub goes_on : Status → Bool
@@ -66,6 +66,10 @@ is_ready x = same_status x.status Ready
 -- how many fibrils pass a test
 abbrev pub count : (Fibril → Bool) → List Fibril → ℕ
 count p xs = length (filter p xs)
+
+-- of a fibril, if there is one, and these the one that has had this status longest
+abbrev pub first_from : Status → Option Fibril → List Fibril → Option Fibril
+first_from status best xs = fold (λ one x. if same_status x.status status then sooner one x else one) best xs
 
 -- the lesser of two numbers
 abbrev pub lesser : ℕ → ℕ → ℕ

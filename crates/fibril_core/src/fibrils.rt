@@ -1,5 +1,5 @@
 //! Fibrils by number, and since when each is ready or blocked.
-ghost use Rattle.std.specs.Prelude.{◌≡◌, ◌+◌, ◌^◌, ◌<◌, ◌≤◌, OnOk, OnErr, IfOk, IsSome};
+ghost use Rattle.std.specs.Prelude.{◌≡◌, ◌+◌, ◌++◌, ◌^◌, ◌<◌, ◌≤◌, OnOk, OnErr, IfOk, IsSome};
 ghost use Rattle.fibril_core.specs.Fibrils.{no_fibrils, current, first_blocked, next_number};
 ghost use Rattle.fibril_core.specs.Fibrils.{why_of, IsWithinBounds, spawned, block_on, yield_now};
 ghost use Rattle.fibril_core.specs.Fibrils.{end_current, make_ready, wake_first, wake_all};
@@ -120,11 +120,11 @@ impl Fibrils {
         }
     }
 
-    /// Those that have not ended, by rising number. Takes no memory.
-    pub fn live(&self) -> &[Fibril]
-        ensures { AreLive result.now self.now.order.fibrils }
+    /// Those that have not ended, by rising number, in two slices. Takes no memory.
+    pub fn live(&self) -> (&[Fibril], &[Fibril])
+        ensures { AreLive (result.0.now ++ result.1.now) self.now.order.fibrils }
     {
-        self.live.as_slice()
+        self.live.as_slices()
     }
 
     /// The fibril that has been ready longest. Takes no memory.

@@ -1,24 +1,25 @@
 //! The fibrils that have not ended, by number.
 ghost use Rattle.std.specs.Prelude.{◌≡◌, ◌≢◌, ◌+◌, ◌^◌, ◌<◌, ◌≤◌, ℕ, true, Some, OnOk, OnErr};
-ghost use Rattle.std.specs.Prelude.{IfSome, length, slice_get};
+ghost use Rattle.std.specs.Prelude.{◌++◌, IfSome, length, slice_get};
 ghost use Rattle.std.specs.List.Sorted.{IsNonDecreasingBy};
 ghost use Rattle.std.specs.Option.{IfNone, option_copied};
 ghost use Rattle.fibril_core.specs.Fibrils.{no_fibrils, first_with, next_number, why_in, why_of};
 ghost use Rattle.fibril_core.specs.Fibrils.{IsWithinBounds, spawned, with_status, put_fibril};
 ghost use Rattle.fibril_core.specs.Fibrils.{fibril_at, number_of};
 ghost use Rattle.fibril_core.specs.LiveFibrils.{AreLive, goes_on, GoesOn, is_live, count, ended};
-ghost use Rattle.fibril_core.specs.LiveFibrils.{waits};
+ghost use Rattle.fibril_core.specs.LiveFibrils.{first_from, waits};
 
 use crate::fibrils::{Fibril, Status};
 use ipc_ids::{FibrilNo, NoMemory, Why};
 use std::alloc::Global;
+use std::collections::VecDeque;
 use std::marker::Model;
 
 /// The fibrils of a task, with room for `spare` more.
 #[derive(Drop)]
 pub(crate) struct LiveFibrils {
     /// Those that have not ended, by rising number. The others take no memory.
-    fibrils: Vec<Fibril>,
+    fibrils: VecDeque<Fibril>,
     /// How many were ever made.
     made: u64,
     next_stamp: u64,
@@ -27,8 +28,8 @@ pub(crate) struct LiveFibrils {
 }
 
 impl Model for LiveFibrils {
-    ghost use Rattle.std.specs.Prelude.{◌-◌, vec_len};
-    ghost use Rattle.std.specs.Vec.{vec_capacity};
+    ghost use Rattle.std.specs.Prelude.{◌-◌};
+    ghost use Rattle.std.specs.VecDeque.{deque_capacity, deque_len};
     ghost use Rattle.fibril_core.specs.Fibrils.{FibrilsState};
     ghost use Rattle.fibril_core.specs.LiveFibrils.{AreLiveWaiting, all_of};
 
@@ -36,7 +37,7 @@ impl Model for LiveFibrils {
 
     ghost view = { λ a. record {
       order = record { fibrils = all_of a.made a.fibrils.items; next_stamp = a.next_stamp };
-      spare = vec_capacity a.fibrils - vec_len a.fibrils;
+      spare = deque_capacity a.fibrils - deque_len a.fibrils;
     } };
 
     ghost invariant = { λ a.
@@ -49,7 +50,7 @@ impl LiveFibrils {
         ensures { result.order ≡ no_fibrils }
     {
         LiveFibrils {
-            fibrils: Vec::new(alloc),
+            fibrils: VecDeque::new(alloc),
             made: 0,
             next_stamp: 1,
             waiting: 0,
@@ -90,11 +91,11 @@ impl LiveFibrils {
         self.fibrils.len()
     }
 
-    /// Those that have not ended, by rising number.
-    pub(crate) fn as_slice(&self) -> &[Fibril]
-        ensures { AreLive result.now self.now.order.fibrils }
+    /// Those that have not ended, by rising number, in two slices.
+    pub(crate) fn as_slices(&self) -> (&[Fibril], &[Fibril])
+        ensures { AreLive (result.0.now ++ result.1.now) self.now.order.fibrils }
     {
-        self.fibrils.as_slice()
+        self.fibrils.as_slices()
     }
 
     /// Makes a fibril, which is ready behind the others, and gives its number. There is room for
@@ -108,7 +109,7 @@ impl LiveFibrils {
         ensures spare { self.old.spare ≤ self.new.spare + 1 }
     {
         let number = FibrilNo(self.made + 1);
-        self.fibrils.push_reserved(Fibril {
+        self.fibrils.push_back_reserved(Fibril {
             number,
             status: Status::Ready,
             stamp: self.next_stamp,
@@ -171,17 +172,18 @@ impl LiveFibrils {
         ensures spare { self.old.spare ≤ self.new.spare }
     {
         if let Some(i) = place_of(&self.fibrils, f) {
-            let fibril = self.fibrils.remove(i);
-            self.waiting -= usize::from(waits(fibril.status));
+            if let Some(fibril) = self.fibrils.remove(i) {
+                self.waiting -= usize::from(waits(fibril.status));
+            }
         }
     }
 }
 
 /// Where the record with this number stands among these, which stand by rising number.
-fn place_of(fibrils: &[Fibril], f: FibrilNo) -> Option<usize>
-    requires rise { IsNonDecreasingBy (λ x. x.number.0) fibrils.now }
-    ensures found { IfSome result (λ i. number_of (slice_get fibrils.now i) ≡ Some f) }
-    ensures none { IfNone result ((i : ℕ) → number_of (slice_get fibrils.now i) ≢ Some f) }
+fn place_of(fibrils: &VecDeque<Fibril>, f: FibrilNo) -> Option<usize>
+    requires rise { IsNonDecreasingBy (λ x. x.number.0) fibrils.now.items }
+    ensures found { IfSome result (λ i. number_of (slice_get fibrils.now.items i) ≡ Some f) }
+    ensures none { IfNone result ((i : ℕ) → number_of (slice_get fibrils.now.items i) ≢ Some f) }
 {
     match fibrils.binary_search_by_key(&f.0, |x| x.number.0) {
         Ok(i) => Some(i),
@@ -207,10 +209,23 @@ fn waits(status: Status) -> bool
 }
 
 /// The fibril that has had this status longest.
-fn first_with(fibrils: &[Fibril], status: Status) -> Option<&Fibril>
-    ensures { option_copied result ≡ first_with status fibrils.now }
+#[tactic(auto, using(crate::proofs::Live::first_in_parts))]
+fn first_with(fibrils: &VecDeque<Fibril>, status: Status) -> Option<&Fibril>
+    ensures { option_copied result ≡ first_with status fibrils.now.items }
 {
-    let mut first: Option<&Fibril> = None;
+    let (front, back) = fibrils.as_slices();
+    first_among(first_among(None, front, status), back, status)
+}
+
+/// Of a fibril, if there is one, and these the one that has had this status longest.
+fn first_among<'a>(
+    best: Option<&'a Fibril>,
+    fibrils: &'a [Fibril],
+    status: Status,
+) -> Option<&'a Fibril>
+    ensures { option_copied result ≡ first_from status (option_copied best.entry) fibrils.now }
+{
+    let mut first = best;
     for fibril in fibrils {
         if fibril.status == status && first.is_none_or(|best| fibril.stamp < best.stamp) {
             first = Some(fibril);

@@ -10,7 +10,7 @@ invariant_of-self c =
     let made = c.self.inside.made in
     let live = c.self.inside.fibrils.items in
     let y : Fibril = record { number = record { 0 = made + 1 }; status = Ready; stamp = c.self.inside.next_stamp } in
-    rw c.push_reserved.ensures.items
+    rw c.push_back_reserved.ensures.items
     (waiting_push live _ _ _ y c.self.invariant refl (spawn_gives made live y c.self.invariant.are refl refl).are)
 
 pub returns-clause-order : goal.returns-clause-order
@@ -18,4 +18,4 @@ returns-clause-order c =
     let made = c.self.inside.made in
     let y : Fibril = record { number = record { 0 = made + 1 }; status = Ready; stamp = c.self.inside.next_stamp } in
     let all = (spawn_gives made c.self.inside.fibrils.items y c.self.invariant.are refl refl).all in
-    rw (c.push_reserved.ensures.items, all, ← c.self.view_is, length_all) refl
+    rw (c.push_back_reserved.ensures.items, all, ← c.self.view_is, length_all) refl
