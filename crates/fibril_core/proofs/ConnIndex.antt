@@ -1,6 +1,6 @@
 -- What a search by the index finds is what a look at each connection finds, and each call keeps the index.
 use Rattle.std.proofs.Common.{Bor, ◌≡◌, ℕ, zero, suc, ◌-◌, ◌<◌, ◌≤◌, ◌⊎◌, inl, inr, Bool, true, false, List, [], ◌∷◌, length, get_or, Equal, Option, Some, None, Ok, Err, refl, ap, sym, ◌∙◌, subst, arith}
-use Rattle.std.specs.Prelude.{if◌then◌else◌, Result, OnOk, OnErr, IsSome, IfSome, slice_get, slice_set, position}
+use Rattle.std.specs.Prelude.{if◌then◌else◌, Result, OnOk, OnErr, IsSome, IfSome, OnSome, slice_get, slice_set, position}
 use Rattle.std.specs.List.{find, remove}
 use Rattle.std.specs.List.Sorted.{IsNonDecreasingBy, IsBinarySearchResult}
 use Rattle.std.specs.Option.{option_copied}
@@ -247,6 +247,11 @@ stands cs i c less is = slice_get-get_or cs i c less ∙ ap Some (sym is)
 pub copied_here : (o : Option (Bor Conn)) (cs : List Conn) (i : ℕ) → i < length cs → (i < length cs → IsSome o) → IfSome o (λ x. x.now ≡ get_or cs i x.now) → option_copied o ≡ slice_get cs i
 copied_here None cs i less some is = absurd (cc (some less))
 copied_here (Some x) cs i less some is = sym (stands cs i x.now less is)
+
+-- what stood at the place of a removal, and what is left
+pub taken_out : (o : Option Conn) (cs after : List Conn) (i : ℕ) (over : Conn) → o ≡ Some over → IfSome o (λ c. c ≡ get_or cs i c) → OnSome o (after ≡ remove cs i) → (over ≡ get_or cs i over) × (after ≡ remove cs i)
+taken_out None cs after i over is value items = absurd (cc is)
+taken_out (Some c) cs after i over is value items = let same : c ≡ over = cc in (subst (λ (d : Conn). d ≡ get_or cs i d) same value, items)
 
 -- the index is kept
 

@@ -1,7 +1,8 @@
 //! The connections of a task.
-ghost use Rattle.std.specs.Prelude.{◌≡◌, ◌+◌, ◌<◌, ◌≤◌, OnOk, OnErr, None, IfOk, IfSome, length};
-ghost use Rattle.std.specs.Prelude.{position, slice_get, remove, true};
+ghost use Rattle.std.specs.Prelude.{◌≡◌, ◌+◌, ◌-◌, ◌<◌, ◌≤◌, OnOk, OnErr, None, IfOk, IfSome};
+ghost use Rattle.std.specs.Prelude.{length, position, slice_get, remove, true};
 ghost use Rattle.std.specs.Option.{option_copied};
+ghost use Rattle.std.specs.VecDeque.{deque_capacity, deque_len};
 ghost use Rattle.fibril_core.specs.Conns.{no_conns, serves, leads_to, conn_of_fibril};
 ghost use Rattle.fibril_core.specs.Conns.{conn_of_label, fibril_of, lose_labels, start};
 ghost use Rattle.fibril_core.specs.Conns.{take_answer, take_next, route_answer, route, owed_by};
@@ -18,12 +19,13 @@ use crate::owed::Owed;
 use indexmap::IndexMap;
 use ipc_ids::{CallNo, FibrilNo, Label, Msg, NoMemory};
 use std::alloc::Global;
+use std::collections::VecDeque;
 use std::marker::Model;
 
 /// The connections of a task, with room for `spare` more.
 #[derive(Drop)]
 pub struct Conns {
-    conns: Vec<Conn>,
+    conns: VecDeque<Conn>,
     /// Whether the numbers of their fibrils rise. So they do where each connection gets a new
     /// fibril.
     rising: bool,
@@ -36,8 +38,8 @@ pub struct Conns {
 }
 
 impl Model for Conns {
-    ghost use Rattle.std.specs.Prelude.{◌-◌, vec_len, min};
-    ghost use Rattle.std.specs.Vec.{vec_capacity};
+    ghost use Rattle.std.specs.Prelude.{◌-◌, min};
+    ghost use Rattle.std.specs.VecDeque.{deque_capacity, deque_len};
     ghost use Rattle.indexmap.specs.IndexMap.{spare};
     ghost use Rattle.fibril_core.specs.Conns.{ConnsState};
     ghost use Rattle.fibril_core.specs.ConnIndex.{IsIndex};
@@ -46,7 +48,7 @@ impl Model for Conns {
 
     ghost view = { λ a. record {
       conns = a.conns.items;
-      spare = min (vec_capacity a.conns - vec_len a.conns) (spare a.labels);
+      spare = min (deque_capacity a.conns - deque_len a.conns) (spare a.labels);
     } };
 
     ghost invariant = { λ a. IsIndex a.rising a.labels.entries a.conns.items };
@@ -58,7 +60,7 @@ impl Conns {
         ensures { result.conns ≡ no_conns }
     {
         Conns {
-            conns: Vec::new(alloc),
+            conns: VecDeque::new(alloc),
             rising: true,
             labels: IndexMap::new(alloc),
             last: 0,
@@ -106,7 +108,7 @@ impl Conns {
         lose_label_at(&mut self.conns, older, label);
         keep_label(&mut self.labels, label, f);
         self.last = self.conns.len();
-        self.conns.push_reserved(Conn {
+        self.conns.push_back_reserved(Conn {
             fibril: f,
             label,
             routes: true,
@@ -207,7 +209,7 @@ impl Conns {
     {
         match owed_by(self.alloc, self.conns.get(i)) {
             Ok(owed) => {
-                let over = self.conns.remove(i);
+                let over = self.conns.remove(i).unwrap();
                 forget_label(&mut self.labels, &over);
                 Ok(owed)
             }
@@ -260,10 +262,10 @@ impl Conns {
 }
 
 /// Where the connection of this fibril stands, among connections whose fibrils rise.
-fn place_among_rising(conns: &[Conn], f: FibrilNo) -> Option<usize>
-    requires rise { DoRise conns.now }
-    ensures place { result ≡ position (serves f) conns.now }
-    ensures in_range { IfSome result (λ i. i < length conns.now) }
+fn place_among_rising(conns: &VecDeque<Conn>, f: FibrilNo) -> Option<usize>
+    requires rise { DoRise conns.now.items }
+    ensures place { result ≡ position (serves f) conns.now.items }
+    ensures in_range { IfSome result (λ i. i < length conns.now.items) }
 {
     match conns.binary_search_by_key(&f.0, |conn| conn.fibril.0) {
         Ok(i) => Some(i),
@@ -272,14 +274,14 @@ fn place_among_rising(conns: &[Conn], f: FibrilNo) -> Option<usize>
 }
 
 /// Whether the fibrils rise still when the connection of this one comes behind them.
-fn rise_with(conns: &[Conn], rising: bool, f: FibrilNo) -> bool
-    requires rise { rising ≡ true → DoRise conns.now }
-    ensures { result ≡ true → (label : Label) → DoRise (start label f conns.now) }
+fn rise_with(conns: &VecDeque<Conn>, rising: bool, f: FibrilNo) -> bool
+    requires rise { rising ≡ true → DoRise conns.now.items }
+    ensures { result ≡ true → (label : Label) → DoRise (start label f conns.now.items) }
 {
     if !rising {
         return false;
     }
-    match conns.last() {
+    match conns.back() {
         Some(conn) => conn.fibril.0 < f.0,
         None => true,
     }
@@ -287,11 +289,13 @@ fn rise_with(conns: &[Conn], rising: bool, f: FibrilNo) -> bool
 
 /// The label leads to none of these from now on, and the one at this place, to which it led, is
 /// closed.
-fn lose_label_at(conns: &mut [Conn], place: Option<usize>, label: Label)
-    requires sound { IsSound conns.old }
-    requires place { place ≡ position (leads_to label) conns.old }
-    requires in_range { IfSome place (λ i. i < length conns.old) }
-    ensures { conns.new ≡ lose_labels label conns.old }
+fn lose_label_at(conns: &mut VecDeque<Conn>, place: Option<usize>, label: Label)
+    requires sound { IsSound conns.old.items }
+    requires place { place ≡ position (leads_to label) conns.old.items }
+    requires in_range { IfSome place (λ i. i < length conns.old.items) }
+    ensures lost { conns.new.items ≡ lose_labels label conns.old.items }
+    ensures room { deque_capacity conns.new - deque_len conns.new
+        ≡ deque_capacity conns.old - deque_len conns.old }
 {
     match place {
         Some(i) => lose_label(&mut conns[i], label),
