@@ -1,11 +1,12 @@
 -- A search over the fibrils that have not ended finds one that waits for a session exactly where one
 -- over all fibrils does.
 use Rattle.std.proofs.Common.{ℕ, zero, suc, ◌≡◌, ◌-◌, ◌<◌, ◌⊎◌, inl, inr, Bool, true, false}
-use Rattle.std.proofs.Common.{Option, Some, None, List, [], ◌∷◌, length, refl, sym, ap, subst, ◌∙◌}
+use Rattle.std.proofs.Common.{Option, Some, None, List, [], ◌∷◌, ◌++◌, length, refl, sym, ap, subst, ◌∙◌}
 use Rattle.std.proofs.Common.{arith}
 use Rattle.std.specs.Prelude.{◌&&◌, ◌||◌, if◌then◌else◌, slice_get}
 use Rattle.std.specs.List.{list_any, filter}
 use Rattle.std.proofs.lemmas.Bool.{cases_eq}
+use Rattle.std.proofs.lemmas.List.Folds.{list_any-append}
 use Rattle.fibril_core.specs.declared.fibrils.Status.{Status}
 use Rattle.fibril_core.specs.declared.fibrils.Status.TheVariants.{Ready, Blocked, Ended}
 use Rattle.fibril_core.specs.declared.fibrils.Fibril.{Fibril}
@@ -169,3 +170,12 @@ live_waits live a s are = by (list_any (λ x. waits_for a s x.number) live) refl
         sym (none_waits (length a.contexts) a s (λ m. unless_blocked a s m
         (slice_get a.order.fibrils m) refl (λ x there lives. at m x false there
         (none_live (λ y. waits_for a s y.number) a.order.fibrils m x (found false e) there lives))))
+
+-- the same, where those that have not ended are in two parts
+pub parts_wait : (front back : List Fibril) (a : AsyncState) (s : ℕ) →
+    AreLive (front ++ back) a.order.fibrils →
+    (list_any (λ x. waits_for a s x.number) front || list_any (λ x. waits_for a s x.number) back)
+    ≡ any_waits (length a.contexts) a s
+parts_wait front back a s are =
+    sym (list_any-append (λ x. waits_for a s x.number) front back)
+    ∙ live_waits (front ++ back) a s are

@@ -1,5 +1,6 @@
 //! What a task asks next.
 ghost use Rattle.std.specs.Prelude.{◌≡◌, length, option_copied};
+ghost use Rattle.std.specs.List.{list_any};
 ghost use Rattle.fibril_core.specs.Fibrils.{current};
 ghost use Rattle.async_task.specs.Turns.{fibril_turn, turn_of};
 ghost use Rattle.async_task.specs.Wanted.{wanted_in};
@@ -12,6 +13,7 @@ ghost use Rattle.async_task.specs.Wanted.{plan_close, waits_for, any_waits, begi
 use crate::context::{Context, Slot};
 use crate::machine::Machine;
 use async_sessions::{Begin, Close};
+use fibril_core::Fibril;
 use ipc_ids::methods::CONNECT_ME_TO;
 use ipc_ids::{Code, ExchangeNo, FibrilNo, Msg, Op, Reply, Request, Value};
 
@@ -116,9 +118,16 @@ impl Machine {
     pub(crate) fn any_waits(&self, session: u32) -> bool
         ensures { result ≡ any_waits (length self.now.state.contexts) self.now.state session }
     {
-        let live = self.fibrils.live();
+        let (front, back) = self.fibrils.live();
+        self.any_among(session, front) || self.any_among(session, back)
+    }
+
+    /// Whether one of these is blocked in a begin of the session.
+    fn any_among(&self, session: u32, fibrils: &[Fibril]) -> bool
+        ensures { result ≡ list_any (λ x. waits_for self.now.state session x.number) fibrils.now }
+    {
         let mut found = false;
-        for fibril in live {
+        for fibril in fibrils {
             found = found || self.waits_for(session, fibril.number);
         }
         found
