@@ -73,11 +73,15 @@ impl Fibrils {
         ensures full { OnErr result (self.old.spare ≡ 0) }
         ensures spare { self.old.spare ≤ self.new.spare }
     {
-        let more = self.live.len() + 1 - self.ready.len();
-        match self.ready.reserve(more) {
-            Ok(()) => self.live.reserve(),
-            Err(_) => Err(NoMemory),
+        let live = self.live.len();
+        if self.ready.capacity() <= live {
+            // Twice as many, since a queue that is short would grow by one place at a time.
+            let more = 2 * live + 1 - self.ready.len();
+            if self.ready.reserve(more).is_err() {
+                return Err(NoMemory);
+            }
         }
+        self.live.reserve()
     }
 
     /// The number that the next fibril gets.

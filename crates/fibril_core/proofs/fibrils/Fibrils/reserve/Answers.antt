@@ -8,5 +8,5 @@ pub overflow_sub-more : goal.overflow_sub-more
 overflow_sub-more c =
     let few : length c.self.inside.ready.items ≤ count is_live c.self.inside.live.order.fibrils = queue_few c.self.inside.live.order c.self.inside.ready.items _ c.self.invariant in
     let same : length c.self.inside.ready.items ≡ deque_len c.self.inside.ready = search rules in
-    let ready = c.len-2.ensures in
-    let live = c.len.ensures.value in omega arith
+    let ready = c.len.ensures in
+    let live = c.len-live.ensures.value in omega arith
