@@ -39,3 +39,6 @@ returns-in-Ok-clause-state c =
 pub returns-in-Ok-clause-entries : goal.returns-in-Ok-clause-entries
 returns-in-Ok-clause-entries c =
     c.in-Ok.ensures.entries ∙ ap (λ es. c.args.out.now.entries ++ es) (made_entries (before c) c.args.self.now c.args.place c.in-Some.plan.now c.self.view_is (found c) _ refl)
+
+pub invariant_of-self-in-Err-3 : goal.invariant_of-self-in-Err-3
+invariant_of-self-in-Err-3 c = (rw (c.make_room.ensures.items, c.in-Err.ensures.unchanged) c.self.invariant.0, c.self.invariant.1)
