@@ -292,7 +292,6 @@ fn rise_with(conns: &VecDeque<Conn>, rising: bool, f: FibrilNo) -> bool
 fn lose_label_at(conns: &mut VecDeque<Conn>, place: Option<usize>, label: Label)
     requires sound { IsSound conns.old.items }
     requires place { place ≡ position (leads_to label) conns.old.items }
-    requires in_range { IfSome place (λ i. i < length conns.old.items) }
     ensures lost { conns.new.items ≡ lose_labels label conns.old.items }
     ensures room { deque_capacity conns.new - deque_len conns.new
         ≡ deque_capacity conns.old - deque_len conns.old }
