@@ -21,7 +21,7 @@ use Rattle.fibril_core.specs.Conns.{conn_at, serves, leads_to, conn_of_label, co
 use Rattle.fibril_core.specs.ConnIndex.{DoRise, fibril_under, IsIndex, KeepsLabel, ForgetsLabel}
 use Rattle.fibril_core.specs.ConnLaws.{IsOpenOrClosed, IsSound, Changes, Ends, Starts}
 use Rattle.fibril_core.proofs.Places.{which, within}
-use Rattle.fibril_core.proofs.Searches.{find_is, found_place, find_one, none_found, skip, removed_at}
+use Rattle.fibril_core.proofs.Searches.{find_is, found_place, find_one, none_found, skip, skip_less, removed_at}
 use Rattle.fibril_core.proofs.Connections.{by_label, same_label_is, turned, not_true, Was, was, Lost, newer, lost_fibril, fibril_routed, routes_routed, label_routed, closed_routed, turned_by, label_there, changes_at, ends_at, starts, sound_changed, sound_removed, sound_started, sound_no_conns}
 
 -- the only one that passes is found, and where none passes none is
@@ -92,13 +92,6 @@ rise_changed cs i c new all there stays =
           let one = all.rise j k v.conn w.conn less v.there w.there in
           let first = ap (λ (n : FibrilNo). n.0) v.fibril in
           let second = ap (λ (n : FibrilNo). n.0) w.fibril in omega arith
-
-skip_less : (i j k : ℕ) → j < k → skip i j < skip i k
-skip_less zero j k h = omega arith
-skip_less (suc i) zero zero h = absurd (omega arith)
-skip_less (suc i) zero (suc k) h = omega arith
-skip_less (suc i) (suc j) zero h = absurd (omega arith)
-skip_less (suc i) (suc j) (suc k) h = let more = skip_less i j k (omega arith) in omega arith
 
 rise_removed : (cs : List Conn) (i : ℕ) → DoRise cs → i < length cs → DoRise (remove cs i)
 rise_removed cs i all h = record {

@@ -2,7 +2,7 @@
 use Rattle.std.proofs.Common.{◌≡◌, ℕ, zero, suc, ◌+◌, ◌<◌, ◌≤◌, Bool, true, false, List, [], ◌∷◌, ◌++◌, length, Some, refl, arith}
 use Rattle.std.specs.Prelude.{if◌then◌else◌, slice_get, slice_set}
 use Rattle.std.specs.Int.{from_bool}
-use Rattle.std.specs.List.{filter, remove}
+use Rattle.std.specs.List.{filter}
 use Rattle.fibril_core.specs.declared.fibrils.Fibril.{Fibril}
 use Rattle.fibril_core.specs.LiveFibrils.{count}
 
@@ -28,36 +28,6 @@ count_push p (z ∷ xs) x = by (p z) (count_push p xs x) where
   by : (b : Bool) → count p (xs ++ x ∷ []) ≡ count p xs + from_bool (p x) → length (if b then z ∷ filter p (xs ++ x ∷ []) else filter p (xs ++ x ∷ [])) ≡ length (if b then z ∷ filter p xs else filter p xs) + from_bool (p x)
   by true e = omega arith
   by false e = e
-
--- one that is there counts
-pub count_has : (p : Fibril → Bool) (xs : List Fibril) (i : ℕ) (x : Fibril) → slice_get xs i ≡ Some x → from_bool (p x) ≤ count p xs
-count_has p [] i x there = absurd (cc there)
-count_has p (z ∷ xs) zero x there = let same : z ≡ x = cc in rw same (by (p x)) where
-  by : (b : Bool) → from_bool b ≤ length (if b then x ∷ filter p xs else filter p xs)
-  by true = omega arith
-  by false = omega arith
-count_has p (z ∷ xs) (suc i) x there = by (p z) (count_has p xs i x there) where
-  by : (b : Bool) → from_bool (p x) ≤ count p xs → from_bool (p x) ≤ length (if b then z ∷ filter p xs else filter p xs)
-  by true e = omega arith
-  by false e = e
-
-pub count_all : (p : Fibril → Bool) (xs : List Fibril) → count p xs ≤ length xs
-count_all p [] = omega arith
-count_all p (x ∷ xs) = by (p x) (count_all p xs) where
-  by : (b : Bool) → count p xs ≤ length xs → length (if b then x ∷ filter p xs else filter p xs) ≤ length (x ∷ xs)
-  by true e = omega arith
-  by false e = omega arith
-
-pub count_remove : (p : Fibril → Bool) (xs : List Fibril) (i : ℕ) (x : Fibril) → slice_get xs i ≡ Some x → count p (remove xs i) + from_bool (p x) ≡ count p xs
-count_remove p [] i x there = absurd (cc there)
-count_remove p (z ∷ xs) zero x there = let same : z ≡ x = cc in rw same (by (p x)) where
-  by : (b : Bool) → length (filter p xs) + from_bool b ≡ length (if b then x ∷ filter p xs else filter p xs)
-  by true = omega arith
-  by false = omega arith
-count_remove p (z ∷ xs) (suc i) x there = by (p z) (from_bool (p x)) (count_remove p xs i x there) where
-  by : (b : Bool) (k : ℕ) → count p (remove xs i) + k ≡ count p xs → length (if b then z ∷ filter p (remove xs i) else filter p (remove xs i)) + k ≡ length (if b then z ∷ filter p xs else filter p xs)
-  by true k e = omega arith
-  by false k e = e
 
 -- where all that pass the first test pass the second
 module _ (p q : Fibril → Bool) (both : (x : Fibril) → p x ≡ true → q x ≡ true) where

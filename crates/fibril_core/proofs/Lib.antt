@@ -3,11 +3,11 @@ pub mod ConnIndex
 pub mod Connections
 pub mod Counts
 pub mod Firsts
+pub mod InQueue
 pub mod Live
 pub mod Orders
 pub mod Places
 pub mod Queues
-pub mod Ready
 pub mod Rebuilt
 pub mod Searches
 pub mod Waking

@@ -2,7 +2,6 @@
 -- both lists alike.
 use Rattle.std.proofs.Common.{◌≡◌, ◌≢◌, ℕ, zero, suc, ◌+◌, ◌-◌, ◌<◌, ◌≤◌, Bool, true, false, List, [], ◌∷◌, ◌++◌, fold, length, get_or, Option, Some, None, Err, ◌⊎◌, inl, inr, refl, ap, sym, ◌∙◌, subst, arith}
 use Rattle.std.specs.Prelude.{◌==◌, if◌then◌else◌, map, slice_get, slice_set, nat_lt, IsSome}
-use Rattle.std.specs.Int.{from_bool}
 use Rattle.std.specs.List.{filter, remove}
 use Rattle.std.specs.List.Sorted.{IsNonDecreasingBy, IsBinarySearchResult}
 use Rattle.std.specs.Ordering.{nat_cmp, ordering_index}
@@ -17,10 +16,8 @@ use Rattle.fibril_core.specs.declared.fibrils.Status.{Status}
 use Rattle.fibril_core.specs.declared.fibrils.Status.TheVariants.{Ready, Blocked, Ended}
 use Rattle.fibril_core.specs.declared.fibrils.Fibril.{Fibril}
 use Rattle.fibril_core.specs.Fibrils.{FibrilOrder, same_status, sooner, first_with, fibril_at, number_of, why_in, why_at, why_of}
-use Rattle.fibril_core.specs.LiveFibrils.{goes_on, is_live, GoesOn, AreNumbered, AreLive, AreLiveWaiting, replaced, is_other, count, first_from, waits, is_waiting}
+use Rattle.fibril_core.specs.LiveFibrils.{goes_on, is_live, GoesOn, AreNumbered, AreLive, replaced, is_other, count, first_from}
 use Rattle.fibril_core.proofs.Places.{within}
-use Rattle.fibril_core.proofs.Counts.{count_has, count_all, count_push, count_set, count_remove}
-use Rattle.fibril_core.proofs.Firsts.{first_there, same_status_is}
 
 -- searches
 
@@ -50,23 +47,6 @@ first_in_parts s front back = sym (fold-append (choose s) None front back)
 
 pub length_live : (live xs : List Fibril) → AreLive live xs → length live ≡ count is_live xs
 length_live live xs are = ap length are.those
-
--- where none waits for a mutex or a phone, none is found that does
-pub none_waits : (s : Status) (live xs : List Fibril) (n : ℕ) → AreLiveWaiting live xs n → n ≡ 0 → waits s ≡ true → first_with s xs ≡ None
-none_waits s live xs n are none waiting = sym (first_live s live xs (waits_goes_on s waiting) are.are) ∙ none_by (first_with s live) refl where
-  waits_goes_on : (t : Status) → waits t ≡ true → goes_on t ≡ true
-  waits_goes_on Ready h = absurd (cc h)
-  waits_goes_on (Blocked w) h = refl
-  waits_goes_on Ended h = absurd (cc h)
-
-  none_by : (q : Option Fibril) → first_with s live ≡ q → q ≡ None
-  none_by None e = refl
-  none_by (Some x) e =
-      let found = first_there s live x e in
-      let same : x.status ≡ s = same_status_is x.status s found.status in
-      let few : from_bool (waits x.status) ≤ count is_waiting live = count_has is_waiting live found.place x found.there in
-      let here : from_bool (waits x.status) ≡ 1 = rw (same, waiting) refl in
-      let all = are.waiting in absurd (omega arith)
 
 -- numbers
 
@@ -408,36 +388,3 @@ remove_at_place live xs i f are is =
 
 pub place_within : (live : List Fibril) (i : ℕ) (f : FibrilNo) → number_of (slice_get live i) ≡ Some f → i < length live
 place_within live i f is = let x = named (slice_get live i) f is in within live i x.fibril x.there
-
--- how many wait for a mutex or a phone after a change of the one place
-
-pub stands_there : (live : List Fibril) (i : ℕ) (f : FibrilNo) (x : Fibril) → number_of (slice_get live i) ≡ Some f → x ≡ get_or live i x → slice_get live i ≡ Some x
-stands_there live i f x is e = slice_get-get_or live i x (place_within live i f is) ∙ ap Some (sym e)
-
-pub waiting_has : (live xs : List Fibril) (n i : ℕ) (x : Fibril) → AreLiveWaiting live xs n → slice_get live i ≡ Some x → from_bool (waits x.status) ≤ n
-waiting_has live xs n i x are there = let few = count_has is_waiting live i x there in let all = are.waiting in omega arith
-
-pub waiting_few : (live xs : List Fibril) (n : ℕ) → AreLiveWaiting live xs n → n ≤ length live
-waiting_few live xs n are = let few = count_all is_waiting live in let all = are.waiting in omega arith
-
-pub waiting_set : (live xs : List Fibril) (n i : ℕ) (x y : Fibril) → AreLiveWaiting live xs n → slice_get live i ≡ Some x → n - from_bool (waits x.status) + from_bool (waits y.status) ≡ count is_waiting (slice_set live i y)
-waiting_set live xs n i x y are there = by (from_bool (waits x.status)) (from_bool (waits y.status)) (count is_waiting (slice_set live i y)) (waiting_has live xs n i x are there) (count_set is_waiting live i x y there) where
-  by : (j k m : ℕ) → j ≤ n → m + j ≡ count is_waiting live + k → n - j + k ≡ m
-  by j k m h e = let all = are.waiting in omega arith
-
-pub waiting_remove : (live xs : List Fibril) (n i : ℕ) (x : Fibril) → AreLiveWaiting live xs n → slice_get live i ≡ Some x → n - from_bool (waits x.status) ≡ count is_waiting (remove live i)
-waiting_remove live xs n i x are there = by (from_bool (waits x.status)) (count is_waiting (remove live i)) (count_remove is_waiting live i x there) where
-  by : (j m : ℕ) → m + j ≡ count is_waiting live → n - j ≡ m
-  by j m e = let all = are.waiting in omega arith
-
-pub at_most_one : (b : Bool) → from_bool b ≤ 1
-at_most_one true = omega arith
-at_most_one false = omega arith
-
-pub waiting_push : (live xs ys : List Fibril) (n : ℕ) (y : Fibril) → AreLiveWaiting live xs n → waits y.status ≡ false → AreLive (live ++ y ∷ []) ys → AreLiveWaiting (live ++ y ∷ []) ys n
-waiting_push live xs ys n y are ready after = record {
-  are = after;
-  waiting = are.waiting ∙ sym (no_more (count is_waiting live) (rw ready at (count_push is_waiting live y)));
-} where
-  no_more : (k : ℕ) → count is_waiting (live ++ y ∷ []) ≡ k + 0 → count is_waiting (live ++ y ∷ []) ≡ k
-  no_more k e = omega arith

@@ -1,7 +1,8 @@
 -- The first of a list that passes a test, told by what stands at each place.
 use Rattle.std.proofs.Common.{◌≡◌, ◌≢◌, ℕ, zero, suc, ◌+◌, ◌<◌, Bool, true, false, List, [], ◌∷◌, ◌++◌, length, Option, Some, None, refl, ap, sym, ◌∙◌, subst, arith}
-use Rattle.std.specs.Prelude.{if◌then◌else◌, slice_get, slice_set, position, nat_lt}
+use Rattle.std.specs.Prelude.{if◌then◌else◌, slice_get, slice_set, position, nat_lt, IsSome}
 use Rattle.std.specs.List.{find, remove, position_or_len}
+use Rattle.std.specs.Option.{OnSome}
 use Rattle.std.proofs.lemmas.Bool.Decides.{nat_tests}
 
 some_is : (i j : ℕ) → Some i ≡ Some j → i ≡ j
@@ -17,6 +18,11 @@ abbrev pub skip : ℕ → ℕ → ℕ
 skip zero j = suc j
 skip (suc i) zero = zero
 skip (suc i) (suc j) = suc (skip i j)
+
+-- what is so where there is a value
+pub on_some : {X P : Type 0} (r : Option X) → IsSome r → OnSome r P → P
+on_some None some h = absurd (cc some)
+on_some (Some x) some h = h
 
 module _ {X : Type 0} where
   pub position_here : (p : X → Bool) (x : X) (xs : List X) → p x ≡ true → position p (x ∷ xs) ≡ Some 0
@@ -41,6 +47,19 @@ module _ {X : Type 0} where
     place_by : (b : Bool) → p x ≡ b → ((j : ℕ) → position p xs ≡ Some j → (y : X) × (slice_get xs j ≡ Some y) × (p y ≡ true)) → (y : X) × (slice_get (x ∷ xs) i ≡ Some y) × (p y ≡ true)
     place_by true h more = let same : 0 ≡ i = some_is 0 i (sym (position_here p x xs h) ∙ e) in (x, subst (λ (k : ℕ). slice_get (x ∷ xs) k ≡ Some x) same refl, h)
     place_by false h more = shift_back (position p xs) refl (sym (position_behind p x xs h) ∙ e) more
+
+  -- where no place is found, none passes
+  pub none_at : (p : X → Bool) (xs : List X) → position p xs ≡ None → (j : ℕ) (y : X) → slice_get xs j ≡ Some y → p y ≡ false
+  none_at p [] e j y there = absurd (cc there)
+  none_at p (x ∷ xs) e j y there = none_by (p x) refl j (λ h k. none_at p xs h k y) there where
+    unshift : (q : Option ℕ) → shifted q ≡ None → q ≡ None
+    unshift None h = refl
+    unshift (Some i) h = absurd (cc h)
+
+    none_by : (b : Bool) → p x ≡ b → (k : ℕ) → (position p xs ≡ None → (l : ℕ) → slice_get xs l ≡ Some y → p y ≡ false) → slice_get (x ∷ xs) k ≡ Some y → p y ≡ false
+    none_by true h k more there = absurd (cc (sym (position_here p x xs h) ∙ e))
+    none_by false h zero more there = let same : x ≡ y = cc in rw (← same) h
+    none_by false h (suc k) more there = more (unshift (position p xs) (sym (position_behind p x xs h) ∙ e)) k there
 
   -- what stands at the place of a search is what is found
   pub find_is : (p : X → Bool) (xs : List X) (at : List X → Option ℕ → Option X) → ((ys : List X) → at ys None ≡ None) → ((ys : List X) (i : ℕ) → at ys (Some i) ≡ slice_get ys i) → at xs (position p xs) ≡ find p xs
@@ -135,3 +154,17 @@ skip_one (suc i) zero zero e = refl
 skip_one (suc i) zero (suc k) e = absurd (omega arith)
 skip_one (suc i) (suc j) zero e = absurd (omega arith)
 skip_one (suc i) (suc j) (suc k) e = ap suc (skip_one i j k (omega arith))
+
+pub skip_less : (i j k : ℕ) → j < k → skip i j < skip i k
+skip_less zero j k h = omega arith
+skip_less (suc i) zero zero h = absurd (omega arith)
+skip_less (suc i) zero (suc k) h = omega arith
+skip_less (suc i) (suc j) zero h = absurd (omega arith)
+skip_less (suc i) (suc j) (suc k) h = let more = skip_less i j k (omega arith) in omega arith
+
+-- each other place is that of an element that is left
+pub skip_reaches : (i k : ℕ) → k ≢ i → (j : ℕ) × (skip i j ≡ k)
+skip_reaches zero zero h = absurd (h refl)
+skip_reaches zero (suc k) h = (k, refl)
+skip_reaches (suc i) zero h = (0, refl)
+skip_reaches (suc i) (suc k) h = let rest = skip_reaches i k (λ e. h (ap suc e)) in (suc rest.0, ap suc rest.1)

@@ -1,12 +1,13 @@
 -- What the calls on fibrils come to, in the words of numbers, statuses and stamps.
-use Rattle.std.specs.Prelude.{◌≡◌, ◌≢◌, ℕ, ◌+◌, ◌<◌, ◌≤◌, true, List, map, length, Option, None, Some, slice_get}
+use Rattle.std.specs.Prelude.{◌≡◌, ◌≢◌, ℕ, ◌+◌, ◌<◌, ◌≤◌, Bool, true, false, List, length, Option, None, Some, slice_get}
+use Rattle.std.specs.Int.{from_bool}
 use Rattle.ipc_ids.specs.declared.message.Why.{Why}
 use Rattle.ipc_ids.specs.declared.numbers.FibrilNo.{FibrilNo}
 use Rattle.fibril_core.specs.declared.fibrils.Status.{Status}
 use Rattle.fibril_core.specs.declared.fibrils.Status.TheVariants.{Ready, Blocked}
 use Rattle.fibril_core.specs.declared.fibrils.Fibril.{Fibril}
 use Rattle.fibril_core.specs.Fibrils.{FibrilOrder, fibril_at}
-use Rattle.fibril_core.specs.LiveFibrils.{is_live, is_ready, count}
+use Rattle.fibril_core.specs.LiveFibrils.{is_live, is_ready, is_waiting, count}
 
 -- the status of a fibril, if there is one
 abbrev pub status_in : Option Fibril → Option Status
@@ -57,19 +58,30 @@ pub record WakesAll (o after : FibrilOrder) (w : Why) : Type 0 where
   pub behind : (m n : ℕ) → status_of o m ≢ Some (Blocked w) → status_of o n ≡ Some (Blocked w) → stamp_of after m < stamp_of after n
   pub others : (n : ℕ) → status_of o n ≢ Some (Blocked w) → fibril_at after n ≡ fibril_at o n
 
--- these are the numbers of the ready fibrils, each with a smaller stamp than those behind it
-pub record IsQueue (o : FibrilOrder) (q : List ℕ) : Type 0 where
-  pub ready : (i n : ℕ) → slice_get q i ≡ Some n → status_of o n ≡ Some Ready
-  pub all : (n : ℕ) → status_of o n ≡ Some Ready → (i : ℕ) × (slice_get q i ≡ Some n)
-  pub rising : (i j n m : ℕ) → slice_get q i ≡ Some n → slice_get q j ≡ Some m → i < j → stamp_of o n < stamp_of o m
+-- whether there is this fibril, and it passes a test
+abbrev pub passes : (Fibril → Bool) → Option Fibril → Bool
+passes p None = false
+passes p (Some x) = p x
 
--- the numbers of these
-abbrev pub numbers : List FibrilNo → List ℕ
-numbers q = map (λ f. f.0) q
+-- these are the fibrils that pass a test, each with a smaller stamp than those behind it
+pub record IsQueue (p : Fibril → Bool) (o : FibrilOrder) (q : List FibrilNo) : Type 0 where
+  pub pass : (i : ℕ) (f : FibrilNo) → slice_get q i ≡ Some f → passes p (fibril_at o f.0) ≡ true
+  pub all : (n : ℕ) → passes p (fibril_at o n) ≡ true → (i : ℕ) × (slice_get q i ≡ Some (record { 0 = n }))
+  pub rising : (i j : ℕ) (f g : FibrilNo) → slice_get q i ≡ Some f → slice_get q j ≡ Some g → i < j → stamp_of o f.0 < stamp_of o g.0
+  pub length : length q ≡ count p o.fibrils
 
--- the order is sound, the queue is that of its ready fibrils, and has room for all that have not ended
-pub record IsQueued (o : FibrilOrder) (q : List FibrilNo) (held : ℕ) : Type 0 where
+-- so are these, but for the fibril with one number, which is not among them
+pub record IsQueueBut (p : Fibril → Bool) (o : FibrilOrder) (n : ℕ) (q : List FibrilNo) : Type 0 where
+  pub pass : (i : ℕ) (f : FibrilNo) → slice_get q i ≡ Some f → passes p (fibril_at o f.0) ≡ true
+  pub other : (i : ℕ) (f : FibrilNo) → slice_get q i ≡ Some f → f.0 ≢ n
+  pub all : (m : ℕ) → m ≢ n → passes p (fibril_at o m) ≡ true → (i : ℕ) × (slice_get q i ≡ Some (record { 0 = m }))
+  pub rising : (i j : ℕ) (f g : FibrilNo) → slice_get q i ≡ Some f → slice_get q j ≡ Some g → i < j → stamp_of o f.0 < stamp_of o g.0
+  pub length : length q + from_bool (passes p (fibril_at o n)) ≡ count p o.fibrils
+
+-- the order is sound, the queues are those of the ready fibrils and of those that wait for a mutex or a phone, and each
+-- has room for all that have not ended
+pub record AreQueued (o : FibrilOrder) (q r : List FibrilNo) (held : ℕ) : Type 0 where
   pub sound : IsSound o
-  pub queue : IsQueue o (numbers q)
-  pub length : length q ≡ count is_ready o.fibrils
+  pub ready : IsQueue is_ready o q
+  pub waiting : IsQueue is_waiting o r
   pub room : count is_live o.fibrils ≤ held

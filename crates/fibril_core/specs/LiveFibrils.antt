@@ -1,5 +1,5 @@
 -- The fibrils that have not ended, which are the only ones that are kept, and all fibrils as these give them.
-use Rattle.std.specs.Prelude.{◌≡◌, ℕ, zero, suc, ◌-◌, ◌==◌, Bool, true, false, not, if◌then◌else◌, List, [], ◌∷◌, ◌++◌, length, nat_lt, fold, Option, None, Some, ⊤}
+use Rattle.std.specs.Prelude.{◌≡◌, ℕ, zero, suc, ◌-◌, ◌==◌, Bool, true, false, not, if◌then◌else◌, List, [], ◌∷◌, ◌++◌, length, min, fold, Option, None, Some, ⊤}
 use Rattle.std.specs.List.{filter, find}
 use Rattle.ipc_ids.specs.declared.message.Why.TheVariants as why
 use Rattle.ipc_ids.specs.declared.numbers.FibrilNo.{FibrilNo}
@@ -71,13 +71,9 @@ count p xs = length (filter p xs)
 abbrev pub first_from : Status → Option Fibril → List Fibril → Option Fibril
 first_from status best xs = fold (λ one x. if same_status x.status status then sooner one x else one) best xs
 
--- the lesser of two numbers
-abbrev pub lesser : ℕ → ℕ → ℕ
-lesser n m = if nat_lt n m then n else m
-
--- how many more fibrils there is room for, where a queue has room for so many of those that have not ended
+-- how many more fibrils there is room for, where each queue has room for so many of those that have not ended
 abbrev pub spare_of : FibrilsState → ℕ → ℕ
-spare_of s held = lesser s.spare (held - count is_live s.order.fibrils)
+spare_of s held = min s.spare (held - count is_live s.order.fibrils)
 
 -- whether a status waits for a mutex or a phone
 abbrev pub waits : Status → Bool
@@ -88,8 +84,3 @@ waits _ = false
 -- whether the fibril waits for a mutex or a phone
 abbrev pub is_waiting : Fibril → Bool
 is_waiting x = waits x.status
-
--- the first list is those of the second that have not ended, and so many of them wait for a mutex or a phone
-pub record AreLiveWaiting (live xs : List Fibril) (n : ℕ) : Type 0 where
-  pub are : AreLive live xs
-  pub waiting : n ≡ count is_waiting live

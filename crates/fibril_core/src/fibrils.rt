@@ -1,9 +1,11 @@
 //! Fibrils by number, and since when each is ready or blocked.
-ghost use Rattle.std.specs.Prelude.{◌≡◌, ◌+◌, ◌++◌, ◌^◌, ◌<◌, ◌≤◌, OnOk, OnErr, IfOk, IsSome};
+ghost use Rattle.std.specs.Prelude.{◌≡◌, ◌+◌, ◌++◌, ◌^◌, ◌<◌, ◌≤◌, ◌==◌, true, position, OnOk, OnErr, IfOk, IsSome};
+ghost use Rattle.std.specs.VecDeque.{deque_capacity, deque_len};
 ghost use Rattle.fibril_core.specs.Fibrils.{no_fibrils, current, first_blocked, next_number};
 ghost use Rattle.fibril_core.specs.Fibrils.{why_of, IsWithinBounds, spawned, block_on, yield_now};
 ghost use Rattle.fibril_core.specs.Fibrils.{end_current, make_ready, wake_first, wake_all};
-ghost use Rattle.fibril_core.specs.LiveFibrils.{AreLive};
+ghost use Rattle.fibril_core.specs.FibrilLaws.{IsSound, IsQueue, IsQueueBut};
+ghost use Rattle.fibril_core.specs.LiveFibrils.{AreLive, waits, is_waiting};
 
 use crate::live_fibrils::LiveFibrils;
 use ipc_ids::{CallNo, FibrilNo, NoMemory, Why};
@@ -33,22 +35,26 @@ pub struct Fibrils {
     live: LiveFibrils,
     /// Those that are ready, by rising stamps. It has room for all that have not ended.
     ready: VecDeque<FibrilNo>,
+    /// Likewise those that are blocked on a mutex or a phone.
+    waiting: VecDeque<FibrilNo>,
 }
 
 impl Model for Fibrils {
+    ghost use Rattle.std.specs.Prelude.{min};
     ghost use Rattle.std.specs.VecDeque.{deque_capacity};
     ghost use Rattle.fibril_core.specs.Fibrils.{FibrilsState};
-    ghost use Rattle.fibril_core.specs.FibrilLaws.{IsQueued};
+    ghost use Rattle.fibril_core.specs.FibrilLaws.{AreQueued};
     ghost use Rattle.fibril_core.specs.LiveFibrils.{spare_of};
 
     ghost Value = { FibrilsState };
 
     ghost view = { λ a. record {
       order = a.live.order;
-      spare = spare_of a.live (deque_capacity a.ready);
+      spare = spare_of a.live (min (deque_capacity a.ready) (deque_capacity a.waiting));
     } };
 
-    ghost invariant = { λ a. IsQueued a.live.order a.ready.items (deque_capacity a.ready) };
+    ghost invariant = { λ a. AreQueued a.live.order a.ready.items a.waiting.items
+        (min (deque_capacity a.ready) (deque_capacity a.waiting)) };
 }
 
 impl Fibrils {
@@ -59,6 +65,7 @@ impl Fibrils {
         Fibrils {
             live: LiveFibrils::new(alloc),
             ready: VecDeque::new(alloc),
+            waiting: VecDeque::new(alloc),
         }
     }
 
@@ -74,12 +81,10 @@ impl Fibrils {
         ensures spare { self.old.spare ≤ self.new.spare }
     {
         let live = self.live.len();
-        if self.ready.capacity() <= live {
-            // Twice as many, since a queue that is short would grow by one place at a time.
-            let more = 2 * live + 1 - self.ready.len();
-            if self.ready.reserve(more).is_err() {
-                return Err(NoMemory);
-            }
+        if reserve_place(&mut self.ready, live).is_err()
+            || reserve_place(&mut self.waiting, live).is_err()
+        {
+            return Err(NoMemory);
         }
         self.live.reserve()
     }
@@ -157,6 +162,9 @@ impl Fibrils {
     {
         if let Some(present) = self.ready.pop_front() {
             self.live.stamp(present, Status::Blocked(why));
+            if waits(why) {
+                self.waiting.push_back_reserved(present);
+            }
         }
     }
 
@@ -228,12 +236,13 @@ impl Fibrils {
     }
 
     fn wake_all(&mut self, why: Why)
+        requires waits { waits (Status.Blocked why) ≡ true }
         requires bounds { IsWithinBounds self.old.order }
         ensures order { self.new.order ≡ wake_all self.old.order why }
         ensures spare { self.new.spare ≡ self.old.spare }
     {
         for _ in 0..self.live.made() {
-            match self.live.first(Status::Blocked(why)) {
+            match first_on(&self.waiting, &self.live, why) {
                 Some(f) => self.make_ready(f),
                 None => break,
             }
@@ -247,7 +256,73 @@ impl Fibrils {
         ensures order { self.new.order ≡ make_ready self.old.order f }
         ensures spare { self.new.spare ≡ self.old.spare }
     {
+        leave(&mut self.waiting, &self.live, f);
         self.live.stamp(f, Status::Ready);
         self.ready.push_back_reserved(f);
     }
+}
+
+/// Whether what is blocked on that waits for a mutex or a phone.
+fn waits(why: Why) -> bool
+    ensures { result ≡ waits (Status.Blocked why) }
+{
+    matches!(why, Why::Mutex(_) | Why::Phone)
+}
+
+/// Makes room in the queue for one more than so many.
+fn reserve_place(queue: &mut VecDeque<FibrilNo>, live: usize) -> Result<(), NoMemory>
+    requires held { deque_len queue.old ≤ live }
+    requires few { live < 2 ^ 63 }
+    ensures items { queue.new.items ≡ queue.old.items }
+    ensures room { OnOk result (live < deque_capacity queue.new) }
+    ensures full { OnErr result (deque_capacity queue.old ≤ live) }
+    ensures capacity { deque_capacity queue.old ≤ deque_capacity queue.new }
+{
+    if live < queue.capacity() {
+        return Ok(());
+    }
+    // Twice as many, since a queue that is short would grow by one place at a time.
+    match queue.reserve(2 * live + 1 - queue.len()) {
+        Ok(()) => Ok(()),
+        Err(_) => Err(NoMemory),
+    }
+}
+
+/// The first of those that wait that is blocked on that.
+fn first_on(waiting: &VecDeque<FibrilNo>, live: &LiveFibrils, why: Why) -> Option<FibrilNo>
+    requires waits { waits (Status.Blocked why) ≡ true }
+    requires sound { IsSound live.now.order }
+    requires queue { IsQueue is_waiting live.now.order waiting.now.items }
+    ensures { result ≡ first_blocked live.now.order why }
+{
+    for i in 0..waiting.len() {
+        let f = waiting[i];
+        if live.why(f) == Some(why) {
+            return Some(f);
+        }
+    }
+    None
+}
+
+/// The fibril leaves the queue of those that wait, where it stands there.
+fn leave(waiting: &mut VecDeque<FibrilNo>, live: &LiveFibrils, f: FibrilNo)
+    requires queue { IsQueue is_waiting live.now.order waiting.old.items }
+    ensures queue { IsQueueBut is_waiting live.now.order f.0 waiting.new.items }
+    ensures capacity { deque_capacity waiting.new ≡ deque_capacity waiting.old }
+{
+    match live.why(f) {
+        Some(why) if waits(why) => {
+            if let Some(i) = place_in(waiting, f) {
+                waiting.remove(i);
+            }
+        }
+        _ => {}
+    }
+}
+
+/// Where the fibril stands in the queue.
+fn place_in(queue: &VecDeque<FibrilNo>, f: FibrilNo) -> Option<usize>
+    ensures { result ≡ position (λ g. g.0 == f.0) queue.now.items }
+{
+    queue.iter().position(|g| *g == f)
 }

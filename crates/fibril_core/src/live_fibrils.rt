@@ -7,7 +7,7 @@ ghost use Rattle.fibril_core.specs.Fibrils.{no_fibrils, first_with, next_number,
 ghost use Rattle.fibril_core.specs.Fibrils.{IsWithinBounds, spawned, with_status, put_fibril};
 ghost use Rattle.fibril_core.specs.Fibrils.{fibril_at, number_of};
 ghost use Rattle.fibril_core.specs.LiveFibrils.{AreLive, goes_on, GoesOn, is_live, count, ended};
-ghost use Rattle.fibril_core.specs.LiveFibrils.{first_from, waits};
+ghost use Rattle.fibril_core.specs.LiveFibrils.{first_from};
 
 use crate::fibrils::{Fibril, Status};
 use ipc_ids::{FibrilNo, NoMemory, Why};
@@ -23,15 +23,13 @@ pub(crate) struct LiveFibrils {
     /// How many were ever made.
     made: u64,
     next_stamp: u64,
-    /// How many are blocked on a mutex or a phone.
-    waiting: usize,
 }
 
 impl Model for LiveFibrils {
     ghost use Rattle.std.specs.Prelude.{◌-◌};
     ghost use Rattle.std.specs.VecDeque.{deque_capacity, deque_len};
     ghost use Rattle.fibril_core.specs.Fibrils.{FibrilsState};
-    ghost use Rattle.fibril_core.specs.LiveFibrils.{AreLiveWaiting, all_of};
+    ghost use Rattle.fibril_core.specs.LiveFibrils.{AreLive, all_of};
 
     ghost Value = { FibrilsState };
 
@@ -40,8 +38,7 @@ impl Model for LiveFibrils {
       spare = deque_capacity a.fibrils - deque_len a.fibrils;
     } };
 
-    ghost invariant = { λ a.
-        AreLiveWaiting a.fibrils.items (all_of a.made a.fibrils.items) a.waiting };
+    ghost invariant = { λ a. AreLive a.fibrils.items (all_of a.made a.fibrils.items) };
 }
 
 impl LiveFibrils {
@@ -53,7 +50,6 @@ impl LiveFibrils {
             fibrils: VecDeque::new(alloc),
             made: 0,
             next_stamp: 1,
-            waiting: 0,
         }
     }
 
@@ -135,9 +131,6 @@ impl LiveFibrils {
         requires status { goes_on status ≡ true }
         ensures { result ≡ number_of (first_with status self.now.order.fibrils) }
     {
-        if self.waiting == 0 && waits(status) {
-            return None;
-        }
         match first_with(&self.fibrils, status) {
             Some(fibril) => Some(fibril.number),
             None => None,
@@ -154,8 +147,6 @@ impl LiveFibrils {
     {
         let stamp = self.next_stamp;
         if let Some(i) = place_of(&self.fibrils, f) {
-            self.waiting -= usize::from(waits(self.fibrils[i].status));
-            self.waiting += usize::from(waits(status));
             self.fibrils[i] = Fibril {
                 number: f,
                 status,
@@ -172,9 +163,7 @@ impl LiveFibrils {
         ensures spare { self.old.spare ≤ self.new.spare }
     {
         if let Some(i) = place_of(&self.fibrils, f) {
-            if let Some(fibril) = self.fibrils.remove(i) {
-                self.waiting -= usize::from(waits(fibril.status));
-            }
+            self.fibrils.remove(i);
         }
     }
 }
@@ -199,13 +188,6 @@ fn why_in(status: Status) -> Option<Why>
         Status::Blocked(why) => Some(why),
         Status::Ready | Status::Ended => None,
     }
-}
-
-/// Whether this status waits for a mutex or a phone.
-fn waits(status: Status) -> bool
-    ensures { result ≡ waits status }
-{
-    matches!(status, Status::Blocked(Why::Mutex(_) | Why::Phone))
 }
 
 /// The fibril that has had this status longest.

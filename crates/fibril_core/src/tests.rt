@@ -11,6 +11,8 @@ const ONE: FibrilNo = FibrilNo(1);
 
 const TWO: FibrilNo = FibrilNo(2);
 
+const THREE: FibrilNo = FibrilNo(3);
+
 /// The label of all connections.
 const LABEL: Label = Label {
     task: TaskNo(2),
@@ -49,6 +51,33 @@ fn wakes_in_order_of_blocking(fibrils: &mut Fibrils) -> bool
     }
     fibrils.wake_mutex(5);
     fibrils.current() == Some(TWO)
+}
+
+/// Whether of three fibrils, the first of which waits for a phone, the others are woken, which wait
+/// for a mutex.
+fn wakes_those_of_the_mutex(fibrils: &mut Fibrils) -> bool
+    requires none { fibrils.old.order ≡ no_fibrils }
+{
+    if fibrils.spawn() != Ok(ONE) {
+        return false;
+    }
+    if fibrils.spawn() != Ok(TWO) {
+        return false;
+    }
+    if fibrils.spawn() != Ok(THREE) {
+        return false;
+    }
+    fibrils.block_on(Why::Phone);
+    fibrils.block_on(Why::Mutex(5));
+    fibrils.block_on(Why::Mutex(5));
+    fibrils.wake_mutex(4);
+    if fibrils.current() != None {
+        return false;
+    }
+    fibrils.wake_mutex(5);
+    fibrils.current() == Some(TWO)
+        && fibrils.why(THREE) == None
+        && fibrils.why(ONE) == Some(Why::Phone)
 }
 
 /// Whether calls go to the connection of a label, until a newer one takes the label.
@@ -102,6 +131,11 @@ fn fibrils_wake(alloc: Global, by_answer: bool) -> bool {
     }
 }
 
+fn mutex_wakes(alloc: Global) -> bool {
+    let mut fibrils = Fibrils::new(alloc);
+    wakes_those_of_the_mutex(&mut fibrils)
+}
+
 fn connections_end(alloc: Global) -> bool {
     let mut conns = Conns::new(alloc);
     routes_to_the_holder(&mut conns) && owes_at_the_end(&mut conns)
@@ -116,6 +150,7 @@ fn answers_are_owed(alloc: Global) -> bool {
 fn fibrils_are_woken_by_their_answer_and_in_the_order_of_their_blocking(rt: HostRuntime) {
     assert!(rt; fibrils_wake(rt.alloc(), true));
     assert!(rt; fibrils_wake(rt.alloc(), false));
+    assert!(rt; mutex_wakes(rt.alloc()));
 }
 
 #[test]

@@ -8,4 +8,4 @@ use Rattle.fibril_core.proofs.fibrils.Fibrils.wake_answer.Goals as goal
 pub make_ready-requires-clause-blocked : goal.make_ready-requires-clause-blocked
 make_ready-requires-clause-blocked c =
     subst (λ (s : FibrilsState). IsSome (why_of s.order c.in-Some.f)) c.self.view_is
-    (found_blocked c.self.inside.live.order _ _ (why.Answer c.args.call) c.in-Some.f c.self.invariant (sym c.first-first.ensures ∙ c.in-Some.is))
+    (found_blocked c.self.inside.live.order (why.Answer c.args.call) c.in-Some.f c.self.invariant.sound (sym c.first-first.ensures ∙ c.in-Some.is))

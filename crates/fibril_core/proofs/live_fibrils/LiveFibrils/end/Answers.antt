@@ -2,18 +2,13 @@ use Rattle.std.proofs.Common.{rules, ◌≡◌, length, ap, sym, subst, refl}
 use Rattle.std.specs.VecDeque.{deque_len}
 use Rattle.fibril_core.specs.Fibrils.{FibrilOrder, FibrilsState, fibril_at}
 use Rattle.fibril_core.specs.LiveFibrils.{GoesOn, all_of}
-use Rattle.fibril_core.proofs.Live.{live_rise, place_within, remove_at_place, found_somewhere, stands_there, waiting_has, waiting_remove}
+use Rattle.fibril_core.proofs.Live.{live_rise, place_within, remove_at_place, found_somewhere}
 use Rattle.fibril_core.proofs.Rebuilt.{end_gives}
+use Rattle.fibril_core.proofs.Searches.{on_some}
 use Rattle.fibril_core.proofs.live_fibrils.LiveFibrils.end.Goals as goal
 
 pub place_of-requires : goal.place_of-requires
-place_of-requires c = record { rise = live_rise c.self.inside.fibrils.items _ c.self.invariant.are }
-
-pub overflow_sub-self : goal.overflow_sub-self
-overflow_sub-self c =
-    let live = c.self.inside.fibrils.items in
-    let there = stands_there live c.in-Some.i c.args.f c.in-Some-remove.fibril c.in-Some.ensures.found c.in-Some-remove.ensures.value in
-    rw (c.from.ensures, c.waits.ensures) (waiting_has live _ _ c.in-Some.i c.in-Some-remove.fibril c.self.invariant there)
+place_of-requires c = record { rise = live_rise c.self.inside.fibrils.items _ c.self.invariant }
 
 pub invariant_of-self : goal.invariant_of-self
 invariant_of-self c =
@@ -23,33 +18,28 @@ invariant_of-self c =
     let o : FibrilOrder = record { fibrils = all_of made live; next_stamp = next } in
     let f = c.args.f in
     let goes : GoesOn (fibril_at o f.0) = subst (λ (p : FibrilOrder). GoesOn (fibril_at p f.0)) (sym (ap (λ (s : FibrilsState). s.order) c.self.view_is)) c.requires.goes_on in
-    let found = c.in-Some.ensures.found in
-    let there = stands_there live c.in-Some.i f c.in-Some-remove.fibril found c.in-Some-remove.ensures.value in
-    record {
-      are = rw (c.in-Some-remove.ensures.items, remove_at_place live (all_of made live) c.in-Some.i f c.self.invariant.are found) (end_gives made live f next c.self.invariant.are goes).are;
-      waiting = rw (c.from.ensures, c.waits.ensures, c.in-Some-remove.ensures.items) (waiting_remove live (all_of made live) c.self.inside.waiting c.in-Some.i c.in-Some-remove.fibril c.self.invariant there);
-    }
+    let same : length live ≡ deque_len c.self.inside.fibrils = search rules in
+    let less = place_within live c.in-Some.i f c.in-Some.ensures.found in
+    let removed = on_some c.remove.result (c.remove.ensures.variant.1 (rw (← same) less)) c.remove.ensures.items in
+    rw (removed, remove_at_place live (all_of made live) c.in-Some.i f c.self.invariant c.in-Some.ensures.found)
+    (end_gives made live f next c.self.invariant goes).are
 
-pub returns-in-Some-remove-clause-order : goal.returns-in-Some-remove-clause-order
-returns-in-Some-remove-clause-order c =
+pub returns-in-Some-clause-order : goal.returns-in-Some-clause-order
+returns-in-Some-clause-order c =
     let live = c.self.inside.fibrils.items in
     let made = c.self.inside.made in
     let next = c.self.inside.next_stamp in
     let o : FibrilOrder = record { fibrils = all_of made live; next_stamp = next } in
     let f = c.args.f in
     let goes : GoesOn (fibril_at o f.0) = subst (λ (p : FibrilOrder). GoesOn (fibril_at p f.0)) (sym (ap (λ (s : FibrilsState). s.order) c.self.view_is)) c.requires.goes_on in
-    let removed = remove_at_place live (all_of made live) c.in-Some.i f c.self.invariant.are c.in-Some.ensures.found in
-    rw (c.in-Some-remove.ensures.items, removed, (end_gives made live f next c.self.invariant.are goes).all, ← ap (λ (s : FibrilsState). s.order) c.self.view_is) refl
-
-pub returns-in_default-remove-clause-order : goal.returns-in_default-remove-clause-order
-returns-in_default-remove-clause-order c =
-    let same : length c.self.inside.fibrils.items ≡ deque_len c.self.inside.fibrils = search rules in
-    let less = place_within c.self.inside.fibrils.items c.in-Some.i c.args.f c.in-Some.ensures.found in
-    absurd (cc (c.in_default-remove.ensures.variant.1 (rw (← same) less)))
+    let same : length live ≡ deque_len c.self.inside.fibrils = search rules in
+    let less = place_within live c.in-Some.i f c.in-Some.ensures.found in
+    let removed = on_some c.remove.result (c.remove.ensures.variant.1 (rw (← same) less)) c.remove.ensures.items in
+    rw (removed, remove_at_place live (all_of made live) c.in-Some.i f c.self.invariant c.in-Some.ensures.found, (end_gives made live f next c.self.invariant goes).all, ← ap (λ (s : FibrilsState). s.order) c.self.view_is) refl
 
 pub returns-in_default-clause-order : goal.returns-in_default-clause-order
 returns-in_default-clause-order c =
     let live = c.self.inside.fibrils.items in
     let o : FibrilOrder = record { fibrils = all_of c.self.inside.made live; next_stamp = c.self.inside.next_stamp } in
     let goes : GoesOn (fibril_at o c.args.f.0) = subst (λ (p : FibrilOrder). GoesOn (fibril_at p c.args.f.0)) (sym (ap (λ (s : FibrilsState). s.order) c.self.view_is)) c.requires.goes_on in
-    absurd (found_somewhere live o c.args.f c.self.invariant.are goes c.in_default.ensures.none)
+    absurd (found_somewhere live o c.args.f c.self.invariant goes c.in_default.ensures.none)

@@ -1,21 +1,17 @@
 use Rattle.std.proofs.Common.{◌+◌, refl}
 use Rattle.fibril_core.specs.declared.fibrils.Fibril.{Fibril}
 use Rattle.fibril_core.specs.declared.fibrils.Status.TheVariants.{Ready}
-use Rattle.fibril_core.proofs.Live.{waiting_push}
 use Rattle.fibril_core.proofs.Rebuilt.{spawn_gives, length_all}
 use Rattle.fibril_core.proofs.live_fibrils.LiveFibrils.spawn_reserved.Goals as goal
 
 pub invariant_of-self : goal.invariant_of-self
 invariant_of-self c =
-    let made = c.self.inside.made in
-    let live = c.self.inside.fibrils.items in
-    let y : Fibril = record { number = record { 0 = made + 1 }; status = Ready; stamp = c.self.inside.next_stamp } in
     rw c.push_back_reserved.ensures.items
-    (waiting_push live _ _ _ y c.self.invariant refl (spawn_gives made live y c.self.invariant.are refl refl).are)
+    (spawn_gives c.self.inside.made c.self.inside.fibrils.items _ c.self.invariant refl refl).are
 
 pub returns-clause-order : goal.returns-clause-order
 returns-clause-order c =
     let made = c.self.inside.made in
     let y : Fibril = record { number = record { 0 = made + 1 }; status = Ready; stamp = c.self.inside.next_stamp } in
-    let all = (spawn_gives made c.self.inside.fibrils.items y c.self.invariant.are refl refl).all in
+    let all = (spawn_gives made c.self.inside.fibrils.items y c.self.invariant refl refl).all in
     rw (c.push_back_reserved.ensures.items, all, ← c.self.view_is, length_all) refl

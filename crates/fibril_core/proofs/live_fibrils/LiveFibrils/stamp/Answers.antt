@@ -1,33 +1,14 @@
-use Rattle.std.proofs.Common.{rules, ◌≡◌, ◌≤◌, length, refl, ap, sym, subst, arith}
+use Rattle.std.proofs.Common.{rules, ◌≡◌, length, refl, ap, sym, subst}
 use Rattle.std.specs.VecDeque.{deque_len}
 use Rattle.fibril_core.specs.declared.fibrils.Fibril.{Fibril}
 use Rattle.fibril_core.specs.Fibrils.{FibrilOrder, FibrilsState, fibril_at}
 use Rattle.fibril_core.specs.LiveFibrils.{GoesOn, all_of}
-use Rattle.fibril_core.proofs.Live.{live_rise, place_within, set_at_place, found_somewhere, stands_there, waiting_has, waiting_few, waiting_set, at_most_one}
+use Rattle.fibril_core.proofs.Live.{live_rise, place_within, set_at_place, found_somewhere}
 use Rattle.fibril_core.proofs.Rebuilt.{stamp_gives}
 use Rattle.fibril_core.proofs.live_fibrils.LiveFibrils.stamp.Goals as goal
 
 pub place_of-requires : goal.place_of-requires
-place_of-requires c = record { rise = live_rise c.self.inside.fibrils.items _ c.self.invariant.are }
-
-pub index-requires : goal.index-requires
-index-requires c =
-    let same : length c.self.inside.fibrils.items ≡ deque_len c.self.inside.fibrils = search rules in
-    rw (← same) (place_within c.self.inside.fibrils.items c.in-Some.i c.args.f c.in-Some.ensures.found)
-
-pub overflow_sub-self : goal.overflow_sub-self
-overflow_sub-self c =
-    let live = c.self.inside.fibrils.items in
-    let there = stands_there live c.in-Some.i c.args.f c.index.result.now c.in-Some.ensures.found c.index.ensures in
-    rw (c.from.ensures, c.waits.ensures) (waiting_has live _ _ c.in-Some.i c.index.result.now c.self.invariant there)
-
-pub overflow_add-self : goal.overflow_add-self
-overflow_add-self c =
-    let few : c.self.inside.waiting ≤ length c.self.inside.fibrils.items = waiting_few c.self.inside.fibrils.items _ _ c.self.invariant in
-    let same = c.self.inside.fibrils.ok.0 in
-    let one_more = at_most_one c.waits-in-Some.result in
-    let added = c.from-in-Some.ensures in
-    let bound = c.self.inside.fibrils.small in omega arith
+place_of-requires c = record { rise = live_rise c.self.inside.fibrils.items _ c.self.invariant }
 
 pub index_mut-requires : goal.index_mut-requires
 index_mut-requires c =
@@ -41,12 +22,8 @@ invariant_of-self c =
     let o : FibrilOrder = record { fibrils = all_of made live; next_stamp = c.self.inside.next_stamp } in
     let y : Fibril = record { number = c.args.f; status = c.args.status; stamp = c.self.inside.next_stamp } in
     let goes : GoesOn (fibril_at o c.args.f.0) = subst (λ (p : FibrilOrder). GoesOn (fibril_at p c.args.f.0)) (sym (ap (λ (s : FibrilsState). s.order) c.self.view_is)) c.requires.goes_on in
-    let found = c.in-Some.ensures.found in
-    let there = stands_there live c.in-Some.i c.args.f c.index.result.now found c.index.ensures in
-    record {
-      are = rw (set_at_place live (all_of made live) c.in-Some.i y c.self.invariant.are found) (stamp_gives made live y c.self.inside.next_stamp c.self.invariant.are goes c.requires.status).are;
-      waiting = rw (c.from.ensures, c.waits.ensures, c.from-in-Some.ensures, c.waits-in-Some.ensures) (waiting_set live (all_of made live) c.self.inside.waiting c.in-Some.i c.index.result.now y c.self.invariant there);
-    }
+    rw (set_at_place live (all_of made live) c.in-Some.i y c.self.invariant c.in-Some.ensures.found)
+    (stamp_gives made live y c.self.inside.next_stamp c.self.invariant goes c.requires.status).are
 
 pub returns-in-Some-clause-order : goal.returns-in-Some-clause-order
 returns-in-Some-clause-order c =
@@ -55,12 +32,12 @@ returns-in-Some-clause-order c =
     let o : FibrilOrder = record { fibrils = all_of made live; next_stamp = c.self.inside.next_stamp } in
     let y : Fibril = record { number = c.args.f; status = c.args.status; stamp = c.self.inside.next_stamp } in
     let goes : GoesOn (fibril_at o c.args.f.0) = subst (λ (p : FibrilOrder). GoesOn (fibril_at p c.args.f.0)) (sym (ap (λ (s : FibrilsState). s.order) c.self.view_is)) c.requires.goes_on in
-    let set = set_at_place live (all_of made live) c.in-Some.i y c.self.invariant.are c.in-Some.ensures.found in
-    rw (set, (stamp_gives made live y c.self.inside.next_stamp c.self.invariant.are goes c.requires.status).all, ← ap (λ (s : FibrilsState). s.order) c.self.view_is) refl
+    let set = set_at_place live (all_of made live) c.in-Some.i y c.self.invariant c.in-Some.ensures.found in
+    rw (set, (stamp_gives made live y c.self.inside.next_stamp c.self.invariant goes c.requires.status).all, ← ap (λ (s : FibrilsState). s.order) c.self.view_is) refl
 
 pub returns-in_default-clause-order : goal.returns-in_default-clause-order
 returns-in_default-clause-order c =
     let live = c.self.inside.fibrils.items in
     let o : FibrilOrder = record { fibrils = all_of c.self.inside.made live; next_stamp = c.self.inside.next_stamp } in
     let goes : GoesOn (fibril_at o c.args.f.0) = subst (λ (p : FibrilOrder). GoesOn (fibril_at p c.args.f.0)) (sym (ap (λ (s : FibrilsState). s.order) c.self.view_is)) c.requires.goes_on in
-    absurd (found_somewhere live o c.args.f c.self.invariant.are goes c.in_default.ensures.none)
+    absurd (found_somewhere live o c.args.f c.self.invariant goes c.in_default.ensures.none)

@@ -7,7 +7,7 @@ use Rattle.fibril_core.proofs.Live.{live_rise, place_within, why_here, why_nowhe
 use Rattle.fibril_core.proofs.live_fibrils.LiveFibrils.why.Goals as goal
 
 pub place_of-requires : goal.place_of-requires
-place_of-requires c = record { rise = live_rise c.self.inside.fibrils.items _ c.self.invariant.are }
+place_of-requires c = record { rise = live_rise c.self.inside.fibrils.items _ c.self.invariant }
 
 pub index-requires : goal.index-requires
 index-requires c =
@@ -18,7 +18,7 @@ pub returns-in-Some : goal.returns-in-Some
 returns-in-Some c =
     let live = c.self.inside.fibrils.items in
     let o : FibrilOrder = record { fibrils = all_of c.self.inside.made live; next_stamp = c.self.inside.next_stamp } in
-    let here = why_here live o c.args.f c.in-Some.i c.index.result.now c.self.invariant.are c.in-Some.ensures.found in
+    let here = why_here live o c.args.f c.in-Some.i c.index.result.now c.self.invariant c.in-Some.ensures.found in
     c.why_in.ensures ∙ ap (λ (x : Fibril). why_in x.status) c.index.ensures ∙ sym here
     ∙ ap (λ (s : FibrilsState). why_at (fibril_at s.order c.args.f.0)) c.self.view_is
 
@@ -26,5 +26,5 @@ pub returns-in-None : goal.returns-in-None
 returns-in-None c =
     let live = c.self.inside.fibrils.items in
     let o : FibrilOrder = record { fibrils = all_of c.self.inside.made live; next_stamp = c.self.inside.next_stamp } in
-    sym (why_nowhere live o c.args.f c.self.invariant.are c.in-None.ensures.none)
+    sym (why_nowhere live o c.args.f c.self.invariant c.in-None.ensures.none)
     ∙ ap (λ (s : FibrilsState). why_at (fibril_at s.order c.args.f.0)) c.self.view_is
