@@ -2,8 +2,8 @@
 //!
 //! They stand in the order in which they were sent. While each has a greater number than the one
 //! before it, a call is found by halves and removed from its place.
-ghost use Rattle.std.specs.Prelude.{◌≡◌, ◌<◌, ◌++◌, ◌∷◌, [], OnOk, true};
-ghost use Rattle.std.specs.List.{find, filter};
+ghost use Rattle.std.specs.Prelude.{◌≡◌, ◌<◌, ◌++◌, ◌∷◌, [], ◌==◌, OnOk, true};
+ghost use Rattle.std.specs.List.{find, filter, list_any};
 ghost use Rattle.std.specs.Option.{option_copied};
 ghost use Rattle.async_task.specs.Answers.{is_of_call, is_of_other_call, is_of_other_fibril};
 ghost use Rattle.async_task.specs.AwaitedCalls.{DoRise, IsPlaceOf};
@@ -108,7 +108,10 @@ impl AwaitedCalls {
     pub(crate) fn forget_calls_of(&mut self, f: FibrilNo)
         ensures { self.new.calls ≡ filter (is_of_other_fibril f) self.old.calls }
     {
-        self.calls.retain(|w| w.fibril.0 != f.0);
+        // Mostly there are none, and a look at each takes less than a move of each.
+        if is_any_of(&self.calls, f) {
+            keep_others(&mut self.calls, f);
+        }
     }
 }
 
@@ -121,6 +124,20 @@ fn place_among_rising(calls: &VecDeque<Awaited>, call: CallNo) -> Option<usize>
         Ok(i) => Some(i),
         Err(_) => None,
     }
+}
+
+/// Whether there is a call of this fibril.
+fn is_any_of(calls: &VecDeque<Awaited>, f: FibrilNo) -> bool
+    ensures { result ≡ list_any (λ w. w.fibril.0 == f.0) calls.now.items }
+{
+    calls.iter().any(|w| w.fibril.0 == f.0)
+}
+
+/// The calls of other fibrils are kept, and no others.
+fn keep_others(calls: &mut VecDeque<Awaited>, f: FibrilNo)
+    ensures { calls.new.items ≡ filter (is_of_other_fibril f) calls.old.items }
+{
+    calls.retain(|w| w.fibril.0 != f.0);
 }
 
 /// Whether the numbers of the calls rise when this one comes behind them.
