@@ -1,4 +1,5 @@
 pub mod Listed
+pub mod Rising
 pub mod Served
 pub mod Waits
 pub mod Bounds

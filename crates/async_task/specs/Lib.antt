@@ -1,4 +1,5 @@
 pub mod AsyncState
+pub mod AwaitedCalls
 pub mod Contexts
 pub mod Kept
 pub mod Lends

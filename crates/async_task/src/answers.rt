@@ -8,7 +8,7 @@ ghost use Rattle.async_task.specs.Answers.{is_of_call, answer_slot, connect, ans
 ghost use Rattle.async_task.specs.Answers.{give_answer, is_for, wake_if};
 ghost use Rattle.async_task.specs.Answers.{forget_call, deliver, take_answer};
 
-use crate::awaited::{Awaited, awaiting, forget_call};
+use crate::awaited::Awaited;
 use crate::machine::Machine;
 use ipc_ids::{CallNo, Code, Entry, ExchangeMode, FibrilNo, Op, Reply, Trace, Why};
 
@@ -28,7 +28,7 @@ impl Machine {
     fn awaiting(&self, call: CallNo) -> Option<Awaited>
         ensures { result ≡ find (is_of_call call) self.now.state.awaited }
     {
-        match awaiting(&self.awaited, call) {
+        match self.awaited.awaiting(call) {
             Some(awaited) => Some(*awaited),
             None => None,
         }
@@ -76,7 +76,7 @@ impl Machine {
         ensures state { self.new.state ≡ forget_call self.old.state call }
         ensures exchanges { self.new.room.exchanges ≡ self.old.room.exchanges }
     {
-        forget_call(&mut self.awaited, call);
+        self.awaited.forget_call(call);
     }
 
     /// The answer goes to a slot, or to a begin where `slot` is `None`.

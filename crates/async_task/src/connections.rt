@@ -11,7 +11,6 @@ ghost use Rattle.async_task.specs.Connections.{with_connection, with_fibril, sta
 ghost use Rattle.async_task.specs.Connections.{is_of_connections, connect_call, receive_call};
 ghost use Rattle.async_task.specs.Connections.{end_owing, end_fibril};
 
-use crate::awaited::forget_calls_of;
 use crate::context::Context;
 use crate::machine::{Machine, place_of};
 use fibril_core::{Owed, Routed, Taken};
@@ -259,7 +258,7 @@ impl Machine {
     {
         self.fibrils.end_current();
         self.contexts.remove(place_of(f));
-        forget_calls_of(&mut self.awaited, f);
+        self.awaited.forget_calls_of(f);
         add_work(&mut self.work, owed.as_slice());
         out.push(Entry::Ends {
             task: self.me,

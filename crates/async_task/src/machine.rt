@@ -9,7 +9,7 @@ ghost use Rattle.async_task.specs.Contexts.{with_received, after_begun, after_en
 ghost use Rattle.async_task.specs.Calls.{after_present};
 ghost use Rattle.async_task.specs.Steps.{bare_task};
 
-use crate::awaited::Awaited;
+use crate::awaited::AwaitedCalls;
 use crate::context::{Context, Slot};
 use crate::contexts::Contexts;
 use async_sessions::Sessions;
@@ -29,7 +29,7 @@ pub(crate) struct Machine {
     pub(crate) contexts: Contexts,
     pub(crate) conns: Conns,
     pub(crate) sessions: Sessions,
-    pub(crate) awaited: Vec<Awaited>,
+    pub(crate) awaited: AwaitedCalls,
     pub(crate) work: Vec<(CallNo, Code)>,
 }
 
@@ -48,14 +48,14 @@ impl Model for Machine {
         contexts = m.contexts.kept;
         conns = m.conns.conns;
         pool = m.sessions.now;
-        awaited = m.awaited.items;
+        awaited = m.awaited.calls;
         work = m.work.items;
       };
       room = record {
         fibrils = m.fibrils.spare;
         contexts = m.contexts.spare;
         exchanges = m.sessions.spare;
-        awaited = vec_capacity m.awaited - vec_len m.awaited;
+        awaited = m.awaited.spare;
         work = vec_capacity m.work - vec_len m.work;
       };
       conn_room = m.conns.spare;
@@ -74,7 +74,7 @@ impl Machine {
             contexts: Contexts::new(alloc),
             conns: Conns::new(alloc),
             sessions: Sessions::new(alloc),
-            awaited: Vec::new(alloc),
+            awaited: AwaitedCalls::new(alloc),
             work: Vec::new(alloc),
         }
     }
@@ -257,9 +257,7 @@ impl Machine {
         ensures work { OnOk result (0 < self.new.room.work) }
     {
         self.sessions.reserve()?;
-        if self.awaited.reserve(1).is_err() {
-            return Err(NoMemory);
-        }
+        self.awaited.reserve()?;
         self.reserve_work(1)
     }
 

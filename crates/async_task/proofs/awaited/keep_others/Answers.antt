@@ -1,7 +1,7 @@
 use Rattle.std.proofs.Common.{rules}
 use Rattle.std.proofs.lemmas.Fn.{filter_same}
 use Rattle.async_task.specs.Answers.{is_of_other_fibril}
-use Rattle.async_task.proofs.awaited.forget_calls_of.Goals as goal
+use Rattle.async_task.proofs.awaited.keep_others.Goals as goal
 
 pub returns : goal.returns
 returns c =

@@ -1,9 +1,0 @@
-use Rattle.std.proofs.Common.{rules}
-use Rattle.std.proofs.lemmas.Fn.{filter_same}
-use Rattle.async_task.specs.Answers.{is_of_other_call}
-use Rattle.async_task.proofs.awaited.forget_call.Goals as goal
-
-pub returns : goal.returns
-returns c =
-    filter_same _ (is_of_other_call c.args.call) _ (λ x b f' k. search rules) _ _
-    c.retain.ensures.filtered
