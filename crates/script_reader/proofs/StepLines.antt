@@ -279,5 +279,6 @@ digit_is (suc (suc (suc (suc (suc (suc (suc (suc zero)))))))) lo hi = refl
 digit_is (suc (suc (suc (suc (suc (suc (suc (suc (suc zero))))))))) lo hi = refl
 digit_is (suc (suc (suc (suc (suc (suc (suc (suc (suc (suc n)))))))))) lo hi = absurd (omega arith)
 
+-- and it is a digit
 pub are_digits : (n : ℕ) → n ≤ 9 → list_all is_ascii_digit ((48 + n) ∷ []) ≡ true
 are_digits n hi = rw (le-leb 48 (48 + n) (omega arith), le-leb (48 + n) 57 (omega arith)) refl
