@@ -1,5 +1,5 @@
 -- A step in its usual form: its bytes, its words, and what the definitions say of it.
-use Rattle.std.proofs.Common.{◌≡◌, ℕ, suc, ◌≤◌, Bool, true, false, cond, not, ◌||◌, List, [], ◌∷◌, ◌++◌, length, take, slice_index, Some, None, refl, sym, ap, subst, ◌∙◌, inl, inr, arith, le-leb, leb-true, eqb-true, ne_eqb, le-ltb}
+use Rattle.std.proofs.Common.{◌≡◌, ℕ, zero, suc, ◌+◌, ◌≤◌, Bool, true, false, cond, not, ◌||◌, List, [], ◌∷◌, ◌++◌, length, take, slice_index, Some, None, refl, sym, ap, subst, ◌∙◌, inl, inr, arith, le-leb, leb-true, eqb-true, ne_eqb, le-ltb}
 use Rattle.std.specs.Prelude.{◌==◌, is_some, position, codes}
 use Rattle.std.specs.List.{list_all, position_or_len, onto_first}
 use Rattle.std.specs.Char.{is_ascii_digit, is_ascii_lowercase}
@@ -263,3 +263,22 @@ times_says text rest name r n others e f named c =
 pub count_is : (digits : List ℕ) (n : ℕ) → number digits ≡ Some n → 1 ≤ n → n ≤ 65536 → count_of (codes "x") digits ≡ Some n
 unfolding count_of
 count_is digits n e lo hi = rw e (rw (le-leb 1 n lo, le-leb n 65536 hi) refl)
+
+-- one digit counts for itself
+pub digit_is : (n : ℕ) → 1 ≤ n → n ≤ 9 → count_of (codes "x") ((48 + n) ∷ []) ≡ Some n
+unfolding count_of number in_base
+digit_is zero lo hi = absurd (omega arith)
+digit_is (suc zero) lo hi = refl
+digit_is (suc (suc zero)) lo hi = refl
+digit_is (suc (suc (suc zero))) lo hi = refl
+digit_is (suc (suc (suc (suc zero)))) lo hi = refl
+digit_is (suc (suc (suc (suc (suc zero))))) lo hi = refl
+digit_is (suc (suc (suc (suc (suc (suc zero)))))) lo hi = refl
+digit_is (suc (suc (suc (suc (suc (suc (suc zero))))))) lo hi = refl
+digit_is (suc (suc (suc (suc (suc (suc (suc (suc zero)))))))) lo hi = refl
+digit_is (suc (suc (suc (suc (suc (suc (suc (suc (suc zero))))))))) lo hi = refl
+digit_is (suc (suc (suc (suc (suc (suc (suc (suc (suc (suc n)))))))))) lo hi = absurd (omega arith)
+
+-- and it is a digit
+pub are_digits : (n : ℕ) → n ≤ 9 → list_all is_ascii_digit ((48 + n) ∷ []) ≡ true
+are_digits n hi = rw (le-leb 48 (48 + n) (omega arith), le-leb (48 + n) 57 (omega arith)) refl

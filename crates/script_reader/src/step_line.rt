@@ -1,5 +1,5 @@
 //! A step in its usual form, read without a list of words.
-ghost use Rattle.std.specs.Prelude.{◌≡◌, ◌≤◌, ◌∷◌, ◌++◌, length, take, not, position, true, codes, IfSome};
+ghost use Rattle.std.specs.Prelude.{◌≡◌, ◌≤◌, ◌+◌, ◌∷◌, ◌++◌, length, take, not, position, true, codes, IfSome};
 ghost use Rattle.std.specs.List.{list_all};
 ghost use Rattle.std.specs.Char.{is_ascii_digit};
 ghost use Rattle.script_reader.specs.StepLine.{IsCounted, SaysSteps};
@@ -114,9 +114,9 @@ fn behind_feed(text: &[u8]) -> Option<&[u8]>
     }
 }
 
-/// How many times ` x N` at the front says, and what stands behind it and a line feed.
-#[inline(always)]
-fn cut_count(text: &[u8]) -> Option<(u64, &[u8])>
+/// How many times ` x N` at the front says, with any digits, and what stands behind it and a line
+/// feed.
+fn cut_any_count(text: &[u8]) -> Option<(u64, &[u8])>
     ensures { IfSome result (λ cut. IsCounted text.now cut.0 cut.1.now) }
 {
     let (digits, rest) = cut_digits(behind_times(text)?);
@@ -124,6 +124,31 @@ fn cut_count(text: &[u8]) -> Option<(u64, &[u8])>
     match number(digits) {
         Some(count) if 1 <= count && count <= 65_536 => Some((count, others)),
         _ => None,
+    }
+}
+
+/// What one digit from 1 to 9 at the front is, and what stands behind it and a line feed.
+#[inline(always)]
+fn cut_digit(text: &[u8]) -> Option<(u64, &[u8])>
+    ensures parts { IfSome result (λ cut. text.now ≡ (48 + cut.0) ∷ 10 ∷ cut.1.now) }
+    ensures value { IfSome result (λ cut. (1 ≤ cut.0) × (cut.0 ≤ 9)) }
+{
+    match text {
+        [digit @ b'1'..=b'9', b'\n', others @ ..] => Some((u64::from(*digit - b'0'), others)),
+        _ => None,
+    }
+}
+
+/// How many times ` x N` at the front says, and what stands behind it and a line feed. One digit is
+/// read at once.
+#[inline(always)]
+fn cut_count(text: &[u8]) -> Option<(u64, &[u8])>
+    ensures { IfSome result (λ cut. IsCounted text.now cut.0 cut.1.now) }
+{
+    let rest = behind_times(text)?;
+    match cut_digit(rest) {
+        Some((count, others)) => Some((count, others)),
+        None => cut_any_count(text),
     }
 }
 

@@ -1,14 +1,14 @@
-use Rattle.std.proofs.Common.{◌++◌, ◌∙◌, List, ℕ, sym, ap}
+use Rattle.std.proofs.Common.{◌+◌, ◌∷◌, [], ◌++◌, ◌∙◌, List, ℕ, ap}
 use Rattle.std.specs.Prelude.{codes}
-use Rattle.script_reader.proofs.StepLines.{count_is}
+use Rattle.script_reader.proofs.StepLines.{digit_is, are_digits}
 use Rattle.script_reader.proofs.step_line.cut_count.Goals as goal
 
 pub returns-in-Some : goal.returns-in-Some
 returns-in-Some c =
-    let digits = c.cut_digits.result.0.now in
+    let n = c.in-Some.count in
     record {
-      digits = digits;
-      parts = c.in_ok-behind_times.ensures ∙ ap (λ (l : List ℕ). codes " x " ++ l) (c.cut_digits.ensures.parts ∙ ap (λ (l : List ℕ). digits ++ l) c.in_ok-others.ensures);
-      are_digits = c.cut_digits.ensures.digits;
-      counted = count_is digits c.in-Some.count (sym c.number.ensures ∙ c.in-Some.is) c.if-count-ge1.true c.if-count-le65536.true;
+      digits = (48 + n) ∷ [];
+      parts = c.in_ok-rest.ensures ∙ ap (λ (l : List ℕ). codes " x " ++ l) c.in-Some.ensures.parts;
+      are_digits = are_digits n c.in-Some.ensures.value.1;
+      counted = digit_is n c.in-Some.ensures.value.0 c.in-Some.ensures.value.1;
     }
