@@ -10,6 +10,8 @@
 #![tactic(auto)]
 
 mod exchanges;
+mod finding;
+mod groups;
 mod laws;
 mod sessions;
 #[cfg(test)]
