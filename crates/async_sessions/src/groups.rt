@@ -39,7 +39,7 @@ impl Groups {
         }
     }
 
-    /// An exchange comes: it is counted where it is begun, and listed where it is idle.
+    /// An exchange comes: it is counted if it is begun, and listed if it is idle.
     pub(crate) fn enter(&mut self, x: Exchange)
         requires { CanEnter x self.old.begun self.old.idle.items (vec_capacity self.old.idle) }
         ensures begun { self.new.begun ≡ counted_with x self.old.begun }
@@ -52,7 +52,7 @@ impl Groups {
         }
     }
 
-    /// An exchange goes.
+    /// An exchange goes: it is counted or listed no longer.
     pub(crate) fn leave(&mut self, x: &Exchange)
         requires { CanLeave x.now self.old.begun self.old.idle.items }
         ensures begun { self.new.begun ≡ counted_without x.now self.old.begun }
