@@ -3,3 +3,4 @@ pub mod Searches
 pub mod Answers
 pub mod Sound
 pub mod Rising
+pub mod Grouped

@@ -1,6 +1,6 @@
 -- Where the numbers of exchanges rise, a search by halves finds what a search one by one finds, and a change of the one
 -- place that it finds is a change of all with the number.
-use Rattle.std.proofs.Common.{◌≡◌, ◌≢◌, ℕ, zero, suc, ◌+◌, ◌<◌, ◌≤◌, ◌⊎◌, inl, inr, Bool, true, false, List, [], ◌∷◌, ◌++◌, take, drop, length, get_or, Some, None, Err, refl, ap, sym, ◌∙◌, arith}
+use Rattle.std.proofs.Common.{◌≡◌, ◌≢◌, ℕ, zero, suc, ◌+◌, ◌<◌, ◌≤◌, ◌⊎◌, inl, inr, Bool, true, false, List, [], ◌∷◌, ◌++◌, length, get_or, Some, None, Err, refl, ap, sym, ◌∙◌, arith}
 use Rattle.std.specs.Prelude.{if◌then◌else◌, ◌==◌, slice_get, slice_set}
 use Rattle.std.specs.List.{filter, remove}
 use Rattle.std.specs.List.Sorted.{IsNonDecreasingBy, IsBinarySearchResult}
@@ -34,7 +34,7 @@ do_not_fall n (x ∷ xs) r zero (suc j) d less within =
 do_not_fall n (x ∷ xs) r (suc i) zero d less within = absurd (omega arith)
 do_not_fall n (x ∷ xs) r (suc i) (suc j) d less within = do_not_fall (x.number.0 + 1) xs r.1 i j d (omega arith) (omega arith)
 
-compared_rise : (xs : List Exchange) (m : ℕ) → AreRising 0 xs → IsNonDecreasingBy (λ x. ordering_index (nat_cmp x.number.0 m)) xs
+pub compared_rise : (xs : List Exchange) (m : ℕ) → AreRising 0 xs → IsNonDecreasingBy (λ x. ordering_index (nat_cmp x.number.0 m)) xs
 compared_rise xs m r i j d less within =
     let rise = do_not_fall 0 xs r i j d less within in grind (arith, nat_tests)
 
@@ -75,17 +75,22 @@ pub drop_none : (e : ExchangeNo) (xs : List Exchange) → HasNone e xs → filte
 drop_none e [] h = refl
 drop_none e (x ∷ xs) h = rw (ne_eqb x.number.0 e.0 h.0, drop_none e xs h.1) refl
 
+pub none_there : (e : ExchangeNo) (xs : List Exchange) (i : ℕ) → HasNone e xs → IsNumbered e (slice_get xs i) → ⊥
+none_there e [] i none is = is
+none_there e (x ∷ xs) zero none is = none.0 is
+none_there e (x ∷ xs) (suc i) none is = none_there e xs i none.1 is
+
 -- one at a place has the number e
 
-after_it : (e : ExchangeNo) (x : Exchange) (xs : List Exchange) → AreRising (x.number.0 + 1) xs → x.number.0 ≡ e.0 → HasNone e xs
+pub after_it : (e : ExchangeNo) (x : Exchange) (xs : List Exchange) → AreRising (x.number.0 + 1) xs → x.number.0 ≡ e.0 → HasNone e xs
 after_it e x xs r is = none_above (x.number.0 + 1) e xs r (omega arith)
 
-before_it : (n : ℕ) (e : ExchangeNo) (xs : List Exchange) (i : ℕ) → AreRising n xs → IsNumbered e (slice_get xs i) → n ≤ e.0
+pub before_it : (n : ℕ) (e : ExchangeNo) (xs : List Exchange) (i : ℕ) → AreRising n xs → IsNumbered e (slice_get xs i) → n ≤ e.0
 before_it n e [] i r is = absurd is
 before_it n e (x ∷ xs) zero r is = let first = r.0 in omega arith
 before_it n e (x ∷ xs) (suc i) r is = let first = r.0 in let more = before_it (x.number.0 + 1) e xs i r.1 is in omega arith
 
-before_other : (e : ExchangeNo) (x : Exchange) (xs : List Exchange) (i : ℕ) → AreRising (x.number.0 + 1) xs → IsNumbered e (slice_get xs i) → (x.number.0 == e.0) ≡ false
+pub before_other : (e : ExchangeNo) (x : Exchange) (xs : List Exchange) (i : ℕ) → AreRising (x.number.0 + 1) xs → IsNumbered e (slice_get xs i) → (x.number.0 == e.0) ≡ false
 before_other e x xs i r is = let more = before_it (x.number.0 + 1) e xs i r is in ne_eqb x.number.0 e.0 (λ same. absurd (omega arith))
 
 pub place_within : (e : ExchangeNo) (xs : List Exchange) (i : ℕ) → IsNumbered e (slice_get xs i) → i < length xs
@@ -98,7 +103,7 @@ look_found n e [] i r is = absurd is
 look_found n e (x ∷ xs) zero r is = rw (eq-eqb x.number.0 e.0 is) refl
 look_found n e (x ∷ xs) (suc i) r is = rw (before_other e x xs i r.1 is) (look_found (x.number.0 + 1) e xs i r.1 is)
 
-change_found : (n : ℕ) (e : ExchangeNo) (held : Held) (stamp : ℕ) (xs : List Exchange) (i : ℕ) (y : Exchange) → AreRising n xs → IsNumbered e (slice_get xs i) → slice_get xs i ≡ Some y → slice_set xs i (record y { held = held; stamp = stamp }) ≡ changed e held stamp xs
+pub change_found : (n : ℕ) (e : ExchangeNo) (held : Held) (stamp : ℕ) (xs : List Exchange) (i : ℕ) (y : Exchange) → AreRising n xs → IsNumbered e (slice_get xs i) → slice_get xs i ≡ Some y → slice_set xs i (record y { held = held; stamp = stamp }) ≡ changed e held stamp xs
 change_found n e held stamp [] i y r is there = absurd is
 change_found n e held stamp (x ∷ xs) zero y r is there =
     let same : x ≡ y = cc in
@@ -106,8 +111,11 @@ change_found n e held stamp (x ∷ xs) zero y r is there =
 change_found n e held stamp (x ∷ xs) (suc i) y r is there =
     rw (before_other e x xs i r.1 is, change_found (x.number.0 + 1) e held stamp xs i y r.1 is there) refl
 
-pub change_at : (e : ExchangeNo) (held : Held) (stamp : ℕ) (xs : List Exchange) (i : ℕ) (d : Exchange) → AreRising 0 xs → IsNumbered e (slice_get xs i) → slice_set xs i (record (get_or xs i d) { held = held; stamp = stamp }) ≡ changed e held stamp xs
-change_at e held stamp xs i d r is = change_found 0 e held stamp xs i (get_or xs i d) r is (slice_get-get_or xs i d (place_within e xs i is))
+pub found_in : {ys xs : List Exchange} (e : ExchangeNo) (i : ℕ) → ys ≡ xs → IsNumbered e (slice_get ys i) → IsNumbered e (slice_get xs i)
+found_in e i same is = rw same at is
+
+pub found_at : (e : ExchangeNo) (xs : List Exchange) (i : ℕ) (y : Exchange) → IsNumbered e (slice_get xs i) → y ≡ get_or xs i y → slice_get xs i ≡ Some y
+found_at e xs i y is read = slice_get-get_or xs i y (place_within e xs i is) ∙ ap (λ (x : Exchange). Some x) (sym read)
 
 pub drop_found : (n : ℕ) (e : ExchangeNo) (xs : List Exchange) (i : ℕ) → AreRising n xs → IsNumbered e (slice_get xs i) → remove xs i ≡ filter (is_other e) xs
 drop_found n e [] i r is = absurd is
@@ -134,12 +142,12 @@ below_changed n e held stamp (x ∷ xs) b = by (x.number.0 == e.0) (below_change
   by true rest = (b.0, rest)
   by false rest = (b.0, rest)
 
-rising_dropped : (n : ℕ) (e : ExchangeNo) (xs : List Exchange) → AreRising n xs → AreRising n (filter (is_other e) xs)
-rising_dropped n e [] r = tt
-rising_dropped n e (x ∷ xs) r = by (is_other e x) (rising_dropped (x.number.0 + 1) e xs r.1) where
-  by : (b : Bool) → AreRising (x.number.0 + 1) (filter (is_other e) xs) → AreRising n (if b then x ∷ filter (is_other e) xs else filter (is_other e) xs)
+pub rising_filtered : (p : Exchange → Bool) (n : ℕ) (xs : List Exchange) → AreRising n xs → AreRising n (filter p xs)
+rising_filtered p n [] r = tt
+rising_filtered p n (x ∷ xs) r = by (p x) (rising_filtered p (x.number.0 + 1) xs r.1) where
+  by : (b : Bool) → AreRising (x.number.0 + 1) (filter p xs) → AreRising n (if b then x ∷ filter p xs else filter p xs)
   by true rest = (r.0, rest)
-  by false rest = let first = r.0 in lower n (x.number.0 + 1) (filter (is_other e) xs) (omega arith) rest
+  by false rest = let first = r.0 in lower n (x.number.0 + 1) (filter p xs) (omega arith) rest
 
 below_dropped : (n : ℕ) (e : ExchangeNo) (xs : List Exchange) → AreBelow n xs → AreBelow n (filter (is_other e) xs)
 below_dropped n e [] b = tt
@@ -156,7 +164,7 @@ below_pushed : (x : Exchange) (xs : List Exchange) → AreBelow x.number.0 xs �
 below_pushed x [] b = (omega arith, tt)
 below_pushed x (y ∷ ys) b = let less = b.0 in (omega arith, below_pushed x ys b.1)
 
-order_changed : (next : ℕ) (e : ExchangeNo) (held : Held) (stamp : ℕ) (xs : List Exchange) → AreInOrder xs next → AreInOrder (changed e held stamp xs) next
+pub order_changed : (next : ℕ) (e : ExchangeNo) (held : Held) (stamp : ℕ) (xs : List Exchange) → AreInOrder xs next → AreInOrder (changed e held stamp xs) next
 order_changed next e held stamp xs o = record {
   rising = rising_changed 0 e held stamp xs o.rising;
   below = below_changed next e held stamp xs o.below;
@@ -164,7 +172,7 @@ order_changed next e held stamp xs o = record {
 
 pub order_dropped : (next : ℕ) (e : ExchangeNo) (xs : List Exchange) → AreInOrder xs next → AreInOrder (filter (is_other e) xs) next
 order_dropped next e xs o = record {
-  rising = rising_dropped 0 e xs o.rising;
+  rising = rising_filtered (is_other e) 0 xs o.rising;
   below = below_dropped next e xs o.below;
 }
 
@@ -174,20 +182,6 @@ order_added x xs o = record {
   below = below_pushed x xs o.below;
 }
 
--- what is written back into a list by a part of its own length is that part
-
-written : (ys xs : List Exchange) (n : ℕ) → length ys ≡ n → length xs ≡ n → take n (ys ++ drop (length ys) xs) ≡ ys
-written [] xs zero e h = refl
-written [] xs (suc n) e h = absurd (omega arith)
-written (y ∷ ys) [] n e h = absurd (omega arith)
-written (y ∷ ys) (x ∷ xs) zero e h = absurd (omega arith)
-written (y ∷ ys) (x ∷ xs) (suc n) e h = ap (λ (l : List Exchange). y ∷ l) (written ys xs n (omega arith) (omega arith))
-
-length_changed : (e : ExchangeNo) (held : Held) (stamp : ℕ) (xs : List Exchange) → length (changed e held stamp xs) ≡ length xs
+pub length_changed : (e : ExchangeNo) (held : Held) (stamp : ℕ) (xs : List Exchange) → length (changed e held stamp xs) ≡ length xs
 length_changed e held stamp [] = refl
 length_changed e held stamp (x ∷ xs) = ap suc (length_changed e held stamp xs)
-
-pub order_written : (next : ℕ) (e : ExchangeNo) (held : Held) (stamp : ℕ) (new xs : List Exchange) (n : ℕ) → new ≡ changed e held stamp xs → length xs ≡ n → AreInOrder xs next → AreInOrder (take n (new ++ drop (length new) xs)) next
-order_written next e held stamp new xs n is h o =
-    rw (is, written (changed e held stamp xs) xs n (length_changed e held stamp xs ∙ h) h)
-    (order_changed next e held stamp xs o)

@@ -1,3 +1,4 @@
 pub mod Sessions
 pub mod SessionLaws
 pub mod ExchangeOrder
+pub mod ExchangeGroups

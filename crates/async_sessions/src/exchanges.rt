@@ -1,69 +1,147 @@
-//! Searches and changes in a list of exchanges.
-ghost use Rattle.std.specs.Prelude.{◌≡◌, IfSome, slice_get};
-ghost use Rattle.std.specs.Option.{option_copied, IfNone};
+//! The exchanges of a task.
+ghost use Rattle.std.specs.Prelude.{◌≡◌, ◌<◌, ◌≤◌, ◌+◌, ◌^◌, OnErr, OnOk, [], ◌∷◌, ◌++◌};
+ghost use Rattle.std.specs.List.{filter};
+ghost use Rattle.std.specs.Option.{option_copied};
 ghost use Rattle.async_sessions.specs.Sessions.{exchange_at, any_begun, first_idle};
-ghost use Rattle.async_sessions.specs.Sessions.{changed};
-ghost use Rattle.async_sessions.specs.ExchangeOrder.{AreRising, IsNumbered, HasNone};
+ghost use Rattle.async_sessions.specs.Sessions.{changed, is_other};
 
+use crate::finding::{first_idle, place_of};
+use crate::groups::Groups;
 use crate::sessions::{Exchange, Held};
-use ipc_ids::ExchangeNo;
+use ipc_ids::{ExchangeNo, NoMemory};
+use std::alloc::Global;
+use std::marker::Model;
 
-/// Where the exchange with this number stands among these, whose numbers rise.
-pub(crate) fn place_of(exchanges: &[Exchange], e: ExchangeNo) -> Option<usize>
-    requires rise { AreRising 0 exchanges.now }
-    ensures found { IfSome result (λ i. IsNumbered e (slice_get exchanges.now i)) }
-    ensures none { IfNone result (HasNone e exchanges.now) }
-{
-    match exchanges.binary_search_by_key(&e.0, |x| x.number.0) {
-        Ok(i) => Some(i),
-        Err(_) => None,
-    }
+/// The exchanges of a task by number, with room for `spare` more.
+#[derive(Drop)]
+pub(crate) struct Exchanges {
+    /// By rising number.
+    listed: Vec<Exchange>,
+    /// The same by how they are held. There is room for all to be idle, so that an end takes no
+    /// memory.
+    groups: Groups,
+    next_number: u64,
 }
 
-/// The exchange with this number, if there is one. The numbers rise.
-pub(crate) fn exchange_at(exchanges: &[Exchange], e: ExchangeNo) -> Option<&Exchange>
-    requires rise { AreRising 0 exchanges.now }
-    ensures { option_copied result ≡ exchange_at e exchanges.now }
-{
-    match place_of(exchanges, e) {
-        Some(i) => Some(&exchanges[i]),
-        None => None,
-    }
+impl Model for Exchanges {
+    ghost use Rattle.std.specs.Prelude.{◌-◌, min, vec_len};
+    ghost use Rattle.std.specs.Vec.{vec_capacity};
+    ghost use Rattle.async_sessions.specs.ExchangeGroups.{ExchangesState, AreKept};
+
+    ghost Value = { ExchangesState };
+
+    ghost view = { λ a. record {
+      listed = a.listed.items;
+      next_number = a.next_number;
+      spare = min (vec_capacity a.listed) (vec_capacity a.groups.idle) - vec_len a.listed;
+    } };
+
+    ghost invariant = { λ a. AreKept a.listed.items a.next_number a.groups.begun
+        a.groups.idle.items (vec_capacity a.groups.idle) };
 }
 
-/// Whether an exchange of the session is begun.
-pub(crate) fn is_any_begun(exchanges: &[Exchange], s: u32) -> bool
-    ensures { result ≡ any_begun s exchanges.now }
-{
-    exchanges
-        .iter()
-        .any(|x| x.session == s && x.held != Held::Idle)
-}
-
-/// The exchange that has been idle longest, of this session or, with `None`, of any.
-pub(crate) fn first_idle(exchanges: &[Exchange], s: Option<u32>) -> Option<&Exchange>
-    ensures { option_copied result ≡ first_idle s exchanges.now }
-{
-    let mut first: Option<&Exchange> = None;
-    for x in exchanges {
-        if x.held == Held::Idle
-            && s.is_none_or(|s| x.session == s)
-            && first.is_none_or(|best| x.stamp < best.stamp)
-        {
-            first = Some(x);
+impl Exchanges {
+    /// No exchanges; it takes no memory.
+    pub(crate) fn new(alloc: Global) -> Exchanges
+        ensures listed { result.listed ≡ [] }
+        ensures next_number { result.next_number ≡ 1 }
+    {
+        Exchanges {
+            listed: Vec::new(alloc),
+            groups: Groups {
+                begun: [0; 16],
+                idle: Vec::new(alloc),
+            },
+            next_number: 1,
         }
     }
-    first
-}
 
-/// The exchange with this number is held so from now on, and has this stamp. The numbers rise.
-pub(crate) fn change(exchanges: &mut [Exchange], e: ExchangeNo, held: Held, stamp: u64)
-    requires rise { AreRising 0 exchanges.old }
-    ensures { exchanges.new ≡ changed e held stamp exchanges.old }
-{
-    if let Some(i) = place_of(exchanges, e) {
-        let x = &mut exchanges[i];
-        x.held = held;
-        x.stamp = stamp;
+    /// Makes room for one more exchange.
+    ///
+    /// # Errors
+    ///
+    /// `NoMemory` where there was no room and no memory was found.
+    pub(crate) fn reserve(&mut self) -> Result<(), NoMemory>
+        ensures listed { self.new.listed ≡ self.old.listed }
+        ensures next_number { self.new.next_number ≡ self.old.next_number }
+        ensures room { OnOk result (0 < self.new.spare) }
+        ensures full { OnErr result (self.old.spare ≡ 0) }
+        ensures spare { self.old.spare ≤ self.new.spare }
+    {
+        match self.listed.reserve(1) {
+            Ok(()) => self.groups.reserve(self.listed.len() + 1),
+            Err(_) => Err(NoMemory),
+        }
+    }
+
+    /// The number that the next new exchange gets.
+    pub(crate) fn next_number(&self) -> ExchangeNo
+        ensures { result.0 ≡ self.now.next_number }
+    {
+        ExchangeNo(self.next_number)
+    }
+
+    /// The exchange with this number, if there is one.
+    pub(crate) fn exchange_at(&self, e: ExchangeNo) -> Option<&Exchange>
+        ensures { option_copied result ≡ exchange_at e self.now.listed }
+    {
+        match place_of(&self.listed, e) {
+            Some(i) => Some(&self.listed[i]),
+            None => None,
+        }
+    }
+
+    /// Whether an exchange of the session is begun.
+    pub(crate) fn is_any_begun(&self, s: u32) -> bool
+        requires { s < 16 }
+        ensures { result ≡ any_begun s self.now.listed }
+    {
+        self.groups.begun[s as usize] != 0
+    }
+
+    /// The exchange that has been idle longest, of this session or, with `None`, of any.
+    pub(crate) fn first_idle(&self, s: Option<u32>) -> Option<&Exchange>
+        ensures { option_copied result ≡ first_idle s self.now.listed }
+    {
+        first_idle(&self.groups.idle, s)
+    }
+
+    /// Adds an exchange, which has the next number. There is room for it.
+    pub(crate) fn add(&mut self, x: Exchange)
+        requires room { 0 < self.old.spare }
+        requires few_numbers { self.old.next_number < 2 ^ 62 }
+        requires number { x.number.0 ≡ self.old.next_number }
+        ensures listed { self.new.listed ≡ self.old.listed ++ x ∷ [] }
+        ensures next_number { self.new.next_number ≡ self.old.next_number + 1 }
+        ensures spare { self.new.spare + 1 ≡ self.old.spare }
+    {
+        self.groups.enter(x);
+        self.listed.push_reserved(x);
+        self.next_number += 1;
+    }
+
+    /// The exchange with this number, if there is one, is held so from now on, and has this stamp.
+    pub(crate) fn change(&mut self, e: ExchangeNo, held: Held, stamp: u64)
+        ensures listed { self.new.listed ≡ changed e held stamp self.old.listed }
+        ensures next_number { self.new.next_number ≡ self.old.next_number }
+    {
+        if let Some(i) = place_of(&self.listed, e) {
+            let was = self.listed[i];
+            let now = Exchange { held, stamp, ..was };
+            self.listed[i] = now;
+            self.groups.leave(&was);
+            self.groups.enter(now);
+        }
+    }
+
+    /// Removes the exchange with this number, if there is one.
+    pub(crate) fn drop_exchange(&mut self, e: ExchangeNo)
+        ensures listed { self.new.listed ≡ filter (is_other e) self.old.listed }
+        ensures next_number { self.new.next_number ≡ self.old.next_number }
+    {
+        if let Some(i) = place_of(&self.listed, e) {
+            let x = self.listed.remove(i);
+            self.groups.leave(&x);
+        }
     }
 }

@@ -6,10 +6,14 @@
 //! a phone of its own, keeps it when it ends, and is idle until it is begun again.
 //!
 //! `Sessions` decides what a begin, an end and a close come to. It makes no calls and blocks no
-//! fibril: its answers say what the caller has to do.
+//! fibril: its answers say what the caller has to do. `Exchanges` keeps the exchanges by number,
+//! counts the begun ones of each session and has the idle ones in a list of their own, so that no
+//! call looks through all of them.
 #![tactic(auto)]
 
 mod exchanges;
+mod finding;
+mod groups;
 mod laws;
 mod sessions;
 #[cfg(test)]

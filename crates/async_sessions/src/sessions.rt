@@ -1,5 +1,5 @@
 //! Sessions by number, and their exchanges.
-ghost use Rattle.std.specs.Prelude.{◌≡◌, ◌+◌, ◌^◌, ◌<◌, ◌≤◌, IfOk, OnOk, OnErr, ◌⊎◌, Some};
+ghost use Rattle.std.specs.Prelude.{◌≡◌, ◌+◌, ◌^◌, ◌<◌, ◌≤◌, IfOk, IfSome, OnOk, OnErr, ◌⊎◌, Some};
 ghost use Rattle.async_sessions.specs.Sessions.{IsWithinBounds, no_sessions, session_at};
 ghost use Rattle.async_sessions.specs.Sessions.{made, make_after, mode_answer, next_exchange};
 ghost use Rattle.async_sessions.specs.Sessions.{begin_answer, begin_in, begin_after, begun_after};
@@ -8,7 +8,7 @@ ghost use Rattle.async_sessions.specs.Sessions.{held_by, phone_answer};
 ghost use Rattle.async_sessions.specs.Sessions.{end_answer, end_after, ended};
 ghost use Rattle.async_sessions.specs.Sessions.{close_answer, close_in, close_after};
 
-use crate::exchanges::{change, exchange_at, first_idle, is_any_begun, place_of};
+use crate::exchanges::Exchanges;
 use ipc_ids::{Code, ExchangeMode, ExchangeNo, FibrilNo, NoMemory};
 use std::alloc::Global;
 use std::marker::Model;
@@ -82,31 +82,24 @@ pub enum Close {
 #[derive(Drop)]
 pub struct Sessions {
     sessions: [Option<Session>; 16],
-    /// By rising number.
-    exchanges: Vec<Exchange>,
-    next_number: u64,
+    exchanges: Exchanges,
     next_stamp: u64,
 }
 
 impl Model for Sessions {
-    ghost use Rattle.std.specs.Prelude.{◌-◌, vec_len};
-    ghost use Rattle.std.specs.Vec.{vec_capacity};
     ghost use Rattle.async_sessions.specs.Sessions.{SessionsState};
-    ghost use Rattle.async_sessions.specs.ExchangeOrder.{AreInOrder};
 
     ghost Value = { SessionsState };
 
     ghost view = { λ a. record {
       now = record {
         sessions = a.sessions;
-        exchanges = a.exchanges.items;
-        next_number = a.next_number;
+        exchanges = a.exchanges.listed;
+        next_number = a.exchanges.next_number;
         next_stamp = a.next_stamp;
       };
-      spare = vec_capacity a.exchanges - vec_len a.exchanges;
+      spare = a.exchanges.spare;
     } };
-
-    ghost invariant = { λ a. AreInOrder a.exchanges.items a.next_number };
 }
 
 impl Sessions {
@@ -116,8 +109,7 @@ impl Sessions {
     {
         Sessions {
             sessions: [None; 16],
-            exchanges: Vec::new(alloc),
-            next_number: 1,
+            exchanges: Exchanges::new(alloc),
             next_stamp: 1,
         }
     }
@@ -133,15 +125,13 @@ impl Sessions {
         ensures full { OnErr result (self.old.spare ≡ 0) }
         ensures spare { self.old.spare ≤ self.new.spare }
     {
-        match self.exchanges.reserve(1) {
-            Ok(()) => Ok(()),
-            Err(_) => Err(NoMemory),
-        }
+        self.exchanges.reserve()
     }
 
     /// The session with this number, if it is in use.
     fn session(&self, s: u32) -> Option<Session>
-        ensures { result ≡ session_at self.now.now s }
+        ensures value { result ≡ session_at self.now.now s }
+        ensures small { IfSome result (λ _. s < 16) }
     {
         match self.sessions.get(s as usize) {
             Some(session) => *session,
@@ -185,7 +175,7 @@ impl Sessions {
     pub fn next_number(&self) -> ExchangeNo
         ensures { result ≡ next_exchange self.now.now }
     {
-        ExchangeNo(self.next_number)
+        self.exchanges.next_number()
     }
 
     /// What a begin of session `s` would come to, want of memory aside. Takes no memory.
@@ -200,15 +190,16 @@ impl Sessions {
 
     /// What a begin of a session in use would come to.
     fn plan_in(&self, s: u32, session: Session, short: bool) -> Begin
+        requires { s < 16 }
         ensures { result ≡ begin_in self.now.now s short session session.mode }
     {
         match session.mode {
-            ExchangeMode::Atomic => Begin::Begun(ExchangeNo(self.next_number), session.phone),
+            ExchangeMode::Atomic => Begin::Begun(self.next_number(), session.phone),
             ExchangeMode::Serialize => {
-                if is_any_begun(&self.exchanges, s) {
+                if self.exchanges.is_any_begun(s) {
                     Begin::WaitMutex
                 } else {
-                    Begin::Begun(ExchangeNo(self.next_number), session.phone)
+                    Begin::Begun(self.next_number(), session.phone)
                 }
             }
             ExchangeMode::Parallel => self.plan_parallel(s, session, short),
@@ -220,11 +211,11 @@ impl Sessions {
         ensures { result
             ≡ idle_of self.now.now short session (first_idle (Some s) self.now.now.exchanges) }
     {
-        match first_idle(&self.exchanges, Some(s)) {
+        match self.exchanges.first_idle(Some(s)) {
             Some(idle) => Begin::Begun(idle.number, idle.phone),
             None => {
                 if short {
-                    match first_idle(&self.exchanges, None) {
+                    match self.exchanges.first_idle(None) {
                         Some(idle) => Begin::HangIdle(idle.number, idle.phone),
                         None => Begin::WaitPhone,
                     }
@@ -301,10 +292,10 @@ impl Sessions {
         requires few_numbers { self.old.now.next_number < 2 ^ 62 }
         ensures after { self.new.now ≡ begun_after self.old.now f s e phone mode }
     {
-        if e.0 == self.next_number {
+        if e == self.next_number() {
             self.add(f, s, phone, mode);
         } else {
-            change(&mut self.exchanges, e, Held::By(f), 0);
+            self.exchanges.change(e, Held::By(f), 0);
         }
     }
 
@@ -315,24 +306,21 @@ impl Sessions {
         ensures after { self.new.now ≡ added self.old.now f s phone mode }
         ensures spare { self.new.spare + 1 ≡ self.old.spare }
     {
-        self.exchanges.push_reserved(Exchange {
-            number: ExchangeNo(self.next_number),
+        self.exchanges.add(Exchange {
+            number: self.exchanges.next_number(),
             session: s,
             phone,
             mode,
             held: Held::By(f),
             stamp: 0,
         });
-        self.next_number += 1;
     }
 
     /// Removes the exchange with this number, if there is one.
     pub fn drop_exchange(&mut self, e: ExchangeNo)
         ensures after { self.new.now ≡ dropped self.old.now e }
     {
-        if let Some(i) = place_of(&self.exchanges, e) {
-            self.exchanges.remove(i);
-        }
+        self.exchanges.drop_exchange(e);
     }
 
     /// The connect call for a begin of the parallel session `s` was answered with that phone:
@@ -350,7 +338,7 @@ impl Sessions {
         ensures unchanged { OnErr result (self.new.now ≡ self.old.now) }
     {
         self.reserve()?;
-        let number = ExchangeNo(self.next_number);
+        let number = self.next_number();
         self.add(f, s, phone, ExchangeMode::Parallel);
         Ok(number)
     }
@@ -359,7 +347,7 @@ impl Sessions {
     fn held(&self, f: FibrilNo, e: ExchangeNo) -> Option<Exchange>
         ensures { result ≡ held_by f e self.now.now.exchanges }
     {
-        match exchange_at(&self.exchanges, e) {
+        match self.exchanges.exchange_at(e) {
             Some(x) if x.held == Held::By(f) => Some(*x),
             _ => None,
         }
@@ -407,7 +395,7 @@ impl Sessions {
         match mode {
             ExchangeMode::Parallel => {
                 let stamp = self.next_stamp;
-                change(&mut self.exchanges, e, Held::Idle, stamp);
+                self.exchanges.change(e, Held::Idle, stamp);
                 self.next_stamp = stamp + 1;
             }
             ExchangeMode::Atomic | ExchangeMode::Serialize => self.drop_exchange(e),
@@ -426,12 +414,13 @@ impl Sessions {
 
     /// What a close of a session in use would come to.
     fn plan_close_in(&self, s: u32, session: Session, waiting: bool) -> Close
+        requires { s < 16 }
         ensures { result ≡ close_in self.now.now s waiting session }
     {
-        if waiting || is_any_begun(&self.exchanges, s) {
+        if waiting || self.exchanges.is_any_begun(s) {
             return Close::Refused(Code::EBUSY);
         }
-        match first_idle(&self.exchanges, Some(s)) {
+        match self.exchanges.first_idle(Some(s)) {
             Some(idle) => Close::HangIdle(idle.number, idle.phone),
             None => Close::Last(session.phone),
         }

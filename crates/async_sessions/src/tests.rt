@@ -14,6 +14,8 @@ const FIRST: ExchangeNo = ExchangeNo(1);
 
 const SECOND: ExchangeNo = ExchangeNo(2);
 
+const THIRD: ExchangeNo = ExchangeNo(3);
+
 /// What the end of an exchange of this parallel session answers.
 const fn ended(session: u32) -> Result<Ended, Code> {
     Ok(Ended {
@@ -52,6 +54,45 @@ fn waits(sessions: &mut Sessions) -> bool
         return false;
     }
     sessions.end(TWO, FIRST) == Err(Code::ENOENT)
+}
+
+/// Whether a serialized session begins again after an end, while another session is begun.
+fn begins_after_an_end(sessions: &mut Sessions) -> bool
+    requires none { sessions.old.now ≡ no_sessions }
+{
+    if sessions.make(0, 5, ExchangeMode::Atomic) != Ok(())
+        || sessions.make(1, 6, ExchangeMode::Serialize) != Ok(())
+    {
+        return false;
+    }
+    if sessions.begin(ONE, 0, false) != Begin::Begun(FIRST, 5)
+        || sessions.begin(ONE, 1, false) != Begin::Begun(SECOND, 6)
+    {
+        return false;
+    }
+    if sessions.end(ONE, SECOND).is_err() {
+        return false;
+    }
+    sessions.begin(TWO, 1, false) == Begin::Begun(THIRD, 6)
+}
+
+/// Whether of two idle exchanges the one that has been idle longer is begun again or hung up.
+fn takes_the_longest_idle(sessions: &mut Sessions) -> bool
+    requires none { sessions.old.now ≡ no_sessions }
+{
+    if sessions.make(0, 2, ExchangeMode::Parallel) != Ok(())
+        || sessions.make(1, 3, ExchangeMode::Parallel) != Ok(())
+    {
+        return false;
+    }
+    if sessions.connected(ONE, 0, 7) != Ok(FIRST) || sessions.connected(ONE, 0, 8) != Ok(SECOND) {
+        return false;
+    }
+    if sessions.end(ONE, SECOND) != ended(0) || sessions.end(ONE, FIRST) != ended(0) {
+        return false;
+    }
+    sessions.plan_begin(TWO, 0, false) == Begin::Begun(SECOND, 8)
+        && sessions.plan_begin(TWO, 1, true) == Begin::HangIdle(SECOND, 8)
 }
 
 /// Whether a parallel session connects, and begins an idle exchange again.
@@ -131,7 +172,9 @@ fn closes_idle(sessions: &mut Sessions) -> bool {
 enum Does {
     Share,
     Wait,
+    BeginAfterAnEnd,
     BeginAgain,
+    TakeTheLongestIdle,
     HangUp,
     Close,
 }
@@ -141,7 +184,9 @@ fn sessions_do(alloc: Global, what: Does) -> bool {
     match what {
         Does::Share => shares(&mut sessions),
         Does::Wait => waits(&mut sessions),
+        Does::BeginAfterAnEnd => begins_after_an_end(&mut sessions),
         Does::BeginAgain => begins_again(&mut sessions),
+        Does::TakeTheLongestIdle => takes_the_longest_idle(&mut sessions),
         Does::HangUp => hangs_up(&mut sessions),
         Does::Close => closes(&mut sessions),
     }
@@ -158,8 +203,18 @@ fn a_serialized_session_waits(rt: HostRuntime) {
 }
 
 #[test]
+fn a_serialized_session_begins_after_an_end(rt: HostRuntime) {
+    assert!(rt; sessions_do(rt.alloc(), Does::BeginAfterAnEnd));
+}
+
+#[test]
 fn a_parallel_session_begins_an_idle_exchange(rt: HostRuntime) {
     assert!(rt; sessions_do(rt.alloc(), Does::BeginAgain));
+}
+
+#[test]
+fn the_exchange_idle_longest_is_taken(rt: HostRuntime) {
+    assert!(rt; sessions_do(rt.alloc(), Does::TakeTheLongestIdle));
 }
 
 #[test]

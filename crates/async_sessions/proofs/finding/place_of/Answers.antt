@@ -2,7 +2,7 @@ use Rattle.std.proofs.Common.{rules, sym}
 use Rattle.std.proofs.lemmas.Cmp.{ranked}
 use Rattle.std.proofs.lemmas.List.Sorted.{answers_always}
 use Rattle.async_sessions.proofs.Rising.{place_found, place_none}
-use Rattle.async_sessions.proofs.exchanges.place_of.Goals as goal
+use Rattle.async_sessions.proofs.finding.place_of.Goals as goal
 
 pub returns-in-Ok-clause-found : goal.returns-in-Ok-clause-found
 returns-in-Ok-clause-found c =
