@@ -14,7 +14,7 @@ use Rattle.fibril_core.specs.FibrilLaws.{status_in, passes, IsSound, IsQueue, Is
 use Rattle.fibril_core.specs.LiveFibrils.{goes_on, is_live, is_ready, waits, is_waiting, GoesOn, ended, count, spare_of}
 use Rattle.fibril_core.proofs.Firsts.{same_status_is, same_why_is, why_is_same}
 use Rattle.fibril_core.proofs.Places.{within}
-use Rattle.fibril_core.proofs.Searches.{found_place, none_at}
+use Rattle.fibril_core.proofs.Searches.{found_place, none_placed}
 use Rattle.fibril_core.proofs.Orders.{Has, has, first_number, sound_status, sound_spawned, sound_ended}
 use Rattle.fibril_core.proofs.Rebuilt.{named_over}
 use Rattle.fibril_core.proofs.Counts.{count_push}
@@ -155,7 +155,7 @@ leaves o f q i e queue =
 pub stands : (o : FibrilOrder) (f : FibrilNo) (q : List FibrilNo) (w : Why) → why_of o f ≡ Some w → waits (Blocked w) ≡ true → IsQueue is_waiting o q → position (λ g. g.0 == f.0) q ≢ None
 stands o f q w h waiting queue e =
     let at = queue.all f.0 (waiting_at (fibril_at o f.0) w true h waiting) in
-    let not = none_at (λ (g : FibrilNo). g.0 == f.0) q e at.0 f at.1 in
+    let not = none_placed (λ (g : FibrilNo). g.0 == f.0) q e at.0 f at.1 in
     cc (sym not ∙ eq-eqb f.0 f.0 refl)
 
 -- a call that gives one fibril a new status, by what it makes of the queues

@@ -48,19 +48,6 @@ module _ {X : Type 0} where
     place_by true h more = let same : 0 ≡ i = some_is 0 i (sym (position_here p x xs h) ∙ e) in (x, subst (λ (k : ℕ). slice_get (x ∷ xs) k ≡ Some x) same refl, h)
     place_by false h more = shift_back (position p xs) refl (sym (position_behind p x xs h) ∙ e) more
 
-  -- where no place is found, none passes
-  pub none_at : (p : X → Bool) (xs : List X) → position p xs ≡ None → (j : ℕ) (y : X) → slice_get xs j ≡ Some y → p y ≡ false
-  none_at p [] e j y there = absurd (cc there)
-  none_at p (x ∷ xs) e j y there = none_by (p x) refl j (λ h k. none_at p xs h k y) there where
-    unshift : (q : Option ℕ) → shifted q ≡ None → q ≡ None
-    unshift None h = refl
-    unshift (Some i) h = absurd (cc h)
-
-    none_by : (b : Bool) → p x ≡ b → (k : ℕ) → (position p xs ≡ None → (l : ℕ) → slice_get xs l ≡ Some y → p y ≡ false) → slice_get (x ∷ xs) k ≡ Some y → p y ≡ false
-    none_by true h k more there = absurd (cc (sym (position_here p x xs h) ∙ e))
-    none_by false h zero more there = let same : x ≡ y = cc in rw (← same) h
-    none_by false h (suc k) more there = more (unshift (position p xs) (sym (position_behind p x xs h) ∙ e)) k there
-
   -- what stands at the place of a search is what is found
   pub find_is : (p : X → Bool) (xs : List X) (at : List X → Option ℕ → Option X) → ((ys : List X) → at ys None ≡ None) → ((ys : List X) (i : ℕ) → at ys (Some i) ≡ slice_get ys i) → at xs (position p xs) ≡ find p xs
   find_is p [] at none some = none []
@@ -105,6 +92,13 @@ module _ {X : Type 0} where
     none_by true h g more k there = absurd (cc g)
     none_by false h g more zero there = let same : x ≡ y = cc in rw (← same) h
     none_by false h g more (suc k) there = more g k there
+
+  -- where no place is found, none passes
+  pub none_placed : (p : X → Bool) (xs : List X) → position p xs ≡ None → (j : ℕ) (y : X) → slice_get xs j ≡ Some y → p y ≡ false
+  none_placed p xs e = none_found p xs (sym (find_is p xs at (λ ys. refl) (λ ys i. refl)) ∙ ap (at xs) e) where
+    at : List X → Option ℕ → Option X
+    at ys None = None
+    at ys (Some i) = slice_get ys i
 
   -- a search does not see what does not pass
   pub find_set : (p : X → Bool) (xs : List X) (i : ℕ) (x y : X) → slice_get xs i ≡ Some x → p x ≡ false → p y ≡ false → find p (slice_set xs i y) ≡ find p xs

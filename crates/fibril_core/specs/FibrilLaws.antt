@@ -70,7 +70,7 @@ pub record IsQueue (p : Fibril → Bool) (o : FibrilOrder) (q : List FibrilNo) :
   pub rising : (i j : ℕ) (f g : FibrilNo) → slice_get q i ≡ Some f → slice_get q j ≡ Some g → i < j → stamp_of o f.0 < stamp_of o g.0
   pub length : length q ≡ count p o.fibrils
 
--- so are these, but for the fibril with one number, which is not among them
+-- these are the same but for the fibril with one number
 pub record IsQueueBut (p : Fibril → Bool) (o : FibrilOrder) (n : ℕ) (q : List FibrilNo) : Type 0 where
   pub pass : (i : ℕ) (f : FibrilNo) → slice_get q i ≡ Some f → passes p (fibril_at o f.0) ≡ true
   pub other : (i : ℕ) (f : FibrilNo) → slice_get q i ≡ Some f → f.0 ≢ n

@@ -262,14 +262,14 @@ impl Fibrils {
     }
 }
 
-/// Whether what is blocked on that waits for a mutex or a phone.
+/// Whether a fibril that is blocked on that waits for a mutex or a phone.
 fn waits(why: Why) -> bool
     ensures { result ≡ waits (Status.Blocked why) }
 {
     matches!(why, Why::Mutex(_) | Why::Phone)
 }
 
-/// Makes room in the queue for one more than so many.
+/// Gives the queue room for more than so many.
 fn reserve_place(queue: &mut VecDeque<FibrilNo>, live: usize) -> Result<(), NoMemory>
     requires held { deque_len queue.old ≤ live }
     requires few { live < 2 ^ 63 }
@@ -288,7 +288,7 @@ fn reserve_place(queue: &mut VecDeque<FibrilNo>, live: usize) -> Result<(), NoMe
     }
 }
 
-/// The first of those that wait that is blocked on that.
+/// Of those that wait for a mutex or a phone the one that blocked first on that.
 fn first_on(waiting: &VecDeque<FibrilNo>, live: &LiveFibrils, why: Why) -> Option<FibrilNo>
     requires waits { waits (Status.Blocked why) ≡ true }
     requires sound { IsSound live.now.order }
@@ -304,7 +304,7 @@ fn first_on(waiting: &VecDeque<FibrilNo>, live: &LiveFibrils, why: Why) -> Optio
     None
 }
 
-/// The fibril leaves the queue of those that wait, where it stands there.
+/// The fibril leaves the queue of those that wait for a mutex or a phone, where it stands there.
 fn leave(waiting: &mut VecDeque<FibrilNo>, live: &LiveFibrils, f: FibrilNo)
     requires queue { IsQueue is_waiting live.now.order waiting.old.items }
     ensures queue { IsQueueBut is_waiting live.now.order f.0 waiting.new.items }
