@@ -1,6 +1,5 @@
-use Rattle.std.proofs.Common.{rules, ◌≡◌, length, sym, ◌∙◌}
+use Rattle.std.proofs.Common.{rules, ◌≡◌, sym, ◌∙◌}
 use Rattle.std.specs.List.{remove}
-use Rattle.std.specs.VecDeque.{deque_len}
 use Rattle.std.proofs.lemmas.Fn.{filter_same}
 use Rattle.async_task.specs.Answers.{is_of_other_call}
 use Rattle.async_task.proofs.Rising.{filter_none, filter_there}
@@ -16,7 +15,6 @@ pub returns-in-Some : goal.returns-in-Some
 returns-in-Some c =
     let i = c.self.inside in
     let there = c.in-Some.ensures in
-    let same : length i.calls.items ≡ deque_len i.calls = search rules in
     let removed : c.remove.new.self.items ≡ remove i.calls.items c.in-Some.i = search rules in
     rw (← c.self.view_is)
     (removed ∙ filter_there (λ w. w.call.0) i.calls.items c.args.call.0 c.in-Some.i
