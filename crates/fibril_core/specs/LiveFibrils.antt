@@ -1,8 +1,9 @@
 -- The fibrils that have not ended, which are the only ones that are kept, and all fibrils as these give them.
-use Rattle.std.specs.Prelude.{◌≡◌, ℕ, zero, suc, ◌-◌, ◌==◌, Bool, true, false, not, if◌then◌else◌, List, [], ◌∷◌, ◌++◌, length, min, fold, Option, None, Some, ⊤}
+use Rattle.std.specs.Prelude.{◌≡◌, ◌<◌, ◌≤◌, ℕ, zero, suc, ◌-◌, ◌==◌, Bool, true, false, not, if◌then◌else◌, List, [], ◌∷◌, ◌++◌, length, min, fold, Option, None, Some, Result, OnOk, OnErr, ⊤}
 use Rattle.std.specs.List.{filter, find}
 use Rattle.ipc_ids.specs.declared.message.Why.TheVariants as why
 use Rattle.ipc_ids.specs.declared.numbers.FibrilNo.{FibrilNo}
+use Rattle.ipc_ids.specs.declared.trace.NoMemory.{NoMemory}
 use Rattle.fibril_core.specs.declared.fibrils.Status.{Status}
 use Rattle.fibril_core.specs.declared.fibrils.Status.TheVariants.{Ready, Blocked, Ended}
 use Rattle.fibril_core.specs.declared.fibrils.Fibril.{Fibril}
@@ -74,6 +75,12 @@ first_from status best xs = fold (λ one x. if same_status x.status status then 
 -- how many more fibrils there is room for, where each queue has room for so many of those that have not ended
 abbrev pub spare_of : FibrilsState → ℕ → ℕ
 spare_of s held = min s.spare (held - count is_live s.order.fibrils)
+
+-- after a reservation there is room for one more than so many, or there was none before; there is never less
+pub record MakesRoom (result : Result ⊤ NoMemory) (live before after : ℕ) : Type 0 where
+  pub room : OnOk result (live < after)
+  pub full : OnErr result (before ≤ live)
+  pub never_less : before ≤ after
 
 -- whether a status waits for a mutex or a phone
 abbrev pub waits : Status → Bool

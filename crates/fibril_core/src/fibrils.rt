@@ -5,7 +5,7 @@ ghost use Rattle.fibril_core.specs.Fibrils.{no_fibrils, current, first_blocked, 
 ghost use Rattle.fibril_core.specs.Fibrils.{why_of, IsWithinBounds, spawned, block_on, yield_now};
 ghost use Rattle.fibril_core.specs.Fibrils.{end_current, make_ready, wake_first, wake_all};
 ghost use Rattle.fibril_core.specs.FibrilLaws.{IsSound, IsQueue, IsQueueBut};
-ghost use Rattle.fibril_core.specs.LiveFibrils.{AreLive, waits, is_waiting};
+ghost use Rattle.fibril_core.specs.LiveFibrils.{AreLive, waits, is_waiting, MakesRoom};
 
 use crate::live_fibrils::LiveFibrils;
 use ipc_ids::{CallNo, FibrilNo, NoMemory, Why};
@@ -274,9 +274,7 @@ fn reserve_place(queue: &mut VecDeque<FibrilNo>, live: usize) -> Result<(), NoMe
     requires held { deque_len queue.old ≤ live }
     requires few { live < 2 ^ 63 }
     ensures items { queue.new.items ≡ queue.old.items }
-    ensures room { OnOk result (live < deque_capacity queue.new) }
-    ensures full { OnErr result (deque_capacity queue.old ≤ live) }
-    ensures capacity { deque_capacity queue.old ≤ deque_capacity queue.new }
+    ensures room { MakesRoom result live (deque_capacity queue.old) (deque_capacity queue.new) }
 {
     if live < queue.capacity() {
         return Ok(());
