@@ -1,17 +1,41 @@
 -- The exchanges of a task, with the begun ones counted by session and the idle ones listed beside.
-use Rattle.std.specs.Prelude.{ℕ, ◌≡◌, ◌≤◌, ◌<◌, ◌+◌, ◌-◌, ◌^◌, Bool, false, List, [], ◌∷◌}
+use Rattle.std.specs.Prelude.{ℕ, ◌≡◌, ◌≤◌, ◌<◌, ◌+◌, ◌-◌, ◌^◌, Bool, false, List, [], ◌∷◌, ◌++◌}
 use Rattle.std.specs.Prelude.{length, slice_index, slice_set, nat_lt, if◌then◌else◌}
+use Rattle.std.specs.Prelude.{⊤, Result, OnErr, OnOk}
 use Rattle.std.specs.List.{filter}
+use Rattle.ipc_ids.specs.declared.numbers.ExchangeNo.{ExchangeNo}
+use Rattle.ipc_ids.specs.declared.trace.NoMemory.{NoMemory}
 use Rattle.async_sessions.specs.declared.sessions.Exchange.{Exchange}
+use Rattle.async_sessions.specs.declared.sessions.Held.{Held}
 use Rattle.async_sessions.specs.declared.sessions.Held.TheVariants.{Idle}
-use Rattle.async_sessions.specs.Sessions.{same_held, is_begun_in, is_other}
+use Rattle.async_sessions.specs.Sessions.{same_held, is_begun_in, is_other, changed}
 use Rattle.async_sessions.specs.ExchangeOrder.{AreRising, AreInOrder, HasNone}
 
--- the exchanges by rising number, the number of the next one, and for how many more there is room
-pub record ExchangesState : Type 0 where
+-- the exchanges by rising number, and the number of the next one
+pub record Kept : Type 0 where
   pub listed : List Exchange
   pub next_number : ℕ
+
+-- exchanges, and for how many more there is room
+pub record ExchangesState : Type 0 where
+  pub now : Kept
   pub spare : ℕ
+
+-- no exchanges; numbers begin with 1
+abbrev pub none_kept : Kept
+none_kept = record { listed = []; next_number = 1 }
+
+-- this new exchange, which has the next number, is added
+abbrev pub with_new : Exchange → Kept → Kept
+with_new x k = record { listed = k.listed ++ x ∷ []; next_number = k.next_number + 1 }
+
+-- the exchange e is held so from now on
+abbrev pub with_changed : ExchangeNo → Held → ℕ → Kept → Kept
+with_changed e held stamp k = record k { listed = changed e held stamp k.listed }
+
+-- the exchange e is gone
+abbrev pub without : ExchangeNo → Kept → Kept
+without e k = record k { listed = filter (is_other e) k.listed }
 
 -- whether the exchange is idle
 abbrev pub is_idle : Exchange → Bool
@@ -67,6 +91,12 @@ pub record CanEnter (x : Exchange) (begun : List ℕ) (idle : List Exchange) (ca
   pub rising : AreRising 0 idle
   pub absent : HasNone x.number idle
   pub room : length idle < capacity
+
+-- what a reservation comes to: room for this many, or there was not; the capacity is not less
+pub record MakesRoom (result : Result ⊤ NoMemory) (count old new : ℕ) : Type 0 where
+  pub room : OnOk result (count ≤ new)
+  pub full : OnErr result (old < count)
+  pub no_less : old ≤ new
 
 -- the exchanges are in order and grouped, and all could be idle at once
 pub record AreKept (xs : List Exchange) (next : ℕ) (begun : List ℕ) (idle : List Exchange)

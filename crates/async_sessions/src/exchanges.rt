@@ -1,11 +1,10 @@
 //! The exchanges of a task.
-ghost use Rattle.std.specs.Prelude.{◌≡◌, ◌<◌, ◌≤◌, ◌+◌, ◌^◌, OnErr, OnOk, [], ◌∷◌, ◌++◌};
-ghost use Rattle.std.specs.List.{filter};
+ghost use Rattle.std.specs.Prelude.{◌≡◌, ◌<◌, ◌≤◌, ◌+◌, ◌^◌, OnErr, OnOk};
 ghost use Rattle.std.specs.Option.{option_copied};
 ghost use Rattle.async_sessions.specs.Sessions.{exchange_at, any_begun, first_idle};
-ghost use Rattle.async_sessions.specs.Sessions.{changed, is_other};
+ghost use Rattle.async_sessions.specs.ExchangeGroups.{none_kept, with_new, with_changed, without};
 
-use crate::finding::{first_idle, place_of};
+use crate::finding::{first_idle, is_any_begun, place_of};
 use crate::groups::Groups;
 use crate::sessions::{Exchange, Held};
 use ipc_ids::{ExchangeNo, NoMemory};
@@ -31,8 +30,7 @@ impl Model for Exchanges {
     ghost Value = { ExchangesState };
 
     ghost view = { λ a. record {
-      listed = a.listed.items;
-      next_number = a.next_number;
+      now = record { listed = a.listed.items; next_number = a.next_number };
       spare = min (vec_capacity a.listed) (vec_capacity a.groups.idle) - vec_len a.listed;
     } };
 
@@ -43,8 +41,7 @@ impl Model for Exchanges {
 impl Exchanges {
     /// No exchanges; it takes no memory.
     pub(crate) fn new(alloc: Global) -> Exchanges
-        ensures listed { result.listed ≡ [] }
-        ensures next_number { result.next_number ≡ 1 }
+        ensures { result.now ≡ none_kept }
     {
         Exchanges {
             listed: Vec::new(alloc),
@@ -62,8 +59,7 @@ impl Exchanges {
     ///
     /// `NoMemory` where there was no room and no memory was found.
     pub(crate) fn reserve(&mut self) -> Result<(), NoMemory>
-        ensures listed { self.new.listed ≡ self.old.listed }
-        ensures next_number { self.new.next_number ≡ self.old.next_number }
+        ensures same { self.new.now ≡ self.old.now }
         ensures room { OnOk result (0 < self.new.spare) }
         ensures full { OnErr result (self.old.spare ≡ 0) }
         ensures spare { self.old.spare ≤ self.new.spare }
@@ -76,14 +72,14 @@ impl Exchanges {
 
     /// The number that the next new exchange gets.
     pub(crate) fn next_number(&self) -> ExchangeNo
-        ensures { result.0 ≡ self.now.next_number }
+        ensures { result.0 ≡ self.now.now.next_number }
     {
         ExchangeNo(self.next_number)
     }
 
     /// The exchange with this number, if there is one.
     pub(crate) fn exchange_at(&self, e: ExchangeNo) -> Option<&Exchange>
-        ensures { option_copied result ≡ exchange_at e self.now.listed }
+        ensures { option_copied result ≡ exchange_at e self.now.now.listed }
     {
         match place_of(&self.listed, e) {
             Some(i) => Some(&self.listed[i]),
@@ -93,15 +89,18 @@ impl Exchanges {
 
     /// Whether an exchange of the session is begun.
     pub(crate) fn is_any_begun(&self, s: u32) -> bool
-        requires { s < 16 }
-        ensures { result ≡ any_begun s self.now.listed }
+        ensures { result ≡ any_begun s self.now.now.listed }
     {
-        self.groups.begun[s as usize] != 0
+        match self.groups.begun.get(s as usize) {
+            Some(count) => *count != 0,
+            // No session in use has such a number.
+            None => is_any_begun(&self.listed, s),
+        }
     }
 
     /// The exchange that has been idle longest, of this session or, with `None`, of any.
     pub(crate) fn first_idle(&self, s: Option<u32>) -> Option<&Exchange>
-        ensures { option_copied result ≡ first_idle s self.now.listed }
+        ensures { option_copied result ≡ first_idle s self.now.now.listed }
     {
         first_idle(&self.groups.idle, s)
     }
@@ -109,10 +108,9 @@ impl Exchanges {
     /// Adds an exchange, which has the next number. There is room for it.
     pub(crate) fn add(&mut self, x: Exchange)
         requires room { 0 < self.old.spare }
-        requires few_numbers { self.old.next_number < 2 ^ 62 }
-        requires number { x.number.0 ≡ self.old.next_number }
-        ensures listed { self.new.listed ≡ self.old.listed ++ x ∷ [] }
-        ensures next_number { self.new.next_number ≡ self.old.next_number + 1 }
+        requires few_numbers { self.old.now.next_number < 2 ^ 62 }
+        requires number { x.number.0 ≡ self.old.now.next_number }
+        ensures after { self.new.now ≡ with_new x self.old.now }
         ensures spare { self.new.spare + 1 ≡ self.old.spare }
     {
         self.groups.enter(x);
@@ -122,8 +120,7 @@ impl Exchanges {
 
     /// The exchange with this number, if there is one, is held so from now on, and has this stamp.
     pub(crate) fn change(&mut self, e: ExchangeNo, held: Held, stamp: u64)
-        ensures listed { self.new.listed ≡ changed e held stamp self.old.listed }
-        ensures next_number { self.new.next_number ≡ self.old.next_number }
+        ensures { self.new.now ≡ with_changed e held stamp self.old.now }
     {
         if let Some(i) = place_of(&self.listed, e) {
             let was = self.listed[i];
@@ -136,8 +133,7 @@ impl Exchanges {
 
     /// Removes the exchange with this number, if there is one.
     pub(crate) fn drop_exchange(&mut self, e: ExchangeNo)
-        ensures listed { self.new.listed ≡ filter (is_other e) self.old.listed }
-        ensures next_number { self.new.next_number ≡ self.old.next_number }
+        ensures { self.new.now ≡ without e self.old.now }
     {
         if let Some(i) = place_of(&self.listed, e) {
             let x = self.listed.remove(i);

@@ -1,7 +1,7 @@
 //! Finding an exchange in a list.
 ghost use Rattle.std.specs.Prelude.{◌≡◌, IfSome, slice_get};
 ghost use Rattle.std.specs.Option.{option_copied, IfNone};
-ghost use Rattle.async_sessions.specs.Sessions.{first_idle};
+ghost use Rattle.async_sessions.specs.Sessions.{any_begun, first_idle};
 ghost use Rattle.async_sessions.specs.ExchangeOrder.{AreRising, IsNumbered, HasNone};
 
 use crate::sessions::{Exchange, Held};
@@ -17,6 +17,15 @@ pub(crate) fn place_of(exchanges: &[Exchange], e: ExchangeNo) -> Option<usize>
         Ok(i) => Some(i),
         Err(_) => None,
     }
+}
+
+/// Whether an exchange of the session is begun.
+pub(crate) fn is_any_begun(exchanges: &[Exchange], s: u32) -> bool
+    ensures { result ≡ any_begun s exchanges.now }
+{
+    exchanges
+        .iter()
+        .any(|x| x.session == s && x.held != Held::Idle)
 }
 
 /// The exchange that has been idle longest, of this session or, with `None`, of any.

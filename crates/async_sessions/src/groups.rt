@@ -1,10 +1,10 @@
 //! Exchanges by how they are held.
-ghost use Rattle.std.specs.Prelude.{◌≡◌, ◌<◌, ◌≤◌, ◌+◌, ◌^◌, OnErr, OnOk, slice_index, vec_len};
+ghost use Rattle.std.specs.Prelude.{◌≡◌, ◌<◌, ◌≤◌, ◌+◌, ◌^◌, slice_index, vec_len};
 ghost use Rattle.std.specs.List.{filter};
 ghost use Rattle.std.specs.Vec.{vec_capacity};
 ghost use Rattle.async_sessions.specs.Sessions.{is_other};
 ghost use Rattle.async_sessions.specs.ExchangeOrder.{AreRising, HasNone};
-ghost use Rattle.async_sessions.specs.ExchangeGroups.{CanEnter, CanLeave, placed};
+ghost use Rattle.async_sessions.specs.ExchangeGroups.{CanEnter, CanLeave, MakesRoom, placed};
 ghost use Rattle.async_sessions.specs.ExchangeGroups.{one_more, one_less};
 ghost use Rattle.async_sessions.specs.ExchangeGroups.{counted_with, counted_without};
 ghost use Rattle.async_sessions.specs.ExchangeGroups.{idle_with, idle_without};
@@ -29,9 +29,8 @@ impl Groups {
         requires { vec_len self.old.idle ≤ count }
         ensures begun { self.new.begun ≡ self.old.begun }
         ensures idle { self.new.idle.items ≡ self.old.idle.items }
-        ensures room { OnOk result (count ≤ vec_capacity self.new.idle) }
-        ensures full { OnErr result (vec_capacity self.old.idle < count) }
-        ensures capacity { vec_capacity self.old.idle ≤ vec_capacity self.new.idle }
+        ensures capacity { MakesRoom result count (vec_capacity self.old.idle)
+            (vec_capacity self.new.idle) }
     {
         match self.idle.reserve(count - self.idle.len()) {
             Ok(()) => Ok(()),

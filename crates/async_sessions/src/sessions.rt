@@ -1,5 +1,5 @@
 //! Sessions by number, and their exchanges.
-ghost use Rattle.std.specs.Prelude.{◌≡◌, ◌+◌, ◌^◌, ◌<◌, ◌≤◌, IfOk, IfSome, OnOk, OnErr, ◌⊎◌, Some};
+ghost use Rattle.std.specs.Prelude.{◌≡◌, ◌+◌, ◌^◌, ◌<◌, ◌≤◌, IfOk, OnOk, OnErr, ◌⊎◌, Some};
 ghost use Rattle.async_sessions.specs.Sessions.{IsWithinBounds, no_sessions, session_at};
 ghost use Rattle.async_sessions.specs.Sessions.{made, make_after, mode_answer, next_exchange};
 ghost use Rattle.async_sessions.specs.Sessions.{begin_answer, begin_in, begin_after, begun_after};
@@ -94,8 +94,8 @@ impl Model for Sessions {
     ghost view = { λ a. record {
       now = record {
         sessions = a.sessions;
-        exchanges = a.exchanges.listed;
-        next_number = a.exchanges.next_number;
+        exchanges = a.exchanges.now.listed;
+        next_number = a.exchanges.now.next_number;
         next_stamp = a.next_stamp;
       };
       spare = a.exchanges.spare;
@@ -130,8 +130,7 @@ impl Sessions {
 
     /// The session with this number, if it is in use.
     fn session(&self, s: u32) -> Option<Session>
-        ensures value { result ≡ session_at self.now.now s }
-        ensures small { IfSome result (λ _. s < 16) }
+        ensures { result ≡ session_at self.now.now s }
     {
         match self.sessions.get(s as usize) {
             Some(session) => *session,
@@ -190,7 +189,6 @@ impl Sessions {
 
     /// What a begin of a session in use would come to.
     fn plan_in(&self, s: u32, session: Session, short: bool) -> Begin
-        requires { s < 16 }
         ensures { result ≡ begin_in self.now.now s short session session.mode }
     {
         match session.mode {
@@ -414,7 +412,6 @@ impl Sessions {
 
     /// What a close of a session in use would come to.
     fn plan_close_in(&self, s: u32, session: Session, waiting: bool) -> Close
-        requires { s < 16 }
         ensures { result ≡ close_in self.now.now s waiting session }
     {
         if waiting || self.exchanges.is_any_begun(s) {

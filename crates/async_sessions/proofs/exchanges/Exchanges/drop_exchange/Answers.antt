@@ -1,4 +1,4 @@
-use Rattle.std.proofs.Common.{◌≡◌, length, rules, subst, sym, ◌∙◌}
+use Rattle.std.proofs.Common.{◌≡◌, length, rules, refl, subst}
 use Rattle.async_sessions.specs.ExchangeOrder.{HasNone}
 use Rattle.async_sessions.proofs.Rising.{drop_found, drop_none, found_in, found_at}
 use Rattle.async_sessions.proofs.Grouped.{can_leave, kept_dropped}
@@ -20,14 +20,14 @@ invariant_of-self c =
     rw (c.remove-x.ensures.items, c.leave.ensures.begun, c.leave.ensures.idle, c.leave.ensures.capacity)
     (kept_dropped _ xs i _ _ _ _ (found_at c.args.e xs i _ here c.remove-x.ensures.value) all c.self.invariant)
 
-pub returns-in-Some-clause-listed : goal.returns-in-Some-clause-listed
-returns-in-Some-clause-listed c =
+pub returns-in-Some : goal.returns-in-Some
+returns-in-Some c =
     let xs = c.self.inside.listed.items in
     let i = c.in-Some.i in
     let here = found_in c.args.e i c.deref.ensures.value c.in-Some.ensures.found in
-    rw (← c.self.view_is) (c.remove-x.ensures.items ∙ drop_found 0 c.args.e xs i c.self.invariant.in_order.rising here)
+    rw (← c.self.view_is, c.remove-x.ensures.items, drop_found 0 c.args.e xs i c.self.invariant.in_order.rising here) refl
 
-pub returns-in_default-clause-listed : goal.returns-in_default-clause-listed
-returns-in_default-clause-listed c =
+pub returns-in_default : goal.returns-in_default
+returns-in_default c =
     let none = subst (HasNone c.args.e) c.deref.ensures.value c.in_default.ensures.none in
-    rw (← c.self.view_is) (sym (drop_none c.args.e c.self.inside.listed.items none))
+    rw (← c.self.view_is, drop_none c.args.e c.self.inside.listed.items none) refl
