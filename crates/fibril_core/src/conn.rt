@@ -18,7 +18,9 @@ pub struct Queued {
     pub msg: Msg,
 }
 
-/// Calls in the order of their coming.
+/// Calls in the order of their coming. It takes no memory while it is empty, and room for one call
+/// where one comes to the empty queue; further room is made as for any `Vec`, and all of it is given
+/// back when the last call is taken.
 #[derive(Drop)]
 pub struct Queue {
     items: Vec<Queued>,
@@ -60,13 +62,16 @@ impl Queue {
         ensures ok { OnOk result (self.new ≡ self.old ++ record { call = call; msg = msg } ∷ []) }
         ensures err { OnErr result (self.new ≡ self.old) }
     {
+        if self.items.is_empty() {
+            self.items.reserve_exact(1)?;
+        }
         match self.items.push(Queued { call, msg }) {
             Ok(()) => Ok(()),
             Err(_) => Err(NoMemory),
         }
     }
 
-    /// The first, which leaves the queue.
+    /// The first, which leaves the queue. The last one's room is given back.
     fn take(&mut self) -> Option<Queued>
         ensures first { result ≡ first_of self.old }
         ensures rest { self.new ≡ rest_of self.old }
@@ -74,7 +79,11 @@ impl Queue {
         if self.items.is_empty() {
             return None;
         }
-        Some(self.items.remove(0))
+        let first = self.items.remove(0);
+        if self.items.is_empty() {
+            self.items.shrink_to_fit();
+        }
+        Some(first)
     }
 }
 
