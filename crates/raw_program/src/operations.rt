@@ -13,7 +13,7 @@ use std::marker::Model;
 pub struct Operations {
     distinct: Vec<Op>,
     // Which of them each operation is.
-    which: Vec<usize>,
+    which: Vec<u32>,
 }
 
 impl Model for Operations {
@@ -36,7 +36,7 @@ impl Operations {
     ///
     /// # Errors
     ///
-    /// `NoMemory` where no memory was found.
+    /// `NoMemory` where no memory was found, or the operations that are kept are more than 2^32.
     pub fn copy_of(alloc: Global, ops: &[Op]) -> Result<Operations, NoMemory>
         ensures { IfOk result (λ copies. copies ≡ ops.now) }
     {
@@ -58,7 +58,7 @@ impl Operations {
         ensures few { length self.now < 2 ^ 63 }
     {
         match number_at(self.which.as_slice(), place) {
-            Some(at) => Some(&self.distinct[at]),
+            Some(at) => Some(&self.distinct[at as usize]),
             None => None,
         }
     }
@@ -71,7 +71,9 @@ impl Operations {
             self.which.push(last)?;
             return Ok(());
         }
-        let next = self.distinct.len();
+        let Ok(next) = u32::try_from(self.distinct.len()) else {
+            return Err(NoMemory);
+        };
         self.distinct.push(op.copy())?;
         self.which.push(next)?;
         Ok(())
@@ -80,7 +82,7 @@ impl Operations {
 
 /// The number at this place.
 #[inline(always)]
-fn number_at(numbers: &[usize], place: usize) -> Option<usize>
+fn number_at(numbers: &[u32], place: usize) -> Option<u32>
     ensures number { result ≡ slice_get numbers.now place }
     ensures within { IfSome result (λ _. place < length numbers.now) }
     ensures few { length numbers.now < 2 ^ 63 }
@@ -88,13 +90,13 @@ fn number_at(numbers: &[usize], place: usize) -> Option<usize>
     numbers.get(place).copied()
 }
 
-/// The number of the last operation, if it is the same as this one.
+/// The number of the last operation, if it is the same as this one and a `u32` holds its number.
 #[inline(always)]
-fn last_like(ops: &[Op], op: &Op) -> Option<usize>
+fn last_like(ops: &[Op], op: &Op) -> Option<u32>
     ensures { IfSome result (λ last. slice_get ops.now last ≡ Some op.now) }
 {
     match ops.last() {
-        Some(last) if is_same(last, op) => Some(ops.len() - 1),
+        Some(last) if is_same(last, op) => u32::try_from(ops.len() - 1).ok(),
         _ => None,
     }
 }

@@ -10,13 +10,13 @@ returns-in-Some c = rw (← c.self.view_is, c.in_ok-push.ensures.items) (again c
 
 pub invariant_of-self-in_err-push-3 : goal.invariant_of-self-in_err-push-3
 invariant_of-self-in_err-push-3 c =
-    rw (c.in_ok-push-2.ensures.items, c.push-3.ensures.items) (below_anew _ c.self.inside.distinct.items c.copy.result c.self.inside.which.items c.len-next.result (omega (arith, c.len-next.ensures, c.self.inside.distinct.ok)) c.self.invariant)
+    rw (c.in_ok-push-2.ensures.items, c.push-3.ensures.items) (below_anew _ c.self.inside.distinct.items c.copy.result c.self.inside.which.items c.in-Ok.next (omega (arith, c.in-Ok.ensures, c.len.ensures, c.self.inside.distinct.ok)) c.self.invariant)
 
 pub invariant_of-self-2 : goal.invariant_of-self-2
 invariant_of-self-2 c =
-    rw (c.in_ok-push-2.ensures.items, c.push-3.ensures.items) (below_anew _ c.self.inside.distinct.items c.copy.result c.self.inside.which.items c.len-next.result (omega (arith, c.len-next.ensures, c.self.inside.distinct.ok)) c.self.invariant)
+    rw (c.in_ok-push-2.ensures.items, c.push-3.ensures.items) (below_anew _ c.self.inside.distinct.items c.copy.result c.self.inside.which.items c.in-Ok.next (omega (arith, c.in-Ok.ensures, c.len.ensures, c.self.inside.distinct.ok)) c.self.invariant)
 
 pub returns : goal.returns
 returns c =
-    let e : c.len-next.result ≡ length c.self.inside.distinct.items = omega (arith, c.len-next.ensures, c.self.inside.distinct.ok) in
+    let e : c.in-Ok.next ≡ length c.self.inside.distinct.items = omega (arith, c.in-Ok.ensures, c.len.ensures, c.self.inside.distinct.ok) in
     rw (← c.self.view_is, c.in_ok-push-2.ensures.items, c.in_ok-push-3.ensures.items, e, c.copy.ensures) (anew c.self.inside.distinct.items c.args.op.now c.self.inside.which.items c.self.invariant)
