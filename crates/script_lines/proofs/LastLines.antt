@@ -1,10 +1,7 @@
 -- A line that is the same as the line before it says the same operation.
-use Rattle.std.proofs.Common.{◌≡◌, ℕ, suc, ◌-◌, ◌≤◌, Bool, true, false, cond, List, [], ◌∷◌, ◌++◌, length, take, drop, Some, Result, Err, sym, ap, subst, ◌∙◌, inl, inr, arith}
-use Rattle.std.specs.Prelude.{◌==◌, nat_eq}
-use Rattle.std.specs.List.{starts_with}
+use Rattle.std.proofs.Common.{◌≡◌, ℕ, suc, ◌-◌, ◌≤◌, Bool, true, false, cond, List, [], ◌∷◌, ◌++◌, length, take, drop, take-append-drop, Some, Result, Err, sym, ap, subst, ◌∙◌, inl, inr, arith}
+use Rattle.std.specs.Prelude.{◌==◌}
 use Rattle.std.proofs.lemmas.Bool.{cases_Bool}
-use Rattle.std.proofs.lemmas.Bool.Decides.{Decides-eqb}
-use Rattle.std.proofs.lemmas.Slice.Eq.{starts_is}
 use Rattle.ipc_ids.specs.declared.op.Op.{Op}
 use Rattle.script_lines.specs.declared.draft.Drafts.{Drafts}
 use Rattle.script_lines.specs.declared.fault.Reason.{Reason}
@@ -54,8 +51,8 @@ front_is (x ∷ xs) rest h = elim (cases_Bool (x == 10)) [
 -- ---- the same line once more
 
 -- what begins with a line has other bytes behind it
-pub begins : (text line : List ℕ) (r : Bool) → r ≡ starts_with nat_eq text line → r ≡ true → text ≡ line ++ drop (length line) text
-begins text line r is e = (starts_is Decides-eqb text line r is).0 e
+pub begins : (text line : List ℕ) → take (length line) text ≡ line → text ≡ line ++ drop (length line) text
+begins text line e = sym (take-append-drop (length line) text) ∙ ap (λ front. front ++ drop (length line) text) e
 
 present_of_last : (drafts : Drafts) → AreWhole drafts → present (part (parts_of drafts)) ≡ taker (last_draft drafts)
 present_of_last drafts whole = go drafts.on_template where

@@ -12,3 +12,4 @@ pub mod Verbs
 pub mod Faultless
 pub mod NearPlaces
 pub mod LastLines
+pub mod FourBytes

@@ -13,6 +13,7 @@ mod name;
 mod names;
 mod operation;
 mod plan;
+mod same;
 mod text;
 mod word;
 

@@ -18,6 +18,7 @@ use crate::name::Name;
 use crate::names::Names;
 use crate::operation::{op_in, two_and_arguments};
 use crate::plan::Kind;
+use crate::same::are_same;
 use crate::text::split_line;
 use crate::word::{OpVerb, Verb, look_up, number, verb_of};
 use ipc_ids::Op;
@@ -465,7 +466,9 @@ fn begins_with(text: &[u8], line: &[u8]) -> bool
 {
     let at = line.len().saturating_sub(2);
     match (text.get(at), line.get(at)) {
-        (Some(found), Some(wanted)) if *found == *wanted => text.starts_with(line),
+        (Some(found), Some(wanted)) if *found == *wanted && line.len() <= text.len() => {
+            are_same(&text[..line.len()], line)
+        }
         _ => false,
     }
 }

@@ -4,6 +4,7 @@ ghost use Rattle.script_lines.specs.Names.{place_of, task_named, task_names};
 ghost use Rattle.script_lines.specs.Sound.{NamesDiffer};
 
 use crate::plan::TaskPlan;
+use crate::same::are_same;
 use indexmap::IndexSet;
 use ipc_ids::{NoMemory, TaskNo};
 use std::alloc::Global;
@@ -58,7 +59,7 @@ impl Names {
         ensures within { result ≡ true → place < length self.now }
     {
         match self.known.as_slice().get(place) {
-            Some(known) => known.as_slice() == name,
+            Some(known) => are_same(known.as_slice(), name),
             None => false,
         }
     }
