@@ -7,8 +7,7 @@ use Rattle.ipc_ids.specs.declared.entry.Entry.{Entry}
 use Rattle.ipc_ids.specs.declared.message.Event.{Event}
 use Rattle.trace_print.specs.Text.{text_of}
 use Rattle.script_lines.specs.Plan.{Plan}
-use Rattle.task_system.specs.Run.{RunState, turn, run_from, run, MayHappen, MayAllHappen}
-use Rattle.schedule_replay.proofs.RunHistories.{may_now, may_on}
+use Rattle.task_system.specs.Run.{RunState, turn, run_from, run}
 use Rattle.schedule_replay.specs.Generator.{generated_plan, generated_events}
 use Rattle.schedule_replay.proofs.Sending.{text_append}
 use Rattle.command_line.specs.declared.summary.Tally.{Tally}
@@ -58,30 +57,16 @@ pub no_more_entries : (t : Tally) (entries : List Entry) (i : ℕ) (all : Tally)
 no_more_entries t entries i all h so_far = sym (nothing_more t) ∙ rw (drop_all i entries h) at so_far
 
 -- one event more
-pub one_more_event : (now : RunState) (events : List Event) (i : ℕ) (d : Event) (t all : Tally) → i < length events
-    → with_entries t (run_from now (drop i events)) ≡ all
-    → with_entries (with_entries t (turn now (slice_index_or events i d)).entries)
-    (run_from (turn now (slice_index_or events i d)).state (drop (i + 1) events)) ≡ all
-one_more_event now events i d t all h so_far =
-    let e : Event = slice_index_or events i d in
-    let next : i + 1 ≡ suc i = omega arith in
-    let rest : List Entry = run_from (turn now e).state (drop (i + 1) events) in
-    let split : drop i events ≡ e ∷ drop (i + 1) events = rw next (drop-cons events i d h) in
-    sym (tally_append t (turn now e).entries rest) ∙ rw split at so_far
-
--- what may come next, and what may come after it
-pub next_may : (now : RunState) (events : List Event) (i : ℕ) (d : Event) → i < length events → MayAllHappen now (drop i events)
-    → MayHappen now (slice_index_or events i d) × MayAllHappen (turn now (slice_index_or events i d)).state (drop (i + 1) events)
-next_may now events i d h may =
-    let e : Event = slice_index_or events i d in
-    let next : i + 1 ≡ suc i = omega arith in
-    let split : drop i events ≡ e ∷ drop (i + 1) events = rw next (drop-cons events i d h) in
-    (may_now now e (drop i events) (drop (i + 1) events) split may, may_on now (turn now e).state e (drop i events) (drop (i + 1) events) split refl may)
+pub one_more_event : (now : RunState) (e : Event) (left rest : List Event) (t all : Tally) → left ≡ e ∷ rest
+    → with_entries t (run_from now left) ≡ all
+    → with_entries (with_entries t (turn now e).entries) (run_from (turn now e).state rest) ≡ all
+one_more_event now e left rest t all split so_far =
+    sym (tally_append t (turn now e).entries (run_from (turn now e).state rest)) ∙ rw split at so_far
 
 -- no event is left
-pub no_more_events : (now : RunState) (events : List Event) (i : ℕ) (t all : Tally) → length events ≤ i
-    → with_entries t (run_from now (drop i events)) ≡ all → t ≡ all
-no_more_events now events i t all h so_far = sym (nothing_more t) ∙ rw (drop_all i events h) at so_far
+pub no_more_events : (now : RunState) (left : List Event) (t all : Tally) → left ≡ []
+    → with_entries t (run_from now left) ≡ all → t ≡ all
+no_more_events now left t all none so_far = sym (nothing_more t) ∙ rw none at so_far
 
 -- what the run of generated input comes to, in its line
 pub summed_up : (seed events : ℕ) (t : Tally) (plan : Plan) (list : List Event)

@@ -10,8 +10,8 @@ ghost use Rattle.command_line.specs.declared.status.Status.TheVariants.{Done, Wr
 use crate::Status;
 use crate::answer::tell;
 use io_edge::Sink;
-use ipc_ids::{Entry, Event, NoMemory, Trace};
-use schedule_replay::{Replay, generate};
+use ipc_ids::{Entry, NoMemory, Trace};
+use schedule_replay::{Feed, GeneratedFeed, Replay, generated_script};
 use script_reader::Script;
 use std::alloc::Global;
 use trace_print::entry_length;
@@ -68,11 +68,12 @@ impl Tally {
     }
 }
 
-// What the run of a script under events comes to.
-fn tally_run(alloc: Global, script: &Script, events: &[Event]) -> Result<Tally, NoMemory>
-    requires few { length events.now ≤ 65536 }
-    requires may { MayAllCome (length script.now.tasks) (length script.now.templates) events.now }
-    ensures { IfOk result (λ tally. tally ≡ tally_of (run script.now events.now)) }
+// What the run of a script under the events of a feed comes to.
+fn tally_run<F: Feed>(alloc: Global, script: &Script, feed: &mut F) -> Result<Tally, NoMemory>
+    requires few { length (F.left feed.old) ≤ 65536 }
+    requires may { MayAllCome (length script.now.tasks) (length script.now.templates)
+        (F.left feed.old) }
+    ensures { IfOk result (λ tally. tally ≡ tally_of (run script.now (F.left feed.old))) }
 {
     let mut replay = Replay::new(alloc, script)?;
     let mut trace = Trace::new(alloc);
@@ -83,9 +84,9 @@ fn tally_run(alloc: Global, script: &Script, events: &[Event]) -> Result<Tally, 
         delivered: 0,
         bytes: 0,
     };
-    for event in events {
+    while let Some(event) = feed.next() {
         trace.clear();
-        replay.step(event, &mut trace)?;
+        replay.step(&event, &mut trace)?;
         tally.add_all(trace.entries())?;
     }
     Ok(tally)
@@ -124,8 +125,9 @@ fn summary_text(alloc: Global, seed: u64, events: u64) -> Result<Vec<u8>, NoMemo
     requires few { events ≤ 65536 }
     ensures { IfOk result (λ text. text.items ≡ summary_line seed events) }
 {
-    let generated = generate(alloc, seed, events)?;
-    let tally = tally_run(alloc, &generated.script, generated.events.as_slice())?;
+    let script = generated_script(alloc)?;
+    let mut feed = GeneratedFeed::new(seed, events);
+    let tally = tally_run(alloc, &script, &mut feed)?;
     tally_text(alloc, events, tally)
 }
 

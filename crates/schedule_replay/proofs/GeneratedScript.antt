@@ -236,6 +236,9 @@ pub generated_events_count : (x count : ℕ) → length (generated_events x coun
 generated_events_count x zero = refl
 generated_events_count x (suc count) = ap suc (generated_events_count (next_number x) count)
 
+pub next_generated : (x count : ℕ) → generated_events x (count + 1) ≡ event_of (next_number x) ∷ generated_events (next_number x) count
+next_generated x count = let next : count + 1 ≡ suc count = omega arith in ap (generated_events x) next
+
 pub one_event_more : (made all : List Event) (x count done : ℕ) → done < count → made ++ generated_events x (count - done) ≡ all
     → (made ++ event_of (next_number x) ∷ []) ++ generated_events (next_number x) (count - (done + 1)) ≡ all
 one_event_more made all x count done lt whole =

@@ -4,6 +4,7 @@ ghost use Rattle.ipc_ids.specs.Tables.{most_events};
 ghost use Rattle.script_reader.specs.Schedule.{IsOnTaskOf, MayAllCome};
 ghost use Rattle.schedule_replay.specs.Generator.{event_of, generated_count, generated_events, generated_name, generated_operations, generated_plan, generated_task, next_number, wires_of};
 
+use crate::feed::Feed;
 use ipc_ids::{Bodies, Body, Code, Event, NoMemory, Op, Ops, PhoneNo, TaskNo, Value};
 use script_reader::{Kind, Name, Script, TaskPlan, TaskPlans, Wire, Wires};
 use std::alloc::Global;
@@ -72,6 +73,56 @@ impl Events {
         ensures { result.now ≡ self.now }
     {
         self.items.as_slice()
+    }
+}
+
+/// The events of a seed, each made as it is asked for. Contracts see the list of those that are
+/// left.
+#[derive(Drop)]
+pub struct GeneratedFeed {
+    // The number of the last event, and at first the seed.
+    number: u64,
+    // How many events are left.
+    left: u64,
+}
+
+impl Model for GeneratedFeed {
+    ghost use Rattle.std.specs.Prelude.{List};
+    ghost use Rattle.ipc_ids.specs.declared.message.Event.{Event};
+    ghost use Rattle.schedule_replay.specs.Generator.{generated_events};
+
+    ghost Value = { List Event };
+
+    ghost view = { λ feed. generated_events feed.number feed.left };
+}
+
+impl GeneratedFeed {
+    /// A feed with all events that `generate` makes of the seed left, so many, at most 65,536. Takes
+    /// no memory.
+    #[tactic(auto, using(crate::proofs::GeneratedScript::generated_may, crate::proofs::GeneratedScript::generated_events_count))]
+    pub fn new(seed: u64, events: u64) -> GeneratedFeed
+        requires { events ≤ most_events }
+        ensures events { result ≡ generated_events seed events }
+        ensures count { length result ≡ events }
+        ensures may { MayAllCome (length generated_plan.tasks) (length generated_plan.templates)
+            result }
+    {
+        GeneratedFeed {
+            number: seed,
+            left: events,
+        }
+    }
+}
+
+impl Feed for GeneratedFeed {
+    ghost left = { λ events. events };
+
+    #[tactic(auto, using(crate::proofs::GeneratedScript::next_generated))]
+    fn next(&mut self) -> Option<Event> {
+        let left = self.left.checked_sub(1)?;
+        self.left = left;
+        self.number = next_number(self.number);
+        Some(event_of(self.number))
     }
 }
 
@@ -173,7 +224,12 @@ fn wires(alloc: Global) -> Result<Wires, NoMemory>
     Ok(wires)
 }
 
-fn script(alloc: Global) -> Result<Script, NoMemory>
+/// The script of sixteen tasks that all generated runs have.
+///
+/// # Errors
+///
+/// `NoMemory` where no memory was found.
+pub fn generated_script(alloc: Global) -> Result<Script, NoMemory>
     ensures { IfOk result (λ made. made ≡ generated_plan) }
 {
     let tasks = tasks(alloc)?;
@@ -238,7 +294,7 @@ pub fn generate(alloc: Global, seed: u64, events: u64) -> Result<Generated, NoMe
     ensures may { IfOk result (λ made. MayAllCome (length made.script.tasks)
         (length made.script.templates) made.events) }
 {
-    let script = script(alloc)?;
+    let script = generated_script(alloc)?;
     let events = events_from(alloc, seed, events)?;
     Ok(Generated { script, events })
 }

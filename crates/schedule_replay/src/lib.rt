@@ -17,6 +17,6 @@ mod streaming;
 mod text_buffer;
 
 pub use feed::{Feed, SliceFeed};
-pub use generator::{Events, Generated, generate};
+pub use generator::{Events, Generated, GeneratedFeed, generate, generated_script};
 pub use machine::Replay;
 pub use streaming::{ReplayFault, replay};
