@@ -1,10 +1,10 @@
 -- What all 8 slots hold, where only the first of them take memory.
 use Rattle.std.proofs.Common.{ℕ, zero, suc, ◌≡◌, ◌+◌, ◌-◌, ◌<◌, ◌≤◌, Bool, true, false, List}
 use Rattle.std.proofs.Common.{[], ◌∷◌, ◌++◌, length, refl, sym, ap, ◌∙◌, arith}
-use Rattle.std.specs.Prelude.{if◌then◌else◌, nat_lt, replicate, slice_get, slice_set}
+use Rattle.std.specs.Prelude.{if◌then◌else◌, nat_lt, replicate, slice_get, slice_set, take}
 use Rattle.std.proofs.lemmas.Bool.Decides.{nat_tests}
 use Rattle.std.proofs.lemmas.List.{append_assoc, length-append, length-replicate, length-set}
-use Rattle.std.proofs.lemmas.List.{replicate-append-replicate, set-append_left}
+use Rattle.std.proofs.lemmas.List.{replicate-append-replicate, set-append_left, take_all}
 use Rattle.async_task.specs.declared.context.Slot.{Slot}
 use Rattle.async_task.specs.declared.context.Slot.TheVariants as slot
 use Rattle.async_task.specs.Contexts.{slot_in}
@@ -67,7 +67,7 @@ filled_past used k past = by (nat_lt k 8)
 
 -- more slots take memory
 
-pub filled_more : (used : List Slot) (n : ℕ) → length used + n ≤ 8 →
+filled_more : (used : List Slot) (n : ℕ) → length used + n ≤ 8 →
     filled (used ++ replicate n slot.Closed) ≡ filled used
 filled_more used n few =
     append_assoc used (replicate n slot.Closed) (replicate (8 - count) slot.Closed)
@@ -85,3 +85,10 @@ filled_more used n few =
 
     rest : n + (8 - count) ≡ 8 - length used
     rest = omega (arith, counted, few)
+
+pub filled_longer : (used : List Slot) (n : ℕ) → length used ≤ n → n ≤ 8 →
+    filled (take n used ++ replicate (n - length used) slot.Closed) ≡ filled used
+filled_longer used n past few =
+    ap (λ (slots : List Slot). filled (slots ++ replicate (n - length used) slot.Closed))
+    (take_all n used past)
+    ∙ filled_more used (n - length used) (omega (arith, past, few))

@@ -121,13 +121,7 @@ impl Machine {
     }
 
     /// The answer goes to the begin that is the present operation of its fibril.
-    fn deliver_to_begin(
-        &mut self,
-        awaited: Awaited,
-        call: CallNo,
-        reply: &Reply,
-        out: &mut Trace,
-    )
+    fn deliver_to_begin(&mut self, awaited: Awaited, call: CallNo, reply: &Reply, out: &mut Trace)
         requires ready { IsReady self.old out.old }
         requires begin { awaited.slot ≡ None }
         ensures { Does self.new out.old out.new (deliver self.old.state awaited call reply.now) }
@@ -152,9 +146,9 @@ impl Machine {
         requires entry { 0 < out.old.spare }
         requires bounds { IsWithinBounds self.old.state.order }
         ensures ended { Does self.new out.old out.new (record {
-            state = forget_call (wake_if self.old.state awaited.fibril
-                (is_for call (why_of self.old.state.order awaited.fibril))) call;
-            entries = entry.Gets self.old.state.me awaited.fibril call awaited.slot reply.now ∷ [];
+          state = forget_call (wake_if self.old.state awaited.fibril
+              (is_for call (why_of self.old.state.order awaited.fibril))) call;
+          entries = entry.Gets self.old.state.me awaited.fibril call awaited.slot reply.now ∷ [];
         }) }
         ensures spare { out.new.spare + 1 ≡ out.old.spare }
         ensures exchanges { self.new.room.exchanges ≡ self.old.room.exchanges }

@@ -176,6 +176,7 @@ impl Machine {
     /// # Errors
     ///
     /// `NoMemory` where no memory was found. Nothing has changed then.
+    #[tactic(auto, using(crate::proofs::Listed::set_same))]
     pub(crate) fn accepted_at(
         &mut self,
         f: FibrilNo,
@@ -211,6 +212,7 @@ impl Machine {
     /// # Errors
     ///
     /// `NoMemory` where no memory was found. Nothing has changed then.
+    #[tactic(auto, using(crate::proofs::Listed::set_same))]
     pub(crate) fn filled_at(
         &mut self,
         f: FibrilNo,

@@ -55,6 +55,7 @@ impl Slots {
     /// # Errors
     ///
     /// `NoMemory` where no memory was found. Nothing has changed then.
+    #[tactic(auto, using(crate::proofs::Filled::filled_set))]
     pub(crate) fn hold(&mut self, slot: u32, holds: Slot) -> Result<(), NoMemory>
         ensures ok { OnOk result (self.new ≡ with_held self.old slot holds) }
         ensures unchanged { OnErr result (self.new ≡ self.old) }
@@ -69,6 +70,7 @@ impl Slots {
     }
 
     /// A slot is closed.
+    #[tactic(auto, using(crate::proofs::Filled::filled_past))]
     pub(crate) fn close(&mut self, slot: u32)
         ensures { self.new ≡ with_held self.old slot Slot.Closed }
     {
