@@ -89,6 +89,13 @@ kept_listed n es i below = by (nat_lt_cases i n)
         kept_past (listed n es) i (subst (λ (k : ℕ). k ≤ i) (sym (length_listed n es)) h)
         ∙ sym (below.none i h)
 
+-- what stands at a place stands there still
+pub set_same : (ts : List (Option Context)) (i : ℕ) (t : Context) → kept_at ts i ≡ Some t →
+    slice_set ts i (Some t) ≡ ts
+set_same [] i t h = refl
+set_same (u ∷ ts) zero t h = ap (λ (o : Option Context). o ∷ ts) (sym h)
+set_same (u ∷ ts) (suc i) t h = ap (λ (us : List (Option Context)). u ∷ us) (set_same ts i t h)
+
 -- a change at one place
 
 -- the entries give that at the place, and at the others what those gave

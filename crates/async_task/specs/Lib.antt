@@ -3,6 +3,7 @@ pub mod AwaitedCalls
 pub mod Contexts
 pub mod Kept
 pub mod Lends
+pub mod Slots
 pub mod Turns
 pub mod Wanted
 pub mod Calls

@@ -1,27 +1,38 @@
 //! Answers that come, and where they go.
-ghost use Rattle.std.specs.Prelude.{◌≡◌, ◌^◌, ◌<◌, ◌++◌};
+ghost use Rattle.std.specs.Prelude.{◌≡◌, ◌+◌, ◌^◌, ◌<◌, [], ◌∷◌, OnOk, OnErr, None, Some};
 ghost use Rattle.std.specs.List.{find};
 ghost use Rattle.fibril_core.specs.Fibrils.{IsWithinBounds, why_of};
 ghost use Rattle.async_sessions.specs.Sessions.{session_at, mode_answer};
-ghost use Rattle.async_task.specs.AsyncState.{Does, IsReady, context_at, context_or_new};
+ghost use Rattle.ipc_ids.specs.declared.entry.Entry.TheVariants as entry;
+ghost use Rattle.async_task.specs.AsyncState.{Does, Stays, IsReady, context_or_new};
 ghost use Rattle.async_task.specs.Answers.{is_of_call, answer_slot, connect, answer_begin};
-ghost use Rattle.async_task.specs.Answers.{give_answer, is_for, wake_if};
+ghost use Rattle.async_task.specs.Answers.{is_for, wake_if};
 ghost use Rattle.async_task.specs.Answers.{forget_call, deliver, take_answer};
 
 use crate::awaited::Awaited;
 use crate::machine::Machine;
-use ipc_ids::{CallNo, Code, Entry, ExchangeMode, FibrilNo, Op, Reply, Trace, Why};
+use ipc_ids::{CallNo, Code, Entry, ExchangeMode, FibrilNo, NoMemory, Op, Reply, Trace, Why};
 
 impl Machine {
     /// An answer came. One that nobody awaits is passed over.
-    pub(crate) fn take_answer(&mut self, call: CallNo, reply: &Reply, out: &mut Trace)
+    ///
+    /// # Errors
+    ///
+    /// `NoMemory` where no memory was found. Nothing has changed then.
+    pub(crate) fn take_answer(
+        &mut self,
+        call: CallNo,
+        reply: &Reply,
+        out: &mut Trace,
+    ) -> Result<(), NoMemory>
         requires ready { IsReady self.old out.old }
-        ensures { Does self.new out.old out.new (take_answer self.old.state call reply.now
-            (find (is_of_call call) self.old.state.awaited)) }
+        ensures ok { OnOk result (Does self.new out.old out.new (take_answer self.old.state call
+            reply.now (find (is_of_call call) self.old.state.awaited))) }
+        ensures unchanged { OnErr result (Stays self.old self.new out.old out.new) }
     {
         match self.awaiting(call) {
             Some(awaited) => self.deliver(awaited, call, reply, out),
-            None => {}
+            None => Ok(()),
         }
     }
 
@@ -35,90 +46,133 @@ impl Machine {
     }
 
     /// The answer goes where it is awaited.
-    fn deliver(&mut self, awaited: Awaited, call: CallNo, reply: &Reply, out: &mut Trace)
+    fn deliver(
+        &mut self,
+        awaited: Awaited,
+        call: CallNo,
+        reply: &Reply,
+        out: &mut Trace,
+    ) -> Result<(), NoMemory>
         requires ready { IsReady self.old out.old }
-        ensures { Does self.new out.old out.new (deliver self.old.state awaited call reply.now) }
+        ensures ok { OnOk result
+            (Does self.new out.old out.new (deliver self.old.state awaited call reply.now)) }
+        ensures unchanged { OnErr result (Stays self.old self.new out.old out.new) }
     {
-        let f = awaited.fibril;
-        let woken = self.wake_for(f, call);
-        self.forget_call(call);
-        out.push(Entry::Gets {
-            task: self.me,
-            fibril: f,
-            call,
-            slot: awaited.slot,
-            reply: *reply,
-        });
-        self.give_answer(f, call, reply, woken, awaited.slot, out);
+        match awaited.slot {
+            Some(slot) => self.deliver_to_slot(awaited, slot, call, reply, out),
+            None => {
+                self.deliver_to_begin(awaited, call, reply, out);
+                Ok(())
+            }
+        }
     }
 
-    /// The fibril is ready where it was blocked on the answer of this call; says whether it was.
-    fn wake_for(&mut self, f: FibrilNo, call: CallNo) -> bool
-        requires bounds { IsWithinBounds self.old.state.order }
-        ensures woken { result ≡ is_for call (why_of self.old.state.order f) }
-        ensures state { self.new.state
-            ≡ wake_if self.old.state f (is_for call (why_of self.old.state.order f)) }
-        ensures room { self.new.room ≡ self.old.room }
+    /// The answer goes to that slot.
+    fn deliver_to_slot(
+        &mut self,
+        awaited: Awaited,
+        slot: u32,
+        call: CallNo,
+        reply: &Reply,
+        out: &mut Trace,
+    ) -> Result<(), NoMemory>
+        requires ready { IsReady self.old out.old }
+        requires slot { awaited.slot ≡ Some slot }
+        ensures ok { OnOk result
+            (Does self.new out.old out.new (deliver self.old.state awaited call reply.now)) }
+        ensures unchanged { OnErr result (Stays self.old self.new out.old out.new) }
+    {
+        self.answer_slot(awaited.fibril, slot, call, reply)?;
+        self.end_wait(awaited, call, reply, out);
+        Ok(())
+    }
+
+    /// The answer for a slot comes: a fibril that is blocked on it takes it at once, else it stays
+    /// there.
+    fn answer_slot(
+        &mut self,
+        f: FibrilNo,
+        slot: u32,
+        call: CallNo,
+        reply: &Reply,
+    ) -> Result<(), NoMemory>
+        ensures state { OnOk result (self.new.state
+            ≡ answer_slot self.old.state f slot call reply.now
+            (is_for call (why_of self.old.state.order f)) (context_or_new self.old.state f)) }
+        ensures unchanged { OnErr result (self.new.state ≡ self.old.state) }
+        ensures order { self.new.state.order ≡ self.old.state.order }
+    {
+        if self.is_blocked_on(f, call) {
+            self.answered_at(f, slot, call, reply);
+            Ok(())
+        } else {
+            self.filled_at(f, slot, call, reply)
+        }
+    }
+
+    /// Whether the fibril is blocked on the answer of this call.
+    fn is_blocked_on(&self, f: FibrilNo, call: CallNo) -> bool
+        ensures { result ≡ is_for call (why_of self.now.state.order f) }
     {
         match self.fibrils.why(f) {
-            Some(Why::Answer(awaited)) => {
-                let woken = awaited.0 == call.0;
-                if woken {
-                    self.fibrils.wake_fibril(f);
-                }
-                woken
-            }
+            Some(Why::Answer(awaited)) => awaited.0 == call.0,
             _ => false,
         }
     }
 
-    fn forget_call(&mut self, call: CallNo)
-        ensures state { self.new.state ≡ forget_call self.old.state call }
-        ensures exchanges { self.new.room.exchanges ≡ self.old.room.exchanges }
+    /// The answer goes to the begin that is the present operation of its fibril.
+    fn deliver_to_begin(&mut self, awaited: Awaited, call: CallNo, reply: &Reply, out: &mut Trace)
+        requires ready { IsReady self.old out.old }
+        requires begin { awaited.slot ≡ None }
+        ensures { Does self.new out.old out.new (deliver self.old.state awaited call reply.now) }
     {
-        self.awaited.forget_call(call);
-    }
-
-    /// The answer goes to a slot, or to a begin where `slot` is `None`.
-    fn give_answer(
-        &mut self,
-        f: FibrilNo,
-        call: CallNo,
-        reply: &Reply,
-        woken: bool,
-        slot: Option<u32>,
-        out: &mut Trace,
-    )
-        requires entry { 0 < out.old.spare }
-        requires exchange { 0 < self.old.room.exchanges }
-        requires exchanges { self.old.state.pool.next_number < 2 ^ 62 }
-        ensures { Does self.new out.old out.new (give_answer self.old.state f call reply.now woken
-            slot (context_at self.old.state f)) }
-    {
+        let f = awaited.fibril;
+        self.end_wait(awaited, call, reply, out);
         match self.context(f) {
-            Some(t) => match slot {
-                Some(slot) => self.answer_slot(f, slot, call, reply, woken),
-                None => match self.present_op(t) {
-                    Some(Op::Begin { handle, session }) => {
-                        let handle = *handle;
-                        let session = *session;
-                        self.answer_begin(f, handle, session, reply, out);
-                    }
-                    _ => {}
-                },
+            Some(t) => match self.present_op(t) {
+                Some(Op::Begin { handle, session }) => {
+                    let handle = *handle;
+                    let session = *session;
+                    self.answer_begin(f, handle, session, reply, out);
+                }
+                _ => {}
             },
             None => {}
         }
     }
 
-    fn answer_slot(&mut self, f: FibrilNo, slot: u32, call: CallNo, reply: &Reply, woken: bool)
-        ensures { self.new.state ≡ answer_slot self.old.state f slot call reply.now woken
-            (context_or_new self.old.state f) }
+    /// The call is awaited no more, and the fibril is ready where it was blocked on its answer.
+    fn end_wait(&mut self, awaited: Awaited, call: CallNo, reply: &Reply, out: &mut Trace)
+        requires entry { 0 < out.old.spare }
+        requires bounds { IsWithinBounds self.old.state.order }
+        ensures ended { Does self.new out.old out.new (record {
+          state = forget_call (wake_if self.old.state awaited.fibril
+              (is_for call (why_of self.old.state.order awaited.fibril))) call;
+          entries = entry.Gets self.old.state.me awaited.fibril call awaited.slot reply.now ∷ [];
+        }) }
+        ensures spare { out.new.spare + 1 ≡ out.old.spare }
+        ensures exchanges { self.new.room.exchanges ≡ self.old.room.exchanges }
     {
-        if woken {
-            self.answered_at(f, slot, call, reply);
-        } else {
-            self.filled_at(f, slot, call, reply);
+        self.wake_for(awaited.fibril, call);
+        self.awaited.forget_call(call);
+        out.push(Entry::Gets {
+            task: self.me,
+            fibril: awaited.fibril,
+            call,
+            slot: awaited.slot,
+            reply: *reply,
+        });
+    }
+
+    /// The fibril is ready where it was blocked on the answer of this call.
+    fn wake_for(&mut self, f: FibrilNo, call: CallNo)
+        requires bounds { IsWithinBounds self.old.state.order }
+        ensures state { self.new.state
+            ≡ wake_if self.old.state f (is_for call (why_of self.old.state.order f)) }
+        ensures room { self.new.room ≡ self.old.room }
+    {
+        if self.is_blocked_on(f, call) {
+            self.fibrils.wake_fibril(f);
         }
     }
 

@@ -1,8 +1,8 @@
 //! Operations that call, wait and yield.
-ghost use Rattle.std.specs.Prelude.{◌≡◌, ◌^◌, ◌<◌, Some};
+ghost use Rattle.std.specs.Prelude.{◌≡◌, ◌^◌, ◌<◌, OnOk, OnErr, Some};
 ghost use Rattle.fibril_core.specs.Fibrils.{current, IsWithinBounds};
 ghost use Rattle.fibril_core.specs.Conns.{conn_of_fibril, take_answer};
-ghost use Rattle.async_task.specs.AsyncState.{Does, IsReady, context_or_new};
+ghost use Rattle.async_task.specs.AsyncState.{Does, Stays, IsReady, context_or_new};
 ghost use Rattle.async_task.specs.Contexts.{slot_at};
 ghost use Rattle.async_task.specs.Calls.{refuse_op, block, send_call, call_outcome, call_slot};
 ghost use Rattle.async_task.specs.Calls.{send_over, wait_slot, next_call, with_taken, yield_op};
@@ -11,7 +11,7 @@ use crate::awaited::Awaited;
 use crate::context::Slot;
 use crate::machine::Machine;
 use fibril_core::Taken;
-use ipc_ids::{CallNo, Code, Entry, FibrilNo, Msg, Outcome, Trace, Why};
+use ipc_ids::{CallNo, Code, Entry, FibrilNo, Msg, NoMemory, Outcome, Trace, Why};
 
 impl Machine {
     /// The task refuses the operation.
@@ -54,19 +54,37 @@ impl Machine {
     }
 
     /// A call from a slot.
-    pub(crate) fn call_slot(&mut self, f: FibrilNo, slot: u32, got: &Outcome, out: &mut Trace)
+    ///
+    /// # Errors
+    ///
+    /// `NoMemory` where no memory was found. Nothing has changed then.
+    pub(crate) fn call_slot(
+        &mut self,
+        f: FibrilNo,
+        slot: u32,
+        got: &Outcome,
+        out: &mut Trace,
+    ) -> Result<(), NoMemory>
         requires ready { IsReady self.old out.old }
-        ensures { Does self.new out.old out.new
+        ensures ok { OnOk result (Does self.new out.old out.new
             (call_slot self.old.state f (context_or_new self.old.state f) slot got.now
-            (slot_at (context_or_new self.old.state f) slot)) }
+            (slot_at (context_or_new self.old.state f) slot))) }
+        ensures unchanged { OnErr result (Stays self.old self.new out.old out.new) }
     {
         match self.slot_at(f, slot) {
             Slot::Closed => self.call_outcome(f, slot, got, out),
-            Slot::Sent(_) | Slot::Answered(_, _) => self.refuse_op(f, Code::EBUSY, out),
+            Slot::Sent(_) | Slot::Answered(_, _) => {
+                self.refuse_op(f, Code::EBUSY, out);
+                Ok(())
+            }
         }
     }
 
     /// A call from a slot over the phone of an exchange, if that is begun.
+    ///
+    /// # Errors
+    ///
+    /// `NoMemory` where no memory was found. Nothing has changed then.
     pub(crate) fn send_over(
         &mut self,
         f: FibrilNo,
@@ -74,36 +92,57 @@ impl Machine {
         phone: Option<u64>,
         got: &Outcome,
         out: &mut Trace,
-    )
+    ) -> Result<(), NoMemory>
         requires ready { IsReady self.old out.old }
-        ensures { Does self.new out.old out.new
+        ensures ok { OnOk result (Does self.new out.old out.new
             (send_over self.old.state f (context_or_new self.old.state f) slot got.now
-            (slot_at (context_or_new self.old.state f) slot) phone) }
+            (slot_at (context_or_new self.old.state f) slot) phone)) }
+        ensures unchanged { OnErr result (Stays self.old self.new out.old out.new) }
     {
         match phone {
             Some(_) => self.call_slot(f, slot, got, out),
-            None => self.refuse_op(f, Code::ENOENT, out),
+            None => {
+                self.refuse_op(f, Code::ENOENT, out);
+                Ok(())
+            }
         }
     }
 
-    fn call_outcome(&mut self, f: FibrilNo, slot: u32, got: &Outcome, out: &mut Trace)
+    fn call_outcome(
+        &mut self,
+        f: FibrilNo,
+        slot: u32,
+        got: &Outcome,
+        out: &mut Trace,
+    ) -> Result<(), NoMemory>
         requires ready { IsReady self.old out.old }
-        ensures { Does self.new out.old out.new
-            (call_outcome self.old.state f (context_or_new self.old.state f) slot got.now) }
+        ensures ok { OnOk result (Does self.new out.old out.new
+            (call_outcome self.old.state f (context_or_new self.old.state f) slot got.now)) }
+        ensures unchanged { OnErr result (Stays self.old self.new out.old out.new) }
     {
         match got {
             Outcome::Accepted(call) => self.send_call(f, slot, *call, out),
-            Outcome::Refused(code) => self.refused_at(f, *code),
-            _ => {}
+            Outcome::Refused(code) => {
+                self.refused_at(f, *code);
+                Ok(())
+            }
+            _ => Ok(()),
         }
     }
 
-    fn send_call(&mut self, f: FibrilNo, slot: u32, call: CallNo, out: &mut Trace)
+    fn send_call(
+        &mut self,
+        f: FibrilNo,
+        slot: u32,
+        call: CallNo,
+        out: &mut Trace,
+    ) -> Result<(), NoMemory>
         requires ready { IsReady self.old out.old }
-        ensures { Does self.new out.old out.new
-            (send_call self.old.state f (context_or_new self.old.state f) slot call) }
+        ensures ok { OnOk result (Does self.new out.old out.new
+            (send_call self.old.state f (context_or_new self.old.state f) slot call)) }
+        ensures unchanged { OnErr result (Stays self.old self.new out.old out.new) }
     {
-        self.accepted_at(f, slot, call);
+        self.accepted_at(f, slot, call)?;
         self.awaited.push_reserved(Awaited {
             call,
             fibril: f,
@@ -115,6 +154,7 @@ impl Machine {
             call,
             slot: Some(slot),
         });
+        Ok(())
     }
 
     /// Waits for the answer in a slot. `f` is the present fibril.

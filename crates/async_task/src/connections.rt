@@ -113,7 +113,7 @@ impl Machine {
         let me = self.me;
         self.add_connection(label, f);
         self.reach_holder(holder);
-        let mut t = Context::new(body);
+        let mut t = Context::new(self.alloc(), body);
         t.received(call, msg, from);
         self.add_fibril(t);
         out.push(Entry::Starts {

@@ -1,5 +1,5 @@
 //! What a fibril keeps.
-ghost use Rattle.std.specs.Prelude.{◌≡◌, ◌<◌};
+ghost use Rattle.std.specs.Prelude.{◌≡◌, ◌<◌, OnOk, OnErr};
 ghost use Rattle.async_task.specs.Contexts.{new_context, with_register, with_five, at_next};
 ghost use Rattle.async_task.specs.Contexts.{jump_if};
 ghost use Rattle.async_task.specs.Contexts.{value_of, values_of, msg_of, reply_of, slot_at};
@@ -9,7 +9,9 @@ ghost use Rattle.async_task.specs.Contexts.{with_received, after_accepted, after
 ghost use Rattle.async_task.specs.Contexts.{after_begun, after_ended};
 ghost use Rattle.async_task.specs.Calls.{after_raw};
 
-use ipc_ids::{CallNo, Code, ExchangeNo, Label, Msg, Op, Outcome, Reply, Value};
+use crate::slots::Slots;
+use ipc_ids::{CallNo, Code, ExchangeNo, Label, Msg, NoMemory, Op, Outcome, Reply, Value};
+use std::alloc::Global;
 
 /// What a slot holds.
 #[derive(Clone, Copy)]
@@ -22,26 +24,26 @@ pub enum Slot {
 
 /// A fibril's body by its number, its place in it, 32 registers, 8 slots and 8 handles of
 /// exchanges, and whether a connect call of its present begin met the limit.
-#[derive(Clone, Copy)]
+#[derive(Drop)]
 pub struct Context {
     pub body: usize,
     pub place: usize,
     pub registers: [u64; 32],
-    pub slots: [Slot; 8],
+    pub slots: Slots,
     pub handles: [Option<ExchangeNo>; 8],
     pub short: bool,
 }
 
 impl Context {
     /// A fibril before the first operation of a body.
-    pub(crate) fn new(body: usize) -> Context
+    pub(crate) fn new(alloc: Global, body: usize) -> Context
         ensures { result ≡ new_context body }
     {
         Context {
             body,
             place: 0,
             registers: [0; 32],
-            slots: [Slot::Closed; 8],
+            slots: Slots::new(alloc),
             handles: [None; 8],
             short: false,
         }
@@ -137,19 +139,26 @@ impl Context {
     pub(crate) fn slot(&self, slot: u32) -> Slot
         ensures { result ≡ slot_at self.now slot }
     {
-        match self.slots.get(slot as usize) {
-            Some(slot) => *slot,
-            None => Slot::Closed,
-        }
+        self.slots.get(slot)
     }
 
     /// A slot holds that. There is none from 8 on.
-    pub(crate) fn set_slot(&mut self, slot: u32, holds: Slot)
-        ensures { self.new ≡ with_slot self.old slot holds }
+    ///
+    /// # Errors
+    ///
+    /// `NoMemory` where no memory was found. Nothing has changed then.
+    pub(crate) fn hold(&mut self, slot: u32, holds: Slot) -> Result<(), NoMemory>
+        ensures ok { OnOk result (self.new ≡ with_slot self.old slot holds) }
+        ensures unchanged { OnErr result (self.new ≡ self.old) }
     {
-        if slot < 8 {
-            self.slots[slot as usize] = holds;
-        }
+        self.slots.hold(slot, holds)
+    }
+
+    /// A slot is closed.
+    fn close_slot(&mut self, slot: u32)
+        ensures { self.new ≡ with_slot self.old slot Slot.Closed }
+    {
+        self.slots.close(slot);
     }
 
     /// The exchange that a handle names.
@@ -241,13 +250,19 @@ impl Context {
     }
 
     /// The call of the slot was accepted.
-    pub(crate) fn accepted(&mut self, slot: u32, call: CallNo)
-        ensures { self.new ≡ after_accepted self.old slot call }
+    ///
+    /// # Errors
+    ///
+    /// `NoMemory` where no memory was found. Nothing has changed then.
+    pub(crate) fn accepted(&mut self, slot: u32, call: CallNo) -> Result<(), NoMemory>
+        ensures ok { OnOk result (self.new ≡ after_accepted self.old slot call) }
+        ensures unchanged { OnErr result (self.new ≡ self.old) }
     {
+        self.hold(slot, Slot::Sent(call))?;
         self.set_register(0, 0);
         self.set_register(1, call.0);
-        self.set_slot(slot, Slot::Sent(call));
         self.advance();
+        Ok(())
     }
 
     /// The answer was taken from the slot.
@@ -258,7 +273,7 @@ impl Context {
         self.set_register(9, call.0);
         self.set_register(10, reply.code.0);
         self.set_five(11, &reply.args);
-        self.set_slot(slot, Slot::Closed);
+        self.close_slot(slot);
         self.advance();
     }
 

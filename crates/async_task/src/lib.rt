@@ -16,6 +16,7 @@ mod contexts;
 mod exchanges;
 mod machine;
 mod program;
+mod slots;
 mod step;
 #[cfg(test)]
 mod tests;
@@ -24,3 +25,4 @@ mod wanted;
 pub use awaited::Awaited;
 pub use context::{Context, Slot};
 pub use program::AsyncProgram;
+pub use slots::Slots;

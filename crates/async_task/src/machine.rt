@@ -79,6 +79,11 @@ impl Machine {
         }
     }
 
+    /// The allocator of the task.
+    pub(crate) fn alloc(&self) -> Global {
+        *self.work.allocator()
+    }
+
     /// What a fibril keeps.
     pub(crate) fn context(&self, f: FibrilNo) -> Option<&Context>
         ensures { option_copied result ≡ context_at self.now.state f }
@@ -167,14 +172,26 @@ impl Machine {
     }
 
     /// The call of a slot of the fibril was accepted.
-    pub(crate) fn accepted_at(&mut self, f: FibrilNo, slot: u32, call: CallNo)
-        ensures state { self.new.state
+    ///
+    /// # Errors
+    ///
+    /// `NoMemory` where no memory was found. Nothing has changed then.
+    #[tactic(auto, using(crate::proofs::Listed::set_same))]
+    pub(crate) fn accepted_at(
+        &mut self,
+        f: FibrilNo,
+        slot: u32,
+        call: CallNo,
+    ) -> Result<(), NoMemory>
+        ensures state { OnOk result (self.new.state
             ≡ with_context self.old.state f
-            (after_accepted (context_or_new self.old.state f) slot call) }
+            (after_accepted (context_or_new self.old.state f) slot call)) }
+        ensures unchanged { OnErr result (self.new.state ≡ self.old.state) }
         ensures room { self.new.room ≡ self.old.room }
     {
-        if let Some(t) = self.contexts.get_mut(place_of(f)) {
-            t.accepted(slot, call);
+        match self.contexts.get_mut(place_of(f)) {
+            Some(t) => t.accepted(slot, call),
+            None => Ok(()),
         }
     }
 
@@ -191,14 +208,27 @@ impl Machine {
     }
 
     /// The answer of a slot of the fibril came, and stays there.
-    pub(crate) fn filled_at(&mut self, f: FibrilNo, slot: u32, call: CallNo, reply: &Reply)
-        ensures state { self.new.state
+    ///
+    /// # Errors
+    ///
+    /// `NoMemory` where no memory was found. Nothing has changed then.
+    #[tactic(auto, using(crate::proofs::Listed::set_same))]
+    pub(crate) fn filled_at(
+        &mut self,
+        f: FibrilNo,
+        slot: u32,
+        call: CallNo,
+        reply: &Reply,
+    ) -> Result<(), NoMemory>
+        ensures state { OnOk result (self.new.state
             ≡ with_context self.old.state f
-            (with_slot (context_or_new self.old.state f) slot (Slot.Answered call reply.now)) }
+            (with_slot (context_or_new self.old.state f) slot (Slot.Answered call reply.now))) }
+        ensures unchanged { OnErr result (self.new.state ≡ self.old.state) }
         ensures room { self.new.room ≡ self.old.room }
     {
-        if let Some(t) = self.contexts.get_mut(place_of(f)) {
-            t.set_slot(slot, Slot::Answered(call, *reply));
+        match self.contexts.get_mut(place_of(f)) {
+            Some(t) => t.hold(slot, Slot::Answered(call, *reply)),
+            None => Ok(()),
         }
     }
 

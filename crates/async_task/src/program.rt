@@ -108,7 +108,7 @@ impl Machine {
             return Ok(());
         }
         self.reserve_fibril()?;
-        self.add_fibril(Context::new(i));
+        self.add_fibril(Context::new(self.alloc(), i));
         Ok(())
     }
 }

@@ -368,22 +368,29 @@ fn a_fibril_that_ended_gets_no_answer(rt: HostRuntime) -> Result<(), Fail> {
 #[test]
 fn an_answer_waits_in_its_slot(rt: HostRuntime) -> Result<(), Fail> {
     let first = [
-        call_slot(3, 0, 601),
-        call_slot(0, 0, 602),
+        call_slot(7, 0, 601),
+        call_slot(3, 0, 602),
+        call_slot(0, 0, 603),
         Op::Wait(0),
+        Op::Wait(7),
+        show(9),
         Op::Wait(3),
         show(9),
     ];
     let ends = [];
     let steps = [
-        calls(0, 601, 1, &[Own::Sends(1, 1, Some(3))]),
-        calls(0, 602, 2, &[Own::Sends(1, 2, Some(0))]),
-        nothing(&[Own::Blocks(1, Why::Answer(CallNo(2)))]),
+        calls(0, 601, 1, &[Own::Sends(1, 1, Some(7))]),
+        calls(0, 602, 2, &[Own::Sends(1, 2, Some(3))]),
+        calls(0, 603, 3, &[Own::Sends(1, 3, Some(0))]),
+        nothing(&[Own::Blocks(1, Why::Answer(CallNo(3)))]),
         nothing(&[Own::Ends(2)]),
-        answered(1, 5, &[Own::Gets(1, 1, Some(3))]),
-        answered(2, 6, &[Own::Gets(1, 2, Some(0))]),
+        answered(1, 5, &[Own::Gets(1, 1, Some(7))]),
+        answered(2, 6, &[Own::Gets(1, 2, Some(3))]),
+        answered(3, 7, &[Own::Gets(1, 3, Some(0))]),
         nothing(&[]),
         answers(9, Code::EOK, 1),
+        nothing(&[]),
+        answers(9, Code::EOK, 2),
     ];
     assert!(rt; runs(rt.alloc(), false, [&first, &ends], &steps)?);
     Ok(())
