@@ -1,6 +1,8 @@
 //! What scripts and schedules say: the tables of what is at fault are in faults/, at the top.
 use ipc_ids::{Body, Event, ExchangeMode, Mode, Op, TaskNo, Value};
-use script_reader::{Kind, TaskPlan, Wire, read_schedule, read_script};
+use script_reader::{
+    EventsLeft, Kind, Script, TaskPlan, Wire, read_repeated_events, read_schedule, read_script,
+};
 use std::alloc::Global;
 
 /// A task: its name, kind and phones, for each body whether it is one of connections and how many
@@ -401,14 +403,38 @@ fn scripts_say_their_operations(rt: HostRuntime) {
     assert!(rt; has_ops(rt.alloc(), FIBRILS, 0, 1, &FIBRIL));
 }
 
-/// Whether a schedule over a script says just these events.
+/// Whether a schedule says just these events one by one.
+fn lists_events(alloc: Global, script: &Script, schedule: &[u8], wanted: &[Event]) -> bool {
+    match read_schedule(alloc, schedule, script) {
+        Err(_) => false,
+        Ok(events) => events.as_slice() == wanted,
+    }
+}
+
+/// Whether a schedule, where equal events in a row are kept once, gives just these events.
+fn gives_events(alloc: Global, script: &Script, schedule: &[u8], wanted: &[Event]) -> bool {
+    match read_repeated_events(alloc, schedule, script) {
+        Err(_) => false,
+        Ok(events) => {
+            let mut left = EventsLeft::new(&events);
+            for event in wanted {
+                if left.take_first() != Some(*event) {
+                    return false;
+                }
+            }
+            left.take_first().is_none()
+        }
+    }
+}
+
+/// Whether a schedule over a script says just these events, in both ways of reading.
 fn says_events(alloc: Global, script: &[u8], schedule: &[u8], wanted: &[Event]) -> bool {
     match read_script(alloc, script) {
         Err(_) => false,
-        Ok(script) => match read_schedule(alloc, schedule, &script) {
-            Err(_) => false,
-            Ok(events) => events.as_slice() == wanted,
-        },
+        Ok(script) => {
+            lists_events(alloc, &script, schedule, wanted)
+                && gives_events(alloc, &script, schedule, wanted)
+        }
     }
 }
 
@@ -437,9 +463,26 @@ const SPAWN_EVENTS: [Event; 7] = [
     Event::Step(TaskNo(3)),
 ];
 
+/// Equal events on lines behind each other.
+const EQUAL_LINES: &[u8] =
+    b"step s_9\nstep s_9 x 2\nstep client\nkill s_9\nkill s_9\nstep client\nstep client x 1\n";
+
+/// The events of `EQUAL_LINES`.
+const EQUAL_EVENTS: [Event; 8] = [
+    Event::Step(TaskNo(2)),
+    Event::Step(TaskNo(2)),
+    Event::Step(TaskNo(2)),
+    Event::Step(TaskNo(1)),
+    Event::Kill(TaskNo(2)),
+    Event::Kill(TaskNo(2)),
+    Event::Step(TaskNo(1)),
+    Event::Step(TaskNo(1)),
+];
+
 #[test]
 fn schedules_say_their_events(rt: HostRuntime) {
     assert!(rt; says_events(rt.alloc(), RAW, STEPS, &STEP_EVENTS));
     assert!(rt; says_events(rt.alloc(), TEMPLATES, SPAWNS, &SPAWN_EVENTS));
+    assert!(rt; says_events(rt.alloc(), RAW, EQUAL_LINES, &EQUAL_EVENTS));
     assert!(rt; says_events(rt.alloc(), RAW, b"#", &[]));
 }

@@ -16,7 +16,7 @@ use Rattle.script_lines.specs.declared.fault.Reason.TheVariants.{UnknownName, Na
 use Rattle.script_lines.specs.declared.plan.TaskPlan.{TaskPlan}
 use Rattle.script_reader.specs.Grammar.{Makes}
 use Rattle.script_reader.specs.EventLine.{EventsAndNames, no_events, unless, is_taken, spawn_place, with_spawn, spawn_of, with_repeated, after_event_verb, after_event_words, after_event_line, after_event, SpellsEvents}
-use Rattle.script_reader.specs.Reading.{schedule_of}
+use Rattle.script_reader.specs.Reading.{schedule_of, fault_in_schedule, Agrees}
 use Rattle.script_lines.specs.declared.fault.ScheduleFault.{ScheduleFault}
 use Rattle.script_reader.specs.declared.schedule.EventVerb.{EventVerb}
 use Rattle.script_reader.specs.declared.schedule.EventVerb.TheVariants as verbs
@@ -164,3 +164,12 @@ few_events script text (Err fault) spells = tt
 pub events_may : (script : Plan) (text : List ℕ) (r : Result (Vec Event) ScheduleFault) → IfOk r (λ got. SpellsEvents script text got.items) → IfOk r (λ got. MayAllCome (length script.tasks) (length script.templates) got.items)
 events_may script text (Ok got) spells = (spelled_fit script text got.items spells).1
 events_may script text (Err fault) spells = tt
+
+-- the same of what a reader answers
+pub read_few : (script : Plan) (text : List ℕ) (r : Result (List Event) ScheduleFault) → Agrees fault_in_schedule r (schedule_of script text) → IfOk r (λ events. length events ≤ 65536)
+read_few script text (Ok events) agrees = (spelled_fit script text events (events_spelled script text events agrees)).0
+read_few script text (Err fault) agrees = tt
+
+pub read_all_may : (script : Plan) (text : List ℕ) (r : Result (List Event) ScheduleFault) → Agrees fault_in_schedule r (schedule_of script text) → IfOk r (λ events. MayAllCome (length script.tasks) (length script.templates) events)
+read_all_may script text (Ok events) agrees = read_may script text events agrees
+read_all_may script text (Err fault) agrees = tt

@@ -4,6 +4,7 @@ pub mod Faults
 pub mod FormFaults
 pub mod ReaderAnswers
 pub mod Readings
+pub mod Repeats
 pub mod StepLines
 pub mod KnownTasks
 pub mod ReadingExamples

@@ -1,5 +1,6 @@
 pub mod Reading
 pub mod Reasons
+pub mod Repeated
 pub mod Schedule
 pub mod EventLine
 pub mod StepLine

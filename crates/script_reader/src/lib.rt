@@ -9,13 +9,15 @@
 mod copying;
 mod laws;
 mod reading;
+mod repeated;
 mod schedule;
 mod step_line;
 
 pub use copying::copies_of_plans;
 pub use laws::{faults_are_the_first_reasons, readings_are_what_bytes_spell};
 pub use reading::read_script;
-pub use schedule::read_schedule;
+pub use repeated::{EventsLeft, RepeatedEvents};
+pub use schedule::{read_repeated_events, read_schedule};
 pub use script_lines::{
     Kind, Name, Reason, ScheduleFault, Script, ScriptFault, TaskPlan, TaskPlans, Wire, Wires,
     number,

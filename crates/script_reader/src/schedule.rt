@@ -14,6 +14,7 @@ ghost use Rattle.script_reader.specs.Grammar.{IsFirstFault};
 ghost use Rattle.script_reader.specs.Reasons.{event_reasons};
 ghost use Rattle.script_reader.specs.Reading.{lines_from, reading, events_alone, schedule_of, events_in, fault_in_schedule, Reads, Agrees};
 
+use crate::repeated::RepeatedEvents;
 use crate::step_line::step_line;
 use ipc_ids::Event;
 use script_lines::{
@@ -46,26 +47,17 @@ fn event_verb_of(word: &[u8]) -> Option<EventVerb>
     }
 }
 
-#[inline(always)]
-fn push_times(events: &mut Vec<Event>, event: Event, count: u64) -> Result<(), LineFault>
-    ensures { Follows result events.new.items (Ok (events.old.items ++ replicate count event)) }
-{
-    for _ in 0..count {
-        events.push(event)?;
-    }
-    Ok(())
-}
-
 /// Adds an event so many times, if there is room for it.
 #[inline(always)]
 #[tactic(auto, unfolding(crate::specs::Schedule::with_events))]
-fn add_events(events: &mut Vec<Event>, event: Event, count: u64) -> Result<(), LineFault>
-    ensures { Follows result events.new.items (with_events events.old.items event count) }
+fn add_events(events: &mut RepeatedEvents, event: Event, count: u64) -> Result<(), LineFault>
+    ensures { Follows result events.new (with_events events.old event count) }
 {
-    if count > MOST_EVENTS || events.len() as u64 > MOST_EVENTS - count {
+    if count > MOST_EVENTS || events.len() > MOST_EVENTS - count {
         return Err(LineFault::Bad(Reason::TooManyEvents));
     }
-    push_times(events, event, count)
+    events.push_times(event, count)?;
+    Ok(())
 }
 
 /// `x N`, where N is from 1 to 65,536
@@ -178,7 +170,7 @@ fn spawn_place(
 
 /// Adds the event that makes a task, and its name.
 fn add_spawn(
-    events: &mut Vec<Event>,
+    events: &mut RepeatedEvents,
     names: &mut Names,
     alloc: Global,
     place: usize,
@@ -187,8 +179,8 @@ fn add_spawn(
     requires small { place < 64 }
     requires new { is_some (place_of names.old name.now) ≡ false }
     requires room { length names.old < 64 }
-    ensures { Follows result (record { events = events.new.items; names = names.new })
-        (with_spawn (record { events = events.old.items; names = names.old }) place name.now) }
+    ensures { Follows result (record { events = events.new; names = names.new })
+        (with_spawn (record { events = events.old; names = names.old }) place name.now) }
 {
     add_events(events, Event::Spawn(place as u32), 1)?;
     names.push(alloc, name)?;
@@ -197,14 +189,14 @@ fn add_spawn(
 
 /// `TEMPLATE NAME`
 fn add_named(
-    events: &mut Vec<Event>,
+    events: &mut RepeatedEvents,
     names: &mut Names,
     alloc: Global,
     templates: &Names,
     words: &[&[u8]],
 ) -> Result<(), LineFault>
-    ensures { Follows result (record { events = events.new.items; names = names.new })
-        (spawn_of templates.now (record { events = events.old.items; names = names.old })
+    ensures { Follows result (record { events = events.new; names = names.new })
+        (spawn_of templates.now (record { events = events.old; names = names.old })
         (texts words.now)) }
 {
     match words {
@@ -218,15 +210,15 @@ fn add_named(
 
 /// Adds what the words behind a first one say.
 fn add_others(
-    events: &mut Vec<Event>,
+    events: &mut RepeatedEvents,
     names: &mut Names,
     alloc: Global,
     templates: &Names,
     verb: Option<EventVerb>,
     words: &[&[u8]],
 ) -> Result<(), LineFault>
-    ensures { Follows result (record { events = events.new.items; names = names.new })
-        (after_event_verb templates.now (record { events = events.old.items; names = names.old })
+    ensures { Follows result (record { events = events.new; names = names.new })
+        (after_event_verb templates.now (record { events = events.old; names = names.old })
         verb (texts words.now)) }
 {
     let (event, count) = match verb {
@@ -240,14 +232,14 @@ fn add_others(
 }
 
 fn add_words(
-    events: &mut Vec<Event>,
+    events: &mut RepeatedEvents,
     names: &mut Names,
     alloc: Global,
     templates: &Names,
     words: &[&[u8]],
 ) -> Result<(), LineFault>
-    ensures { Follows result (record { events = events.new.items; names = names.new })
-        (after_event_words templates.now (record { events = events.old.items; names = names.old })
+    ensures { Follows result (record { events = events.new; names = names.new })
+        (after_event_words templates.now (record { events = events.old; names = names.old })
         (texts words.now)) }
 {
     let [first, others @ ..] = words else {
@@ -267,15 +259,15 @@ fn add_words(
 /// where it is the last.
 #[tactic(auto, unfolding(crate::specs::EventLine::after_event_line))]
 fn add_any_line<'a>(
-    events: &mut Vec<Event>,
+    events: &mut RepeatedEvents,
     names: &mut Names,
     alloc: Global,
     templates: &Names,
     words: &mut Vec<&'a [u8]>,
     text: &'a [u8],
 ) -> Result<Option<&'a [u8]>, LineFault>
-    ensures value { Follows result (record { events = events.new.items; names = names.new })
-        (after_event_line templates.now (record { events = events.old.items; names = names.old })
+    ensures value { Follows result (record { events = events.new; names = names.new })
+        (after_event_line templates.now (record { events = events.old; names = names.old })
         (first_line text.now)) }
     ensures behind { IfOk result (λ others. option_map (λ t. t.now) others ≡ behind text.now) }
 {
@@ -290,9 +282,9 @@ fn add_any_line<'a>(
 /// The number of the last event's task, which is the place of the task after it; 0 where the last
 /// event is no step.
 #[inline(always)]
-fn next_place(events: &[Event]) -> usize {
-    match events {
-        [.., Event::Step(task)] => task.0 as usize,
+fn next_place(events: &RepeatedEvents) -> usize {
+    match events.last() {
+        Some(Event::Step(task)) => task.0 as usize,
         _ => 0,
     }
 }
@@ -311,14 +303,14 @@ fn step_near(names: &Names, place: usize, name: &[u8], count: u64) -> Result<(Ev
 /// Adds so many steps of the task of a name.
 #[inline(always)]
 fn add_steps(
-    events: &mut Vec<Event>,
+    events: &mut RepeatedEvents,
     names: &Names,
     name: &[u8],
     count: u64,
 ) -> Result<(), LineFault>
     requires { is_name name.now ≡ true }
-    ensures { Follows result (record { events = events.new.items; names = names.now })
-        (with_steps (record { events = events.old.items; names = names.now }) name.now count) }
+    ensures { Follows result (record { events = events.new; names = names.now })
+        (with_steps (record { events = events.old; names = names.now }) name.now count) }
 {
     let (event, count) = step_near(names, next_place(events), name, count)?;
     add_events(events, event, count)
@@ -327,15 +319,15 @@ fn add_steps(
 /// Adds what the first line of a text says, and returns what stands behind it; `None` where it is
 /// the last.
 fn add_line<'a>(
-    events: &mut Vec<Event>,
+    events: &mut RepeatedEvents,
     names: &mut Names,
     alloc: Global,
     templates: &Names,
     words: &mut Vec<&'a [u8]>,
     text: &'a [u8],
 ) -> Result<Option<&'a [u8]>, LineFault>
-    ensures value { Follows result (record { events = events.new.items; names = names.new })
-        (after_event_line templates.now (record { events = events.old.items; names = names.old })
+    ensures value { Follows result (record { events = events.new; names = names.new })
+        (after_event_line templates.now (record { events = events.old; names = names.old })
         (first_line text.now)) }
     ensures behind { IfOk result (λ others. option_map (λ t. t.now) others ≡ behind text.now) }
 {
@@ -349,16 +341,16 @@ fn add_line<'a>(
 }
 
 fn add_lines(
-    events: &mut Vec<Event>,
+    events: &mut RepeatedEvents,
     names: &mut Names,
     alloc: Global,
     templates: &Names,
     text: &[u8],
 ) -> Result<(), ScheduleFault>
     ensures { Reads fault_in_schedule result
-        (record { events = events.new.items; names = names.new })
+        (record { events = events.new; names = names.new })
         (lines_from (after_event_line templates.now) 1
-        (record { events = events.old.items; names = names.old }) (lines text.now)) }
+        (record { events = events.old; names = names.old }) (lines text.now)) }
 {
     let mut words = Vec::new(alloc);
     let mut left = Some(text);
@@ -380,8 +372,8 @@ fn read(
     bytes: &[u8],
     names: Names,
     templates: &Names,
-) -> Result<Vec<Event>, ScheduleFault>
-    ensures { Agrees fault_in_schedule (events_in result)
+) -> Result<RepeatedEvents, ScheduleFault>
+    ensures { Agrees fault_in_schedule result
         (events_alone (reading (after_event_line templates.now)
         (record { events = []; names = names }) bytes.now)) }
 {
@@ -392,17 +384,51 @@ fn read(
         });
     }
     let mut names = names;
-    let mut events = Vec::new(alloc);
+    let mut events = RepeatedEvents::new(alloc);
     add_lines(&mut events, &mut names, alloc, templates, bytes)?;
     Ok(events)
 }
 
-fn read_for(alloc: Global, bytes: &[u8], script: &Script) -> Result<Vec<Event>, ScheduleFault>
-    ensures { Agrees fault_in_schedule (events_in result) (schedule_of script.now bytes.now) }
+fn read_for(alloc: Global, bytes: &[u8], script: &Script) -> Result<RepeatedEvents, ScheduleFault>
+    ensures { Agrees fault_in_schedule result (schedule_of script.now bytes.now) }
 {
     let names = names_of(alloc, script.tasks.as_slice())?;
     let templates = names_of(alloc, script.templates.as_slice())?;
     read(alloc, bytes, names, &templates)
+}
+
+/// The events that the bytes of a file spell, for the tasks and templates of a script: at most
+/// 65,536, each on a task of the script or one that an earlier event makes. Equal events in a row
+/// are kept once.
+///
+/// # Errors
+///
+/// `Bad` where they spell none, with their first fault; `NoMemory` where memory ran out, which may
+/// come for any bytes.
+pub fn read_repeated_events(
+    alloc: Global,
+    bytes: &[u8],
+    script: &Script,
+) -> Result<RepeatedEvents, ScheduleFault>
+    ensures value { Agrees fault_in_schedule result (schedule_of script.now bytes.now) }
+    ensures few { IfOk result (λ events. length events ≤ 65536) }
+    ensures may { IfOk result (λ events. MayAllCome (length script.now.tasks)
+        (length script.now.templates) events) }
+{
+    read_for(alloc, bytes, script)
+}
+
+/// The events, each as often as it comes.
+fn read_one_by_one(
+    alloc: Global,
+    bytes: &[u8],
+    script: &Script,
+) -> Result<Vec<Event>, ScheduleFault>
+    ensures { Agrees fault_in_schedule (events_in result) (schedule_of script.now bytes.now) }
+{
+    let events = read_for(alloc, bytes, script)?;
+    let events = events.to_vec(alloc)?;
+    Ok(events)
 }
 
 /// The events that the bytes of a file spell, for the tasks and templates of a script: at most
@@ -434,5 +460,5 @@ pub fn read_schedule(
         → result ≢ Err ScheduleFault.NoMemory
         → result ≡ Err (ScheduleFault.Bad line reason) }
 {
-    read_for(alloc, bytes, script)
+    read_one_by_one(alloc, bytes, script)
 }

@@ -13,11 +13,11 @@ loop-left-preserved c =
     let told = rw c.in-Some.is at c.loop-left.invariant.told in
     let few = rw c.in-Some.is at c.loop-left.invariant.few in
     record {
-      told = sym (next_line (after_event_line c.args.templates.now) (c.loop-left.line + 1) (record { events = c.loop-left.events.items; names = c.loop-left.names }) (record { events = c.add_line.new.events.items; names = c.add_line.new.names }) text (here c.in-Ok.others) c.in-Ok.ensures.behind c.in-Ok.ensures.value) ∙ told;
+      told = sym (next_line (after_event_line c.args.templates.now) (c.loop-left.line + 1) (record { events = c.loop-left.events; names = c.loop-left.names }) (record { events = c.add_line.new.events; names = c.add_line.new.names }) text (here c.in-Ok.others) c.in-Ok.ensures.behind c.in-Ok.ensures.value) ∙ told;
       few = omega (arith, few, less_left text (here c.in-Ok.others) c.in-Ok.ensures.behind);
     }
 
 pub returns-in-Err-Bad : goal.returns-in-Err-Bad
 returns-in-Err-Bad c =
     let told = rw c.in-Some.is at c.loop-left.invariant.told in
-    rw c.in-Err-Bad.field-0-is (sym told ∙ faulty_line (after_event_line c.args.templates.now) (c.loop-left.line + 1) (record { events = c.loop-left.events.items; names = c.loop-left.names }) c.in-Some.text.now c.in-Err-Bad.reason (rw c.in-Err-Bad.field-0-is at c.in-Err-Bad.ensures.value))
+    rw c.in-Err-Bad.field-0-is (sym told ∙ faulty_line (after_event_line c.args.templates.now) (c.loop-left.line + 1) (record { events = c.loop-left.events; names = c.loop-left.names }) c.in-Some.text.now c.in-Err-Bad.reason (rw c.in-Err-Bad.field-0-is at c.in-Err-Bad.ensures.value))
