@@ -9,7 +9,7 @@ ghost use Rattle.async_task.specs.Contexts.{with_received, after_accepted, after
 ghost use Rattle.async_task.specs.Contexts.{after_begun, after_ended};
 ghost use Rattle.async_task.specs.Calls.{after_raw};
 
-use crate::slots::Slots;
+use crate::slots::FibrilSlots;
 use ipc_ids::{CallNo, Code, ExchangeNo, Label, Msg, NoMemory, Op, Outcome, Reply, Value};
 use std::alloc::Global;
 
@@ -29,7 +29,7 @@ pub struct Context {
     pub body: usize,
     pub place: usize,
     pub registers: [u64; 32],
-    pub slots: Slots,
+    pub slots: FibrilSlots,
     pub handles: [Option<ExchangeNo>; 8],
     pub short: bool,
 }
@@ -43,7 +43,7 @@ impl Context {
             body,
             place: 0,
             registers: [0; 32],
-            slots: Slots::new(alloc),
+            slots: FibrilSlots::new(alloc),
             handles: [None; 8],
             short: false,
         }

@@ -25,4 +25,4 @@ mod wanted;
 pub use awaited::Awaited;
 pub use context::{Context, Slot};
 pub use program::AsyncProgram;
-pub use slots::Slots;
+pub use slots::FibrilSlots;

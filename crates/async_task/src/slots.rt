@@ -13,12 +13,12 @@ const SLOTS: usize = 8;
 
 /// What the 8 slots of a fibril hold. Those behind the last that was ever used take no memory.
 #[derive(Drop)]
-pub struct Slots {
+pub struct FibrilSlots {
     // What the first slots hold. The others are closed.
     used: Vec<Slot>,
 }
 
-impl Model for Slots {
+impl Model for FibrilSlots {
     ghost use Rattle.std.specs.Prelude.{List, ◌≤◌, length};
     ghost use Rattle.async_task.specs.declared.context.Slot.{Slot};
     ghost use Rattle.async_task.specs.Slots.{filled};
@@ -30,12 +30,12 @@ impl Model for Slots {
     ghost invariant = { λ slots. length slots.used.items ≤ 8 };
 }
 
-impl Slots {
+impl FibrilSlots {
     /// All are closed; they take no memory.
-    pub(crate) fn new(alloc: Global) -> Slots
+    pub(crate) fn new(alloc: Global) -> FibrilSlots
         ensures { result ≡ replicate 8 Slot.Closed }
     {
-        Slots {
+        FibrilSlots {
             used: Vec::new(alloc),
         }
     }
