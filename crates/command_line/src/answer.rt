@@ -12,9 +12,12 @@ ghost use Rattle.command_line.specs.declared.status.Status.TheVariants.{Done, Ba
 
 use crate::Status;
 use io_edge::{PutFailed, Sink};
-use ipc_ids::{Event, NoMemory};
-use schedule_replay::{ReplayFault, SliceFeed, replay};
-use script_reader::{Reason, ScheduleFault, Script, ScriptFault, read_schedule, read_script};
+use ipc_ids::NoMemory;
+use schedule_replay::{ReplayFault, replay};
+use script_reader::{
+    EventsLeft, Reason, RepeatedEvents, ScheduleFault, Script, ScriptFault, read_repeated_events,
+    read_script,
+};
 use std::alloc::Global;
 
 /// Writes a text, and answers the status; or `WriteFailed` if the text was not written whole.
@@ -70,7 +73,12 @@ fn tell_fault<K: Sink>(
 }
 
 // Runs the events of a schedule over a script, and writes the text of the run.
-fn replay_events<K: Sink>(alloc: Global, script: &Script, events: &[Event], sink: &mut K) -> Status
+fn replay_events<K: Sink>(
+    alloc: Global,
+    script: &Script,
+    events: &RepeatedEvents,
+    sink: &mut K,
+) -> Status
     requires few { length events.now ≤ 65536 }
     requires may { MayAllCome (length script.now.tasks) (length script.now.templates) events.now }
     ensures ok { result ≢ WriteFailed → result ≢ Memory → (result ≡ Done)
@@ -83,7 +91,7 @@ fn replay_events<K: Sink>(alloc: Global, script: &Script, events: &[Event], sink
         (result ≡ WriteFailed) ⊎ (result ≡ Memory) }
     ensures later { K.faults sink.old ≤ K.faults sink.new }
 {
-    let mut feed = SliceFeed::new(events);
+    let mut feed = EventsLeft::new(events);
     match replay(alloc, script, &mut feed, sink) {
         Ok(()) => Status::Done,
         Err(ReplayFault::Sink) => Status::WriteFailed,
@@ -120,7 +128,7 @@ pub fn replay_bytes<K: Sink>(alloc: Global, script: &[u8], schedule: &[u8], sink
         }
         Err(ScriptFault::NoMemory) => return Status::NoMemory,
     };
-    match read_schedule(alloc, schedule, &script) {
+    match read_repeated_events(alloc, schedule, &script) {
         Ok(events) => replay_events(alloc, &script, &events, sink),
         Err(ScheduleFault::Bad { line, reason }) => {
             tell_fault(alloc, Status::BadSchedule, "schedule", line, reason, sink)

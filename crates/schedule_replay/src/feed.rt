@@ -3,6 +3,7 @@ ghost use Rattle.std.specs.Prelude.{◌≡◌, [], ◌∷◌, List, MatchOption}
 ghost use Rattle.ipc_ids.specs.declared.message.Event.{Event as Coming};
 
 use ipc_ids::Event;
+use script_reader::EventsLeft;
 use std::marker::Model;
 
 /// Events that are still to come.
@@ -52,5 +53,13 @@ impl<'a> Feed for SliceFeed<'a> {
                 Some(*event)
             }
         }
+    }
+}
+
+impl<'a> Feed for EventsLeft<'a> {
+    ghost left = { λ events. events };
+
+    fn next(&mut self) -> Option<Event> {
+        self.take_first()
     }
 }
