@@ -1,5 +1,5 @@
-//! Events, where one that comes many times in a row is kept once.
-ghost use Rattle.std.specs.Prelude.{◌≡◌, ◌≤◌, ◌+◌, [], ◌∷◌, ◌++◌, length, replicate, true, false, IfOk, OnErr, MatchOption};
+//! Events, where a step that comes many times in a row is kept once.
+ghost use Rattle.std.specs.Prelude.{◌≡◌, ◌≤◌, ◌+◌, [], ◌∷◌, ◌++◌, length, replicate, true, false, IfOk, IsTrue, OnErr, MatchOption};
 ghost use Rattle.script_lines.specs.Draft.{last_of};
 ghost use Rattle.script_reader.specs.Repeated.{events_of};
 
@@ -14,7 +14,7 @@ struct Repeated {
     more: u64,
 }
 
-/// The events of a schedule. An event that comes many times in a row is kept once.
+/// The events of a schedule. A step that comes many times in a row is kept once.
 #[derive(Drop)]
 pub struct RepeatedEvents {
     parts: Vec<Repeated>,
@@ -33,7 +33,18 @@ impl Model for RepeatedEvents {
     ghost invariant = { λ events. events.count ≡ length (events_of events.parts.items) };
 }
 
-/// Adds so many of an event to the last one, where that is the same event; whether it is.
+/// Whether both are steps of one task. Other events mostly come once.
+#[inline(always)]
+fn are_same_steps(left: Event, right: Event) -> bool
+    ensures { IsTrue result → left ≡ right }
+{
+    match (left, right) {
+        (Event::Step(one), Event::Step(other)) => one == other,
+        _ => false,
+    }
+}
+
+/// Adds so many of an event to the last one, where both are steps of one task; whether they are.
 #[inline(always)]
 fn lengthen(parts: &mut [Repeated], event: Event, times: u64) -> bool
     requires { length (events_of parts.old) + times ≤ 65536 }
@@ -42,7 +53,7 @@ fn lengthen(parts: &mut [Repeated], event: Event, times: u64) -> bool
     ensures unchanged { result ≡ false → parts.new ≡ parts.old }
 {
     match parts.last_mut() {
-        Some(last) if last.event == event => {
+        Some(last) if are_same_steps(last.event, event) => {
             last.more += times;
             true
         }
@@ -61,10 +72,13 @@ fn push_part(parts: &mut Vec<Repeated>, event: Event, times: u64) -> Result<(), 
     if times == 0 || lengthen(parts, event, times) {
         return Ok(());
     }
-    parts.push(Repeated {
+    if parts.len() == parts.capacity() {
+        parts.reserve(1)?;
+    }
+    parts.push_reserved(Repeated {
         event,
         more: times - 1,
-    })?;
+    });
     Ok(())
 }
 
