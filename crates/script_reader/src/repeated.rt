@@ -1,4 +1,4 @@
-//! Events, where one that comes many times in a row is kept once.
+//! Events, where steps of a task in a row are kept once.
 ghost use Rattle.std.specs.Prelude.{◌≡◌, ◌≤◌, ◌+◌, [], ◌∷◌, ◌++◌, length, replicate, true, false, IfOk, OnErr, MatchOption};
 ghost use Rattle.script_lines.specs.Draft.{last_of};
 ghost use Rattle.script_reader.specs.Repeated.{events_of};
@@ -14,7 +14,7 @@ struct Repeated {
     more: u64,
 }
 
-/// The events of a schedule. An event that comes many times in a row is kept once.
+/// The events of a schedule. Steps of a task in a row are kept once.
 #[derive(Drop)]
 pub struct RepeatedEvents {
     parts: Vec<Repeated>,
@@ -33,7 +33,19 @@ impl Model for RepeatedEvents {
     ghost invariant = { λ events. events.count ≡ length (events_of events.parts.items) };
 }
 
-/// Adds so many of an event to the last one, where that is the same event; whether it is.
+/// Whether both are steps of the same task.
+#[inline(always)]
+fn are_equal_steps(first: Event, second: Event) -> bool
+    ensures { result ≡ true → first ≡ second }
+{
+    match (first, second) {
+        (Event::Step(task), Event::Step(other)) => task.0 == other.0,
+        _ => false,
+    }
+}
+
+/// Adds so many of an event to the last one, where both are steps of the same task; whether they
+/// are.
 #[inline(always)]
 fn lengthen(parts: &mut [Repeated], event: Event, times: u64) -> bool
     requires { length (events_of parts.old) + times ≤ 65536 }
@@ -42,7 +54,7 @@ fn lengthen(parts: &mut [Repeated], event: Event, times: u64) -> bool
     ensures unchanged { result ≡ false → parts.new ≡ parts.old }
 {
     match parts.last_mut() {
-        Some(last) if last.event == event => {
+        Some(last) if are_equal_steps(last.event, event) => {
             last.more += times;
             true
         }
@@ -50,7 +62,8 @@ fn lengthen(parts: &mut [Repeated], event: Event, times: u64) -> bool
     }
 }
 
-/// Adds an event so many times: to the last one where that is the same event, else behind it.
+/// Adds an event so many times: to the last one where both are steps of the same task, else behind
+/// it.
 #[inline(always)]
 fn push_part(parts: &mut Vec<Repeated>, event: Event, times: u64) -> Result<(), AllocError>
     requires { length (events_of parts.old.items) + times ≤ 65536 }
