@@ -74,10 +74,11 @@ fn push_part(parts: &mut Vec<Repeated>, event: Event, times: u64) -> Result<(), 
     if times == 0 || lengthen(parts, event, times) {
         return Ok(());
     }
-    parts.push(Repeated {
+    parts.reserve(1)?;
+    parts.push_reserved(Repeated {
         event,
         more: times - 1,
-    })?;
+    });
     Ok(())
 }
 
