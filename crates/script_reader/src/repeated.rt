@@ -1,5 +1,5 @@
-//! Events, where a step that comes many times in a row is kept once.
-ghost use Rattle.std.specs.Prelude.{◌≡◌, ◌≤◌, ◌+◌, [], ◌∷◌, ◌++◌, length, replicate, true, false, IfOk, IsTrue, OnErr, MatchOption};
+//! Events, where steps of a task in a row are kept once.
+ghost use Rattle.std.specs.Prelude.{◌≡◌, ◌≤◌, ◌+◌, [], ◌∷◌, ◌++◌, length, replicate, true, false, IfOk, OnErr, MatchOption};
 ghost use Rattle.script_lines.specs.Draft.{last_of};
 ghost use Rattle.script_reader.specs.Repeated.{events_of};
 
@@ -14,7 +14,7 @@ struct Repeated {
     more: u64,
 }
 
-/// The events of a schedule. A step that comes many times in a row is kept once.
+/// The events of a schedule. Steps of a task in a row are kept once.
 #[derive(Drop)]
 pub struct RepeatedEvents {
     parts: Vec<Repeated>,
@@ -33,18 +33,19 @@ impl Model for RepeatedEvents {
     ghost invariant = { λ events. events.count ≡ length (events_of events.parts.items) };
 }
 
-/// Whether both are steps of one task. Other events mostly come once.
+/// Whether both are steps of the same task.
 #[inline(always)]
-fn are_same_steps(left: Event, right: Event) -> bool
-    ensures { IsTrue result → left ≡ right }
+fn are_equal_steps(first: Event, second: Event) -> bool
+    ensures { result ≡ true → first ≡ second }
 {
-    match (left, right) {
-        (Event::Step(one), Event::Step(other)) => one == other,
+    match (first, second) {
+        (Event::Step(task), Event::Step(other)) => task.0 == other.0,
         _ => false,
     }
 }
 
-/// Adds so many of an event to the last one, where both are steps of one task; whether they are.
+/// Adds so many of an event to the last one, where both are steps of the same task; whether they
+/// are.
 #[inline(always)]
 fn lengthen(parts: &mut [Repeated], event: Event, times: u64) -> bool
     requires { length (events_of parts.old) + times ≤ 65536 }
@@ -53,7 +54,7 @@ fn lengthen(parts: &mut [Repeated], event: Event, times: u64) -> bool
     ensures unchanged { result ≡ false → parts.new ≡ parts.old }
 {
     match parts.last_mut() {
-        Some(last) if are_same_steps(last.event, event) => {
+        Some(last) if are_equal_steps(last.event, event) => {
             last.more += times;
             true
         }
@@ -61,7 +62,8 @@ fn lengthen(parts: &mut [Repeated], event: Event, times: u64) -> bool
     }
 }
 
-/// Adds an event so many times: to the last one where that is the same event, else behind it.
+/// Adds an event so many times: to the last one where both are steps of the same task, else behind
+/// it.
 #[inline(always)]
 fn push_part(parts: &mut Vec<Repeated>, event: Event, times: u64) -> Result<(), AllocError>
     requires { length (events_of parts.old.items) + times ≤ 65536 }
@@ -72,9 +74,7 @@ fn push_part(parts: &mut Vec<Repeated>, event: Event, times: u64) -> Result<(), 
     if times == 0 || lengthen(parts, event, times) {
         return Ok(());
     }
-    if parts.len() == parts.capacity() {
-        parts.reserve(1)?;
-    }
+    parts.reserve(1)?;
     parts.push_reserved(Repeated {
         event,
         more: times - 1,

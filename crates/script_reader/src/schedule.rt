@@ -398,8 +398,8 @@ fn read_for(alloc: Global, bytes: &[u8], script: &Script) -> Result<RepeatedEven
 }
 
 /// The events that the bytes of a file spell, for the tasks and templates of a script: at most
-/// 65,536, each on a task of the script or one that an earlier event makes. Equal events in a row
-/// are kept once.
+/// 65,536, each on a task of the script or one that an earlier event makes. Steps of a task in a
+/// row are kept once.
 ///
 /// # Errors
 ///
