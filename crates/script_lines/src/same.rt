@@ -17,21 +17,6 @@ fn is_same_four(left: &[u8], right: &[u8], at: usize) -> bool
         & (left[at + 3] == right[at + 3])
 }
 
-/// The same of few bytes.
-#[inline(always)]
-fn are_same_short(left: &[u8], right: &[u8]) -> bool
-    requires { length left.now ≡ length right.now }
-    ensures { IsTrue result → left.now ≡ right.now }
-{
-    for i in 0..left.len() {
-        if left[i] == right[i] {
-            continue;
-        }
-        return false;
-    }
-    true
-}
-
 /// Whether two texts are the same. The last four bytes are compared at their own place, also where
 /// some of them were compared before.
 #[inline(always)]
@@ -43,7 +28,7 @@ pub fn are_same(left: &[u8], right: &[u8]) -> bool
         return false;
     }
     if len < 4 {
-        return are_same_short(left, right);
+        return left == right;
     }
     for i in 0..(len - 1) / 4 {
         if !is_same_four(left, right, 4 * i) {
