@@ -1,4 +1,5 @@
 pub mod Filled
+pub mod Named
 pub mod Listed
 pub mod Rising
 pub mod Served

@@ -4,6 +4,7 @@ pub mod Contexts
 pub mod Kept
 pub mod Lends
 pub mod Slots
+pub mod Handles
 pub mod Turns
 pub mod Wanted
 pub mod Calls

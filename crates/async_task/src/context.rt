@@ -9,6 +9,7 @@ ghost use Rattle.async_task.specs.Contexts.{with_received, after_accepted, after
 ghost use Rattle.async_task.specs.Contexts.{after_begun, after_ended};
 ghost use Rattle.async_task.specs.Calls.{after_raw};
 
+use crate::handles::Handles;
 use crate::slots::FibrilSlots;
 use ipc_ids::{CallNo, Code, ExchangeNo, Label, Msg, NoMemory, Op, Outcome, Reply, Value};
 use std::alloc::Global;
@@ -30,7 +31,7 @@ pub struct Context {
     pub place: usize,
     pub registers: [u64; 32],
     pub slots: FibrilSlots,
-    pub handles: [Option<ExchangeNo>; 8],
+    pub handles: Handles,
     pub short: bool,
 }
 
@@ -44,7 +45,7 @@ impl Context {
             place: 0,
             registers: [0; 32],
             slots: FibrilSlots::new(alloc),
-            handles: [None; 8],
+            handles: Handles::new(),
             short: false,
         }
     }
@@ -165,19 +166,14 @@ impl Context {
     pub(crate) fn handle(&self, handle: u32) -> Option<ExchangeNo>
         ensures { result ≡ handle_at self.now handle }
     {
-        match self.handles.get(handle as usize) {
-            Some(handle) => *handle,
-            None => None,
-        }
+        self.handles.get(handle)
     }
 
     /// A handle names that. There is none from 8 on.
     fn set_handle(&mut self, handle: u32, names: Option<ExchangeNo>)
         ensures { self.new ≡ with_handle self.old handle names }
     {
-        if handle < 8 {
-            self.handles[handle as usize] = names;
-        }
+        self.handles.set(handle, names);
     }
 
     /// Whether a connect call of the present begin met the limit.

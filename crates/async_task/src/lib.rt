@@ -14,6 +14,7 @@ mod connections;
 mod context;
 mod contexts;
 mod exchanges;
+mod handles;
 mod machine;
 mod program;
 mod slots;
@@ -24,5 +25,6 @@ mod wanted;
 
 pub use awaited::Awaited;
 pub use context::{Context, Slot};
+pub use handles::Handles;
 pub use program::AsyncProgram;
 pub use slots::FibrilSlots;
