@@ -411,7 +411,7 @@ fn lists_events(alloc: Global, script: &Script, schedule: &[u8], wanted: &[Event
     }
 }
 
-/// Whether a schedule, where equal events in a row are kept once, gives just these events.
+/// Whether a schedule, where steps of a task in a row are kept once, gives just these events.
 fn gives_events(alloc: Global, script: &Script, schedule: &[u8], wanted: &[Event]) -> bool {
     match read_repeated_events(alloc, schedule, script) {
         Err(_) => false,
@@ -479,10 +479,35 @@ const EQUAL_EVENTS: [Event; 8] = [
     Event::Step(TaskNo(1)),
 ];
 
+/// A name begins with another, and one is new among steps of the others.
+const NAMES: &[u8] = b"task c raw\ntask c1 raw\ntemplate w raw\n";
+
+const NAMED_STEPS: &[u8] =
+    b"step c\nstep c1\nstep c x 02\nstep c1 x 1\nspawn w c_1\nstep c_1\nstep c1\nstep c\nstep c_1 \n";
+
+/// The events of `NAMED_STEPS`.
+const NAMED_EVENTS: [Event; 10] = [
+    Event::Step(TaskNo(1)),
+    Event::Step(TaskNo(2)),
+    Event::Step(TaskNo(1)),
+    Event::Step(TaskNo(1)),
+    Event::Step(TaskNo(2)),
+    Event::Spawn(0),
+    Event::Step(TaskNo(3)),
+    Event::Step(TaskNo(2)),
+    Event::Step(TaskNo(1)),
+    Event::Step(TaskNo(3)),
+];
+
+/// Counts of several digits, of which the last has more than a count can have.
+const COUNTS: &[u8] = b"step c1 x 10\nstep c1 x 00100\nstep c1 x 000016\n";
+
 #[test]
 fn schedules_say_their_events(rt: HostRuntime) {
     assert!(rt; says_events(rt.alloc(), RAW, STEPS, &STEP_EVENTS));
     assert!(rt; says_events(rt.alloc(), TEMPLATES, SPAWNS, &SPAWN_EVENTS));
     assert!(rt; says_events(rt.alloc(), RAW, EQUAL_LINES, &EQUAL_EVENTS));
+    assert!(rt; says_events(rt.alloc(), NAMES, NAMED_STEPS, &NAMED_EVENTS));
+    assert!(rt; says_events(rt.alloc(), NAMES, COUNTS, &[Event::Step(TaskNo(2)); 126]));
     assert!(rt; says_events(rt.alloc(), RAW, b"#", &[]));
 }

@@ -5,6 +5,8 @@ pub mod FormFaults
 pub mod ReaderAnswers
 pub mod Readings
 pub mod Repeats
+pub mod RecentSteps
+pub mod SpelledCounts
 pub mod StepLines
 pub mod KnownTasks
 pub mod ReadingExamples

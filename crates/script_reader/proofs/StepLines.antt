@@ -1,5 +1,5 @@
 -- A step in its usual form: its bytes, its words, and what the definitions say of it.
-use Rattle.std.proofs.Common.{◌≡◌, ℕ, zero, suc, ◌+◌, ◌≤◌, Bool, true, false, cond, not, ◌||◌, List, [], ◌∷◌, ◌++◌, length, take, slice_index, Some, None, refl, sym, ap, subst, ◌∙◌, inl, inr, arith, le-leb, leb-true, eqb-true, ne_eqb, le-ltb}
+use Rattle.std.proofs.Common.{◌≡◌, ℕ, suc, ◌≤◌, Bool, true, false, cond, not, ◌||◌, List, [], ◌∷◌, ◌++◌, length, take, slice_index, Some, None, refl, sym, ap, subst, ◌∙◌, inl, inr, arith, le-leb, leb-true, eqb-true, ne_eqb, le-ltb}
 use Rattle.std.specs.Prelude.{◌==◌, is_some, position, codes}
 use Rattle.std.specs.List.{list_all, position_or_len, onto_first}
 use Rattle.std.specs.Char.{is_ascii_digit, is_ascii_lowercase}
@@ -11,7 +11,7 @@ use Rattle.script_lines.specs.Word.{is_name, is_name_byte, number}
 use Rattle.script_lines.specs.Operation.{◌>>=◌}
 use Rattle.script_reader.specs.Schedule.{count_of, step_with, step_of, event_verb_of}
 use Rattle.script_reader.specs.EventLine.{EventsAndNames, with_repeated, after_event_words, after_event_line}
-use Rattle.script_reader.specs.StepLine.{IsCounted, SaysSteps}
+use Rattle.script_reader.specs.StepLine.{IsCounted, EndsStep, SaysSteps}
 use Rattle.script_lines.proofs.Words.{pieces, kept, in_word, pieces_blank, pieces_more, kept_cons}
 use Rattle.script_lines.proofs.Lines.{first_end, first_more, behind_end, behind_more, feed_ends}
 
@@ -250,35 +250,12 @@ says name r n others named tail =
       named = named;
     }
 
+-- what stands behind the name
+tail_ends : (r : List ℕ) (n : ℕ) (others : List ℕ) → EndsStep r n others → Tail r n others
+tail_ends r n others (inl once) = subst (λ (k : ℕ). Tail r k others) (sym once.1) (subst (λ (t : List ℕ). Tail t 1 others) (sym once.0) (tail_end others))
+tail_ends r n others (inr counted) = tail_counted r n others counted
+
 -- what was cut off at the front says it all
-pub once_says : (text rest name r others : List ℕ) → text ≡ codes "step " ++ rest → rest ≡ name ++ r → is_name name ≡ true → r ≡ 10 ∷ others → SaysSteps text name 1 others
-once_says text rest name r others e f named g =
-    subst (λ (t : List ℕ). SaysSteps t name 1 others) (sym (e ∙ ap (λ l. codes "step " ++ l) (f ∙ ap (λ l. name ++ l) g))) (says name (10 ∷ others) 1 others named (tail_end others))
-
-pub times_says : (text rest name r : List ℕ) (n : ℕ) (others : List ℕ) → text ≡ codes "step " ++ rest → rest ≡ name ++ r → is_name name ≡ true → IsCounted r n others → SaysSteps text name n others
-times_says text rest name r n others e f named c =
-    subst (λ (t : List ℕ). SaysSteps t name n others) (sym (e ∙ ap (λ l. codes "step " ++ l) f)) (says name r n others named (tail_counted r n others c))
-
--- so many, where the digits spell it
-pub count_is : (digits : List ℕ) (n : ℕ) → number digits ≡ Some n → 1 ≤ n → n ≤ 65536 → count_of (codes "x") digits ≡ Some n
-unfolding count_of
-count_is digits n e lo hi = rw e (rw (le-leb 1 n lo, le-leb n 65536 hi) refl)
-
--- one digit counts for itself
-pub digit_is : (n : ℕ) → 1 ≤ n → n ≤ 9 → count_of (codes "x") ((48 + n) ∷ []) ≡ Some n
-unfolding count_of number in_base
-digit_is zero lo hi = absurd (omega arith)
-digit_is (suc zero) lo hi = refl
-digit_is (suc (suc zero)) lo hi = refl
-digit_is (suc (suc (suc zero))) lo hi = refl
-digit_is (suc (suc (suc (suc zero)))) lo hi = refl
-digit_is (suc (suc (suc (suc (suc zero))))) lo hi = refl
-digit_is (suc (suc (suc (suc (suc (suc zero)))))) lo hi = refl
-digit_is (suc (suc (suc (suc (suc (suc (suc zero))))))) lo hi = refl
-digit_is (suc (suc (suc (suc (suc (suc (suc (suc zero)))))))) lo hi = refl
-digit_is (suc (suc (suc (suc (suc (suc (suc (suc (suc zero))))))))) lo hi = refl
-digit_is (suc (suc (suc (suc (suc (suc (suc (suc (suc (suc n)))))))))) lo hi = absurd (omega arith)
-
--- and it is a digit
-pub are_digits : (n : ℕ) → n ≤ 9 → list_all is_ascii_digit ((48 + n) ∷ []) ≡ true
-are_digits n hi = rw (le-leb 48 (48 + n) (omega arith), le-leb (48 + n) 57 (omega arith)) refl
+pub ends_says : (text rest name r : List ℕ) (n : ℕ) (others : List ℕ) → text ≡ codes "step " ++ rest → rest ≡ name ++ r → is_name name ≡ true → EndsStep r n others → SaysSteps text name n others
+ends_says text rest name r n others e f named ends =
+    subst (λ (t : List ℕ). SaysSteps t name n others) (sym (e ∙ ap (λ l. codes "step " ++ l) f)) (says name r n others named (tail_ends r n others ends))

@@ -1,5 +1,6 @@
 pub mod Reading
 pub mod Reasons
+pub mod Recent
 pub mod Repeated
 pub mod Schedule
 pub mod EventLine

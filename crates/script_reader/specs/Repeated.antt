@@ -1,4 +1,4 @@
--- The events that are kept where an event that comes many times in a row is kept once.
+-- The events of a schedule, where some that come many times in a row are kept once.
 use Rattle.std.specs.Prelude.{ℕ, ◌-◌, List, [], ◌∷◌, ◌++◌, replicate}
 use Rattle.ipc_ids.specs.declared.message.Event.{Event}
 use Rattle.script_reader.specs.declared.repeated.Repeated.{Repeated}

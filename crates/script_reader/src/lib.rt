@@ -9,6 +9,7 @@
 mod copying;
 mod laws;
 mod reading;
+mod recent;
 mod repeated;
 mod schedule;
 mod step_line;

@@ -1,5 +1,6 @@
 //! Events, where steps of a task in a row are kept once.
-ghost use Rattle.std.specs.Prelude.{◌≡◌, ◌≤◌, ◌+◌, [], ◌∷◌, ◌++◌, length, replicate, true, false, IfOk, OnErr, MatchOption};
+ghost use Rattle.std.specs.Prelude.{◌≡◌, ◌<◌, ◌≤◌, ◌+◌, [], ◌∷◌, ◌++◌, length, replicate, true, false, IfOk, OnOk, OnErr, MatchOption};
+ghost use Rattle.std.specs.Vec.{vec_len, vec_capacity};
 ghost use Rattle.script_lines.specs.Draft.{last_of};
 ghost use Rattle.script_reader.specs.Repeated.{events_of};
 
@@ -62,6 +63,18 @@ fn lengthen(parts: &mut [Repeated], event: Event, times: u64) -> bool
     }
 }
 
+/// Makes room for one more.
+#[inline(always)]
+fn make_room(parts: &mut Vec<Repeated>) -> Result<(), AllocError>
+    ensures unchanged { parts.new.items ≡ parts.old.items }
+    ensures room { OnOk result (vec_len parts.new < vec_capacity parts.new) }
+{
+    if parts.len() == parts.capacity() {
+        parts.reserve(1)?;
+    }
+    Ok(())
+}
+
 /// Adds an event so many times: to the last one where both are steps of the same task, else behind
 /// it.
 #[inline(always)]
@@ -74,7 +87,7 @@ fn push_part(parts: &mut Vec<Repeated>, event: Event, times: u64) -> Result<(), 
     if times == 0 || lengthen(parts, event, times) {
         return Ok(());
     }
-    parts.reserve(1)?;
+    make_room(parts)?;
     parts.push_reserved(Repeated {
         event,
         more: times - 1,

@@ -9,11 +9,13 @@ ghost use Rattle.script_reader.specs.Schedule.{MayAllCome, event_verb_of, count_
 ghost use Rattle.script_reader.specs.EventLine.{is_taken, spawn_place, with_spawn, with_repeated, spawn_of, after_event_verb, after_event_words, after_event_line, no_events, after_event, SpellsEvents};
 ghost use Rattle.script_lines.specs.Names.{task_names, place_of};
 ghost use Rattle.script_lines.specs.Word.{is_name};
+ghost use Rattle.script_reader.specs.Recent.{KnowsBoth};
 ghost use Rattle.script_reader.specs.StepLine.{with_steps};
 ghost use Rattle.script_reader.specs.Grammar.{IsFirstFault};
 ghost use Rattle.script_reader.specs.Reasons.{event_reasons};
 ghost use Rattle.script_reader.specs.Reading.{lines_from, reading, events_alone, schedule_of, events_in, fault_in_schedule, Reads, Agrees};
 
+use crate::recent::RecentTasks;
 use crate::repeated::RepeatedEvents;
 use crate::step_line::step_line;
 use ipc_ids::Event;
@@ -289,54 +291,83 @@ fn next_place(events: &RepeatedEvents) -> usize {
     }
 }
 
-/// So many steps of the task of a name, which is looked for first at a place.
-#[inline(always)]
+/// Adds so many steps of the task of a name, and keeps which task that is.
 #[tactic(auto, unfolding(crate::specs::Schedule::step_with, script_lines::specs::Word::name_of))]
-fn step_near(names: &Names, place: usize, name: &[u8], count: u64) -> Result<(Event, u64), Reason>
-    requires { is_name name.now ≡ true }
-    ensures { result ≡ step_with names.now name.now (Some count) }
-{
-    let task = names.task_near(place, name).ok_or(Reason::UnknownName)?;
-    Ok((Event::Step(task), count))
-}
-
-/// Adds so many steps of the task of a name.
-#[inline(always)]
-fn add_steps(
+fn add_named_steps<'a>(
     events: &mut RepeatedEvents,
     names: &Names,
-    name: &[u8],
+    recent: &mut RecentTasks<'a>,
+    name: &'a [u8],
     count: u64,
 ) -> Result<(), LineFault>
-    requires { is_name name.now ≡ true }
-    ensures { Follows result (record { events = events.new; names = names.now })
+    requires named { is_name name.now ≡ true }
+    requires known { KnowsBoth names.now recent.old }
+    ensures value { Follows result (record { events = events.new; names = names.now })
         (with_steps (record { events = events.old; names = names.now }) name.now count) }
+    ensures known { IfOk result (λ _. KnowsBoth names.now recent.new) }
 {
-    let (event, count) = step_near(names, next_place(events), name, count)?;
-    add_events(events, event, count)
+    let task = names
+        .task_near(next_place(events), name)
+        .ok_or(Reason::UnknownName)?;
+    recent.push(name, task);
+    add_events(events, Event::Step(task), count)
+}
+
+/// Adds what the first line of a text says, and keeps which task a step in it names.
+#[inline(never)]
+fn add_other_line<'a>(
+    events: &mut RepeatedEvents,
+    names: &mut Names,
+    alloc: Global,
+    templates: &Names,
+    words: &mut Vec<&'a [u8]>,
+    recent: &mut RecentTasks<'a>,
+    text: &'a [u8],
+) -> Result<Option<&'a [u8]>, LineFault>
+    requires { KnowsBoth names.old recent.old }
+    ensures value { Follows result (record { events = events.new; names = names.new })
+        (after_event_line templates.now (record { events = events.old; names = names.old })
+        (first_line text.now)) }
+    ensures behind { IfOk result (λ others. option_map (λ t. t.now) others ≡ behind text.now) }
+    ensures known { IfOk result (λ _. KnowsBoth names.new recent.new) }
+{
+    match step_line(text) {
+        Some(line) => {
+            add_named_steps(events, names, recent, line.name, line.count)?;
+            Ok(Some(line.others))
+        }
+        None => {
+            *recent = RecentTasks::new();
+            add_any_line(events, names, alloc, templates, words, text)
+        }
+    }
 }
 
 /// Adds what the first line of a text says, and returns what stands behind it; `None` where it is
 /// the last.
+#[inline(always)]
 fn add_line<'a>(
     events: &mut RepeatedEvents,
     names: &mut Names,
     alloc: Global,
     templates: &Names,
     words: &mut Vec<&'a [u8]>,
+    recent: &mut RecentTasks<'a>,
     text: &'a [u8],
 ) -> Result<Option<&'a [u8]>, LineFault>
+    requires { KnowsBoth names.old recent.old }
     ensures value { Follows result (record { events = events.new; names = names.new })
         (after_event_line templates.now (record { events = events.old; names = names.old })
         (first_line text.now)) }
     ensures behind { IfOk result (λ others. option_map (λ t. t.now) others ≡ behind text.now) }
+    ensures known { IfOk result (λ _. KnowsBoth names.new recent.new) }
 {
-    match step_line(text) {
-        Some(line) => {
-            add_steps(events, names, line.name, line.count)?;
-            Ok(Some(line.others))
+    match recent.steps_in(text) {
+        Some(steps) => {
+            add_events(events, Event::Step(steps.task), steps.count)?;
+            Ok(Some(steps.others))
         }
-        None => add_any_line(events, names, alloc, templates, words, text),
+        None => add_other_line(events, names, alloc, templates, words, recent, text),
     }
 }
 
@@ -353,11 +384,20 @@ fn add_lines(
         (record { events = events.old; names = names.old }) (lines text.now)) }
 {
     let mut words = Vec::new(alloc);
+    let mut recent = RecentTasks::new();
     let mut left = Some(text);
     let mut line = 0;
     while let Some(text) = left {
         line += 1;
-        match add_line(events, names, alloc, templates, &mut words, text) {
+        match add_line(
+            events,
+            names,
+            alloc,
+            templates,
+            &mut words,
+            &mut recent,
+            text,
+        ) {
             Ok(others) => left = others,
             Err(LineFault::NoMemory) => return Err(ScheduleFault::NoMemory),
             Err(LineFault::Bad(reason)) => return Err(ScheduleFault::Bad { line, reason }),

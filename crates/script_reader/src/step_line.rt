@@ -1,11 +1,10 @@
 //! A step in its usual form, read without a list of words.
-ghost use Rattle.std.specs.Prelude.{◌≡◌, ◌≤◌, ◌+◌, ◌∷◌, ◌++◌, length, take, not, position, true, codes, IfSome};
+ghost use Rattle.std.specs.Prelude.{◌≡◌, ◌<◌, ◌≤◌, ◌∷◌, ◌++◌, length, take, not, position, true, codes, IfSome, IsTrue};
 ghost use Rattle.std.specs.List.{list_all};
-ghost use Rattle.std.specs.Char.{is_ascii_digit};
-ghost use Rattle.script_reader.specs.StepLine.{IsCounted, SaysSteps};
+ghost use Rattle.script_reader.specs.StepLine.{IsSpelled, IsCounted, EndsStep, SaysSteps};
 ghost use Rattle.script_lines.specs.Word.{is_name, is_name_byte};
 
-use script_lines::{is_name_byte, number};
+use script_lines::is_name_byte;
 
 /// A line `step NAME` or `step NAME x N`, with one space between two words, and what stands behind
 /// its line feed.
@@ -51,43 +50,14 @@ fn cut_name(text: &[u8]) -> Option<(&[u8], &[u8])>
     }
 }
 
-/// The place of the first byte that is no digit.
-#[inline(always)]
-fn digits_end(text: &[u8]) -> Option<usize>
-    ensures { result ≡ position (λ b. not (is_ascii_digit b)) text.now }
-{
-    text.iter().position(|byte| !byte.is_ascii_digit())
-}
-
-/// How many digits stand at the front.
-#[inline(always)]
-#[tactic(auto, using(crate::proofs::StepLines::no_digits_end, crate::proofs::StepLines::digits_front))]
-fn digits_len(text: &[u8]) -> usize
-    ensures passed { list_all is_ascii_digit (take result text.now) ≡ true }
-    ensures within { result ≤ length text.now }
-{
-    match digits_end(text) {
-        Some(at) => at,
-        None => text.len(),
-    }
-}
-
-/// The digits at the front, and what stands behind them.
-#[inline(always)]
-fn cut_digits(text: &[u8]) -> (&[u8], &[u8])
-    ensures digits { list_all is_ascii_digit result.0.now ≡ true }
-    ensures parts { text.now ≡ result.0.now ++ result.1.now }
-{
-    text.split_at(digits_len(text))
-}
-
 /// What stands behind `step ` at the front.
 #[inline(always)]
-fn behind_step(text: &[u8]) -> Option<&[u8]>
+pub fn behind_step(text: &[u8]) -> Option<&[u8]>
     ensures { IfSome result (λ rest. text.now ≡ codes "step " ++ rest.now) }
 {
     match text {
-        [b's', b't', b'e', b'p', b' ', rest @ ..] => Some(rest),
+        [s, t, e, p, b' ', rest @ ..]
+            if (*s == b's') & (*t == b't') & (*e == b'e') & (*p == b'p') => { Some(rest) }
         _ => None,
     }
 }
@@ -114,41 +84,78 @@ fn behind_feed(text: &[u8]) -> Option<&[u8]>
     }
 }
 
-/// How many times ` x N` at the front says, with any digits, and what stands behind it and a line
-/// feed.
-fn cut_any_count(text: &[u8]) -> Option<(u64, &[u8])>
-    ensures { IfSome result (λ cut. IsCounted text.now cut.0 cut.1.now) }
-{
-    let (digits, rest) = cut_digits(behind_times(text)?);
-    let others = behind_feed(rest)?;
-    match number(digits) {
-        Some(count) if 1 <= count && count <= 65_536 => Some((count, others)),
-        _ => None,
-    }
-}
-
-/// What one digit from 1 to 9 at the front is, and what stands behind it and a line feed.
+/// The number that up to five digits at the front spell, and what stands behind them.
 #[inline(always)]
-fn cut_digit(text: &[u8]) -> Option<(u64, &[u8])>
-    ensures parts { IfSome result (λ cut. text.now ≡ (48 + cut.0) ∷ 10 ∷ cut.1.now) }
-    ensures value { IfSome result (λ cut. (1 ≤ cut.0) × (cut.0 ≤ 9)) }
+fn cut_number(text: &[u8]) -> Option<(u64, &[u8])>
+    ensures { IfSome result (λ cut. IsSpelled 5 text.now cut.0 cut.1.now) }
 {
-    match text {
-        [digit @ b'1'..=b'9', b'\n', others @ ..] => Some((u64::from(*digit - b'0'), others)),
-        _ => None,
+    let mut value = 0;
+    let mut rest = text;
+    for _ in 0..6_u32 {
+        match rest {
+            [digit @ b'0'..=b'9', others @ ..] if value <= 6_553 => {
+                value = 10 * value + u64::from(*digit - b'0');
+                rest = others;
+            }
+            _ => return Some((value, rest)),
+        }
     }
+    None
 }
 
-/// How many times ` x N` at the front says, and what stands behind it and a line feed. One digit is
-/// read at once.
+/// How many times ` x N` at the front says, and what stands behind it and a line feed.
 #[inline(always)]
 fn cut_count(text: &[u8]) -> Option<(u64, &[u8])>
     ensures { IfSome result (λ cut. IsCounted text.now cut.0 cut.1.now) }
 {
-    let rest = behind_times(text)?;
-    match cut_digit(rest) {
-        Some((count, others)) => Some((count, others)),
-        None => cut_any_count(text),
+    let (count, rest) = cut_number(behind_times(text)?)?;
+    let others = behind_feed(rest)?;
+    if 1 <= count && count <= 65_536 {
+        Some((count, others))
+    } else {
+        None
+    }
+}
+
+/// How many steps are said behind a name, up to a line feed, and what stands behind it.
+#[inline(always)]
+pub fn cut_end(text: &[u8]) -> Option<(u64, &[u8])>
+    ensures { IfSome result (λ cut. EndsStep text.now cut.0 cut.1.now) }
+{
+    match behind_feed(text) {
+        Some(others) => Some((1, others)),
+        None => cut_count(text),
+    }
+}
+
+/// Whether a text begins with these bytes, and is longer.
+#[inline(always)]
+fn begins_with(text: &[u8], front: &[u8]) -> bool
+    ensures front { IsTrue result → take (length front.now) text.now ≡ front.now }
+    ensures longer { IsTrue result → length front.now < length text.now }
+{
+    if text.len() <= front.len() {
+        return false;
+    }
+    for place in 0..front.len() {
+        if text[place] != front[place] {
+            return false;
+        }
+    }
+    true
+}
+
+/// What stands behind a name, where it is the first word of a text.
+#[inline(always)]
+pub fn behind_name<'a>(name: &[u8], text: &'a [u8]) -> Option<&'a [u8]>
+    ensures { IfSome result (λ rest. text.now ≡ name.now ++ rest.now) }
+{
+    if !begins_with(text, name) {
+        return None;
+    }
+    match &text[name.len()..] {
+        rest @ [b' ' | b'\n', ..] => Some(rest),
+        _ => None,
     }
 }
 
@@ -159,19 +166,10 @@ pub fn step_line(text: &[u8]) -> Option<StepLine<'_>>
         SaysSteps text.now line.name.now line.count line.others.now) }
 {
     let (name, rest) = cut_name(behind_step(text)?)?;
-    match behind_feed(rest) {
-        Some(others) => Some(StepLine {
-            name,
-            count: 1,
-            others,
-        }),
-        None => {
-            let (count, others) = cut_count(rest)?;
-            Some(StepLine {
-                name,
-                count,
-                others,
-            })
-        }
-    }
+    let (count, others) = cut_end(rest)?;
+    Some(StepLine {
+        name,
+        count,
+        others,
+    })
 }

@@ -1,14 +1,7 @@
-use Rattle.std.proofs.Common.{◌+◌, ◌∷◌, [], ◌++◌, ◌∙◌, List, ℕ, ap}
-use Rattle.std.specs.Prelude.{codes}
-use Rattle.script_reader.proofs.StepLines.{digit_is, are_digits}
+use Rattle.script_reader.proofs.SpelledCounts.{counts}
 use Rattle.script_reader.proofs.step_line.cut_count.Goals as goal
 
-pub returns-in-Some : goal.returns-in-Some
-returns-in-Some c =
-    let n = c.in-Some.count in
-    record {
-      digits = (48 + n) ∷ [];
-      parts = c.in_ok-rest.ensures ∙ ap (λ (l : List ℕ). codes " x " ++ l) c.in-Some.ensures.parts;
-      are_digits = are_digits n c.in-Some.ensures.value.1;
-      counted = digit_is n c.in-Some.ensures.value.0 c.in-Some.ensures.value.1;
-    }
+pub returns-then-count-le65536 : goal.returns-then-count-le65536
+returns-then-count-le65536 c =
+    counts c.args.text.now c.in_ok-behind_times.field-0.now c.in_ok-count.rest.now c.in_ok-others.others.now c.in_ok-count.count
+    c.in_ok-behind_times.ensures c.in_ok-count.ensures c.in_ok-others.ensures c.if-count-ge1.true c.if-count-le65536.true

@@ -1,0 +1,51 @@
+-- A line that steps a task whose name was looked up.
+use Rattle.std.proofs.Common.{◌≡◌, ℕ, ◌++◌, List, Some, Result, Ok, Err, ap, ◌∙◌}
+use Rattle.std.specs.Prelude.{IfOk, codes}
+use Rattle.ipc_ids.specs.declared.message.Event.{Event}
+use Rattle.ipc_ids.specs.declared.message.Event.TheVariants as events
+use Rattle.ipc_ids.specs.declared.numbers.TaskNo.{TaskNo}
+use Rattle.script_lines.specs.declared.fault.Reason.{Reason}
+use Rattle.script_lines.specs.Operation.{◌>>=◌}
+use Rattle.script_lines.specs.Word.{name_of}
+use Rattle.script_reader.specs.declared.recent.TaskSteps.{TaskSteps}
+use Rattle.script_lines.specs.Text.{first_line}
+use Rattle.script_reader.specs.EventLine.{EventsAndNames, with_repeated, after_event_line}
+use Rattle.script_reader.specs.Recent.{Has, BeginsWithName, SaysStepsOf}
+use Rattle.script_reader.specs.Schedule.{step_with, with_events}
+use Rattle.script_reader.specs.StepLine.{EndsStep, SaysSteps}
+use Rattle.script_reader.proofs.StepLines.{ends_says}
+
+step_is : (names : List (List ℕ)) (name : List ℕ) (task : TaskNo) (count : ℕ) → Has names task name → step_with names name (Some count) ≡ Ok (events.Step task, count)
+unfolding step_with name_of
+step_is names name task count has = rw has.0 (rw has.1 cc)
+
+-- the steps of a line with this name are those of its task
+named_says : (names : List (List ℕ)) (text name : List ℕ) (steps : TaskSteps) → Has names steps.task name → SaysSteps text name steps.count steps.others.now → SaysStepsOf names text steps
+named_says names text name steps has says = record {
+  said = λ templates before same.
+      says.said templates before
+      ∙ ap (λ said. said >>= with_repeated before)
+      (ap (λ (known : List (List ℕ)). step_with known name (Some steps.count)) same ∙ step_is names name steps.task steps.count has);
+  left = says.left;
+}
+
+-- what was cut off at the front says it all
+pub recent_says : (names : List (List ℕ)) (text behind rest : List ℕ) (steps : TaskSteps) → text ≡ codes "step " ++ behind → BeginsWithName names behind steps.task rest → EndsStep rest steps.count steps.others.now → SaysStepsOf names text steps
+recent_says names text behind rest steps e begins ends =
+    named_says names text begins.name steps begins.has (ends_says text behind begins.name rest steps.count steps.others.now e begins.parts begins.has.0 ends)
+
+-- the steps are added, or there is no room for them
+pub recent_fault : (names : List (List ℕ)) (templates : List (List ℕ)) (before : EventsAndNames) (text : List ℕ) (steps : TaskSteps) (reason : Reason) → SaysStepsOf names text steps → before.names ≡ names
+    → with_events before.events (events.Step steps.task) steps.count ≡ Err reason → after_event_line templates before (first_line text) ≡ Err reason
+recent_fault names templates before text steps reason says same fault =
+    says.said templates before same ∙ ap (λ made. made >>= λ events. Ok (record { events = events; names = before.names })) fault
+
+pub recent_more : (names : List (List ℕ)) (templates : List (List ℕ)) (before : EventsAndNames) (text : List ℕ) (steps : TaskSteps) (more : List Event) → SaysStepsOf names text steps → before.names ≡ names
+    → with_events before.events (events.Step steps.task) steps.count ≡ Ok more → after_event_line templates before (first_line text) ≡ Ok (record { events = more; names = before.names })
+recent_more names templates before text steps more says same is =
+    says.said templates before same ∙ ap (λ made. made >>= λ events. Ok (record { events = events; names = before.names })) is
+
+-- what holds anyway holds of an answer
+pub if_any : {A E : Type 0} (answer : Result A E) (P : Type 0) → P → IfOk answer (λ _. P)
+if_any (Ok x) P holds = holds
+if_any (Err e) P holds = tt
