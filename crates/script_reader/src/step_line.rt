@@ -50,7 +50,8 @@ fn cut_name(text: &[u8]) -> Option<(&[u8], &[u8])>
     }
 }
 
-/// What stands behind `step ` at the front.
+/// What stands behind `step ` at the front. The four letters are looked at together, which is one
+/// comparison for the machine.
 #[inline(always)]
 pub fn behind_step(text: &[u8]) -> Option<&[u8]>
     ensures { IfSome result (λ rest. text.now ≡ codes "step " ++ rest.now) }
