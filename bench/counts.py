@@ -14,8 +14,11 @@ def can_count() -> bool:
     return shutil.which("valgrind") is not None
 
 
-def instructions(tool: str, words: list[str]) -> int:
-    """The instructions from the start of the program that the words run to its end, with its text thrown away."""
+def instructions(tool: str, words: list[str], status: int = 0) -> int:
+    """The instructions from the start of the program that the words run to its end, with its text thrown away.
+
+    It is to end with this status.
+    """
     with tempfile.TemporaryDirectory() as folder:
         counts = os.path.join(folder, "counts")
         run = subprocess.run(
@@ -24,7 +27,7 @@ def instructions(tool: str, words: list[str]) -> int:
             stderr=subprocess.PIPE,
             text=True,
         )
-        if run.returncode:
+        if run.returncode != status:
             sys.exit(f"{tool}: {' '.join(words)} ended with status {run.returncode}\n{run.stderr}")
         with open(counts, encoding="ascii", errors="replace") as file:
             total = re.search(r"^(?:summary|totals): *(\d+)", file.read(), re.MULTILINE)
