@@ -1,6 +1,6 @@
 -- Digits of a count, which are read one after the other.
 use Rattle.std.proofs.Common.{◌≡◌, ℕ, ◌+◌, ◌*◌, ◌-◌, ◌≤◌, ◌<◌, ◌^◌, Bool, true, false, List, [], ◌∷◌, ◌++◌, length, Some, refl, sym, ap, ◌∙◌, arith, le-leb, lt-ltb, le-ltb}
-use Rattle.std.specs.Prelude.{◌&&◌, codes, drop, take, nat_eq, slice_index_or}
+use Rattle.std.specs.Prelude.{◌&&◌, codes, drop, take, nat_eq, nat_le, slice_index_or}
 use Rattle.std.specs.Char.{digit_value, is_digit, is_ascii_digit}
 use Rattle.std.specs.List.{list_all, starts_with}
 use Rattle.std.specs.Str.Parse.{digits_value, digits_value_after}
@@ -66,8 +66,9 @@ no_hex (c ∷ []) h = by (nat_eq 48 c) where
   by false = refl
 no_hex (c ∷ d ∷ ds) h =
     let parts = and_parts (is_ascii_digit d) (list_all is_ascii_digit ds) (and_parts (is_ascii_digit c) (list_all is_ascii_digit (d ∷ ds)) h).1 in
-    let high : d ≤ 57 = leb-true d 57 (and_parts _ _ parts.0).1 in
-    rw (ne_eqb 120 d (λ (e : 120 ≡ d). omega (arith, e, high))) (by (nat_eq 48 c))
+    let high : d ≤ 57 = leb-true d 57 (and_parts (nat_le 48 d) (nat_le d 57) parts.0).1 in
+    let other : nat_eq 120 d ≡ false = ne_eqb 120 d (λ (e : 120 ≡ d). omega (arith, e, high)) in
+    rw other (by (nat_eq 48 c))
   where
     by : (b : Bool) → (b && false) ≡ false
     by true = refl

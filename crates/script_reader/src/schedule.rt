@@ -257,30 +257,6 @@ fn add_words(
     )
 }
 
-/// Adds what the first line of a text says, word by word, and returns what stands behind it; `None`
-/// where it is the last.
-#[tactic(auto, unfolding(crate::specs::EventLine::after_event_line))]
-fn add_any_line<'a>(
-    events: &mut RepeatedEvents,
-    names: &mut Names,
-    alloc: Global,
-    templates: &Names,
-    words: &mut Vec<&'a [u8]>,
-    text: &'a [u8],
-) -> Result<Option<&'a [u8]>, LineFault>
-    ensures value { Follows result (record { events = events.new; names = names.new })
-        (after_event_line templates.now (record { events = events.old; names = names.old })
-        (first_line text.now)) }
-    ensures behind { IfOk result (λ others. option_map (λ t. t.now) others ≡ behind text.now) }
-{
-    let (allowed, others) = split_line(text, words)?;
-    if !allowed {
-        return Err(LineFault::Bad(Reason::BadByte));
-    }
-    add_words(events, names, alloc, templates, words.as_slice())?;
-    Ok(others)
-}
-
 /// The number of the last event's task, which is the place of the task after it; 0 where the last
 /// event is no step.
 #[inline(always)]
@@ -313,8 +289,11 @@ fn add_named_steps<'a>(
     add_events(events, Event::Step(task), count)
 }
 
-/// Adds what the first line of a text says, and keeps which task a step in it names.
+/// Adds what the first line of a text says, and returns what stands behind it; `None` where it is
+/// the last. A step in its usual form is read at once, and which task it names is kept; every other
+/// line is read word by word.
 #[inline(never)]
+#[tactic(auto, unfolding(crate::specs::EventLine::after_event_line))]
 fn add_other_line<'a>(
     events: &mut RepeatedEvents,
     names: &mut Names,
@@ -331,20 +310,21 @@ fn add_other_line<'a>(
     ensures behind { IfOk result (λ others. option_map (λ t. t.now) others ≡ behind text.now) }
     ensures known { IfOk result (λ _. KnowsBoth names.new recent.new) }
 {
-    match step_line(text) {
-        Some(line) => {
-            add_named_steps(events, names, recent, line.name, line.count)?;
-            Ok(Some(line.others))
-        }
-        None => {
-            *recent = RecentTasks::new();
-            add_any_line(events, names, alloc, templates, words, text)
-        }
+    if let Some(line) = step_line(text) {
+        add_named_steps(events, names, recent, line.name, line.count)?;
+        return Ok(Some(line.others));
     }
+    *recent = RecentTasks::new();
+    let (allowed, others) = split_line(text, words)?;
+    if !allowed {
+        return Err(LineFault::Bad(Reason::BadByte));
+    }
+    add_words(events, names, alloc, templates, words.as_slice())?;
+    Ok(others)
 }
 
-/// Adds what the first line of a text says, and returns what stands behind it; `None` where it is
-/// the last.
+/// Adds what the first line of a text says, and returns what stands behind it, as
+/// `add_other_line`; the tasks that were looked up last are tried first.
 #[inline(always)]
 fn add_line<'a>(
     events: &mut RepeatedEvents,
