@@ -14,6 +14,7 @@ use crate::received::{Asked, ReceivedCall, Work};
 use indexmap::IndexMap;
 use ipc_ids::{CallNo, Code, Mode, NoMemory, Outcome, Program, Request, Trace};
 use std::alloc::Global;
+use std::collections::VecDeque;
 use std::marker::Model;
 use task_ends::{Ends, Waited};
 
@@ -27,7 +28,7 @@ pub struct NamingService {
     registry: IndexMap<u64, u64>,
     pending: Vec<ReceivedCall>,
     ends: Ends,
-    work: Vec<Work>,
+    work: VecDeque<Work>,
     taken: u64,
 }
 
@@ -90,16 +91,44 @@ impl NamingService {
             registry: IndexMap::new(alloc),
             pending: Vec::new(alloc),
             ends: Ends::new(alloc),
-            work: Vec::new(alloc),
+            work: VecDeque::new(alloc),
             taken: 0,
         }
+    }
+
+    /// The services with their phones, in the order of registration. Takes no memory.
+    pub fn registry(&self) -> &IndexMap<u64, u64>
+        ensures { result.now.entries ≡ self.now.registry }
+    {
+        &self.registry
+    }
+
+    /// The calls that wait for a service, in the order of arrival. Takes no memory.
+    pub fn pending(&self) -> &[ReceivedCall]
+        ensures { result.now ≡ self.now.pending }
+    {
+        self.pending.as_slice()
+    }
+
+    /// The tasks that introduced themselves, and who waits for their end. Takes no memory.
+    pub fn ends(&self) -> &Ends
+        ensures { result.now ≡ self.now.ends }
+    {
+        &self.ends
+    }
+
+    /// What is to be done, the first first. Takes no memory.
+    pub fn work(&self) -> &VecDeque<Work>
+        ensures { result.now.items ≡ self.now.work }
+    {
+        &self.work
     }
 
     fn first_work(&self) -> Option<&Work>
         ensures work { option_copied result ≡ first_work self.now }
         ensures some { IfSome result (λ _. 0 < length self.now.work) }
     {
-        self.work.first()
+        self.work.front()
     }
 
     /// Does what an outcome asks for, and does not count it.
@@ -109,7 +138,7 @@ impl NamingService {
     {
         match self.first_work() {
             Some(_) => {
-                let _ = self.work.remove(0);
+                let _ = self.work.pop_front();
                 Ok(())
             }
             None => self.take_received(got),
@@ -149,7 +178,7 @@ impl NamingService {
         ensures state { OnOk result (self.new ≡ answered self.old call code) }
         ensures unchanged { OnErr result (self.new ≡ self.old) }
     {
-        self.work.push(Work::answering(call, code))?;
+        self.work.push_back(Work::answering(call, code))?;
         Ok(())
     }
 
@@ -166,7 +195,7 @@ impl NamingService {
     {
         match self.phone_of(received.service()) {
             Some(phone) => {
-                self.work.push(Work::forwarding(received, phone))?;
+                self.work.push_back(Work::forwarding(received, phone))?;
                 Ok(())
             }
             None => self.wait_or_refuse(received),
@@ -195,12 +224,15 @@ impl NamingService {
         reserve_for_one(&mut self.registry, &mut self.work, self.pending.as_slice())?;
         keep_elsewhere(&mut self.registry, phone);
         if phone == NO_PHONE {
-            self.work.push_reserved(Work::answering(call, Code::ELIMIT));
+            self.work
+                .push_back_reserved(Work::answering(call, Code::ELIMIT));
         } else if self.registry.contains_key(&service) {
-            self.work.push_reserved(Work::answering(call, Code::EEXIST));
+            self.work
+                .push_back_reserved(Work::answering(call, Code::EEXIST));
         } else {
             insert_reserved(&mut self.registry, service, phone);
-            self.work.push_reserved(Work::answering(call, Code::EOK));
+            self.work
+                .push_back_reserved(Work::answering(call, Code::EOK));
             forward_pending(&mut self.work, self.pending.as_slice(), service, phone);
             keep_others(&mut self.pending, service);
         }
@@ -215,9 +247,11 @@ impl NamingService {
         let call = received.number;
         self.work.reserve(1)?;
         if self.ends.introduce(received.label)? {
-            self.work.push_reserved(Work::answering(call, Code::EOK));
+            self.work
+                .push_back_reserved(Work::answering(call, Code::EOK));
         } else {
-            self.work.push_reserved(Work::answering(call, Code::EEXIST));
+            self.work
+                .push_back_reserved(Work::answering(call, Code::EEXIST));
         }
         Ok(())
     }
@@ -230,9 +264,11 @@ impl NamingService {
         let call = received.number;
         self.work.reserve(1)?;
         if self.ends.set_value(received.label, received.service()) {
-            self.work.push_reserved(Work::answering(call, Code::EOK));
+            self.work
+                .push_back_reserved(Work::answering(call, Code::EOK));
         } else {
-            self.work.push_reserved(Work::answering(call, Code::ENOENT));
+            self.work
+                .push_back_reserved(Work::answering(call, Code::ENOENT));
         }
         Ok(())
     }
@@ -245,9 +281,11 @@ impl NamingService {
         let call = received.number;
         self.work.reserve(1)?;
         match self.ends.wait(call, received.service())? {
-            Waited::Ended(end) => self.work.push_reserved(Work::telling(end, call)),
+            Waited::Ended(end) => self.work.push_back_reserved(Work::telling(end, call)),
             Waited::Pending => {}
-            Waited::Unknown => self.work.push_reserved(Work::answering(call, Code::ENOENT)),
+            Waited::Unknown => self
+                .work
+                .push_back_reserved(Work::answering(call, Code::ENOENT)),
         }
         Ok(())
     }
@@ -260,7 +298,8 @@ impl NamingService {
         let call = received.number;
         reserve_for_waits(&mut self.work, self.ends.waits())?;
         let freed = self.ends.end(received.label)?;
-        self.work.push_reserved(Work::answering(call, Code::EOK));
+        self.work
+            .push_back_reserved(Work::answering(call, Code::EOK));
         tell_all(&mut self.work, freed.end, freed.waits.as_slice());
         Ok(())
     }

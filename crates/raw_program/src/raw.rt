@@ -89,6 +89,20 @@ impl RawProgram {
         })
     }
 
+    /// The number of the next operation, from 0 on. At or past the end of the body there is none.
+    pub fn place(&self) -> usize
+        ensures { result ≡ self.now.place }
+    {
+        self.place
+    }
+
+    /// What each of the 32 registers holds, from `r0` on. Takes no memory.
+    pub fn registers(&self) -> &[u64]
+        ensures { result.now ≡ self.now.registers }
+    {
+        self.registers.as_slice()
+    }
+
     /// Does what an outcome says, and counts nothing.
     fn step(&mut self, got: &Outcome)
         ensures { self.new ≡ after_at self.old got.now (operation self.old) }

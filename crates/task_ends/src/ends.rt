@@ -59,6 +59,13 @@ impl Ends {
         }
     }
 
+    /// The introduced tasks, in the order in which they came. Takes no memory.
+    pub fn introduced(&self) -> &[Introduced]
+        ensures { result.now ≡ self.now.introduced }
+    {
+        self.introduced.as_slice()
+    }
+
     /// The calls that wait, in the order in which they came. Takes no memory.
     pub fn waits(&self) -> &[Wait]
         ensures { result.now ≡ self.now.waits }

@@ -1,4 +1,5 @@
-use Rattle.std.proofs.Common.{◌≡◌, ◌+◌, ◌≤◌, ◌++◌, drop, length, vec_len, vec_capacity}
+use Rattle.std.proofs.Common.{◌≡◌, ◌+◌, ◌≤◌, ◌++◌, drop, length}
+use Rattle.std.specs.VecDeque.{deque_len, deque_capacity}
 use Rattle.naming_service.specs.Naming.{forwarding_all}
 use Rattle.naming_service.proofs.lists.forward_pending.Given as goal
 
@@ -6,5 +7,5 @@ use Rattle.naming_service.proofs.lists.forward_pending.Given as goal
 abbrev pub invariant-loop-received : goal.invariant-loop-received
 invariant-loop-received l = record {
   work : l.work.items ++ forwarding_all l.service l.phone (drop l.received-index l.pending) ≡ l.fn.work.items ++ forwarding_all l.service l.phone l.pending;
-  room : vec_len l.work + length (drop l.received-index l.pending) ≤ vec_capacity l.work;
+  room : deque_len l.work + length (drop l.received-index l.pending) ≤ deque_capacity l.work;
 }
