@@ -40,6 +40,13 @@ impl TaskAreas {
         self.areas.len()
     }
 
+    /// All of them.
+    pub fn as_slice(&self) -> &[HeldArea]
+        ensures { result.now ≡ self.now }
+    {
+        self.areas.as_slice()
+    }
+
     /// The area that holds all these bytes with that right.
     pub fn holder(&self, at: u64, count: u64, right: Right) -> Option<&HeldArea>
         ensures { option_copied result ≡ holder at count right self.now }

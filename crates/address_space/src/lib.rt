@@ -13,7 +13,9 @@ mod laws;
 mod spaces;
 mod stores;
 
-pub use area::is_subset;
+pub use area::{HeldArea, is_subset};
+pub use areas::TaskAreas;
+pub use bytes::Bytes;
 pub use facts::Area;
 pub use laws::{
     requests_keep_memory_sound, requests_leave_no_store_alone, shared_bytes_are_seen,

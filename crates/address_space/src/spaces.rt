@@ -9,6 +9,7 @@ ghost use Rattle.address_space.specs.Memory.{tested, Did, Tells, IsAdded, no_mem
 
 use crate::area::{HeldArea, PAGE, Right, is_subset};
 use crate::areas::TaskAreas;
+use crate::bytes::Bytes;
 use crate::facts::Area;
 use crate::stores::Stores;
 use ipc_ids::{Buffer, Code, NoMemory, Short, StoreNo, TaskNo};
@@ -287,6 +288,27 @@ impl Spaces {
         ensures { result ≡ first_area self.now t }
     {
         self.areas(t).least_base()
+    }
+
+    /// The areas of each task, from the first on.
+    pub fn tasks(&self) -> &[TaskAreas]
+        ensures { result.now ≡ self.now.areas }
+    {
+        self.tasks.as_slice()
+    }
+
+    /// The bytes of a store; `None` where there is no such store.
+    pub fn store(&self, store: u64) -> Option<&Bytes>
+        ensures { option_copied result ≡ get self.now.stores store }
+    {
+        self.stores.get(store)
+    }
+
+    /// The number of the next store.
+    pub fn next_store(&self) -> u64
+        ensures { result ≡ self.now.next_store }
+    {
+        self.stores.next_store()
     }
 
     fn areas(&self, t: TaskNo) -> &TaskAreas

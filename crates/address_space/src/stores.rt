@@ -58,6 +58,13 @@ impl Stores {
         }
     }
 
+    /// The number of the next store.
+    pub fn next_store(&self) -> u64
+        ensures { result ≡ self.now.next_store }
+    {
+        self.next_store
+    }
+
     /// Adds a store of so many zeros, and tells its number.
     ///
     /// # Errors

@@ -136,6 +136,34 @@ impl Switchboard {
         (phones, boxes, spaces)
     }
 
+    /// Who is alive, from the first task on.
+    pub fn alive(&self) -> &[bool]
+        ensures { result.now ≡ self.now.state.tasks.alive }
+    {
+        self.alive.as_slice()
+    }
+
+    /// The phones of all tasks.
+    pub fn phones(&self) -> &PhoneRows
+        ensures { result.now.states ≡ self.now.state.tasks.phones }
+    {
+        &self.phones
+    }
+
+    /// The calls of all tasks.
+    pub fn boxes(&self) -> &Boxes
+        ensures { result.now.calls ≡ self.now.state.calls }
+    {
+        &self.boxes
+    }
+
+    /// The areas of all tasks.
+    pub fn spaces(&self) -> &Spaces
+        ensures { result.now ≡ self.now.state.memory }
+    {
+        &self.spaces
+    }
+
     /// Adds a task with so many free phones.
     pub fn add_task(&mut self, limit: u32) -> Result<TaskNo, NoMemory>
         requires limit { IsLimit limit }

@@ -5,7 +5,7 @@ ghost use Rattle.ipc_ids.specs.Program.{fits};
 ghost use Rattle.cleanup.specs.State.{start, is_alive, phone_at, with_task, with_phone};
 ghost use Rattle.cleanup.specs.Board.{IsLimit};
 ghost use Rattle.cleanup.specs.Sound.{IsSound};
-ghost use Rattle.kernel_core.specs.Kernel.{serve, kill_event, next_task, spawn_event};
+ghost use Rattle.kernel_core.specs.Kernel.{IsSteady, serve, kill_event, next_task, spawn_event};
 ghost use Rattle.kernel_core.specs.History.{HistoryFits, served_entries, killed_entries};
 
 use crate::request::{room_of, serve_request};
@@ -84,6 +84,14 @@ impl Kernel {
         ensures { result ≡ is_alive self.now t }
     {
         self.board.is_alive(t)
+    }
+
+    /// What it is made of. It is steady.
+    pub fn board(&self) -> &Switchboard
+        ensures state { result.now.state ≡ self.now }
+        ensures steady { IsSteady self.now }
+    {
+        &self.board
     }
 
     /// How many events there were.

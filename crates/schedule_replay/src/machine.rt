@@ -58,6 +58,13 @@ impl Replay {
         }
     }
 
+    /// The tasks as they are.
+    pub fn system(&self) -> &System
+        ensures { result.now ≡ self.now.state }
+    {
+        &self.system
+    }
+
     /// One event, whose entries go to the end of `out`.
     ///
     /// # Errors

@@ -89,6 +89,20 @@ impl System {
         })
     }
 
+    /// The kernel.
+    pub fn kernel(&self) -> &Kernel
+        ensures { result.now ≡ self.now.kernel }
+    {
+        &self.kernel
+    }
+
+    /// The program of each task, from the first on.
+    pub fn programs(&self) -> &[AnyProgram]
+        ensures { result.now ≡ self.now.programs }
+    {
+        self.programs.as_slice()
+    }
+
     /// One event, whose entries go to the end of `out`.
     ///
     /// # Errors

@@ -1,0 +1,35 @@
+-- The words of what is left of a list, of numbers that are left.
+use Rattle.std.proofs.Common.{ℕ, zero, suc, ◌≡◌, ◌<◌, ◌+◌, ◌-◌, List, [], ◌∷◌, ◌++◌, drop, refl, sym, ◌∙◌, ap, arith, append_assoc, slice_get, Option, Some}
+use Rattle.std.proofs.lemmas.Bool.Decides.{nat_tests}
+use Rattle.std.specs.List.{flat_map}
+use Rattle.phone_table.specs.Phones.{row_at}
+use Rattle.answerbox.specs.Calls.{CallTable, call_at}
+use Rattle.state_words.specs.Words.{at_words, option_words}
+use Rattle.state_words.specs.CallWords.{call_words, table_from}
+
+left_next : {A : Type 0} (words : A → List ℕ) (xs : List A) (p : ℕ) → flat_map words (drop p xs) ≡ at_words words (slice_get xs p) ++ flat_map words (drop (suc p) xs)
+left_next words [] zero = refl
+left_next words [] (suc p) = refl
+left_next words (y ∷ xs) zero = refl
+left_next words (y ∷ xs) (suc p) = left_next words xs p
+
+pub left_at : {A : Type 0} (words : A → List ℕ) (xs : List A) (p : ℕ) → flat_map words (drop p xs) ≡ at_words words (slice_get xs p) ++ flat_map words (drop (p + 1) xs)
+left_at words xs p =
+    let e : suc p ≡ p + 1 = omega arith in
+    left_next words xs p ∙ ap (λ (z : ℕ). at_words words (slice_get xs p) ++ flat_map words (drop z xs)) e
+
+pub left_words : {A : Type 0} (words : A → List ℕ) (xs : List A) (p : ℕ) (x : A) → slice_get xs p ≡ Some x → flat_map words (drop p xs) ≡ words x ++ flat_map words (drop (p + 1) xs)
+left_words {A} words xs p x h = left_at words xs p ∙ ap (λ (z : Option A). at_words words z ++ flat_map words (drop (p + 1) xs)) h
+
+pub row_at_next : {A : Type 0} (rows : List A) (t : ℕ) (x : A) → row_at rows (t + 1) ≡ Some x → slice_get rows t ≡ Some x
+row_at_next rows t x h = grind (arith, nat_tests)
+
+-- what was written and what is left, after one more
+pub one_more : (whole out new now rest left : List ℕ) → out ++ left ≡ whole → left ≡ now ++ rest → new ≡ out ++ now → new ++ rest ≡ whole
+one_more whole out new now rest left a b c =
+    ap (λ (z : List ℕ). z ++ rest) c ∙ append_assoc out now rest ∙ ap (λ (z : List ℕ). out ++ z) (sym b) ∙ a
+
+pub left_calls : (calls : CallTable) (n m : ℕ) → n < m → table_from calls n (m - n) ≡ option_words call_words (call_at calls n) ++ table_from calls (n + 1) (m - (n + 1))
+left_calls calls n m l =
+    let a : m - n ≡ suc (m - (n + 1)) = omega arith in
+    ap (λ (z : ℕ). table_from calls n z) a

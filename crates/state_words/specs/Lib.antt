@@ -1,0 +1,5 @@
+pub mod Words
+pub mod CallWords
+pub mod MemoryWords
+pub mod KernelWords
+pub mod Apart
