@@ -276,12 +276,16 @@ place_none live f k rises found i e =
 
 -- what a fibril is blocked on is what its record among those says, where it is among them
 
-pub why_here : (live : List Fibril) (o : FibrilOrder) (f : FibrilNo) (i : ℕ) (d : Fibril) → AreLive live o.fibrils → number_of (slice_get live i) ≡ Some f → why_at (fibril_at o f.0) ≡ why_in (get_or live i d).status
-why_here live o f i d are is =
+-- the fibril with a number is its record among those, where it is among them
+pub fibril_here : (live : List Fibril) (o : FibrilOrder) (f : FibrilNo) (i : ℕ) (d : Fibril) → AreLive live o.fibrils → number_of (slice_get live i) ≡ Some f → fibril_at o f.0 ≡ Some (get_or live i d)
+fibril_here live o f i d are is =
     let x = named (slice_get live i) f is in
     let one = in_all o.fibrils i x.fibril (ap (λ (l : List Fibril). slice_get l i) (sym are.those) ∙ x.there) in
     let number : f.0 ≡ suc one.place = ap (λ (g : FibrilNo). g.0) (sym x.number) ∙ without_zero x.fibril.number.0 one.place (numbered_at 0 o.fibrils one.place x.fibril are.numbered one.there) in
     rw (number, one.there, get_or_from_slice_get live i x.fibril d x.there) refl
+
+pub why_here : (live : List Fibril) (o : FibrilOrder) (f : FibrilNo) (i : ℕ) (d : Fibril) → AreLive live o.fibrils → number_of (slice_get live i) ≡ Some f → why_at (fibril_at o f.0) ≡ why_in (get_or live i d).status
+why_here live o f i d are is = ap why_at (fibril_here live o f i d are is)
 
 why_over : (x : Fibril) → is_live x ≡ false → why_in x.status ≡ None
 why_over x e = by x.status e where

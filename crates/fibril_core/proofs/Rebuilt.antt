@@ -1,11 +1,11 @@
 -- All fibrils, rebuilt from those that have not ended, and what each change of those makes of all.
-use Rattle.std.proofs.Common.{◌≡◌, ℕ, zero, suc, ◌+◌, ◌-◌, ◌<◌, ◌⊎◌, inl, inr, Bool, true, false, List, [], ◌∷◌, ◌++◌, length, get_or, Option, Some, None, refl, ap, sym, ◌∙◌, subst, arith}
+use Rattle.std.proofs.Common.{◌≡◌, ℕ, zero, suc, ◌+◌, ◌-◌, ◌<◌, ◌≤◌, ◌≢◌, ◌⊎◌, inl, inr, Bool, true, false, List, [], ◌∷◌, ◌++◌, length, get_or, Option, Some, None, refl, ap, sym, ◌∙◌, subst, arith}
 use Rattle.std.specs.Prelude.{◌&&◌, if◌then◌else◌, map, slice_get, slice_set, nat_lt}
 use Rattle.std.specs.List.{filter, find}
 use Rattle.std.proofs.lemmas.Bool.{cases_eq, eq-eqb, ne_eqb, eqb-true}
 use Rattle.std.proofs.lemmas.Bool.Decides.{nat_tests}
 use Rattle.std.proofs.lemmas.List.{ext_get_or, length-append}
-use Rattle.std.proofs.lemmas.Option.{slice_get-get_or, get_or_from_slice_get}
+use Rattle.std.proofs.lemmas.Option.{slice_get-get_or, slice_get_past, get_or_from_slice_get}
 use Rattle.ipc_ids.specs.declared.numbers.FibrilNo.{FibrilNo}
 use Rattle.fibril_core.specs.declared.fibrils.Status.{Status}
 use Rattle.fibril_core.specs.declared.fibrils.Status.TheVariants.{Ready, Blocked, Ended}
@@ -36,6 +36,21 @@ all_at (suc n) i live h = at_by (cases_eq i n) (all_at n i live) where
   at_by : (i ≡ n) ⊎ (i ≡ n → ⊥) → (i < n → slice_get (all_of n live) i ≡ Some (one_of (suc i) live)) → slice_get (all_of n live ++ one_of (suc n) live ∷ []) i ≡ Some (one_of (suc i) live)
   at_by (inl e) before = subst (λ (k : ℕ). slice_get (all_of n live ++ one_of (suc n) live ∷ []) k ≡ Some (one_of (suc k) live)) (sym e) (last_at n live)
   at_by (inr e) before = push_elsewhere (all_of n live) i (one_of (suc n) live) (λ same. e (same ∙ length_all n live)) ∙ before (omega arith)
+
+-- the fibril with a number is one that has ended, where its number is not among those that have not
+pub fibril_over : (n next : ℕ) (live : List Fibril) (f : FibrilNo) → 0 < f.0 → f.0 ≤ n → ((k : ℕ) → number_of (slice_get live k) ≢ Some f) → fibril_at (record { fibrils = all_of n live; next_stamp = next }) f.0 ≡ Some (ended f.0)
+fibril_over n next live f some few none = by f.0 refl where
+  other : (i : ℕ) → f.0 ≡ suc i → (j : ℕ) (y : Fibril) → slice_get live j ≡ Some y → has_number (suc i) y ≡ false
+  other i is j y there = ne_eqb y.number.0 (suc i) (λ same. none j (ap number_of there ∙ ap Some (ap (λ (m : ℕ). record { 0 = m }) (same ∙ sym is))))
+
+  by : (m : ℕ) → f.0 ≡ m → fibril_at (record { fibrils = all_of n live; next_stamp = next }) m ≡ Some (ended m)
+  by zero is = absurd (omega arith)
+  by (suc i) is = all_at n i live (omega arith) ∙ ap (λ (o : Option Fibril). Some (found_or_ended (suc i) o)) (find_none (has_number (suc i)) live (other i is))
+
+-- there is no fibril beyond the last
+pub fibril_past : (n next : ℕ) (live : List Fibril) (m : ℕ) → n < m → fibril_at (record { fibrils = all_of n live; next_stamp = next }) m ≡ None
+fibril_past n next live zero h = refl
+fibril_past n next live (suc i) h = slice_get_past (all_of n live) i (let few = length_all n live in omega arith)
 
 -- a search over those that pass a test is a search by both tests
 

@@ -9,6 +9,7 @@ ghost use Rattle.fibril_core.specs.Conns.{close_answer};
 use crate::owed::Owed;
 use ipc_ids::{CallNo, Code, FibrilNo, Label, Msg, NoMemory};
 use std::alloc::Global;
+use std::collections::VecDeque;
 use std::marker::Model;
 
 /// A call that came for a connection.
@@ -19,11 +20,11 @@ pub struct Queued {
 }
 
 /// Calls in the order of their coming. It takes no memory while it is empty, and room for one call
-/// where one comes to the empty queue; further room is made as for any `Vec`, and all of it is given
-/// back when the last call is taken.
+/// where one comes to the empty queue; further room is made as for any `VecDeque`, and all of it is
+/// given back when the last call is taken.
 #[derive(Drop)]
 pub struct Queue {
-    items: Vec<Queued>,
+    items: VecDeque<Queued>,
 }
 
 impl Model for Queue {
@@ -41,21 +42,23 @@ impl Queue {
         ensures { result ≡ [] }
     {
         Queue {
-            items: Vec::new(alloc),
+            items: VecDeque::new(alloc),
         }
     }
 
-    fn len(&self) -> usize
+    /// How many calls. Takes no memory.
+    pub fn len(&self) -> usize
         ensures count { result ≡ length self.now }
         ensures few { length self.now < 2 ^ 63 }
     {
         self.items.len()
     }
 
-    fn as_slice(&self) -> &[Queued]
-        ensures { result.now ≡ self.now }
+    /// The calls in their order, in two slices. Takes no memory.
+    pub fn as_slices(&self) -> (&[Queued], &[Queued])
+        ensures { result.0.now ++ result.1.now ≡ self.now }
     {
-        self.items.as_slice()
+        self.items.as_slices()
     }
 
     fn push(&mut self, call: CallNo, msg: Msg) -> Result<(), NoMemory>
@@ -65,7 +68,7 @@ impl Queue {
         if self.items.is_empty() {
             self.items.reserve_exact(1)?;
         }
-        match self.items.push(Queued { call, msg }) {
+        match self.items.push_back(Queued { call, msg }) {
             Ok(()) => Ok(()),
             Err(_) => Err(NoMemory),
         }
@@ -76,14 +79,11 @@ impl Queue {
         ensures first { result ≡ first_of self.old }
         ensures rest { self.new ≡ rest_of self.old }
     {
-        if self.items.is_empty() {
-            return None;
-        }
-        let first = self.items.remove(0);
+        let first = self.items.pop_front();
         if self.items.is_empty() {
             self.items.shrink_to_fit();
         }
-        Some(first)
+        first
     }
 }
 
@@ -209,11 +209,20 @@ fn hang_up_queued(alloc: Global, queue: &Queue) -> Result<Owed, NoMemory>
     ensures { IfOk result (λ owed. owed ≡ map hung_up queue.now) }
 {
     let mut owed = Owed::new(alloc);
-    let items = queue.as_slice();
-    for queued in items {
+    let (front, back) = queue.as_slices();
+    hang_up_each(&mut owed, front)?;
+    hang_up_each(&mut owed, back)?;
+    Ok(owed)
+}
+
+/// Adds `EHANGUP` for each of these calls in order.
+fn hang_up_each(owed: &mut Owed, calls: &[Queued]) -> Result<(), NoMemory>
+    ensures { OnOk result (owed.new ≡ owed.old ++ map hung_up calls.now) }
+{
+    for queued in calls {
         owed.push((queued.call, Code::EHANGUP))?;
     }
-    Ok(owed)
+    Ok(())
 }
 
 /// Adds `EOK` for the close call, if there is one.

@@ -1,5 +1,5 @@
 //! The connections of a task.
-ghost use Rattle.std.specs.Prelude.{◌≡◌, ◌+◌, ◌-◌, ◌<◌, ◌≤◌, OnOk, OnErr, None, IfOk, IfSome};
+ghost use Rattle.std.specs.Prelude.{◌≡◌, ◌+◌, ◌-◌, ◌++◌, ◌<◌, ◌≤◌, OnOk, OnErr, None, IfOk, IfSome};
 ghost use Rattle.std.specs.Prelude.{length, position, slice_get, remove, true};
 ghost use Rattle.std.specs.Option.{option_copied};
 ghost use Rattle.std.specs.VecDeque.{deque_capacity, deque_len};
@@ -66,6 +66,13 @@ impl Conns {
             last: 0,
             alloc,
         }
+    }
+
+    /// The connections in the order of their start, in two slices. Takes no memory.
+    pub fn as_slices(&self) -> (&[Conn], &[Conn])
+        ensures { result.0.now ++ result.1.now ≡ self.now.conns }
+    {
+        self.conns.as_slices()
     }
 
     /// The fibril of the connection to which the label leads. Takes no memory.

@@ -1,7 +1,7 @@
 //! Fibrils by number, and since when each is ready or blocked.
-ghost use Rattle.std.specs.Prelude.{◌≡◌, ◌+◌, ◌++◌, ◌^◌, ◌<◌, ◌≤◌, ◌==◌, true, position, OnOk, OnErr, IfOk, IsSome};
+ghost use Rattle.std.specs.Prelude.{◌≡◌, ◌+◌, ◌++◌, ◌^◌, ◌<◌, ◌≤◌, ◌==◌, true, length, position, OnOk, OnErr, IfOk, IsSome};
 ghost use Rattle.std.specs.VecDeque.{deque_capacity, deque_len};
-ghost use Rattle.fibril_core.specs.Fibrils.{no_fibrils, current, first_blocked, next_number};
+ghost use Rattle.fibril_core.specs.Fibrils.{no_fibrils, current, first_blocked, next_number, fibril_at};
 ghost use Rattle.fibril_core.specs.Fibrils.{why_of, IsWithinBounds, spawned, block_on, yield_now};
 ghost use Rattle.fibril_core.specs.Fibrils.{end_current, make_ready, wake_first, wake_all};
 ghost use Rattle.fibril_core.specs.FibrilLaws.{IsSound, IsQueue, IsQueueBut};
@@ -87,6 +87,27 @@ impl Fibrils {
             return Err(NoMemory);
         }
         self.live.reserve()
+    }
+
+    /// How many were ever made. Takes no memory.
+    pub fn made(&self) -> u64
+        ensures { result ≡ length self.now.order.fibrils }
+    {
+        self.live.made()
+    }
+
+    /// The stamp that the next fibril gets that becomes ready or blocked. Takes no memory.
+    pub fn next_stamp(&self) -> u64
+        ensures { result ≡ self.now.order.next_stamp }
+    {
+        self.live.next_stamp()
+    }
+
+    /// The fibril with this number, if one was made. Takes no memory.
+    pub fn fibril(&self, f: FibrilNo) -> Option<Fibril>
+        ensures { result ≡ fibril_at self.now.order f.0 }
+    {
+        self.live.fibril(f)
     }
 
     /// The number that the next fibril gets.

@@ -78,6 +78,26 @@ impl LiveFibrils {
         self.made
     }
 
+    /// The stamp that the next fibril gets that becomes ready or blocked.
+    pub(crate) fn next_stamp(&self) -> u64
+        ensures { result ≡ self.now.order.next_stamp }
+    {
+        self.next_stamp
+    }
+
+    /// The fibril with this number, if one was made. Of one that has ended nothing else is kept.
+    pub(crate) fn fibril(&self, f: FibrilNo) -> Option<Fibril>
+        ensures { result ≡ fibril_at self.now.order f.0 }
+    {
+        if f.0 == 0 || self.made < f.0 {
+            return None;
+        }
+        match place_of(&self.fibrils, f) {
+            Some(i) => Some(self.fibrils[i]),
+            None => Some(ended(f)),
+        }
+    }
+
     /// How many have not ended.
     #[tactic(auto, using(crate::proofs::Live::length_live))]
     pub(crate) fn len(&self) -> usize
@@ -177,6 +197,17 @@ fn place_of(fibrils: &VecDeque<Fibril>, f: FibrilNo) -> Option<usize>
     match fibrils.binary_search_by_key(&f.0, |x| x.number.0) {
         Ok(i) => Some(i),
         Err(_) => None,
+    }
+}
+
+/// A fibril that has ended.
+fn ended(number: FibrilNo) -> Fibril
+    ensures { result ≡ ended number.0 }
+{
+    Fibril {
+        number,
+        status: Status::Ended,
+        stamp: 0,
     }
 }
 
