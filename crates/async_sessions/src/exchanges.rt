@@ -53,6 +53,13 @@ impl Exchanges {
         }
     }
 
+    /// The exchanges by rising number.
+    pub(crate) fn as_slice(&self) -> &[Exchange]
+        ensures { result.now ≡ self.now.now.listed }
+    {
+        self.listed.as_slice()
+    }
+
     /// Makes room for one more exchange.
     ///
     /// # Errors

@@ -128,6 +128,27 @@ impl Sessions {
         self.exchanges.reserve()
     }
 
+    /// The sessions by number: 16, of which `None` is not in use. Takes no memory.
+    pub fn sessions(&self) -> &[Option<Session>]
+        ensures { result.now ≡ self.now.now.sessions }
+    {
+        &self.sessions
+    }
+
+    /// The exchanges by rising number. Takes no memory.
+    pub fn exchanges(&self) -> &[Exchange]
+        ensures { result.now ≡ self.now.now.exchanges }
+    {
+        self.exchanges.as_slice()
+    }
+
+    /// The stamp that the next exchange gets that becomes idle. Takes no memory.
+    pub fn next_stamp(&self) -> u64
+        ensures { result ≡ self.now.now.next_stamp }
+    {
+        self.next_stamp
+    }
+
     /// The session with this number, if it is in use.
     fn session(&self, s: u32) -> Option<Session>
         ensures { result ≡ session_at self.now.now s }
