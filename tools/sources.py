@@ -130,6 +130,8 @@ class Crates:
 FUNCTION = re.compile(r"^(?P<indent> *)pub (?:const )?fn (?P<name>\w+)(?P<head>[^\n]*\n(?:.*\n)*?)(?P=indent)\{\}?$", re.M)
 CLAUSE = re.compile(r"^\s*(ensures|requires)\*?(?: (\w+))? ?\{", re.M)
 IMPL = re.compile(r"^(?:impl(?:<[^\n]*?>)? (\w+)(?:<[^\n]*>)? \{$|\}$)", re.M)
+# What a clause is about, as in `(k : KernelState)`.
+BINDER = re.compile(r"\([\w ]+ : [^()]*\)")
 FIELD = re.compile(r"^  (?:pub )?(\w+) :", re.M)
 WITHOUT_PARAMETERS = re.compile(r"(?:<[^>]*>)?\(\)\s*\n")
 
