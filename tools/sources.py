@@ -4,6 +4,8 @@ from __future__ import annotations
 
 import os
 import re
+import shutil
+import subprocess
 from typing import Iterator, NamedTuple, Optional
 
 TOP = os.path.dirname(os.path.dirname(os.path.realpath(__file__)))
@@ -13,6 +15,24 @@ RUST_USE = re.compile(r"^use (\w+)((?:::\w+)*)(?:::\{([^}]*)\})?;", re.M)
 DEFINITION = re.compile(r"^(?:(?:pub|abbrev|unfoldable|private|opaque|record|data) +)+([^\s:({]+)")
 RUST_TYPE = re.compile(r"^(?:pub(?:\(\w+\))? )?(?:struct|enum|trait|type) (\w+)", re.M)
 WORD = re.compile(r"[A-Za-z_][\w'-]*(?:\.[A-Za-z_][\w'-]*)?|[^\sA-Za-z_\d(){},.:;]+")
+
+
+def text_of(name: str) -> str:
+    with open(os.path.join(TOP, name), encoding="utf-8") as file:
+        return file.read()
+
+
+def files() -> list[str]:
+    """The files of the repository, without those that are made: by git where it answers, else by their folders."""
+    words = ["git", "ls-files", "--cached", "--others", "--exclude-standard"]
+    listed = subprocess.run(words, cwd=TOP, capture_output=True, text=True) if shutil.which("git") else None
+    if listed and not listed.returncode:
+        return sorted({name for name in listed.stdout.splitlines() if os.path.isfile(os.path.join(TOP, name))})
+    found = []
+    for folder, folders, names in os.walk(TOP):
+        folders[:] = [name for name in folders if name not in (".git", "out", "__pycache__")]
+        found += [os.path.relpath(os.path.join(folder, name), TOP) for name in names]
+    return sorted(found)
 
 
 class Name(NamedTuple):
