@@ -98,7 +98,7 @@ module _ (t : TaskNo) (n : ℕ) (reply : Reply) (c : Call) (u : TaskNo) (k : Ker
       let same : x.phone ≡ y.phone = let e : Some x.phone ≡ Some y.phone = sym x.kept ∙ y.kept in cc in
       let leads = subst (λ (l : Label). PhoneComesTo l.task l.phone.0 (Connected to) k a.state) same x.leads in
       let reaches = subst (λ (l : Label). Reaches t n reply c u eok c.buffer k.memory (entry.PhoneIs l (Connected to) ∷ []) k a)
-          same x.reaches in
+      same x.reaches in
       reaches_same eok c.buffer k.memory _ reaches y.reaches
       (come_same k a.state b.state y.phone.task y.phone.phone.0 (Connected to) leads y.leads)
 
@@ -117,14 +117,14 @@ module _ (t : TaskNo) (n : ℕ) (reply : Reply) (c : Call) (u : TaskNo) (k : Ker
   writes_same x y =
       let same : x.step ≡ y.step = placing_same k.memory t c.buffer reply x.step y.step x.placing y.placing in
       let reaches = subst (λ (s : Step (Option StoreNo)). Reaches t n reply c u (code_after s.told) c.buffer s.memory
-          (written t (first reply.args) (second reply.args) s.told) k a) same x.reaches in
+      (written t (first reply.args) (second reply.args) s.told) k a) same x.reaches in
       reaches_same _ c.buffer y.step.memory _ reaches y.reaches (stay_same k a.state b.state x.phones y.phones)
 
   takes_same : TakesBytes t n reply c u k a → TakesBytes t n reply c u k b → a ≡ b
   takes_same x y =
       let same : x.told ≡ y.told = taking_same k.memory t c.request.args reply (pool k) x.told y.told x.taking y.taking in
       let reaches = subst (λ (r : Result (List ℕ) Code). Reaches t n reply c u (code_after r) (bytes_after r c.buffer) k.memory
-          [] k a) same x.reaches in
+      [] k a) same x.reaches in
       reaches_same _ _ k.memory [] reaches y.reaches (stay_same k a.state b.state x.phones y.phones)
 
   shares_same : (from : TaskNo) (base : ℕ) (to : TaskNo) (target : ℕ) → spaces.IsSound k.memory → IsAdded k.memory to
@@ -133,9 +133,9 @@ module _ (t : TaskNo) (n : ℕ) (reply : Reply) (c : Call) (u : TaskNo) (k : Ker
       let pages : ℕ = second c.request.args in
       let rights : ℕ = third c.request.args in
       let same : x.step ≡ y.step =
-          share_is_determined k.memory from base to target pages rights sound added x.step y.step x.share y.share in
+      share_is_determined k.memory from base to target pages rights sound added x.step y.step x.share y.share in
       let reaches = subst (λ (s : Step StoreNo). Reaches t n reply c u (code_after s.told) c.buffer s.memory
-          (made to target pages rights s.told) k a) same x.reaches in
+      (made to target pages rights s.told) k a) same x.reaches in
       reaches_same _ c.buffer y.step.memory _ reaches y.reaches (stay_same k a.state b.state x.phones y.phones)
 
   plainly_same : AnswersPlainly t n reply c u k a → AnswersPlainly t n reply c u k b → a ≡ b
@@ -158,7 +158,7 @@ module _ (t : TaskNo) (n : ℕ) (reply : Reply) (c : Call) (u : TaskNo) (k : Ker
               | inl e ↦ shares_same t (first reply.args) u (first c.request.args) sound.memory.spaces (added k u sound lives)
                   (x.inward e) (y.inward e)
               | inr n6 ↦ (let plain : IsPlain c.request.method =
-                      record { to_me = n1; me_to = n2; write = n3; read = n4; out = n5; inward = n6 } in
+                  record { to_me = n1; me_to = n2; write = n3; read = n4; out = n5; inward = n6 } in
                   plainly_same (x.others plain) (y.others plain))
             ]
           ]

@@ -64,7 +64,7 @@ used_or_none m store = by (is_used store m.areas) refl where
       let back : suc row.0 - 1 ≡ row.0 = omega arith in
       let u : TaskNo = record { 0 = suc row.0 } in
       let here : list_any (stands_over store) (areas_of m u) ≡ true =
-          ap (λ (j : ℕ). list_any (stands_over store) (unwrap_or (slice_get m.areas j) [])) back ∙ row.1 in
+      ap (λ (j : ℕ). list_any (stands_over store) (unwrap_or (slice_get m.areas j) [])) back ∙ row.1 in
       let one = any_of (stands_over store) (areas_of m u) here in
       inl (record { who = u; area = one.0; some = omega arith; has = one.1; over = eqb-true one.0.store store one.2 })
   by false h = inr (λ u b some has e. false≢true (sym h

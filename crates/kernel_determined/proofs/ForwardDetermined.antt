@@ -72,7 +72,7 @@ module _ (t : TaskNo) (n p : ℕ) (mode : Mode) (change : Option Msg) (k : Kerne
       let two = back_same c x.freed y.freed x.rest y.rest x.back y.back in
       let msg = message_same change c x.msg y.msg x.message y.message in
       let phones = may_come_same y.freed Free k a.state b.state x.note y.note
-          (subst (λ o. MayCome o Free k a.state x.note) two.0 x.phones) y.phones in
+      (subst (λ o. MayCome o Free k a.state x.note) two.0 x.phones) y.phones in
       let rest : Option Label → Msg → Call = λ o m. passed_call k c m over o u in
       quiet_same outcome.Done k a b x.quiet y.quiet (record {
         phones = phones.0;

@@ -109,7 +109,7 @@ quiet_same told k a b x y alike = served_same a b
 pub step_same : (k a b : KernelState) (m n : List Entry) → IsStep k a → IsStep k b → AreAlike a b m n → (a ≡ b) × (m ≡ n)
 step_same k a b m n x y alike = (
   state_same a b (x.alive ∙ sym y.alive) (rows_same a.tasks.phones b.tasks.phones (x.tasks ∙ sym y.tasks) alike.phones)
-  alike.calls (x.memory ∙ sym y.memory) (x.counted ∙ sym y.counted),
+      alike.calls (x.memory ∙ sym y.memory) (x.counted ∙ sym y.counted),
   alike.entries,
 )
 

@@ -156,13 +156,14 @@ forget_turn = record {
 area_turn : (t : TaskNo) → 1 ≤ t.0 → IsDetermined (LosesArea t) HasSoundAreas
 area_turn t some = record {
   same = λ k base a b m n i x y.
-      let one : x.step ≡ y.step = drop_is_determined k.memory t base some i x.step y.step x.drop y.drop in
-      (state_same a b (ap (λ (z : Tasks). z.alive) (x.tasks ∙ sym y.tasks)) (ap (λ (z : Tasks). z.phones) (x.tasks ∙ sym y.tasks))
-      (x.calls ∙ sym y.calls) (x.memory ∙ ap (λ (s : Step Unit). s.memory) one ∙ sym y.memory) (x.events ∙ sym y.events),
-      x.entries ∙ sym y.entries);
+      let one : x.step ≡ y.step = drop_is_determined k.memory t base some i x.step y.step x.drop y.drop in (
+        state_same a b (ap (λ (z : Tasks). z.alive) (x.tasks ∙ sym y.tasks)) (ap (λ (z : Tasks). z.phones) (x.tasks ∙ sym y.tasks))
+            (x.calls ∙ sym y.calls) (x.memory ∙ ap (λ (s : Step Unit). s.memory) one ∙ sym y.memory) (x.events ∙ sym y.events),
+        x.entries ∙ sym y.entries,
+      );
   keeps = λ k base a m i x.
       let one : x.step ≡ drop_area k.memory t base =
-          drop_is_determined k.memory t base some i x.step (drop_area k.memory t base) x.drop (drop_is_whole k.memory t base) in
+      drop_is_determined k.memory t base some i x.step (drop_area k.memory t base) x.drop (drop_is_whole k.memory t base) in
       subst spaces.IsSound (sym (x.memory ∙ ap (λ (s : Step Unit). s.memory) one)) (sound_drop k.memory t base i);
 }
 
@@ -220,7 +221,7 @@ kill_is_determined t k a b some sound x y =
     let marked : x.marked ≡ y.marked = mark_same t k x.marked y.marked x.ended y.ended in
     let parts = subst (λ (j : KernelState). EndsParts t j x.last a.entries) marked x.parts in
     let same = (parts_part t some).same y.marked x.last y.last a.entries b.entries
-        (still_sound k y.marked y.ended.memory sound) parts y.parts in
+    (still_sound k y.marked y.ended.memory sound) parts y.parts in
     transition_same a b
     (state_same a.state b.state
     (ap (λ (z : Tasks). z.alive) x.counted.tasks ∙ ap (λ (j : KernelState). j.tasks.alive) same.0

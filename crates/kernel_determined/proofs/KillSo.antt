@@ -158,9 +158,12 @@ module _ (t : TaskNo) where
     })
 
     other : (v.0 == t.0) ≡ false → Slams u k p (nothing k)
-    other ne = inr (λ x. let same : Some (Connected v) ≡ Some (Connected t) = sym is ∙ x in
-        let one : v ≡ t = cc in
-        false≢true (sym ne ∙ eq-eqb v.0 t.0 (ap (λ (w : TaskNo). w.0) one)), refl)
+    other ne = inr (
+      λ x. let same : Some (Connected v) ≡ Some (Connected t) = sym is ∙ x in
+          let one : v ≡ t = cc in
+          false≢true (sym ne ∙ eq-eqb v.0 t.0 (ap (λ (w : TaskNo). w.0) one)),
+      refl,
+    )
 
   slams_of : (u : TaskNo) (k : KernelState) → SlamsOf t k u (slam_phones_of t u k).state (slam_phones_of t u k).entries
   slams_of u k = same_turns _ (λ p. Leads k u p t) ◌<◌ (SlamsPhone u) k _ _ (λ p f. f.3) (λ p so. (p, omega arith, refl, so))
@@ -212,23 +215,25 @@ module _ (t : TaskNo) where
       (λ own. inr (λ x. x.other (eqb-true (i + 1) t.0 own), refl))
       (λ not. elim (cases_lt i (length k.tasks.phones)) [
         | inl few ↦ (let u : TaskNo = task_no (i + 1) in inl (record {
-            so = record {
-              from_one = omega arith;
-              known = omega (arith, few);
-              other = λ e. false≢true (sym not ∙ eq-eqb (i + 1) t.0 e);
-            };
-            back = λ w ne x. as_other k _ w (of_many u k) x;
-            forth = λ w ne x. as_other _ k w (sym (of_many u k)) x;
-            turn = slams_of u k;
-          }))
-        | inr far ↦ inr (λ x. let known = x.known in omega (arith, far, known),
-            ap (λ n. each (slam_at t (task_no (i + 1))) n 0 k) (no_width k.tasks.phones i far))
+          so = record {
+            from_one = omega arith;
+            known = omega (arith, few);
+            other = λ e. false≢true (sym not ∙ eq-eqb (i + 1) t.0 e);
+          };
+          back = λ w ne x. as_other k _ w (of_many u k) x;
+          forth = λ w ne x. as_other _ k w (sym (of_many u k)) x;
+          turn = slams_of u k;
+        }))
+        | inr far ↦ inr (
+          λ x. let known = x.known in omega (arith, far, known),
+          ap (λ n. each (slam_at t (task_no (i + 1))) n 0 k) (no_width k.tasks.phones i far),
+        )
       ])
 
   pub slams_others : (k : KernelState) → SlamsOthers t k (slam_phones_to t k).state (slam_phones_to t k).entries
   slams_others k = same_turns _ (IsOther t k) IsOlder (SlamsOf t) k _ _ (λ u f. f.3)
       (λ u so. let some = so.from_one in
-          (u.0 - 1, omega arith, no_of u (task_no (u.0 - 1 + 1)) (omega (arith, some)), so))
+      (u.0 - 1, omega arith, no_of u (task_no (u.0 - 1 + 1)) (omega (arith, some)), so))
       (all_done (IsOther t) IsOlder (SlamsOf t) (slam_other t) (λ i. task_no (i + 1)) (λ i j less. omega (arith, less))
       (λ i j less e. let f : j + 1 ≡ i + 1 = ap (λ (u : TaskNo). u.0) e in omega (arith, less, f))
       (λ j. ⊤) (λ j i h. h) (λ j i h. others j i) (length k.tasks.phones) 0 k tt
@@ -531,8 +536,11 @@ module _ (t : TaskNo) (some : 1 ≤ t.0) where
       | inr from ↦ elim (cases_eq j gone.2.place) [
         | inl e ↦ (let same : b ≡ gone.0 = let f : Some b ≡ Some gone.0 = sym h ∙ ap (slice_get (areas_of k.memory t)) e ∙ gone.2.there in cc in
             absurd (other (ap (λ (x : Area). x.base) same ∙ gone.1.begins)))
-        | inr ne ↦ (j - 1, gone.2.behind (j - 1) (omega (arith, from, ne))
-            ∙ ap (slice_get (areas_of k.memory t)) (omega (arith, from, ne)) ∙ h)
+        | inr ne ↦ (
+          j - 1,
+          gone.2.behind (j - 1) (omega (arith, from, ne))
+              ∙ ap (slice_get (areas_of k.memory t)) (omega (arith, from, ne)) ∙ h,
+        )
       ]
     ]
 
@@ -556,10 +564,13 @@ module _ (t : TaskNo) (some : 1 ≤ t.0) where
         back = λ other h. let w = stood h.1.has.0 h.0 h.1.has.1 in (h.0, record { has = (w.0, w.1); begins = h.1.begins });
         forth = λ other h. elim (cases_eq other base) [
           | inl e ↦ inl e
-          | inr ne ↦ inr (h.0, record {
+          | inr ne ↦ inr (
+            h.0,
+            record {
               has = left h.1.has.0 h.0 h.1.has.1 (λ e. ne (sym h.1.begins ∙ e));
               begins = h.1.begins;
-            })
+            },
+          )
         ];
         order = λ x y a b less. less;
       };
@@ -631,20 +642,46 @@ module _ (k : KernelState) (t : TaskNo) (sound : IsSound k) (alive : is_alive k 
       (λ j i. i.alone.silent.ending) (dispatched_uncalled marks t) (after_incoming t k) uncalled_then
 
   ends_calls : EndsCalls t dead (after_calls t k) (end_phones_and_calls t dead).entries
-  ends_calls = (after_answers t k, _, _,
-    (after_dispatched t k, _, _,
-      (after_incoming t k, _, _,
-        (after_slams t k, _, _,
+  ends_calls = (
+    after_answers t k,
+    _,
+    _,
+    (
+      after_dispatched t k,
+      _,
+      _,
+      (
+        after_incoming t k,
+        _,
+        _,
+        (
+          after_slams t k,
+          _,
+          _,
           (after_hangups t k, _, _, hangs_up_own t dead, slams_others t (after_hangups t k), refl),
-          incoming_is, refl),
-        dispatched_is, refl),
-      drops_answers marks t (after_dispatched t k) idle_then, refl),
-    forgets_calls marks t (after_answers t k) unanswered_then, refl)
+          incoming_is,
+          refl,
+        ),
+        dispatched_is,
+        refl,
+      ),
+      drops_answers marks t (after_dispatched t k) idle_then,
+      refl,
+    ),
+    forgets_calls marks t (after_answers t k) unanswered_then,
+    refl,
+  )
 
   ends_parts : EndsParts t dead (kill k t).state (kill k t).entries
-  ends_parts = (after_calls t k, _, _, ends_calls,
+  ends_parts = (
+    after_calls t k,
+    _,
+    _,
+    ends_calls,
     loses_areas t (from_one marks t alive) (after_calls t k)
-    (subst spaces.IsSound (sym (calls_steady t dead).memory) sound.memory.spaces), refl)
+        (subst spaces.IsSound (sym (calls_steady t dead).memory) sound.memory.spaces),
+    refl,
+  )
 
   pub kill_is_so : IsKill t k (kill_event k t)
   kill_is_so = record {

@@ -59,7 +59,7 @@ module _ {A : Type 0} (Before : A → A → Type 0) (apart : (x y : A) → Befor
   order_same (x ∷ xs) (y ∷ ys) f g to from =
       let head : x ≡ y = heads x y xs ys f.0 g.0 (to x (inl refl)) (from y (inl refl)) in
       let tail : xs ≡ ys = order_same xs ys f.1 g.1 (λ n h. behind x y n xs ys f.0 head h (to n (inr h)))
-          (λ n h. behind y x n ys xs g.0 (sym head) h (from n (inr h))) in
+      (λ n h. behind y x n ys xs g.0 (sym head) h (from n (inr h))) in
       cc
 
 -- a turn of one thing is determined, and keeps what that needs
@@ -89,7 +89,7 @@ module _ {A : Type 0} (Turn : KernelState → A → KernelState → List Entry �
         → EachInTurn IsSo Before Turn k b n → (a ≡ b) × (m ≡ n)
     each_same k a b m n i x y =
         let same : x.things ≡ y.things = order_same Before apart x.things y.things x.order y.order
-            (λ z h. y.all z (x.each z h)) (λ z h. x.all z (y.each z h)) in
+        (λ z h. y.all z (x.each z h)) (λ z h. x.all z (y.each z h)) in
         turns_same y.things k a b m n i (subst (λ xs. InTurn Turn xs k a m) same x.turns) y.turns
 
     pub each_keeps : (k a : KernelState) (m : List Entry) → I k → EachInTurn IsSo Before Turn k a m → I a

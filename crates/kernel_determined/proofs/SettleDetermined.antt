@@ -69,10 +69,10 @@ module _ (i : ℕ) (c : Call) (k a b : KernelState) (m n : List Entry) where
   answered_same reply by x y =
       let two = back_same c x.freed y.freed x.rest y.rest x.back y.back in
       let phones = may_come_same y.freed Free k a b x.note y.note
-          (subst (λ o. MayCome o Free k a x.note) two.0 x.phones) y.phones in
+      (subst (λ o. MayCome o Free k a x.note) two.0 x.phones) y.phones in
       let who : x.to ≡ y.to = let e : Some x.to ≡ Some y.to = sym x.caller ∙ y.caller in cc in
       let rest : Option Label → TaskNo → Call =
-          λ o w. record c { reply = reply; reserved = o; place = Answers w; stamp = k.calls.next_stamp } in
+      λ o w. record c { reply = reply; reserved = o; place = Answers w; stamp = k.calls.next_stamp } in
       record {
         phones = phones.0;
         calls = moves_same k.calls a.calls b.calls i _ _ x.calls y.calls (ap (λ o. rest o x.to) two.1 ∙ ap (rest y.rest) who);
@@ -83,7 +83,7 @@ module _ (i : ℕ) (c : Call) (k a b : KernelState) (m n : List Entry) where
   ended_same x y =
       let kept = kept_same c x.kept y.kept x.keeps y.keeps in
       let phones = may_come_same y.kept Free k a b x.note y.note
-          (subst (λ o. MayCome o Free k a x.note) kept x.phones) y.phones in
+      (subst (λ o. MayCome o Free k a x.note) kept x.phones) y.phones in
       record {
         phones = phones.0;
         calls = over_same k.calls a.calls b.calls i x.calls y.calls;

@@ -82,7 +82,7 @@ module _ {A : Type 0} (IsSo : KernelState → A → Type 0) (Before : KernelStat
     (step : KernelState → Call → Transition) (name : Call → A) (I : KernelState → Type 0) (test : Call → Bool)
     (keeps : (k : KernelState) (c : Call) → I k → next k ≡ Some c → I (step k c).state)
     (less : (k : KernelState) (c : Call) → I k → next k ≡ Some c
-        → suc (count_of test (entries (step k c).state.calls.records)) ≡ count_of test (entries k.calls.records))
+    → suc (count_of test (entries (step k c).state.calls.records)) ≡ count_of test (entries k.calls.records))
     (none : (k : KernelState) → I k → next k ≡ None → (x : A) → IsSo k x → ⊥)
     (turn : (k : KernelState) (c : Call) → I k → next k ≡ Some c → IsTurn IsSo Before Turn k (name c) (step k c)) where
   abbrev Drained : KernelState → Transition → Type 0
@@ -118,7 +118,7 @@ module _ {A : Type 0} (IsSo : KernelState → A → Type 0) (Before : A → A �
     (rises : (i j : ℕ) → i < j → Before (name i) (name j)) (apart : (i j : ℕ) → i < j → name j ≡ name i → ⊥)
     (I : KernelState → Type 0) (keeps : (k : KernelState) (i : ℕ) → I k → I (step k i).state)
     (decided : (k : KernelState) (i : ℕ) → I k
-        → IsOwnTurn IsSo Turn k (name i) (step k i) ⊎ ((IsSo k (name i) → ⊥) × (step k i ≡ nothing k))) where
+    → IsOwnTurn IsSo Turn k (name i) (step k i) ⊎ ((IsSo k (name i) → ⊥) × (step k i ≡ nothing k))) where
   -- one of those from number i on
   abbrev From : ℕ → KernelState → A → Type 0
   From i k x = (p : ℕ) × (i ≤ p) × (x ≡ name p) × IsSo k x
