@@ -36,10 +36,12 @@ served_as : (k : KernelState) (t : TaskNo) (asked : Request) (done : Served) →
 served_as k t (request.Call p msg) done may five is = call_is_served k t p msg done may.sound five is
 served_as k t request.Receive done may five is = receive_is_served k t done may.sound is
 served_as k t (request.Answer n reply) done may five is = answer_is_served k t n reply done may.sound may.alive is
-served_as k t (request.Forward n p mode change) done may five is = forward_is_served k t n p mode change done may.sound is
+served_as k t (request.Forward n p mode change) done may five is =
+    forward_is_served k t n p mode change done may.sound is
 served_as k t (request.Hangup p) done may five is = hangup_is_served k t p done is
 served_as k t (request.AreaMake base pages rights) done may five is =
-    area_make_is_determined k t base pages rights done (serve k t (request.AreaMake base pages rights)) may.sound may.alive is
+    area_make_is_determined k t base pages rights done (serve k t (request.AreaMake base pages rights)) may.sound
+    may.alive is
     (area_make_is_so k t base pages rights may.sound may.alive)
 served_as k t (request.AreaDrop base) done may five is =
     area_drop_is_determined k t base done (serve k t (request.AreaDrop base)) may.sound.memory.spaces
@@ -52,7 +54,8 @@ served_as k t request.Nothing done may five is = nothing_is_served k t done is
 
 -- a machine that keeps the laws is the kernel
 pub one_kernel : (serves : KernelState → TaskNo → Request → Served) (kills : KernelState → TaskNo → Transition)
-    (spawns : KernelState → ℕ → Option TaskNo → Transition) → IsKernel serves kills spawns → IsTheKernel serves kills spawns
+    (spawns : KernelState → ℕ → Option TaskNo → Transition) → IsKernel serves kills spawns → IsTheKernel serves kills
+    spawns
 one_kernel serves kills spawns is = record {
   requests = λ k t asked may five. served_as k t asked (serves k t asked) may five (is.requests k t asked may five);
   killed = λ k t may. kill_is_killed k t (kills k t) may.sound may.alive (is.killed k t may);
@@ -69,7 +72,8 @@ serve_is_lawful k t request.Receive may five = receive_is_so k t may.sound
 serve_is_lawful k t (request.Answer n reply) may five = answer_is_so k t n reply may.sound may.alive
 serve_is_lawful k t (request.Forward n p mode change) may five = forward_is_so k may.sound t n p mode change
 serve_is_lawful k t (request.Hangup p) may five = hangup_is_so k t p
-serve_is_lawful k t (request.AreaMake base pages rights) may five = area_make_is_so k t base pages rights may.sound may.alive
+serve_is_lawful k t (request.AreaMake base pages rights) may five =
+    area_make_is_so k t base pages rights may.sound may.alive
 serve_is_lawful k t (request.AreaDrop base) may five = area_drop_is_so k t base
 serve_is_lawful k t (request.Poke at bytes) may five = poke_is_so k t at bytes may.sound
 serve_is_lawful k t (request.Peek at count) may five = peek_is_so k t at count may.sound
@@ -96,7 +100,8 @@ one_killed k t a b may x y =
 phone_changed : (k : KernelState) (u : TaskNo) (q : ℕ) (old s : PhoneState) → phone_at k u q ≡ Some old
     → k ≡ with_phone k u q s → old ≡ s
 phone_changed k u q old s is same =
-    let now : phone_at (with_phone k u q s) u q ≡ Some s = state_here k.tasks.phones u.0 q s (is_there (phone_at k u q) old is) in
+    let now : phone_at (with_phone k u q s) u q ≡ Some s =
+    state_here k.tasks.phones u.0 q s (is_there (phone_at k u q) old is) in
     let e : Some old ≡ Some s = sym is ∙ ap (λ (j : KernelState). phone_at j u q) same ∙ now in
     cc
 
@@ -107,13 +112,15 @@ call_changed k n c d is same =
 
 module _ (k : KernelState) (t : TaskNo) (asked : Request) (done : Served) (may : MayAct k t) (five : HasFive asked)
     (is : IsServed k t asked done) where
-  pub served_memory : (m : Memory) → IsServed k t asked (served_to done (with_memory done.state m)) → done.state.memory ≡ m
+  pub served_memory : (m : Memory) → IsServed k t asked (served_to done (with_memory done.state m))
+      → done.state.memory ≡ m
   served_memory m other = ap (λ (s : Served). s.state.memory) (one_served k t asked done _ may five is other)
 
   pub served_phone : (u : TaskNo) (q : ℕ) (old s : PhoneState) → phone_at done.state u q ≡ Some old
       → IsServed k t asked (served_to done (with_phone done.state u q s)) → old ≡ s
   served_phone u q old s there other =
-      phone_changed done.state u q old s there (ap (λ (x : Served). x.state) (one_served k t asked done _ may five is other))
+      phone_changed done.state u q old s there (ap (λ (x : Served). x.state)
+      (one_served k t asked done _ may five is other))
 
   pub served_call : (n : ℕ) (c d : Call) → call_at done.state.calls n ≡ Some c
       → IsServed k t asked (served_to done (other_call done.state n d)) → c ≡ d

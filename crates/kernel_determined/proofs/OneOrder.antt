@@ -6,18 +6,8 @@ use Rattle.call_slab.specs.declared.call.Call.{Call}
 use Rattle.answerbox.specs.Calls.{CallTable}
 use Rattle.cleanup.specs.State.{KernelState}
 use Rattle.cleanup.proofs.Lookups.{same_call}
-use Rattle.kernel_determined.specs.ReceiveLaw.{CameBefore}
+use Rattle.kernel_determined.specs.Frames.{CameBefore}
 use Rattle.kernel_determined.specs.Turns.{IsAmong, ComesBeforeEach, AreInOrder, InTurn, EachInTurn, Then}
-
-pub is_among : (n : ℕ) (ns : List ℕ) → IsAmong n ns ⊎ (IsAmong n ns → ⊥)
-is_among n [] = inr (λ h. h)
-is_among n (m ∷ ms) = elim (cases_eq n m) [
-  | inl e ↦ inl (inl e)
-  | inr ne ↦ elim (is_among n ms) [
-    | inl h ↦ inl (inr h)
-    | inr out ↦ inr (λ h. elim h [ inl e ↦ ne e | inr later ↦ out later ])
-  ]
-]
 
 -- no two calls came before each other
 pub came_apart : (q : CallTable) (m n : ℕ) → CameBefore q m n → CameBefore q n m → ⊥
@@ -71,7 +61,8 @@ pub record IsDetermined {A : Type 0} (Turn : KernelState → A → KernelState �
 
 module _ {A : Type 0} (Turn : KernelState → A → KernelState → List Entry → Type 0) (I : KernelState → Type 0)
     (one : IsDetermined Turn I) where
-  turns_same : (xs : List A) (k a b : KernelState) (m n : List Entry) → I k → InTurn Turn xs k a m → InTurn Turn xs k b n
+  turns_same : (xs : List A) (k a b : KernelState) (m n : List Entry) → I k → InTurn Turn xs k a m
+      → InTurn Turn xs k b n
       → (a ≡ b) × (m ≡ n)
   turns_same [] k a b m n i f g = (f.0 ∙ sym g.0, f.1 ∙ sym g.1)
   turns_same (x ∷ xs) k a b m n i f g =
