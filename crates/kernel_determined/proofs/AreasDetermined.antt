@@ -35,7 +35,8 @@ make_comes : (m : Memory) (t : TaskNo) (base pages rights : ℕ) → Comes (make
 make_comes m t base pages rights = by (is_malformed base pages rights) (is_taken base pages (areas_of m t))
     (is_full (areas_of m t)) where
       by : (a b c : Bool)
-          → Comes (make_unless m t (record { base = base; pages = pages; rights = rights; store = m.next_store }) (if a then Some einval else (if b then Some eexist else (if c then Some elimit else None)))).told m.next_store
+          → Comes (make_unless m t (record { base = base; pages = pages; rights = rights; store = m.next_store })
+          (if a then Some einval else (if b then Some eexist else (if c then Some elimit else None)))).told m.next_store
       by true b c = inr (inl refl)
       by false true c = inr (inr (inl refl))
       by false false true = inr (inr (inr refl))
@@ -157,7 +158,10 @@ make_is_whole m t base pages rights law = by (refusal base pages rights (areas_o
   new = record { base = base; pages = pages; rights = rights; store = m.next_store }
 
   by : (o : Option Code)
-      → IsLawfulMake m t base pages rights (make_unless m t (record { base = base; pages = pages; rights = rights; store = m.next_store }) o) → IsWholeMake m t base pages rights (make_unless m t (record { base = base; pages = pages; rights = rights; store = m.next_store }) o)
+      → IsLawfulMake m t base pages rights (make_unless m t
+      (record { base = base; pages = pages; rights = rights; store = m.next_store }) o)
+      → IsWholeMake m t base pages rights (make_unless m t
+      (record { base = base; pages = pages; rights = rights; store = m.next_store }) o)
   by (Some code) law = record {
     lawful = law;
     next = λ s e. absurd (cc e);

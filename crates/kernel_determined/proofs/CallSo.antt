@@ -104,7 +104,8 @@ module _ (k : KernelState) (t : TaskNo) (p : ℕ) (msg : Msg) where
 
     -- sent with this content, and no phone is kept
     sent : (c : Content) → IsContent k t msg c → c.kept ≡ None → IsCheck k t msg None → c.request.method ≡ msg.method
-        → Over (acceptance (as_it_is k (record new { request = c.request; msg = c.seen; buffer = c.bytes; reserved = c.kept })) (Some u))
+        → Over (acceptance (as_it_is k
+        (record new { request = c.request; msg = c.seen; buffer = c.bytes; reserved = c.kept })) (Some u))
     sent c lawful none check method = record {
       cause = None;
       check = check;

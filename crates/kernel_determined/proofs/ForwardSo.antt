@@ -76,7 +76,9 @@ module _ (k : KernelState) (sound : IsSound k) (t : TaskNo) (n : ℕ) (c : Call)
     user_method e = user (m == 0) (m == 1) (m == 2) (m == 3) (m == 4) (m == 5) (m == 6) (nat_lt m 512)
         (let low = other.system in grind (arith, nat_tests, low)) e where
           user : (a b c d e f g h : Bool) → h ≡ true
-              → (if a then PhoneHungUp else if b then ConnectToMe else if c then ConnectMeTo else if d then DataWrite else if e then DataRead else if f then ShareOut else if g then ShareIn else if h then NotBuilt else User) ≡ User → ⊥
+              → (if a then PhoneHungUp else if b then ConnectToMe else if c then ConnectMeTo else if d then DataWrite
+              else if e then DataRead else if f then ShareOut else if g then ShareIn else if h then NotBuilt else User)
+              ≡ User → ⊥
           user true b c d e f g h is x = cc x
           user false true c d e f g h is x = cc x
           user false false true d e f g h is x = cc x
@@ -135,7 +137,8 @@ module _ (k : KernelState) (sound : IsSound k) (t : TaskNo) (n : ℕ) (c : Call)
   label_is p Route = refl
 
   passed : (p : ℕ) (mode : Mode) (change : Option Msg) (u : TaskNo)
-      → Passes t n p mode change c u k (and_event (telling (passage (msg_after change c) (label_after t p mode c) t u k c) outcome.Done))
+      → Passes t n p mode change c u k
+      (and_event (telling (passage (msg_after change c) (label_after t p mode c) t u k c) outcome.Done))
   passed p mode change u =
       subst (λ l. Passes t n p mode change c u k (and_event
       (telling (passage (msg_after change c) l t u k c) outcome.Done)))
@@ -211,7 +214,8 @@ module _ (k : KernelState) (sound : IsSound k) (t : TaskNo) (n p : ℕ) (mode : 
       })))
 
     by_tests : (held may : Bool) → is_held t c ≡ held → is_forwardable change c ≡ may
-        → Comes (forward_told k t p mode change (Some c) (as_forwarded n (if held then (if may then callee_of (phone_at k t p) else Err NotForwardable) else Err NotHeld)))
+        → Comes (forward_told k t p mode change (Some c) (as_forwarded n
+        (if held then (if may then callee_of (phone_at k t p) else Err NotForwardable) else Err NotHeld)))
     by_tests true true e f = by_phone (at_dispatched t c.place e) (may_pass change c f) (phone_at k t p) refl
     by_tests true false e f = inr (inl (record {
       call = c;
@@ -224,7 +228,8 @@ module _ (k : KernelState) (sound : IsSound k) (t : TaskNo) (n p : ℕ) (mode : 
         (sym e ∙ ap (is_held t) (same_call c d (sym is ∙ h.0)) ∙ holds t d h.1))
 
   by_call : (o : Option Call) → call_at k.calls n ≡ o
-      → Comes (forward_told k t p mode change o (as_forwarded n (option_map_or (receiver_of t (phone_at k t p) change) o (Err NotHeld))))
+      → Comes (forward_told k t p mode change o
+      (as_forwarded n (option_map_or (receiver_of t (phone_at k t p) change) o (Err NotHeld))))
   by_call None is = unheld (λ c h. let g : None ≡ Some c = sym is ∙ h.0 in cc)
   by_call (Some c) is = by_tests c is (is_held t c) (is_forwardable change c) refl refl
 

@@ -261,7 +261,8 @@ module _ (k : KernelState) (tasks : Tasks) (rows : tasks.phones ≡ k.tasks.phon
     pub answered_is : (reply : Reply) (by : Option TaskNo) (u : TaskNo) → c.caller ≡ Some u
         → after.tasks.phones ≡ kept_rows k.tasks.phones (lent_phone c) Free
         → after.calls ≡ put_at k.calls (declined_call c reply) (Answers u)
-        → IsAnswered n c reply by k after (entry.Answered c.number reply by ∷ option_to_list (kept_note (lent_phone c) Free))
+        → IsAnswered n c reply by k after
+        (entry.Answered c.number reply by ∷ option_to_list (kept_note (lent_phone c) Free))
     answered_is reply by u caller phones calls = record {
       to = u;
       caller = caller;

@@ -303,7 +303,8 @@ module _ (t : TaskNo) (j : KernelState) (sound : IsSound j) (c : Call) (is : cal
   pub delivery_is : IsDelivery t j c (and_event (delivery t (on_delivery j c t)))
   delivery_is = by_bytes (brings_bytes c) refl where
     by_bytes : (b : Bool) → brings_bytes c ≡ b
-        → IsDelivery t j c (and_event (delivery t (if b then delivered_read j c t else with_delivery j c (reply_of (kind_of c.request.method) c))))
+        → IsDelivery t j c (and_event (delivery t
+        (if b then delivered_read j c t else with_delivery j c (reply_of (kind_of c.request.method) c))))
     by_bytes true e = bytes (is_brought c e)
     by_bytes false e = by_kind (λ b. false≢true (sym e ∙ brings c b)) (kind_of c.request.method) refl
 

@@ -135,6 +135,8 @@ pub fn the_laws_determine_the_kernel()
 /// state of a phone, another record of a call (its place, stamp, message, label, answer, bytes,
 /// phone or caller), or other entries, it is not.
 pub fn changed_requests_break_a_law()
+    ensures one { (k : KernelState) (t : TaskNo) (asked : Request) (a b : Served)
+        → MayAct k t → HasFive asked → IsServed k t asked a → IsServed k t asked b → a ≡ b }
     ensures memory { (k : KernelState) (t : TaskNo) (asked : Request) (done : Served)
         → MayAct k t → HasFive asked → IsServed k t asked done → (m : Memory)
         → IsServed k t asked (served_to done (with_memory done.state m))
@@ -154,6 +156,8 @@ pub fn changed_requests_break_a_law()
 
 /// So it is with a kill.
 pub fn changed_kills_break_a_law()
+    ensures one { (k : KernelState) (t : TaskNo) (a b : Transition) → MayAct k t
+        → IsKill t k a → IsKill t k b → a ≡ b }
     ensures memory { (k : KernelState) (t : TaskNo) (done : Transition) → MayAct k t
         → IsKill t k done → (m : Memory)
         → IsKill t k (ended_in done (with_memory done.state m)) → done.state.memory ≡ m }

@@ -1,4 +1,4 @@
-use Rattle.kernel_determined.proofs.Machines.{killed_memory, killed_phone, killed_call, killed_told}
+use Rattle.kernel_determined.proofs.Machines.{one_killed, killed_memory, killed_phone, killed_call, killed_told}
 use Rattle.kernel_determined.proofs.requests.changed_kills_break_a_law.Goals as goal
 
 pub returns-clause-memory : goal.returns-clause-memory
@@ -12,3 +12,6 @@ returns-clause-call c = killed_call
 
 pub returns-clause-entries : goal.returns-clause-entries
 returns-clause-entries c = killed_told
+
+pub returns-clause-one : goal.returns-clause-one
+returns-clause-one c = one_killed
