@@ -4,9 +4,11 @@
 
 mod asked;
 mod first_words;
+mod laws;
 mod line;
 mod part;
 mod trace;
 
+pub use laws::bytes_are_one_trace;
 pub use line::read_entry;
 pub use trace::{Reader, TraceFault, read_trace};
