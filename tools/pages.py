@@ -1,13 +1,22 @@
-"""Puts a run into a page of one file, for tools/page and tools/serve."""
+"""Puts a run into a page of one file, for tools/page and tools/serve.
+
+What a lesson says is set by the library `markdown` of Python, where it is installed, and else stands there as it is written.
+"""
 import html
+import importlib
 import json
 import re
 from pathlib import Path
-from typing import Sequence, Tuple
+from typing import Any, Sequence, Tuple
+
+try:
+    markdown: Any = importlib.import_module("markdown").markdown
+except ImportError:
+    markdown = None  # Debian has it as python3-markdown
 
 PARTS = Path(__file__).resolve().parent / "page-parts"
-MODULES = ("fold", "chart", "view")
-EXPORT = re.compile(r"^export (?=(?:class|function|const) (\w+))", re.M)
+MODULES = ("fold", "chart", "pack", "view")
+EXPORT = re.compile(r"^export (?=(?:class|function|async function|const) (\w+))", re.M)
 IMPORT = re.compile(r"^import (\{[^}]*\}) from \"\./(\w+)\.mjs\";$", re.M)
 
 
@@ -23,13 +32,21 @@ def module(name: str) -> str:
     return f"const {name} = (() => {{\n{body}\nreturn {{{exports}}};\n}})();\n"
 
 
+def as_html(text: str) -> str:
+    """A text of a lesson as it is shown, without links, which lead to files beside it; empty where it stands as it is."""
+    if not markdown:
+        return ""
+    return re.sub(r"</?a\b[^>]*>|<img\b[^>]*>", "", str(markdown(text, extensions=["fenced_code", "tables"])))
+
+
 def page(name: str, texts: Sequence[str], lessons: Sequence[Tuple[str, str]] = (), told: Tuple[str, str] = ("", "")) -> str:
     """The page of a run: its name, and the texts of script, schedule and trace. One that is served has names and titles of
     the lessons, for its list, and what the one that it shows says, with its answer."""
     script, schedule, trace = texts
     is_served = bool(lessons)
     data = {"name": name, "script": script, "schedule": schedule, "trace": trace, "lessons": list(lessons),
-            "isServed": is_served, "about": told[0], "answer": told[1]}
+            "isServed": is_served, "about": told[0], "answer": told[1],
+            "set": [as_html(text) for text in told]}
     values = {
         "@TITLE@": html.escape(f"{name}: a run of hipc"),
         "@CONNECT@": "'self'" if is_served else "'none'",

@@ -4,6 +4,7 @@ import fs from "fs";
 import path from "path";
 import {execFileSync, spawn} from "child_process";
 import {performance} from "perf_hooks";
+import {Run} from "./fold.mjs";
 
 const [, , CHROMIUM, TOP, FOLDER, SHOTS] = process.argv;
 const MOST_WAIT = 30000; // milliseconds for an answer of the browser
@@ -17,7 +18,7 @@ const CLIENTS = 6; // of the long run
 class Browser {
   constructor() {
     const words = ["--headless=new", "--remote-debugging-pipe", "--no-first-run", "--disable-gpu", "--disable-extensions",
-      "--disable-background-networking", "--hide-scrollbars", `--user-data-dir=${path.join(FOLDER, "profile")}`];
+      "--disable-background-networking", `--user-data-dir=${path.join(FOLDER, "profile")}`];
     if (process.getuid && process.getuid() === 0) words.push("--no-sandbox");
     this.child = spawn(CHROMIUM, words, {stdio: ["ignore", "ignore", "ignore", "pipe", "pipe"]});
     this.last = 0;
@@ -186,7 +187,8 @@ async function stepThrough(browser, name) {
 /** Filters of a lesson: one task, and no idle events.
  * @param {Browser} browser @param {string} name */
 async function filter(browser, name) {
-  const events = eventsOf(textOf(`examples/${name}/trace`)), idle = events.filter(text => /= EMPTY$|ended$/.test(text)).length;
+  const events = eventsOf(textOf(`examples/${name}/trace`)), texts = ["script", "schedule", "trace"].map(file => textOf(`examples/${name}/${file}`));
+  const idle = new Run(texts[0], texts[1], texts[2]).isIdle.reduce((sum, it) => sum + it, 0); // tools/page-check compares which these are
   const numbers = `document.querySelectorAll("#numbers text").length`;
   expect(await browser.run(numbers) === events.length, `${name}: the chart has not ${events.length} events`);
   await browser.click("#idle");
@@ -358,7 +360,7 @@ async function edit(browser, address) {
   await browser.click("#next");
   await until(browser, isOpen("empty"));
   const said = await browser.run(`document.querySelector("#lesson").textContent + document.querySelector("#solution").textContent`);
-  expect(said.includes("# Nothing there yet") && said.includes("Nothing is missed"), `the lesson and its answer are told as ${said}`);
+  expect(said.includes("Nothing there yet") && said.includes("Nothing is missed"), `the lesson and its answer are told as ${said}`);
   await browser.run("history.back()");
   await until(browser, isOpen("first-call"));
   const script = textOf("examples/first-call/script");
@@ -380,6 +382,129 @@ async function edit(browser, address) {
   await browser.shot("edited");
 }
 
+/** Predicts in a lesson: what is to come is hidden, a task is named, and the answer opens by a second click.
+ * @param {Browser} browser @param {string} address */
+async function predict(browser, address) {
+  await browser.go(`${address}lesson/kill`);
+  const numbers = `[...document.querySelectorAll("#numbers text")].map(it => it.textContent).join()`;
+  expect(await browser.run(numbers) === "", "what is to come is drawn before the first event");
+  await browser.shot("predict");
+  await browser.press("1");
+  expect(await browser.run(numbers) === "1", "a guess is no step");
+  expect((await browser.run(`document.querySelector("#ask").textContent`)).startsWith("Right: t1 client."), "a right guess is not told so");
+  await browser.press("4");
+  const told = await browser.run(`document.querySelector("#ask").textContent`);
+  expect(told.startsWith("No: it was t2 server."), `a wrong guess is told as ${told}`);
+  const isOpen = `document.querySelector("#answer").open`;
+  await browser.click("#answer summary");
+  expect(!await browser.run(isOpen), "the answer opens by one click");
+  await browser.click("#answer summary");
+  expect(await browser.run(isOpen), "the answer does not open by a second click");
+  await browser.press("h");
+  expect((await browser.run(numbers)).split(",").length > 2, "the key h shows nothing");
+  await browser.press("?");
+  expect(await browser.run(`document.querySelector("#help").open`), "the key ? shows no keys");
+  await browser.press("Escape");
+}
+
+/** Drives a run by hand, compares it with the one before, follows its link without a server, and undoes it.
+ * @param {Browser} browser @param {string} address */
+async function driveByHand(browser, address) {
+  await browser.go(`${address}lesson/first-call#at=1`);
+  await browser.click(`[data-drive="kill b"]`);
+  await until(browser, `document.querySelector("#title").textContent === "first-call, changed"`);
+  const killed = "kill t2\n  phone t1.0 slammed\n  call 1 answered EHANGUP 0 0 0 0 0 by kernel";
+  expect(await browser.run(LINES) === killed, `the kill is shown as ${await browser.run(LINES)}`);
+  const beside = await browser.run(`[...document.querySelectorAll("#versus pre")].slice(0, 2).map(it => it.textContent).join("|")`);
+  expect(beside === "2 t2 receive\n  call 1 received t2\n  = received 1 512 7 0 0 0 0 from t1.0|2 " + killed, `two runs are shown as ${beside}`);
+  await browser.click(`[data-drive="step a"]`);
+  await until(browser, `document.querySelector("#number").value === "3"`);
+  const lines = await browser.run(LINES);
+  expect(lines.endsWith("= answer 1 EHANGUP 0 0 0 0 0"), `a step by hand is shown as ${lines}`);
+  await until(browser, `document.querySelector("#link").href.includes("run=")`);
+  await browser.shot("driven");
+  const link = await browser.run(`document.querySelector("#link").getAttribute("href")`);
+  await browser.press("u");
+  expect(await browser.run(LINES) === killed, "undo leads to another run");
+  await browser.go(`${pageOf("other", ["script", "schedule", "trace"].map(file => path.join(TOP, "examples/kill", file)))}${link}`);
+  await until(browser, `document.querySelector("#title").textContent === "first-call, changed"`);
+  expect(await browser.run(LINES) === lines, `the link shows ${await browser.run(LINES)}`);
+  await saved(browser);
+}
+
+/** Saves the page and the chart of the run that is shown: the file is the page of that run, and asks for nothing.
+ * @param {Browser} browser */
+async function saved(browser) {
+  const keep = `(() => { window.kept = {}; const own = URL.createObjectURL; URL.createObjectURL = blob => { blob.text().then(text => { window.last = text; }); return own.call(URL, blob); }; })()`;
+  await browser.run(keep);
+  const take = async (/** @type {string} */ name) => {
+    await browser.run(`(() => { window.last = ""; document.querySelector('[data-save="${name}"]').click(); })()`);
+    await until(browser, "window.last");
+    return browser.run("window.last");
+  };
+  const lines = await browser.run(LINES), at = await browser.run(`document.querySelector("#number").value`), file = path.join(FOLDER, "saved.html");
+  expect(await take("schedule") === "step a\nkill b\nstep a\n", "another schedule is saved");
+  const chart = await take("chart.svg");
+  expect(chart.startsWith("<svg") && chart.includes(">kill t2 b</text>") && !chart.includes("var("), `the chart is saved as ${chart.slice(0, 200)}`);
+  fs.writeFileSync(file, await take("page.html"));
+  await browser.go(`file://${file}#at=${at}`);
+  expect(await browser.run(LINES) === lines, `the saved page shows ${await browser.run(LINES)}`);
+}
+
+/** Closing the editor keeps a text that was not run.
+ * @param {Browser} browser @param {string} address */
+async function keepEdit(browser, address) {
+  await browser.go(`${address}lesson/first-call`);
+  await browser.press("e");
+  await type(browser, "#newschedule", "step b\n");
+  await browser.click("#close");
+  await browser.press("e");
+  expect(await browser.run(`document.querySelector("#newschedule").value`) === "step b\n", "closing the editor throws a text away");
+  await browser.click("#revert");
+  expect(await browser.run(`document.querySelector("#newschedule").value`) === textOf("examples/first-call/schedule"), "revert gives another text");
+  await browser.press("Escape");
+}
+
+/** Windows of other sizes, the dark, and paper: no scroll bar that nothing needs, panes and buttons in reach, all events printed.
+ * @param {Browser} browser @param {string} address */
+async function looks(browser, address) {
+  const size = (/** @type {number} */ width, /** @type {number} */ height) => browser.tell("Emulation.setDeviceMetricsOverride", {width, height, deviceScaleFactor: 1, mobile: false});
+  const kill = pageOf("kill", ["script", "schedule", "trace"].map(file => path.join(TOP, "examples/kill", file)));
+  await browser.go(`${kill}#at=9`);
+  const bars = await browser.run(`(() => { const it = document.querySelector("#chart"); return it.scrollWidth > it.clientWidth; })()`);
+  expect(!bars, "the chart has a scroll bar below it that nothing needs");
+  expect(await browser.run(`document.querySelector("h1").textContent`) === "kill", "the page has no heading");
+  await browser.shot("wide");
+  await size(1024, 768);
+  await browser.go(`${kill}#at=8`);
+  const seen = `[...document.querySelectorAll(".task")].filter(it => { const box = it.getBoundingClientRect(), room = document.querySelector("#tasks").getBoundingClientRect(); return box.top >= room.top && box.bottom <= room.bottom + 1; }).length`;
+  const cards = await browser.run(seen);
+  expect(cards >= 3, `a slide of 1024 x 768 shows ${cards} tasks`);
+  await browser.shot("slide");
+  await size(400, 800);
+  await browser.go(`${address}lesson/kill#at=3`);
+  expect(await browser.run("document.documentElement.scrollWidth <= 400"), "a narrow window is wider than 400 pixels");
+  const on = await browser.run(`(() => { const box = document.querySelector("#on").getBoundingClientRect(); return box.bottom <= innerHeight && box.right <= innerWidth && box.height >= 40; })()`);
+  expect(on, "the buttons are out of reach in a narrow window");
+  await browser.shot("narrow");
+  await browser.click(`#tabs [data-pane="chart"]`);
+  expect(await browser.run(`document.querySelector("#chart").clientHeight > 100 && !document.querySelector("#side").clientHeight`), "a narrow window shows two panes");
+  await browser.shot("narrow-chart");
+  await size(1500, 950);
+  await browser.tell("Emulation.setEmulatedMedia", {features: [{name: "prefers-color-scheme", value: "dark"}]});
+  await browser.go(`${kill}#at=9&call=4`);
+  expect(await browser.run(`getComputedStyle(document.body).backgroundColor`) === "rgb(20, 25, 31)", "the page is not dark in the dark");
+  await browser.shot("dark");
+  await browser.tell("Emulation.setEmulatedMedia", {features: []});
+  await browser.go(`${kill}#at=9`);
+  await browser.run(`dispatchEvent(new Event("beforeprint"))`);
+  const numbers = await browser.run(`document.querySelectorAll("#numbers text").length`);
+  expect(numbers === eventsOf(textOf("examples/kill/trace")).length, `${numbers} events are printed`);
+  const {data} = await browser.tell("Page.printToPDF", {printBackground: true});
+  if (SHOTS) fs.writeFileSync(path.join(SHOTS, "print.pdf"), Buffer.from(data, "base64"));
+  await browser.run(`dispatchEvent(new Event("afterprint"))`);
+}
+
 /** @param {Browser} browser */
 async function tryServer(browser) {
   const server = spawn(path.join(TOP, "tools/serve"), ["0"], {stdio: ["ignore", "pipe", "inherit"]});
@@ -388,6 +513,10 @@ async function tryServer(browser) {
     const found = line.match(/http:\/\/127\.0\.0\.1:\d+\//);
     if (!found) throw new Error(`tools/serve says ${line}`);
     await edit(browser, found[0]);
+    await predict(browser, found[0]);
+    await driveByHand(browser, found[0]);
+    await keepEdit(browser, found[0]);
+    await looks(browser, found[0]);
   } finally {
     server.kill("SIGINT");
     await new Promise(resolve => server.once("close", resolve));
@@ -413,9 +542,9 @@ async function main() {
     await tryHostileTexts(browser);
     tell(`${LESSONS.length} lessons step by step, and ${await tryAllLessons(browser)} from end to end`);
     if (isBuilt()) {
-      tell(await tryLongRun(browser));
+      if (!process.env.HIPC_SHORT) tell(await tryLongRun(browser));
       await tryServer(browser);
-      tell("editing by tools/serve");
+      tell("editing, predicting, driving by hand, links and files, windows of three sizes, the dark and paper, by tools/serve");
     } else tell("the long run and editing were NOT tried, since no fresh program is built");
   } finally {
     await browser.close();

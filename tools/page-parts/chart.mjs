@@ -13,7 +13,7 @@ const WIDE = 7.9, MIDDLE = 6.5, NARROW = 4; // pixels of capitals and digits, of
 // What a narrow column leaves out, in this order: the phone of a call, and words that are plain.
 const SHORTER = /** @type {[RegExp, string][]} */ ([[/^(call \d+) over t\d+\.\d+/, "$1"], [/\b(gets|receives|drops) (?:answer|call) /, "$1 "]]);
 const MOST_BYTES = 8; // that are shown of a poke or a peek
-const BLACK = "#1c2530", RED = "#b00020", GREY = "#8a94a0", LATER = "#bcc4cd";
+const BLACK = "var(--ink)", RED = "var(--kill)", GREY = "var(--quiet)", LATER = "var(--later)";
 
 /** @param {string | number} text */
 export function escaped(text) {
@@ -156,6 +156,12 @@ function asked(event) {
   return texts[what] || what;
 }
 
+/** The operation of a raw task that an event was, as the script has it.
+ * @param {Run} run @param {number} event */
+export function operationText(run, event) {
+  return run.script.lines[run.did[event] - 1].replace(/#.*/, "").trim();
+}
+
 /** The rows of an event: as many as `Run.rows` counts.
  * @param {Run} run @param {Event} event @returns {Row[]} */
 export function rowsOf(run, event) {
@@ -177,7 +183,7 @@ export function rowsOf(run, event) {
     else box(`${asked(event)}: ${told[0]}`);
   }
   for (const words of event.own) box(ownText(words), "box", ["sent", "gets"].includes(words[1]) ? Number(words[2]) : 0);
-  if (!rows.length) box(event.kind === "nothing" ? "nothing" : event.head.slice(1).join(" "), "small");
+  if (!rows.length) box(run.did[event.number] ? operationText(run, event.number) : event.head.slice(1).join(" "), "small");
   return rows;
 }
 
@@ -216,7 +222,7 @@ function textAt(x, y, text, more, whole) {
 function drawBox(row, x, y, column, colour) {
   if (row.kind === "small") return textAt(x + 8, y + 15, fitted(row.text, column - 20), `fill="${colour === LATER ? LATER : GREY}"`, row.text);
   const text = fitted(row.text, column - 20), width = column - 10;
-  return `<rect x="${x - width / 2}" y="${y + 2}" width="${width}" height="${ROW - 4}" rx="3" fill="#fff" stroke="${colour}"/>`
+  return `<rect x="${x - width / 2}" y="${y + 2}" width="${width}" height="${ROW - 4}" rx="3" fill="var(--paper)" stroke="${colour}"/>`
     + textAt(x, y + 15, text, `text-anchor="middle" fill="${colour}"`, row.text);
 }
 
@@ -237,7 +243,7 @@ function drawArrow(row, from, to, y, way, colour) {
   const left = Math.min(from, to), right = Math.max(from, to), isSeen = left < way.to && right > way.from;
   const middle = isSeen ? (Math.max(left, way.from) + Math.min(right, way.to)) / 2 : (left + right) / 2;
   return `<g${call}><line x1="${from}" x2="${to - 6 * side}" y1="${line}" y2="${line}" stroke="${colour}" ${dashes}/>${head}`
-    + `<rect x="${middle - width / 2}" y="${y + 3}" width="${width}" height="12" fill="#fff" fill-opacity=".8"/>`
+    + `<rect x="${middle - width / 2}" y="${y + 3}" width="${width}" height="12" fill="var(--paper)" fill-opacity=".8"/>`
     + textAt(middle, y + 13, text, `text-anchor="middle" fill="${colour}"`, row.text) + "</g>";
 }
 

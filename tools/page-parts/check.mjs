@@ -40,6 +40,8 @@ const PLANTED = [
   ["a fibril that waits for an exchange sleeps on", 'wake(task, `mutex ${exchange.session}`)', 'wake(task, "mutex")'],
   ["a fibril that waits for a phone sleeps on", 'wake(task, "phone")', 'wake(task, "phones")'],
   ["a forgotten call is drawn where its caller was", "call.stays = holder ? holder.number : 0", "call.stays = 0"],
+  ["a set is hidden", 'did.words[0] === "set"', 'did.words[0] === "sets"'],
+  ["a jump is not hidden", 'const isPlaceAlone = event.kind === "nothing" &&', 'const isPlaceAlone = event.kind === "none" &&'],
   ["a hangup is drawn twice", 'words[2] === "hungup" && event', 'words[2] === "hung up" && event'],
   ["an idle exchange keeps its fibril", "{...exchange, fibril: 0}", "{...exchange}"],
 ];
@@ -164,6 +166,12 @@ class Watcher {
   }
 }
 
+/** Whether an event is a `set`, which may set a register to what it holds.
+ * @param {Run} run @param {Event} event */
+function isSet(run, event) {
+  return /^\s*set\b/.test(run.script.lines[run.did[event.number] - 1]);
+}
+
 /** The area in which bytes lie wholly.
  * @param {Task} task @param {string} at @param {string} count @returns {any} */
 function areaOf(task, at, count) {
@@ -270,6 +278,15 @@ class Reader extends Watcher {
     this.expect(due.join() === task.registers.join(), event, `the registers are ${task.registers}`);
   }
 
+  /** An event that the page may hide leaves its task as it was, but for the place in its program.
+   * @param {Task | undefined} before @param {Task} task @param {Event} event */
+  idle(before, task, event) {
+    const same = Boolean(before) && textOf({at: 0, tasks: [{.../** @type {Task} */ (before), place: task.place}]}) === textOf({at: 0, tasks: [task]});
+    const isIdle = this.run.isIdle[event.number] === 1, mustBe = event.kind === "nothing" && !event.own.length && same && task.plan.kind !== "async";
+    if (isIdle) this.expect(same && !event.effects.length, event, "a hidden event changes something");
+    else if (this.run.did[event.number] && mustBe) this.expect(isSet(this.run, event), event, "nothing changes, and it is not hidden");
+  }
+
   /** @param {Task | undefined} before the event's task before it
    * @param {State} state the state behind the event @param {Event} event */
   after(before, state, event) {
@@ -303,6 +320,7 @@ export function compare(fold, texts) {
       reader.head(state, event);
       run.apply(state, event, reader.effect.bind(reader));
       reader.after(before, state, event);
+      reader.idle(before, state.tasks[event.task], event);
       reader.expect(rowsOf(run, event).length === run.rows[number], event, `the chart has not ${run.rows[number]} rows`);
       const isOpened = number % every === 0 || number === run.length;
       if (isOpened) reader.expect(textOf(run.stateAt(number)) === textOf(state), event, "the page opens there with another state");

@@ -464,7 +464,8 @@ export class Run {
     /** @type {string[]} */
     this.faults = [];
     this.rows = new Uint16Array(this.length + 1); // the rows of each event in the chart
-    this.isIdle = new Uint8Array(this.length + 1);
+    this.isIdle = new Uint8Array(this.length + 1); // whether an event changes nothing but a place in a program
+    this.did = new Uint32Array(this.length + 1); // of an event `nothing` of a raw task, the line of its operation
     this.named = new Uint32Array(2 * this.length + 2); // the tasks that each event names, a bit for each of 64
     this.born = /** @type {number[]} */ ([]); // the event that spawned a task, and the one that killed it
     this.died = /** @type {number[]} */ ([]);
@@ -495,7 +496,7 @@ export class Run {
     const state = copyOfState(this.kept[0]);
     if (this.starts[0] !== 0 && this.length) this.faults.push("the trace does not begin with an event");
     for (let number = 1; number <= this.length; number++) {
-      const event = this.event(number), wrong = this.mismatch(state, event), isPast = !wrong && pastItsEnd(state, event);
+      const event = this.event(number), wrong = this.mismatch(state, event), did = wrong ? undefined : operationNow(state, event);
       if (wrong) this.faults.push(`event ${number} of the trace is not of this script and schedule: ${wrong}`);
       if (this.faults.length) return this.cut(number - 1);
       try {
@@ -504,7 +505,7 @@ export class Run {
         this.faults.push(`event ${number} of the trace cannot be read: ${error instanceof Error ? error.message : error}`);
         return this.cut(number - 1);
       }
-      this.note(event, isPast);
+      this.note(event, did);
       if (number % EACH === 0) this.kept.push(copyOfState(state));
     }
     const {length} = this.turns;
@@ -554,8 +555,8 @@ export class Run {
   }
 
   /** Keeps what is asked of an event without folding it again.
-   * @param {Event} event @param {boolean} isPast whether it was a step past a task's last operation */
-  note(event, isPast) {
+   * @param {Event} event @param {Operation | undefined} did the operation of a raw task that it was, if any */
+  note(event, did) {
     const {number, outcome} = event, told = outcome ? outcome[0] : "";
     this.name(number, event.task);
     for (const words of event.effects) {
@@ -566,7 +567,9 @@ export class Run {
     for (const words of event.own) if (words[1] === "gets" || words[1] === "sent") this.touch(Number(words[2]), number);
     const rows = rowsBefore(event) + event.effects.filter(words => !isTold(event, words)).length + event.own.length + (isShown(outcome) ? 1 : 0);
     this.rows[number] = Math.max(1, rows);
-    this.isIdle[number] = told === "EMPTY" && !event.effects.length || event.kind === "ended" || isPast ? 1 : 0;
+    const isPlaceAlone = event.kind === "nothing" && !event.own.length && !(did && did.words[0] === "set");
+    this.isIdle[number] = told === "EMPTY" && !event.effects.length || event.kind === "ended" || isPlaceAlone ? 1 : 0;
+    this.did[number] = event.kind === "nothing" && did ? did.line : 0;
     if (event.kind === "spawn") this.born[event.task] = number;
     if (event.kind === "kill") this.died[event.task] = number;
   }
@@ -618,11 +621,11 @@ export class Run {
   }
 }
 
-/** Whether a raw task is stepped past its last operation.
+/** The operation where a raw task stands that an event steps.
  * @param {State} state the state before the event @param {Event} event */
-function pastItsEnd(state, event) {
+function operationNow(state, event) {
   const task = state.tasks[event.task];
-  return event.kind === "nothing" && Boolean(task) && task.plan.kind === "raw" && !lineOf(task);
+  return task && task.plan.kind === "raw" && !task.ended ? task.plan.operations[task.place] : undefined;
 }
 
 /** The rows that a chart has before the effects of an event.

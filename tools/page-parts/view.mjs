@@ -1,6 +1,7 @@
 // The page: where one stands in a run, what is drawn of it, and what keys, buttons and links do.
 import {CODES, METHODS, RIGHTS, Run, copyOfState, lineOf, nextHead, numberOf} from "./fold.mjs";
-import {LEFT, ROW, codeText, drawRow, escaped, methodText, nameOf, rowsOf, trimmed} from "./chart.mjs";
+import {LEFT, ROW, codeText, drawRow, escaped, methodText, nameOf, operationText, rowsOf, trimmed} from "./chart.mjs";
+import {packed, unpacked} from "./pack.mjs";
 
 /** @typedef {import("./fold.mjs").State} State */
 /** @typedef {import("./fold.mjs").Task} Task */
@@ -8,20 +9,27 @@ import {LEFT, ROW, codeText, drawRow, escaped, methodText, nameOf, rowsOf, trimm
 /** @typedef {{lines: string[], from: number, to: number, above: number, marked: any[]}} Listing the lines of a text that are drawn, and
  *   the elements of those that are marked; `above` is 1 where a line says how many there are above */
 /** @typedef {{name: string, script: string, schedule: string, trace: string, lessons: [string, string][],
- *   isServed: boolean, about: string, answer: string}} Data */
+ *   isServed: boolean, about: string, answer: string, set: string[], isChanged?: boolean}} Data */
 
 const MOST_CHIPS = 24; // of one row of a task's card
 const MOST_LINES = 300; // of a listing
 const NARROWEST = 150, WIDEST = 320; // pixels of a column
 const BESIDE = 0.2; // of a column, beside the last one
 const OVER = 12; // rows that are drawn above and below those in view
-const PRESENT = "fill=\"#ffd84d\" fill-opacity=\".28\""; // behind the present event, with the lines of the tasks to be seen through it
+const PRESENT = "fill=\"var(--present)\" fill-opacity=\".28\""; // behind the present event, with the lines of the tasks to be seen through it
 const BEHIND = 150; // milliseconds until the address follows
 
 /** @param {string} id @returns {any} */
 const $ = id => document.getElementById(id);
 
+const MOST_LINK = 30000; // letters of a link that holds a run
+const MOST_BESIDE = 60; // events of two runs that are shown side by side
+const MOST_PRINTED = 4000; // events of a chart on paper
+const PAPER = 700; // pixels of its width
+
 const data = /** @type {Data} */ (JSON.parse($("data").textContent));
+$("data").textContent = "";
+const bare = `<!doctype html>\n${document.documentElement.outerHTML}`; // the page without a run, as it was before anything was drawn
 const view = {
   run: new Run(data.script, data.schedule, data.trace),
   at: 0,
@@ -31,6 +39,14 @@ const view = {
   task: 0, // the one task whose events are shown, or 0
   isOnly: false, // whether the events of the picked call alone are shown
   isQuiet: false, // whether idle events are hidden
+  isHidden: Boolean(data.about), // whether what is to come is
+  guessed: "", // what came of the last guess
+  packed: "", // a changed run as a part of a link, or nothing
+  base: /** @type {Data} */ ({...data}), // the run that was opened, before any change
+  beside: /** @type {string[][]} */ ([[], []]), // the events of the run that was opened and of the present one, where they differ
+  undone: /** @type {Data[]} */ ([]), // the runs before those that were driven by hand, the last one last
+  isEdited: false, // whether the editor has texts that were not run
+  isPrinting: false,
   shown: /** @type {number[]} */ ([]), // the events that are shown, and where each begins in the chart
   tops: /** @type {number[]} */ ([]),
   columns: /** @type {number[]} */ ([]), // the tasks that have a column, the place of each, and the width of each
@@ -72,6 +88,7 @@ function stand(at) {
  * @param {number} at */
 function go(at) {
   const place = Math.max(0, Math.min(view.run.length, Math.floor(at) || 0));
+  if (place !== view.at + 1) view.guessed = "";
   if (!view.now || place !== view.at) stand(place);
   bringIntoView();
   draw();
@@ -141,6 +158,7 @@ function layOut() {
   const chart = $("chart"), tasks = view.columns.length, room = (chart.clientWidth || 700) - LEFT - 8;
   view.scroll = {top: chart.scrollTop, left: chart.scrollLeft, height: chart.clientHeight, width: chart.clientWidth};
   view.column = Math.max(NARROWEST, Math.min(WIDEST, Math.floor(room / (tasks + BESIDE))));
+  if (view.isPrinting) view.column = Math.min(WIDEST, Math.floor((PAPER - LEFT) / (tasks + BESIDE)));
   const width = widthOfAll();
   $("heads").style.width = $("space").style.width = `${width}px`;
   $("space").style.height = `${view.tops[view.tops.length - 1] + 20}px`;
@@ -171,7 +189,7 @@ function lifelines(from, to, first, last) {
       if (shown[place] === died) end = tops[place] + ROW - 4 - from;
     }
     if (first < last && shown[first] > died) end = top;
-    return end > top ? `<line x1="${x(task)}" x2="${x(task)}" y1="${top}" y2="${end}" stroke="#9aa6b4"/>` : "";
+    return end > top ? `<line x1="${x(task)}" x2="${x(task)}" y1="${top}" y2="${end}" stroke="var(--life)"/>` : "";
   }).join("");
 }
 
@@ -179,8 +197,9 @@ function lifelines(from, to, first, last) {
  * @param {number} place @param {number} from @param {number} width */
 function drawEvent(place, from, width) {
   const {run, shown, tops, at, picked, scroll} = view;
-  const way = {column: view.column, width, picked, from: scroll.left + LEFT, to: scroll.left + scroll.width};
+  const way = {column: view.column, width, picked, from: scroll.left + LEFT, to: view.isPrinting ? width : scroll.left + scroll.width};
   const number = shown[place], top = tops[place] - from, high = tops[place + 1] - tops[place];
+  if (view.isHidden && number > at) return `<g></g>`;
   const rows = rowsOf(run, run.event(number)).map((row, i) => drawRow(row, x, top + i * ROW, {...way, isLater: number > at})).join("");
   const back = number === at ? `<rect x="0" y="${top}" width="${width}" height="${high}" ${PRESENT}/>` : "";
   return `<g>${back}<rect class="hit" data-at="${number}" x="0" y="${top}" width="${width}" height="${high}"/>`
@@ -190,12 +209,14 @@ function drawEvent(place, from, width) {
 /** The number of an event, which stays in view where the columns are scrolled.
  * @param {number} number @param {number} top @param {number} end */
 function drawNumber(number, top, end) {
-  const back = number === view.at ? `<rect x="0" y="${top}" width="${LEFT}" height="${end - top}" fill="#fff2cc"/>` : "";
-  return `<g>${back}<text x="${LEFT - 10}" y="${top + 15}" text-anchor="end" fill="#6a7785">${number}</text></g>`;
+  if (view.isHidden && number > view.at) return `<g></g>`;
+  const back = number === view.at ? `<rect x="0" y="${top}" width="${LEFT}" height="${end - top}" fill="var(--new)"/>` : "";
+  return `<g>${back}<text x="${LEFT - 10}" y="${top + 15}" text-anchor="end" style="fill: var(--quiet)">${number}</text></g>`;
 }
 
 /** The places of the first event in view, and of the first behind those in view. */
 function inView() {
+  if (view.isPrinting) return {first: 0, last: Math.min(view.shown.length, MOST_PRINTED)};
   const {shown, tops, scroll} = view, above = scroll.top - OVER * ROW, below = scroll.top + scroll.height + OVER * ROW;
   let first = 0, high = shown.length;
   while (first < high) {
@@ -208,11 +229,16 @@ function inView() {
   return {first, last};
 }
 
+/** How far down the lines of the tasks go: to the present event where what is to come is hidden. */
+function lowest() {
+  return view.isHidden ? view.tops[placeBehind(view.at)] || 0 : Infinity;
+}
+
 /** Draws the rows in view, and no others; of the same ones, those alone that look otherwise than before. */
 function drawChart() {
   const {shown, tops, scroll, drawn} = view, width = widthOfAll(), {first, last} = inView();
   const from = tops[first] || 0, to = Math.max(tops[last], from + 20), size = (/** @type {number} */ it) => `<svg width="${it}" height="${to - from + 10}">`;
-  const key = `${first} ${last} ${from} ${to} ${width}`, events = [], numbers = [];
+  const key = `${first} ${last} ${from} ${to} ${width} ${view.isHidden ? view.at : ""}`, events = [], numbers = [];
   for (let place = first; place < last; place++) {
     events.push(drawEvent(place, from, width));
     numbers.push(drawNumber(shown[place], tops[place] - from, tops[place + 1] - from));
@@ -224,7 +250,7 @@ function drawChart() {
   } else {
     $("rows").style.top = $("numbers").style.top = `${from}px`;
     $("numbers").innerHTML = `${size(LEFT - 4)}${numbers.join("")}</svg>`;
-    $("rows").innerHTML = `${size(width)}<g>${lifelines(from, to + 10, first, last)}</g><g>${events.join("")}</g></svg>`;
+    $("rows").innerHTML = `${size(width)}<g>${lifelines(from, Math.max(from, Math.min(to + 10, lowest())), first, last)}</g><g>${events.join("")}</g></svg>`;
   }
   view.drawn = {key, events, numbers};
 }
@@ -307,7 +333,51 @@ function drawLines() {
   const {run, at} = view, turn = at > 0 ? run.turns[at - 1] : undefined;
   const of = turn ? `line ${turn.line} of the schedule: <code>${escaped(turn.words.join(" "))}</code>${turnOf(at)}` : "";
   const title = turn ? `event ${at} of ${run.length}, ${of}` : `before the first of ${run.length} events`;
-  $("event").innerHTML = `<div class="box"><h2>${title}</h2>${turn ? `<pre>${listed(run.event(at).lines)}</pre>` : ""}</div>`;
+  $("event").innerHTML = `<div class="box"><h2>${title}</h2>${turn ? `<pre>${listed(run.event(at).lines)}</pre>` : ""}${didText(at)}</div>`;
+  const head = turn ? run.event(at).lines : [];
+  $("live").textContent = turn ? `${view.guessed} event ${at} of ${run.length}: ${who(run.event(at).task)}, ${head.join(", ")}` : title;
+}
+
+/** What a raw task did in an event that asks the kernel for nothing.
+ * @param {number} at */
+function didText(at) {
+  return at > 0 && view.run.did[at] ? `<div class="quiet">the operation was <code>${escaped(operationText(view.run, at))}</code></div>` : "";
+}
+
+// What comes next
+
+/** The tasks that live behind the present event. */
+function living() {
+  return view.now.tasks.filter((/** @type {Task} */ task) => task && !task.ended);
+}
+
+/** Asks for the next event while what is to come is hidden. */
+function drawQuestion() {
+  const {run, at, isHidden} = view, isAsked = isHidden && at < run.length;
+  document.body.classList.toggle("predict", isHidden);
+  document.body.classList.toggle("start", at === 0);
+  $("ask").hidden = !isHidden || !isAsked && !view.guessed;
+  const tasks = isAsked ? view.now.tasks.filter(Boolean).map((/** @type {Task} */ it) => `<button data-guess="${it.number}">${escaped(who(it.number))}</button>`) : [];
+  $("ask").innerHTML = `<b>${escaped(view.guessed)} ${isAsked ? "What comes next?" : "That was the last event."}</b>${tasks.join("")}`;
+  if (isHidden && at === run.length && run.length) $("answer").open = true;
+}
+
+/** Takes a task as the one that comes next, and shows what does.
+ * @param {number} task */
+function guess(task) {
+  const {run, at} = view;
+  if (!view.isHidden || at >= run.length || !run.names[task]) return;
+  const due = run.event(at + 1).task;
+  view.guessed = due === task ? `Right: ${who(due)}.` : `No: it was ${who(due)}.`;
+  go(at + 1);
+}
+
+/** @param {boolean} isHidden */
+function hide(isHidden) {
+  view.isHidden = isHidden;
+  view.guessed = "";
+  view.drawn.key = "";
+  draw();
 }
 
 // A call's story
@@ -348,12 +418,13 @@ function drawStory() {
 function drawChip(chip, mark, old) {
   const call = chip.call ? ` data-call="${chip.call}"` : "", picked = chip.call && chip.call === view.picked ? " picked" : "";
   const was = old ? ` title="before: ${escaped(`${old.key} ${old.text}`)}"` : "";
-  return `<span class="chip ${escaped(chip.kind)}${mark}${picked}"${call}${was}><b>${escaped(chip.key)}</b> ${escaped(chip.text)}</span>`;
+  const keys = chip.call ? ` tabindex="0" role="button" aria-label="call ${chip.call}"` : "";
+  return `<span class="chip ${escaped(chip.kind)}${mark}${picked}"${call}${keys}${was}><b>${escaped(chip.key)}</b> ${escaped(chip.text)}</span>`;
 }
 
-/** A row of a card: what is new or another is marked, and what is gone is struck out.
- * @param {string} title @param {Chip[]} now @param {Chip[]} before @param {string} none */
-function drawParts(title, now, before, none) {
+/** A row of a card, empty where it has no part: what is new or another is marked, and what is gone is struck out.
+ * @param {string} title @param {Chip[]} now @param {Chip[]} before */
+function drawParts(title, now, before) {
   const old = new Map(before.map(it => [it.key, it])), kept = new Set(now.map(it => it.key));
   const gone = before.filter(it => !kept.has(it.key)).slice(0, MOST_CHIPS).map(it => drawChip(it, " gone")).join("");
   const more = now.length > MOST_CHIPS ? `<span class="quiet">and ${now.length - MOST_CHIPS} more</span>` : "";
@@ -361,8 +432,14 @@ function drawParts(title, now, before, none) {
     const was = old.get(it.key);
     return was && was.text === it.text ? drawChip(it, "") : drawChip(it, " new", was);
   }).join("") + more;
-  const text = chips || (none ? `<span class="quiet">${none}</span>` : "");
-  return text ? `<div class="row"><b>${title}</b><div>${text}</div></div>` : "";
+  return chips ? `<div class="row"><b>${title}</b><div>${chips}</div></div>` : "";
+}
+
+/** The rows of a card, those that an event changed first.
+ * @param {string[]} rows */
+function changedFirst(rows) {
+  const isChanged = (/** @type {string} */ row) => / (?:new|gone)[" ]/.test(row);
+  return [...rows.filter(isChanged), ...rows.filter(row => !isChanged(row))].join("");
 }
 
 /** The calls of a queue. The arguments of one that was not received stay out: the kernel may have changed them, which the
@@ -418,23 +495,22 @@ function registerChips(task, other) {
 
 /** @param {Task} task @param {Task} old */
 function drawRegisters(task, old) {
-  if (task.plan.kind !== "raw") return "";
+  if (task.plan.kind !== "raw") return [];
   const line = lineOf(task), text = line ? view.run.script.lines[line - 1].replace(/#.*/, "").trim() : "past the last operation";
   const head = line ? nextHead(task).replace(/^t\d+ /, "").replace(/( 0)+$/, "") : "";
   const asks = ["nothing", text].includes(head) ? "" : `, as ${escaped(head)}`, where = line ? `<span class="quiet">line ${line}${asks}</span>` : "";
   const next = `<div class="row"><b>next</b><div><span class="lines">${escaped(text)}</span>${where}</div></div>`;
-  return drawParts("registers", registerChips(task, old), registerChips(old, task), "all 0") + (task.ended ? "" : next);
+  return [drawParts("registers", registerChips(task, old), registerChips(old, task)), task.ended ? "" : next];
 }
 
 /** The rows of a card for calls, and for phones.
  * @param {Task} task @param {Task} old */
 function drawCalls(task, old) {
-  const {at} = view, free = task.plan.phones - task.phones.size;
+  const {at} = view;
   const queue = (/** @type {string} */ title, /** @type {number[]} */ now, /** @type {number[]} */ before) =>
-    drawParts(title, callChips(now, at, title), callChips(before, at - 1, title), "none");
-  return queue("incoming", task.incoming, old.incoming) + queue("held", task.held, old.held) + queue("answers", task.answers, old.answers)
-    + drawParts("phones", phoneChips(task), phoneChips(old), "")
-    + (task.phones.size ? "" : `<div class="row"><b>phones</b><div><span class="quiet">all ${free} free</span></div></div>`);
+    drawParts(title, callChips(now, at, title), callChips(before, at - 1, title));
+  return [queue("incoming", task.incoming, old.incoming), queue("held", task.held, old.held), queue("answers", task.answers, old.answers),
+    drawParts("phones", phoneChips(task), phoneChips(old))];
 }
 
 /** @param {Task} task @param {Task} old the same task before the event */
@@ -443,10 +519,10 @@ function drawTask(task, old) {
   const [fibrils, sessions, exchanges] = fibrilChips(task), [oldFibrils, oldSessions, oldExchanges] = fibrilChips(old);
   const kind = {ns: "naming service", block: "block server"}[task.plan.kind] || task.plan.kind;
   return `<div class="task${isOn ? " on" : ""}${task.ended ? " ended" : ""}" data-task="${task.number}">`
-    + `<h3>${escaped(who(task.number))} <span>${escaped(kind)}${ended}</span></h3>${drawCalls(task, old)}`
-    + drawParts("areas", areaChips(task, now), areaChips(old, before), "") + drawParts("fibrils", fibrils, oldFibrils, "")
-    + drawParts("sessions", sessions, oldSessions, "") + drawParts("exchanges", exchanges, oldExchanges, "")
-    + drawRegisters(task, old) + "</div>";
+    + `<h3>${escaped(who(task.number))} <span>${escaped(kind)}${ended}</span></h3>`
+    + changedFirst([...drawCalls(task, old), drawParts("areas", areaChips(task, now), areaChips(old, before)),
+      drawParts("fibrils", fibrils, oldFibrils), drawParts("sessions", sessions, oldSessions),
+      drawParts("exchanges", exchanges, oldExchanges), ...drawRegisters(task, old)]) + "</div>";
 }
 
 /** Draws the cards of the tasks; one that is the same as before stays as it is. */
@@ -520,7 +596,7 @@ let later = 0;
 /** The address of the place where one stands. */
 function address() {
   const {at, picked, task, isOnly, isQuiet} = view;
-  const parts = [picked ? `call=${picked}` : "", task ? `task=${task}` : "", isOnly ? "only=1" : "", isQuiet ? "idle=0" : ""];
+  const parts = [view.packed ? `run=${view.packed}` : "", picked ? `call=${picked}` : "", task ? `task=${task}` : "", isOnly ? "only=1" : "", isQuiet ? "idle=0" : ""];
   return [`#at=${at}`, ...parts.filter(Boolean)].join("&");
 }
 
@@ -536,6 +612,9 @@ function scrollTo(name, selector) {
 /** Draws all; what must know where things stand comes last, so that the page is laid out once. */
 function draw() {
   drawLines();
+  drawQuestion();
+  drawDrive();
+  drawVersus();
   drawStory();
   drawTasks();
   drawTexts();
@@ -544,6 +623,7 @@ function draw() {
   $("chart").scrollTop = view.scroll.top;
   $("chart").scrollLeft = view.scroll.left;
   scrollTo("#story .lines", ".now");
+  scrollTo("#tasks", ".task:has(.new, .gone)");
   scrollTo("#tasks", ".on");
   scrollTo("#script", ".now");
   if (!document.querySelector("#script .now")) scrollTo("#script", ".next");
@@ -558,6 +638,7 @@ function drawControls() {
   $("of").textContent = `of ${run.length}`;
   $("only").checked = view.isOnly;
   $("idle").checked = view.isQuiet;
+  $("hide").checked = view.isHidden;
   $("task").value = String(view.task);
   $("callsteps").hidden = !view.picked;
   $("link").href = address();
@@ -565,9 +646,21 @@ function drawControls() {
   later = setTimeout(() => history.replaceState(null, "", address()), BEHIND);
 }
 
-/** Opens the place that the address names. */
-function openAddress() {
-  const wanted = new URLSearchParams(location.hash.slice(1)), number = (/** @type {string} */ name) => Number(wanted.get(name)) || 0;
+/** Opens the place that the address names, and first the run that it holds, where it holds another one. */
+async function openAddress() {
+  const wanted = new URLSearchParams(location.hash.slice(1)), run = wanted.get("run") || "";
+  if (run !== view.packed) {
+    const texts = run ? await unpacked(run) : view.base;
+    if (texts) return openRun({...data, ...texts, isChanged: Boolean(run)}, false, run);
+    $("faults").hidden = false;
+    $("faults").textContent = "the link holds no whole run: it was cut off, or this browser cannot read it";
+  }
+  openPlace(wanted);
+}
+
+/** @param {URLSearchParams} wanted */
+function openPlace(wanted) {
+  const number = (/** @type {string} */ name) => Number(wanted.get(name)) || 0;
   view.picked = view.run.calls[number("call")] ? number("call") : 0;
   view.task = view.run.names[number("task")] ? number("task") : 0;
   view.isOnly = wanted.get("only") === "1";
@@ -578,9 +671,14 @@ function openAddress() {
 }
 
 /** Shows a run from its start, or from the place that the address names.
- * @param {Data} texts @param {boolean} isNew */
-function openRun(texts, isNew) {
-  if (isNew) view.run = new Run(texts.script, texts.schedule, texts.trace);
+ * @param {Data} texts @param {boolean} isNew @param {string} [inLink] the run as the link holds it */
+function openRun(texts, isNew, inLink = "") {
+  if (texts.script !== data.script || texts.schedule !== data.schedule || texts.trace !== data.trace) {
+    view.run = new Run(texts.script, texts.schedule, texts.trace);
+  }
+  Object.assign(data, texts);
+  view.packed = inLink;
+  if (texts.isChanged && !inLink) keepInLink(texts);
   view.now = null;
   view.cards = [];
   view.listings = {};
@@ -591,8 +689,160 @@ function openRun(texts, isNew) {
   $("faults").textContent = view.run.faults.join("; ");
   const tasks = view.run.names.slice(1).map((_, i) => `<option value="${i + 1}">${escaped(who(i + 1))}</option>`);
   $("task").innerHTML = `<option value="0">all</option>${tasks.join("")}`;
-  if (isNew) history.replaceState(null, "", "#at=0");
-  openAddress();
+  keepBeside();
+  openPlace(new URLSearchParams(isNew ? "at=0" : location.hash.slice(1)));
+}
+
+/** Puts a changed run into the link, where it is short enough.
+ * @param {Data} texts */
+async function keepInLink(texts) {
+  const text = await packed({name: texts.name, script: texts.script, schedule: texts.schedule, trace: texts.trace});
+  if (texts.trace !== data.trace) return;
+  view.packed = text.length <= MOST_LINK ? text : "";
+  $("link").title = view.packed ? "a link to this place, with the changed run in it" : "the changed run is too long for a link: save the page";
+  drawControls();
+}
+
+// What is taken along
+
+/** The page with the present run in it, as one file that asks for nothing. */
+function wholePage() {
+  const {name, script, schedule, trace, about, answer, set} = data;
+  const own = JSON.stringify({name, script, schedule, trace, lessons: [], isServed: false, about, answer, set}).replace(/</g, "\\u003c");
+  // the end of a script element must not stand in this one
+  const [open, close] = ['id="data">', "<" + "/script>"];
+  return bare.replace("connect-src 'self'", "connect-src 'none'").replace(open + close, () => open + own + close);
+}
+
+/** The whole chart as a picture, in light colours. */
+function wholeChart() {
+  const {run, shown, tops} = view, kept = {column: view.column, isPrinting: view.isPrinting}, colours = getComputedStyle(document.documentElement);
+  view.isPrinting = true;
+  view.column = Math.max(NARROWEST, Math.min(WIDEST, 220));
+  const width = widthOfAll(), last = Math.min(shown.length, MOST_PRINTED), high = (tops[last] || 0) + 40;
+  const heads = view.columns.map(task => `<text x="${x(task)}" y="19" text-anchor="middle" font-weight="600">${escaped(who(task))}</text>`).join("");
+  const rows = shown.slice(0, last).map((at, place) => {
+    const way = {column: view.column, width, picked: 0, from: LEFT, to: width, isLater: false};
+    return `<text x="${LEFT - 10}" y="${tops[place] + 15}" text-anchor="end">${at}</text>`
+      + rowsOf(run, run.event(at)).map((row, i) => drawRow(row, x, tops[place] + i * ROW, way)).join("");
+  });
+  const text = `<svg xmlns="http://www.w3.org/2000/svg" width="${width}" height="${high}"><style>text { font: 12px sans-serif }</style>`
+    + `<rect width="100%" height="100%" fill="var(--paper)"/>${heads}<g transform="translate(0 28)">${lifelines(0, high, 0, last)}${rows.join("")}</g></svg>\n`;
+  Object.assign(view, kept);
+  return text.replace(/var\((--\w+)\)/g, (_, name) => colours.getPropertyValue(name).trim());
+}
+
+/** Gives the reader a file.
+ * @param {string} name */
+function save(name) {
+  const texts = /** @type {Record<string, () => string>} */ ({script: () => data.script, schedule: () => data.schedule, trace: () => data.trace,
+    "chart.svg": wholeChart, "page.html": wholePage});
+  const link = document.createElement("a");
+  link.href = URL.createObjectURL(new Blob([texts[name]()], {type: "text/plain"}));
+  link.download = name;
+  link.click();
+  URL.revokeObjectURL(link.href);
+}
+
+/** Takes files that are dropped: a trace, with script and schedule of its own or of the present run, is a run; without one
+ * the texts go into the editor, where the page is served.
+ * @param {FileList} files */
+async function take(files) {
+  const texts = /** @type {Record<string, string>} */ ({});
+  for (const file of files) {
+    const kind = ["script", "schedule", "trace"].find(name => file.name.includes(name));
+    if (kind) texts[kind] = await file.text();
+  }
+  if (texts.trace) return openRun({...data, ...texts, name: "files", isChanged: true}, true);
+  if (!data.isServed || !Object.keys(texts).length) {
+    $("faults").hidden = false;
+    $("faults").textContent = data.isServed ? "drop files named script, schedule or trace" : "this page cannot run them: drop the trace too, or open them by tools/serve";
+    return;
+  }
+  if ($("editor").hidden) openEditor();
+  for (const which of Object.keys(texts)) $("new" + which).value = texts[which];
+  view.isEdited = true;
+}
+
+// Two runs side by side
+
+/** Keeps the events of a changed run and of the one that was opened. */
+function keepBeside() {
+  const isOther = view.base.trace !== data.trace;
+  view.beside = isOther ? [view.base.trace, data.trace].map(text => text.split(/\n(?! )/).filter(Boolean)) : [[], []];
+}
+
+/** Shows a changed run beside the one that was opened, from the first event at which they differ; while what is to come is
+ * hidden, up to the present event. */
+function drawVersus() {
+  const [old, now] = view.beside, longer = Math.max(old.length, now.length), isHere = now.some((text, i) => text !== old[i]) || old.length > now.length;
+  $("versus").hidden = !isHere;
+  if (!isHere) return;
+  const differs = now.findIndex((text, i) => text !== old[i]), first = differs < 0 ? now.length : differs;
+  const end = Math.min(first + MOST_BESIDE, view.isHidden ? view.at : longer, longer);
+  const cell = (/** @type {string[]} */ list, /** @type {number} */ i) => {
+    const kind = old[i] === now[i] ? "" : " class=\"other\"", place = list === now && list[i] ? ` data-at="${i + 1}"` : "";
+    return `<pre${kind}${place}>${list[i] ? `${i + 1} ${escaped(list[i])}` : ""}</pre>`;
+  };
+  const cells = [];
+  for (let i = first; i < end; i++) cells.push(cell(old, i), cell(now, i));
+  const isOpen = !$("versus").firstChild || $("versus").firstChild.open;
+  $("versus").innerHTML = `<details${isOpen ? " open" : ""}><summary>two runs side by side: from event ${first + 1} on they differ</summary>`
+    + `<div><h2>${escaped(view.base.name)}</h2><h2>${escaped(data.name)}</h2>${cells.join("")}</div></details>`;
+}
+
+// A run that is driven by hand
+
+/** The lines of a schedule for its first events, and then one more.
+ * @param {number} count @param {string} line */
+function cutSchedule(count, line) {
+  const lines = [];
+  for (let at = 0; at < count; at++) {
+    const turn = view.run.turns[at], many = turn.words[2] === "x" && turn.words[0] === "step", last = at + 1 === count || view.run.turns[at + 1] !== turn;
+    if (!many) lines.push(turn.words.join(" "));
+    else if (last) lines.push(`${turn.words[0]} ${turn.words[1]} x ${at + 1 - view.run.turns.indexOf(turn)}`);
+  }
+  return [...lines, line, ""].join("\n");
+}
+
+/** Buttons that go on from the present event in another way. */
+function drawDrive() {
+  $("drive").hidden = !data.isServed;
+  if (!data.isServed) return;
+  const names = living().map((/** @type {Task} */ task) => task.name), {templates} = view.run.script;
+  const button = (/** @type {string} */ line) => `<button data-drive="${escaped(line)}">${escaped(line)}</button>`;
+  const hangups = living().flatMap((/** @type {Task} */ task) => [...task.phones].filter(([, it]) => it.state === "connected").slice(0, 4).map(([phone]) => `hangup ${task.name} ${phone}`));
+  const free = (/** @type {string} */ name) => { let n = 1; while (view.run.names.includes(name + n)) n += 1; return name + n; };
+  const spawns = [...templates.keys()].map(name => `spawn ${name} ${free(name)}`);
+  const lines = [...names.map((/** @type {string} */ it) => `step ${it}`), ...names.map((/** @type {string} */ it) => `kill ${it}`)];
+  $("drive").innerHTML = `<b>go on by hand from here</b>${lines.map(button).join("")}`
+    + (hangups.length + spawns.length ? `<details><summary>hang up, spawn</summary>${[...hangups, ...spawns].map(button).join("")}</details>` : "")
+    + (view.undone.length ? `<button data-undo="1">undo (u)</button>` : "");
+}
+
+/** Cuts the schedule at the present event, goes on with a line, and steps to what comes of it.
+ * @param {string} line */
+async function drive(line) {
+  const {at} = view, kept = {...data}, schedule = cutSchedule(at, line), told = await answerTo(data.script, schedule);
+  if (told.text) {
+    $("faults").hidden = false;
+    $("faults").textContent = told.text;
+    return;
+  }
+  view.undone.push(kept);
+  openRun({...data, name: changedName(), schedule, trace: told.trace, isChanged: true}, true);
+  go(at + 1);
+}
+
+function undo() {
+  const last = view.undone.pop(), {at} = view;
+  if (!last) return;
+  openRun({...last}, true);
+  go(Math.max(0, at - 1));
+}
+
+function changedName() {
+  return data.name.endsWith(", changed") ? data.name : `${data.name}, changed`;
 }
 
 // What is served: lessons from a list, and texts that are changed and run
@@ -620,42 +870,62 @@ function tellFault(fault) {
   box.scrollTop = Math.max(0, (fault.line - 8) * 19);
 }
 
-/** Runs the texts of the editor, and opens the run or marks the fault. */
-async function runTexts() {
-  const script = $("newscript").value, schedule = $("newschedule").value, bytes = new TextEncoder();
-  $("told").textContent = "runs ..";
-  drawNumbers("script", 0);
-  drawNumbers("schedule", 0);
+/** What the server says of a script and a schedule: a trace, or a text that says why there is none.
+ * @param {string} script @param {string} schedule @returns {Promise<any>} */
+async function answerTo(script, schedule) {
+  const bytes = new TextEncoder(), first = bytes.encode(script), body = new Blob([first, bytes.encode(schedule)]);
   try {
-    const first = bytes.encode(script), body = new Blob([first, bytes.encode(schedule)]), headers = {"Content-Type": "application/octet-stream"};
-    const answer = await fetch(`/run?script=${first.length}`, {method: "POST", headers, body});
-    const told = await answer.json();
-    if (told.text) return tellFault(told);
-    $("told").textContent = "";
-    $("editor").hidden = true;
-    openRun({...data, name: `${data.name}, changed`, script, schedule, trace: told.trace}, true);
-    data.script = script;
-    data.schedule = schedule;
+    const answer = await fetch(`/run?script=${first.length}`, {method: "POST", headers: {"Content-Type": "application/octet-stream"}, body});
+    return await answer.json();
   } catch (error) {
-    $("told").innerHTML = `<b>the server does not answer: ${escaped(String(error))}</b>`;
+    return {text: `the server does not answer: ${error}`, file: "", line: 0, meaning: "", hints: []};
   }
 }
 
+/** Runs the texts of the editor, and opens the run or marks the fault. */
+async function runTexts() {
+  const script = $("newscript").value, schedule = $("newschedule").value;
+  $("told").textContent = "runs ..";
+  drawNumbers("script", 0);
+  drawNumbers("schedule", 0);
+  const told = await answerTo(script, schedule);
+  if (told.text) return tellFault(told);
+  $("told").textContent = "";
+  $("editor").hidden = true;
+  view.isEdited = false;
+  openRun({...data, name: changedName(), script, schedule, trace: told.trace, isChanged: true}, true);
+}
+
+/** Opens the editor, or closes it; texts that were not run stay in it. */
 function openEditor() {
+  if (!view.isEdited) revert();
+  $("editor").hidden = !$("editor").hidden;
+}
+
+/** Puts the texts of the present run into the editor. */
+function revert() {
   $("newscript").value = data.script;
   $("newschedule").value = data.schedule;
   $("told").textContent = "";
-  $("editor").hidden = !$("editor").hidden;
+  view.isEdited = false;
   drawNumbers("script", 0);
   drawNumbers("schedule", 0);
+}
+
+/** Shows a text of a lesson, set where the page has it so.
+ * @param {string} id @param {string} text @param {string} html */
+function tellLesson(id, text, html) {
+  if (html) $(id).innerHTML = html;
+  else $(id).textContent = text;
+  $(id).classList.toggle("plain", !html);
 }
 
 function serve() {
   $("lessons").hidden = $("edit").hidden = !data.isServed;
   $("about").hidden = !data.about;
-  $("lesson").textContent = data.about;
+  tellLesson("lesson", data.about, data.set[0]);
   $("answer").hidden = !data.answer;
-  $("solution").textContent = data.answer;
+  tellLesson("solution", data.answer, data.set[1]);
   const next = data.lessons[data.lessons.findIndex(([name]) => name === data.name) + 1];
   $("next").hidden = !next;
   if (next) [$("next").title, $("next").href] = [next[1], `/lesson/${next[0]}`];
@@ -666,8 +936,12 @@ function serve() {
   $("edit").onclick = openEditor;
   $("close").onclick = openEditor;
   $("run").onclick = runTexts;
+  $("revert").onclick = revert;
   for (const which of ["script", "schedule"]) {
-    $("new" + which).oninput = () => drawNumbers(which, 0);
+    $("new" + which).oninput = () => {
+      view.isEdited = true;
+      drawNumbers(which, 0);
+    };
     $("new" + which).onscroll = () => { $(which + "numbers").scrollTop = $("new" + which).scrollTop; };
   }
   $("editor").onkeydown = (/** @type {KeyboardEvent} */ press) => {
@@ -680,12 +954,17 @@ function serve() {
 const KEYS = /** @type {Record<string, () => void>} */ ({
   ArrowRight: () => step(1), ArrowLeft: () => step(-1), j: () => step(1), k: () => step(-1), " ": () => step(1),
   Home: () => go(0), End: () => go(view.run.length), n: () => stepCall(1), p: () => stepCall(-1), Escape: () => pick(0),
+  h: () => hide(!view.isHidden), i: () => $("idle").click(), c: () => { $("call").focus(); $("call").select(); }, u: undo,
+  "?": () => $("help").showModal(), e: () => data.isServed && openEditor(),
 });
+for (let digit = 1; digit <= 9; digit++) KEYS[digit] = () => guess(digit);
 
 /** @param {KeyboardEvent} press */
 function onKey(press) {
   const target = press.target instanceof Element ? press.target : document.body;
-  const isTyping = target.matches("textarea, select, input:not([type=checkbox]):not([type=range])");
+  const isArrow = press.key === "ArrowLeft" || press.key === "ArrowRight", isPicked = press.key === "Enter" && target.matches("[data-call]");
+  if (isPicked) return pick(Number(target.getAttribute("data-call")));
+  const isTyping = target.matches("textarea, select, dialog, dialog *, input:not([type=checkbox]):not([type=range])") && !(isArrow && target.matches("input[type=number]"));
   const isOwn = press.key === " " && target.matches("button, input, summary");
   if (isTyping || isOwn || press.ctrlKey || press.metaKey || press.altKey || !KEYS[press.key]) return;
   press.preventDefault();
@@ -695,9 +974,42 @@ function onKey(press) {
 /** @param {MouseEvent} click */
 function onClick(click) {
   const target = click.target instanceof Element ? click.target : document.body;
+  const told = (/** @type {string} */ name) => (target.closest(`button[data-${name}]`) || {getAttribute: () => ""}).getAttribute(`data-${name}`) || "";
+  if (told("guess")) return guess(Number(told("guess")));
+  if (told("drive")) return void drive(told("drive"));
+  if (told("undo")) return undo();
+  if (told("save")) return save(told("save"));
+  if (told("pane")) return showPane(told("pane"));
   const call = target.closest("[data-call]"), event = target.closest("[data-at]"), number = call ? Number(call.getAttribute("data-call")) : 0;
   if (call) pick(number === view.picked && !target.closest("#chart") ? 0 : number);
   else if (event) go(Number(event.getAttribute("data-at")));
+}
+
+/** Shows one of the panes that a narrow window has room for.
+ * @param {string} pane */
+function showPane(pane) {
+  document.body.dataset.pane = pane;
+  layOut();
+  go(view.at);
+}
+
+/** The first click before the last event says how far the run is; a second one opens the answer.
+ * @param {MouseEvent} click */
+function onAnswer(click) {
+  const left = view.run.length - view.at, summary = /** @type {HTMLElement} */ (click.currentTarget);
+  if ($("answer").open || !view.isHidden || !left || summary.dataset.asked) return;
+  click.preventDefault();
+  summary.dataset.asked = "1";
+  summary.textContent = `the answer: ${left} events are still to come; a second click opens it`;
+}
+
+/** Lays out the chart for paper, or for the window again.
+ * @param {boolean} isPrinting */
+function print(isPrinting) {
+  view.isPrinting = isPrinting;
+  layOut();
+  view.drawn.key = "";
+  drawChart();
 }
 
 function start() {
@@ -719,13 +1031,27 @@ function start() {
   $("task").onchange = sifted(() => { view.task = Number($("task").value); });
   $("only").onchange = sifted(() => { view.isOnly = $("only").checked; });
   $("idle").onchange = sifted(() => { view.isQuiet = $("idle").checked; });
+  $("hide").onchange = () => hide($("hide").checked);
+  $("keys").onclick = KEYS["?"];
+  $("answer").firstElementChild.addEventListener("click", onAnswer);
   $("chart").onscroll = onScroll;
+  addEventListener("beforeprint", () => print(true));
+  addEventListener("afterprint", () => print(false));
+  addEventListener("dragover", drag => drag.preventDefault());
+  addEventListener("drop", drop => {
+    drop.preventDefault();
+    if (drop.dataTransfer) take(drop.dataTransfer.files);
+  });
+  addEventListener("beforeunload", leaving => {
+    if (view.isEdited) leaving.preventDefault();
+  });
   addEventListener("keydown", onKey);
   addEventListener("click", onClick);
   addEventListener("hashchange", openAddress);
   addEventListener("resize", () => { layOut(); drawChart(); });
   serve();
   openRun(data, false);
+  openAddress();
 }
 
 start();
