@@ -1,6 +1,6 @@
 -- An answer is determined by what is said of it.
-use Rattle.std.proofs.Common.{◌≡◌, ℕ, ◌+◌, ◌<◌, ◌≤◌, Bool, true, false, ◌⊎◌, inl, inr, List, [], ◌∷◌, length, Option, None, Some, refl, sym, ap, subst, ◌∙◌, arith}
-use Rattle.std.specs.Prelude.{Result, Ok, Err, slice_get}
+use Rattle.std.proofs.Common.{◌≡◌, ℕ, ◌+◌, true, ◌⊎◌, inl, inr, List, [], ◌∷◌, length, Option, None, Some, refl, sym, ap, subst, ◌∙◌, arith}
+use Rattle.std.specs.Prelude.{Result, Ok}
 use Rattle.std.proofs.lemmas.Bool.{cases_eq, cases_lt}
 use Rattle.ipc_ids.specs.declared.numbers.Code.{Code}
 use Rattle.ipc_ids.specs.declared.numbers.Label.{Label}
@@ -11,7 +11,7 @@ use Rattle.ipc_ids.specs.declared.message.PhoneState.TheVariants.{Connected}
 use Rattle.ipc_ids.specs.declared.message.Outcome.TheVariants as outcome
 use Rattle.ipc_ids.specs.declared.entry.Entry.{Entry}
 use Rattle.ipc_ids.specs.declared.entry.Entry.TheVariants as entry
-use Rattle.ipc_ids.specs.Codes.{eok, enoent, eperm, elimit}
+use Rattle.ipc_ids.specs.Codes.{eok, enoent, elimit}
 use Rattle.ipc_ids.specs.Methods.{connect_to_me, connect_me_to, data_write, data_read, share_out, share_in}
 use Rattle.call_slab.specs.declared.call.Call.{Call}
 use Rattle.address_space.specs.Memory.{Memory, Step, IsAdded}
@@ -22,17 +22,14 @@ use Rattle.cleanup.specs.Serving.{Served}
 use Rattle.cleanup.proofs.Lookups.{same_call}
 use Rattle.kernel_laws.specs.AnswerCodes.{code_after}
 use Rattle.kernel_laws.specs.DataLaws.{first, second, third, AreFirst, IsFull, IsLawfulTaking}
-use Rattle.kernel_laws.specs.MemoryLaws.{IsLawfulShare}
 use Rattle.kernel_laws.specs.MemoryRequests.{made, written}
-use Rattle.kernel_laws.specs.PhoneCodes.{IsHeld}
 use Rattle.kernel_laws.specs.PoolLaws.{pool}
 use Rattle.kernel_laws.proofs.LawfulData.{decided_read}
 use Rattle.kernel_laws.proofs.MemoryRequests.{added}
 use Rattle.kernel_determined.specs.Frames.{PhoneComesTo}
 use Rattle.kernel_determined.specs.MemoryLaw.{IsWholeWrite}
 use Rattle.kernel_determined.specs.SettleLaw.{IsWanted}
-use Rattle.kernel_determined.specs.ForwardLaw.{IsNotHeld}
-use Rattle.kernel_determined.specs.AnswerLaw.{IsWholePlacing, IsWholeShare, bytes_after, Reaches, ConnectsTo, ConnectsNothing, WritesBytes, TakesBytes, SharesArea, IsPlain, AnswersPlainly, Accepts, AnswersDeclining, AnswersNobody, AnswersAccepting, AnswersCall, IsAnswer}
+use Rattle.kernel_determined.specs.AnswerLaw.{IsWholePlacing, bytes_after, Reaches, ConnectsTo, ConnectsNothing, WritesBytes, TakesBytes, SharesArea, IsPlain, AnswersPlainly, Accepts, AnswersDeclining, AnswersNobody, AnswersAccepting, IsAnswer}
 use Rattle.kernel_determined.proofs.Same.{list_same}
 use Rattle.kernel_determined.proofs.HangupDetermined.{stay_same, come_same, refusal_same, quiet_same}
 use Rattle.kernel_determined.proofs.WriteDetermined.{step_same, write_is_determined}

@@ -1,8 +1,8 @@
 -- The definition of an answer does what is said of it.
 use Rattle.std.proofs.Common.{◌≡◌, ℕ, ◌<◌, ◌≤◌, Bool, true, false, ◌⊎◌, inl, inr, List, [], ◌∷◌, length, Option, None, Some, refl, sym, ap, subst, ◌∙◌, arith, nat_lt}
-use Rattle.std.specs.Prelude.{◌==◌, if◌then◌else◌, IsSome, Result, Ok, Err, slice_get, take}
+use Rattle.std.specs.Prelude.{◌==◌, if◌then◌else◌, IsSome, Result, Ok, Err, take}
 use Rattle.std.specs.Option.{option_to_list}
-use Rattle.std.proofs.lemmas.Bool.{cases_eq, false≢true}
+use Rattle.std.proofs.lemmas.Bool.{false≢true}
 use Rattle.std.proofs.lemmas.Bool.Decides.{nat_tests}
 use Rattle.ipc_ids.specs.declared.numbers.Code.{Code}
 use Rattle.ipc_ids.specs.declared.numbers.Label.{Label}
@@ -17,22 +17,21 @@ use Rattle.ipc_ids.specs.declared.entry.Entry.TheVariants as entry
 use Rattle.ipc_ids.specs.declared.methods.MethodKind.{MethodKind}
 use Rattle.ipc_ids.specs.declared.methods.MethodKind.TheVariants.{PhoneHungUp, ConnectToMe, ConnectMeTo, DataWrite, DataRead, ShareOut, ShareIn, NotBuilt, User}
 use Rattle.ipc_ids.specs.Codes.{eok, enoent, elimit}
-use Rattle.ipc_ids.specs.Methods.{kind_of, connect_to_me, connect_me_to, share_out, share_in}
+use Rattle.ipc_ids.specs.Methods.{kind_of, share_out, share_in}
 use Rattle.call_slab.specs.declared.call.Call.{Call}
 use Rattle.call_slab.specs.declared.call.Place.TheVariants.{Dispatched, Answers}
-use Rattle.answerbox.specs.Calls.{CallTable, call_at, used, put_at}
-use Rattle.address_space.specs.Memory.{Memory, Step, IsAdded, write, refused}
+use Rattle.answerbox.specs.Calls.{call_at, used}
+use Rattle.address_space.specs.Memory.{Memory, Step, write, refused}
 use Rattle.address_space.specs.Sound as spaces
-use Rattle.phone_table.specs.Phones.{state_at}
 use Rattle.data_hooks.specs.DataMoments.{write_accept, read_accept}
 use Rattle.share_hooks.specs.ShareMoments.{out_accept, in_accept}
 use Rattle.forwarding.specs.Forwarding.{is_held}
 use Rattle.cleanup.specs.Board.{IsPendingAt}
 use Rattle.cleanup.specs.State.{KernelState, is_alive}
 use Rattle.cleanup.specs.Sound.{IsSound, IsSoundCall, NeedsPhone}
-use Rattle.cleanup.specs.Kept.{keeper_of, kept_phone, kept_note, kept_rows, with_kept, accepts, who_keeps}
+use Rattle.cleanup.specs.Kept.{keeper_of, kept_phone, kept_note, with_kept, accepts, who_keeps}
 use Rattle.cleanup.specs.Serving.{Served, Handed, telling, refusal, as_it_is}
-use Rattle.cleanup.specs.Joins.{lives, answer_to, code_of, accepted_to_me, accepted_me_to, vanishing, settle}
+use Rattle.cleanup.specs.Joins.{lives, answer_to, code_of, accepted_me_to, vanishing, settle}
 use Rattle.cleanup.specs.Data.{code_told, bytes_told, accepted_write, accepted_read}
 use Rattle.cleanup.specs.Areas.{wrote_note}
 use Rattle.cleanup.specs.Sharing.{shared_note, accepted_share}
@@ -45,9 +44,8 @@ use Rattle.kernel_core.specs.Moments.{on_accept_of}
 use Rattle.kernel_core.specs.Kernel.{and_event, serve}
 use Rattle.kernel_laws.specs.AnswerCodes.{code_after}
 use Rattle.kernel_laws.specs.DataLaws.{first, second, third, IsLawfulTaking}
-use Rattle.kernel_laws.specs.MemoryRequests.{made, written}
+use Rattle.kernel_laws.specs.MemoryRequests.{made}
 use Rattle.kernel_laws.specs.PhoneCodes.{IsHeld}
-use Rattle.kernel_laws.specs.PoolLaws.{pool}
 use Rattle.kernel_laws.proofs.CallRoutes.{at_dispatched}
 use Rattle.kernel_laws.proofs.PoolChanges.{pool-used}
 use Rattle.kernel_laws.proofs.LawfulAnswers.{same_told, same_code, accepts_eok}

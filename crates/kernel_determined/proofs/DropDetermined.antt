@@ -1,5 +1,5 @@
 -- An area that is dropped: what is done is what is said of it, and is determined by it.
-use Rattle.std.proofs.Common.{◌≡◌, ℕ, suc, ◌-◌, ◌<◌, ◌≤◌, Bool, true, false, ◌⊎◌, inl, inr, List, [], length, Option, None, Some, refl, sym, ap, subst, ◌∙◌, arith}
+use Rattle.std.proofs.Common.{◌≡◌, ℕ, suc, ◌-◌, ◌<◌, ◌≤◌, Bool, true, false, ◌⊎◌, inl, inr, [], length, Option, None, Some, refl, sym, ap, subst, ◌∙◌, arith}
 use Rattle.std.specs.Prelude.{slice_get, unwrap_or, Result, Ok, Err}
 use Rattle.std.specs.List.{list_any}
 use Rattle.std.specs.Cmp.{nat_cmp_total}
@@ -17,7 +17,7 @@ use Rattle.address_space.proofs.Soundness.{lawful_of}
 use Rattle.cleanup.specs.State.{Tasks, KernelState}
 use Rattle.cleanup.specs.Serving.{Served}
 use Rattle.kernel_core.specs.Kernel.{serve}
-use Rattle.kernel_laws.specs.MemoryLaws.{Has, HasAt, Drops, IsLawfulDrop}
+use Rattle.kernel_laws.specs.MemoryLaws.{Has, Drops}
 use Rattle.kernel_laws.specs.MemoryRequests.{Tells, gone}
 use Rattle.kernel_laws.proofs.DroppedAreas.{any_of, any_at}
 use Rattle.kernel_laws.proofs.KilledAreas.{in_row, row_of}

@@ -6,17 +6,12 @@ use Rattle.ipc_ids.specs.declared.numbers.Label.{Label}
 use Rattle.ipc_ids.specs.declared.numbers.TaskNo.{TaskNo}
 use Rattle.ipc_ids.specs.declared.message.Mode.{Mode}
 use Rattle.ipc_ids.specs.declared.message.Msg.{Msg}
-use Rattle.ipc_ids.specs.declared.message.PhoneState.{PhoneState}
 use Rattle.ipc_ids.specs.declared.message.PhoneState.TheVariants.{Free, Connected}
-use Rattle.ipc_ids.specs.declared.message.Outcome.{Outcome}
 use Rattle.ipc_ids.specs.declared.message.Outcome.TheVariants as outcome
-use Rattle.ipc_ids.specs.declared.entry.Entry.{Entry}
 use Rattle.ipc_ids.specs.declared.entry.Entry.TheVariants as entry
 use Rattle.ipc_ids.specs.Codes.{enoent, eperm, eforward}
 use Rattle.ipc_ids.specs.Methods.{connect_to_me, connect_me_to, first_user_method}
 use Rattle.call_slab.specs.declared.call.Call.{Call}
-use Rattle.call_slab.specs.declared.call.Place.TheVariants.{Incoming, Answers}
-use Rattle.answerbox.specs.Calls.{CallTable, call_at}
 use Rattle.cleanup.specs.State.{KernelState, phone_at, label_of}
 use Rattle.cleanup.specs.Serving.{Served}
 use Rattle.cleanup.proofs.Lookups.{same_call}
@@ -24,7 +19,7 @@ use Rattle.kernel_laws.specs.CallCodes.{own_reply}
 use Rattle.kernel_laws.specs.PhoneCodes.{IsHeld, MayPass}
 use Rattle.kernel_laws.specs.Routes.{Leads, label_by}
 use Rattle.kernel_determined.specs.Frames.{IsOneEvent, MayCome}
-use Rattle.kernel_determined.specs.ForwardLaw.{IsOther, IsNewMessage, passed_call, Passes, Fails, IsNotHeld, MayNotForward, ForwardsNowhere, Forwards, IsForward}
+use Rattle.kernel_determined.specs.ForwardLaw.{IsOther, IsNewMessage, passed_call, Passes, Fails, MayNotForward, ForwardsNowhere, Forwards, IsForward}
 use Rattle.kernel_determined.proofs.Same.{state_same, served_same}
 use Rattle.kernel_determined.proofs.HangupDetermined.{phones_same, refusal_same, quiet_same}
 use Rattle.kernel_determined.proofs.SettleDetermined.{moves_same, back_same, may_come_same, settled_same}

@@ -1,11 +1,10 @@
 -- The definition of a forward does what is said of it.
-use Rattle.std.proofs.Common.{◌≡◌, ℕ, Bool, true, false, ◌⊎◌, inl, inr, List, length, Option, None, Some, refl, sym, ap, subst, ◌∙◌, arith, nat_lt}
-use Rattle.std.specs.Prelude.{◌==◌, if◌then◌else◌, slice_index, IsSome, Err}
+use Rattle.std.proofs.Common.{◌≡◌, ℕ, Bool, true, false, ◌⊎◌, inl, inr, Option, None, Some, refl, sym, ap, subst, ◌∙◌, arith, nat_lt}
+use Rattle.std.specs.Prelude.{◌==◌, if◌then◌else◌, slice_index, Err}
 use Rattle.std.specs.Option.{option_map_or, option_to_list}
-use Rattle.std.proofs.lemmas.Bool.{cases_eq, false≢true}
+use Rattle.std.proofs.lemmas.Bool.{false≢true}
 use Rattle.std.proofs.lemmas.Bool.Decides.{nat_tests}
 use Rattle.ipc_ids.specs.declared.numbers.Code.{Code}
-use Rattle.ipc_ids.specs.declared.numbers.Label.{Label}
 use Rattle.ipc_ids.specs.declared.numbers.TaskNo.{TaskNo}
 use Rattle.ipc_ids.specs.declared.message.Mode.{Mode}
 use Rattle.ipc_ids.specs.declared.message.Mode.TheVariants.{Plain, Route}
@@ -21,31 +20,26 @@ use Rattle.ipc_ids.specs.Methods.{kind_of, connect_to_me, connect_me_to}
 use Rattle.call_slab.specs.declared.call.Call.{Call}
 use Rattle.call_slab.specs.declared.call.Place.TheVariants.{Incoming, Dispatched}
 use Rattle.answerbox.specs.Calls.{call_at}
-use Rattle.phone_table.specs.Phones.{state_at}
 use Rattle.forwarding.specs.declared.passing.ForwardFault.TheVariants.{NotHeld, NotForwardable}
 use Rattle.forwarding.specs.Forwarding.{is_held, is_forwardable, changed_msg, msg_after, label_after}
 use Rattle.forwarding.specs.Routes.{callee_of, receiver_of, as_forwarded}
-use Rattle.cleanup.specs.State.{KernelState, is_alive, phone_at, label_of}
+use Rattle.cleanup.specs.State.{KernelState, phone_at, label_of}
 use Rattle.cleanup.specs.Sound.{IsSound, IsSoundCall}
-use Rattle.cleanup.specs.Kept.{keeper_of, kept_of, lent_of, kept_phone, lent_phone, kept_rows, kept_note, phone_of, unless_freed, who_keeps}
+use Rattle.cleanup.specs.Kept.{lent_phone, kept_note, unless_freed}
 use Rattle.cleanup.specs.Board.{IsPendingAt}
-use Rattle.cleanup.specs.Joins.{bare_reply, lives, passage, passed_call, settle_for}
+use Rattle.cleanup.specs.Joins.{bare_reply, passage, passed_call}
 use Rattle.cleanup.specs.Serving.{Served, telling, refusal}
-use Rattle.cleanup.proofs.Endings.{length_rows}
-use Rattle.cleanup.proofs.Keepers.{state_here}
-use Rattle.cleanup.proofs.KilledPhones.{written_elsewhere}
-use Rattle.cleanup.proofs.Lookups.{put_here, put_other, gone_here, gone_other, same_call}
+use Rattle.cleanup.proofs.Lookups.{same_call}
 use Rattle.kernel_core.specs.Forward.{failed_forward, forward_told}
 use Rattle.kernel_core.specs.Kernel.{and_event, serve}
 use Rattle.kernel_laws.specs.PhoneCodes.{IsHeld, MayPass}
 use Rattle.kernel_laws.specs.Routes.{label_by}
 use Rattle.kernel_laws.proofs.CallRoutes.{at_dispatched}
-use Rattle.kernel_laws.proofs.KeptPhones.{own_phone}
 use Rattle.kernel_laws.proofs.PhoneCodes.{holds, may_pass, may_not_pass}
 use Rattle.kernel_laws.proofs.PhoneRoutes.{to_me_method}
 use Rattle.kernel_laws.proofs.DeliveredAnswers.{connect_method}
 use Rattle.kernel_laws.proofs.ReceiveLaws.{user_kind}
-use Rattle.kernel_determined.specs.Frames.{IsOneEvent, HasFifth}
+use Rattle.kernel_determined.specs.Frames.{HasFifth}
 use Rattle.kernel_determined.specs.ForwardLaw.{IsOther, IsNewMessage, Passes, Fails, IsForward}
 use Rattle.kernel_determined.proofs.SettleSo.{may_come, as_many, moves, lent_is, lent_there, settle_quiet, settled_is}
 use Rattle.kernel_determined.proofs.TakesSo.{has_fifth}

@@ -1,21 +1,15 @@
 -- The definition of a kill does what is said of it.
-use Rattle.std.proofs.Common.{◌≡◌, ℕ, zero, suc, ◌+◌, ◌-◌, ◌<◌, ◌≤◌, Bool, true, false, ◌⊎◌, inl, inr, List, [], ◌∷◌, ◌++◌, length, Option, None, Some, refl, sym, ap, subst, ◌∙◌, arith}
-use Rattle.std.specs.Prelude.{⊤, Ok, slice_get, option_and_then, if◌then◌else◌, ◌==◌, IsSome}
-use Rattle.std.specs.Option.{option_map_or, option_to_list}
+use Rattle.std.proofs.Common.{◌≡◌, ℕ, zero, suc, ◌+◌, ◌-◌, ◌<◌, ◌≤◌, Bool, true, false, ◌⊎◌, inl, inr, List, [], ◌∷◌, length, Option, None, Some, refl, sym, ap, subst, ◌∙◌, arith}
+use Rattle.std.specs.Prelude.{⊤, Ok, slice_get, ◌==◌}
+use Rattle.std.specs.Option.{option_map_or}
 use Rattle.std.specs.FinMap.{entries}
 use Rattle.std.proofs.Math.ListN.{length-set}
 use Rattle.std.proofs.lemmas.Bool.{cases_eq, cases_lt, false≢true, ne_eqb, eq-eqb, eqb-true}
-use Rattle.std.proofs.lemmas.Bool.Decides.{nat_tests}
-use Rattle.ipc_ids.specs.declared.numbers.Label.{Label}
 use Rattle.ipc_ids.specs.declared.numbers.TaskNo.{TaskNo}
 use Rattle.ipc_ids.specs.declared.message.PhoneState.{PhoneState}
 use Rattle.ipc_ids.specs.declared.message.PhoneState.TheVariants.{Free, Connecting, Connected, HungUp, Slammed}
-use Rattle.ipc_ids.specs.declared.entry.Entry.{Entry}
 use Rattle.ipc_ids.specs.declared.entry.Entry.TheVariants as entry
-use Rattle.ipc_ids.specs.declared.methods.MethodKind.{MethodKind}
-use Rattle.ipc_ids.specs.declared.methods.MethodKind.TheVariants.{PhoneHungUp, ConnectToMe, ConnectMeTo, DataWrite, DataRead, ShareOut, ShareIn, NotBuilt, User}
-use Rattle.ipc_ids.specs.Codes.{eok, ehangup}
-use Rattle.ipc_ids.specs.Methods.{kind_of, connect_me_to}
+use Rattle.ipc_ids.specs.Codes.{ehangup}
 use Rattle.call_slab.specs.declared.call.Call.{Call}
 use Rattle.call_slab.specs.declared.call.Place.{Place}
 use Rattle.call_slab.specs.declared.call.Place.TheVariants.{Incoming, Dispatched, Answers}
@@ -23,19 +17,19 @@ use Rattle.answerbox.specs.Calls.{CallTable, call_at, calls_at, calls_by, calls_
 use Rattle.answerbox.proofs.Fronts.{front-is_front, no_front-has_no_calls}
 use Rattle.answerbox.proofs.Callers.{calls_of_none}
 use Rattle.address_space.specs.Areas.{Area}
-use Rattle.address_space.specs.Memory.{Memory, Step, areas_of, count_areas, first_area, drop_area}
+use Rattle.address_space.specs.Memory.{Step, areas_of, count_areas, first_area, drop_area}
 use Rattle.address_space.specs.Sound as spaces
 use Rattle.address_space.proofs.Ending.{no_first, first_goes, first_is_dropped}
 use Rattle.address_space.proofs.Soundness.{sound_drop}
-use Rattle.phone_table.specs.Phones.{row_at, state_at}
+use Rattle.phone_table.specs.Phones.{row_at}
 use Rattle.cleanup.specs.Board.{IsPendingAt}
-use Rattle.cleanup.specs.State.{Tasks, KernelState, Transition, is_alive, phone_at, label_of, with_phone, nothing, then_do, drain, each}
-use Rattle.cleanup.specs.Sound.{IsSound, IsSoundCall, IsReservedAt}
-use Rattle.cleanup.specs.Kept.{keeper_of, kept_of, kept_phone, kept_rows, kept_note, lent_phone, accepts, phone_of, WaitsIn}
-use Rattle.cleanup.specs.Joins.{bare_reply, lives, settle, settle_for, hang_up, drop_answer, forget_call}
+use Rattle.cleanup.specs.State.{KernelState, Transition, is_alive, phone_at, label_of, with_phone, nothing, then_do, each}
+use Rattle.cleanup.specs.Sound.{IsSound}
+use Rattle.cleanup.specs.Kept.{kept_phone, lent_phone}
+use Rattle.cleanup.specs.Joins.{bare_reply, lives, settle_for, hang_up, drop_answer, forget_call}
 use Rattle.cleanup.specs.Areas.{lose_area, lose_first_area}
 use Rattle.cleanup.specs.Kill.{task_no, width, mark_ended, hang_up_at, hang_up_own_phones, slam, slam_at, slam_phones_of, slam_other, slam_phones_to, first_at, settle_call, settle_calls_at, settle_incoming, settle_dispatched, drop_answers, first_call_of, forget_calls_elsewhere, drop_first_area, drop_areas, end_phones_and_calls, kill}
-use Rattle.cleanup.proofs.Endings.{length_rows, within}
+use Rattle.cleanup.proofs.Endings.{length_rows}
 use Rattle.cleanup.proofs.Keepers.{state_here}
 use Rattle.cleanup.proofs.KilledPhones.{written_elsewhere}
 use Rattle.cleanup.proofs.Killing.{after_hangups, after_slams, after_incoming, after_dispatched, after_answers, after_calls, calls_steady}
@@ -46,23 +40,17 @@ use Rattle.cleanup.proofs.Repeats as repeats
 use Rattle.cleanup.proofs.Silence.{with_marks, IsEnding, past_width, own_phones_hung_up, IsAlone, phones_slammed}
 use Rattle.cleanup.proofs.SoundJoins.{incoming_pending, held_pending}
 use Rattle.cleanup.proofs.SoundMemory.{from_one}
-use Rattle.cleanup.proofs.Usable.{kept_waits}
 use Rattle.kernel_core.specs.Kernel.{kill_event}
 use Rattle.kernel_core.proofs.InEvent.{same_place-true}
-use Rattle.kernel_laws.specs.CallCodes.{own_reply}
-use Rattle.kernel_laws.specs.Connecting.{IsUnconnected}
 use Rattle.kernel_laws.specs.MemoryLaws.{Has, HasAt, Drops}
 use Rattle.kernel_laws.specs.Routes.{Leads, Stands}
-use Rattle.kernel_laws.proofs.KeptPhones.{own_phone}
 use Rattle.kernel_laws.proofs.KillRoutes.{is_there}
-use Rattle.kernel_laws.proofs.DeliveredAnswers.{connect_method}
-use Rattle.kernel_laws.proofs.LawfulAnswers.{same_code, accepts_eok}
 use Rattle.kernel_laws.proofs.LawfulAreas.{drop_is_lawful, one_base}
-use Rattle.kernel_determined.specs.Frames.{PhoneComesTo, IsStep}
+use Rattle.kernel_determined.specs.Frames.{IsStep}
 use Rattle.kernel_determined.specs.Frames.{CameBefore}
-use Rattle.kernel_determined.specs.SettleLaw.{IsSettled, DropsAnswer}
-use Rattle.kernel_determined.specs.Turns.{EachInTurn, Then}
-use Rattle.kernel_determined.specs.KillLaw.{IsMarked, IsToHangUp, HangsUpPhone, HangsUpOwn, SlamsPhone, SlamsOf, IsOther, IsOlder, SlamsOthers, SettlesCall, SettlesAll, DropsAnswers, IsOwn, ForgetsCall, ForgetsCalls, HasBase, LosesArea, LosesAreas, EndsPhones, SettlesBoth, EndsCalls, EndsParts, IsKill}
+use Rattle.kernel_determined.specs.SettleLaw.{DropsAnswer}
+use Rattle.kernel_determined.specs.Turns.{EachInTurn}
+use Rattle.kernel_determined.specs.KillLaw.{IsToHangUp, HangsUpPhone, HangsUpOwn, SlamsPhone, SlamsOf, IsOther, IsOlder, SlamsOthers, SettlesCall, SettlesAll, DropsAnswers, IsOwn, ForgetsCall, ForgetsCalls, HasBase, LosesArea, LosesAreas, EndsCalls, EndsParts, IsKill}
 use Rattle.kernel_determined.proofs.TurnsKept.{no_turns, same_turns, one_turn, IsNextTurn, IsTurn, IsOwnTurn, all_drained, all_done}
 use Rattle.kernel_determined.proofs.HangupDetermined.{tells, tells_nobody}
 use Rattle.kernel_determined.proofs.SettleSo.{as_many, settled_is, drops}

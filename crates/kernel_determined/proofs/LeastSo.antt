@@ -1,5 +1,5 @@
 -- The call of a task that is found first has the least number, and the area that is found first the least base.
-use Rattle.std.proofs.Common.{◌≡◌, ℕ, zero, suc, ◌<◌, ◌≤◌, Bool, true, false, cond, ◌&&◌, List, [], ◌∷◌, Option, None, Some, refl, sym, ap, subst, ◌∙◌, arith, T}
+use Rattle.std.proofs.Common.{◌≡◌, ℕ, zero, suc, ◌<◌, ◌≤◌, Bool, true, false, cond, ◌&&◌, List, [], ◌∷◌, Option, None, Some, refl, sym, subst, ◌∙◌, arith, T}
 use Rattle.std.specs.Prelude.{nat_lt, nat_le, fold, slice_get, if◌then◌else◌}
 use Rattle.std.specs.Ordering.{nat_cmp, is_eq}
 use Rattle.std.specs.FinMap.{find, is_sorted, entries, entries_sorted, get-entries}
@@ -9,7 +9,7 @@ use Rattle.ipc_ids.specs.declared.numbers.TaskNo.{TaskNo}
 use Rattle.call_slab.specs.declared.call.Call.{Call}
 use Rattle.answerbox.specs.Calls.{CallTable, call_at, is_caller, first_from, calls_of}
 use Rattle.answerbox.proofs.Fronts.{first, second, greater, ties, not_tied, key_same}
-use Rattle.address_space.specs.Areas.{Area, lower, least_base}
+use Rattle.address_space.specs.Areas.{Area, lower}
 use Rattle.address_space.specs.Memory.{Memory, areas_of, first_area}
 
 -- ---- calls

@@ -13,7 +13,6 @@ use Rattle.answerbox.specs.Calls.{call_at}
 use Rattle.ipc_ids.specs.declared.message.PhoneState.{PhoneState}
 use Rattle.ipc_ids.specs.declared.entry.Entry.{Entry}
 use Rattle.kernel_determined.specs.Changed.{served_to, served_telling, ended_in, ended_telling, other_call}
-use Rattle.cleanup.specs.Sound.{IsSound}
 use Rattle.cleanup.specs.Serving.{Served}
 use Rattle.kernel_core.specs.Kernel.{serve, kill_event, spawn_event}
 use Rattle.kernel_laws.specs.Connecting.{HasFive}

@@ -13,7 +13,7 @@ use Rattle.ipc_ids.specs.Methods.{connect_me_to, data_read}
 use Rattle.call_slab.specs.declared.call.Call.{Call}
 use Rattle.answerbox.specs.Calls.{CallTable, call_at}
 use Rattle.address_space.specs.Memory.{Memory, Step}
-use Rattle.cleanup.specs.State.{Tasks, KernelState, phone_at, label_of}
+use Rattle.cleanup.specs.State.{KernelState, phone_at, label_of}
 use Rattle.cleanup.specs.Sound.{IsSound}
 use Rattle.cleanup.specs.Serving.{Served}
 use Rattle.cleanup.proofs.Lookups.{same_call}

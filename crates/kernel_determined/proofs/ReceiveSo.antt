@@ -1,28 +1,21 @@
 -- The definition of a receive does what is said of it.
-use Rattle.std.proofs.Common.{◌≡◌, ℕ, zero, suc, ◌<◌, ◌≤◌, Bool, true, false, ◌⊎◌, inl, inr, List, [], ◌∷◌, ◌++◌, Option, None, Some, refl, sym, ap, subst, ◌∙◌, arith}
+use Rattle.std.proofs.Common.{◌≡◌, ℕ, ◌<◌, Bool, true, false, ◌⊎◌, inl, inr, Option, None, Some, refl, sym, ap, ◌∙◌, arith}
 use Rattle.std.specs.Prelude.{if◌then◌else◌}
-use Rattle.std.specs.Option.{option_map_or, option_to_list}
 use Rattle.std.proofs.lemmas.Bool.{cases_eq, false≢true}
-use Rattle.ipc_ids.specs.declared.numbers.Label.{Label}
 use Rattle.ipc_ids.specs.declared.numbers.TaskNo.{TaskNo}
-use Rattle.ipc_ids.specs.declared.message.PhoneState.TheVariants.{Free}
-use Rattle.ipc_ids.specs.declared.entry.Entry.{Entry}
-use Rattle.ipc_ids.specs.declared.entry.Entry.TheVariants as entry
-use Rattle.ipc_ids.specs.Methods.{kind_of, phone_hungup}
+use Rattle.ipc_ids.specs.Methods.{phone_hungup}
 use Rattle.call_slab.specs.declared.call.Call.{Call}
 use Rattle.call_slab.specs.declared.call.Place.TheVariants.{Answers}
-use Rattle.answerbox.specs.Calls.{call_at, calls_at, front, same_place}
-use Rattle.answerbox.proofs.Counts.{count-without_call}
+use Rattle.answerbox.specs.Calls.{call_at, calls_at, front}
 use Rattle.answerbox.proofs.Fronts.{front_live, front-is_front, no_front-has_no_calls}
-use Rattle.cleanup.specs.State.{Tasks, KernelState, Transition, nothing, then_do, drain}
+use Rattle.cleanup.specs.State.{KernelState}
 use Rattle.cleanup.specs.Sound.{IsSound}
-use Rattle.cleanup.specs.Kept.{keeper_of, kept_of, kept_phone, kept_rows, kept_note}
 use Rattle.cleanup.specs.Joins.{drop_answer}
 use Rattle.cleanup.proofs.Lookups.{same_call, gone_here, gone_other}
 use Rattle.cleanup.proofs.Queues.{sound_drop, stands_at, over_less}
 use Rattle.kernel_core.specs.Receiving.{unawaited, next_unawaited, drop_unawaited}
 use Rattle.kernel_laws.specs.ReceiveLaws.{IsAwaited}
-use Rattle.kernel_laws.proofs.ReceiveLaws.{drain_stops, at_answers, is_answers, unawaited_is, IsNext, next_is, is_hangup, no_hangup}
+use Rattle.kernel_laws.proofs.ReceiveLaws.{at_answers, is_answers, unawaited_is, IsNext, next_is, is_hangup, no_hangup}
 use Rattle.kernel_determined.specs.Frames.{CameBefore}
 use Rattle.kernel_determined.specs.SettleLaw.{DropsAnswer}
 use Rattle.kernel_determined.specs.ReceiveLaw.{IsDropped, DropsHangups}

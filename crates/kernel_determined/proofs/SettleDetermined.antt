@@ -18,7 +18,7 @@ use Rattle.cleanup.specs.State.{KernelState, phone_at}
 use Rattle.cleanup.proofs.Lookups.{same_call}
 use Rattle.kernel_laws.specs.Connecting.{IsUnconnected}
 use Rattle.kernel_determined.specs.Frames.{MayCome, Moves, IsOver, IsNow}
-use Rattle.kernel_determined.specs.SettleLaw.{IsGivenBack, IsKeptFor, IsWanted, IsAnswered, IsEnded, IsSettled, IsKeptAtAnswer, DropsAnswer}
+use Rattle.kernel_determined.specs.SettleLaw.{IsGivenBack, IsKeptFor, IsAnswered, IsEnded, IsSettled, IsKeptAtAnswer, DropsAnswer}
 use Rattle.kernel_determined.proofs.Same.{table_same}
 use Rattle.kernel_determined.proofs.HangupDetermined.{stay_same, come_same, AreAlike, step_same}
 

@@ -1,5 +1,5 @@
 -- The definitions bring a call to its end as it is said.
-use Rattle.std.proofs.Common.{◌≡◌, ℕ, Bool, true, false, ◌⊎◌, inl, inr, List, [], ◌∷◌, length, Option, None, Some, refl, sym, ap, subst, ◌∙◌}
+use Rattle.std.proofs.Common.{◌≡◌, ℕ, Bool, true, false, inl, inr, List, ◌∷◌, length, Option, None, Some, refl, sym, ap, subst, ◌∙◌}
 use Rattle.std.specs.Prelude.{IsSome, if◌then◌else◌}
 use Rattle.std.specs.Option.{option_to_list}
 use Rattle.std.proofs.lemmas.Bool.{cases_eq, false≢true}
@@ -9,7 +9,6 @@ use Rattle.ipc_ids.specs.declared.message.Reply.{Reply}
 use Rattle.ipc_ids.specs.declared.message.PhoneState.{PhoneState}
 use Rattle.ipc_ids.specs.declared.message.PhoneState.TheVariants.{Free, Connecting}
 use Rattle.ipc_ids.specs.declared.message.Outcome.{Outcome}
-use Rattle.ipc_ids.specs.declared.entry.Entry.{Entry}
 use Rattle.ipc_ids.specs.declared.entry.Entry.TheVariants as entry
 use Rattle.ipc_ids.specs.declared.methods.MethodKind.{MethodKind}
 use Rattle.ipc_ids.specs.declared.methods.MethodKind.TheVariants.{PhoneHungUp, ConnectToMe, ConnectMeTo, DataWrite, DataRead, ShareOut, ShareIn, NotBuilt, User}
@@ -22,7 +21,7 @@ use Rattle.phone_table.specs.Phones.{state_at}
 use Rattle.cleanup.specs.Board.{IsPendingAt}
 use Rattle.cleanup.specs.State.{Tasks, KernelState, is_alive}
 use Rattle.cleanup.specs.Sound.{IsSoundCall, IsReservedAt}
-use Rattle.cleanup.specs.Kept.{keeper_of, kept_of, lent_of, held_phone, kept_phone, lent_phone, kept_rows, kept_note, phone_of, unless_freed, who_keeps, accepts, WaitsIn}
+use Rattle.cleanup.specs.Kept.{keeper_of, kept_of, lent_of, held_phone, kept_phone, lent_phone, kept_rows, kept_note, phone_of, unless_freed, accepts, WaitsIn}
 use Rattle.cleanup.specs.Serving.{telling}
 use Rattle.cleanup.specs.Joins.{lives, settle, settle_for, vanishing, declined_call, drop_answer}
 use Rattle.kernel_core.specs.Kernel.{and_event}

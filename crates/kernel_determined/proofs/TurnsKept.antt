@@ -8,7 +8,7 @@ use Rattle.call_slab.specs.declared.call.Call.{Call}
 use Rattle.answerbox.specs.Calls.{count_of}
 use Rattle.cleanup.specs.State.{KernelState, Transition, nothing, then_do, drain, each}
 use Rattle.kernel_laws.proofs.ReceiveLaws.{drain_stops}
-use Rattle.kernel_determined.specs.Turns.{IsAmong, ComesBeforeEach, AreInOrder, InTurn, EachInTurn, Then}
+use Rattle.kernel_determined.specs.Turns.{IsAmong, ComesBeforeEach, AreInOrder, EachInTurn}
 
 -- nothing has its turn
 pub no_turns : {A : Type 0} (IsSo : A → Type 0) (Before : A → A → Type 0)

@@ -1,9 +1,6 @@
 -- The laws of the kernel: of each request, of a kill and of a spawn all that it does. They are said of any machine.
-use Rattle.std.specs.Prelude.{◌≡◌, ℕ, ◌≤◌, true, List, length, Option}
+use Rattle.std.specs.Prelude.{◌≡◌, ℕ, ◌≤◌, true, Option}
 use Rattle.ipc_ids.specs.declared.numbers.TaskNo.{TaskNo}
-use Rattle.ipc_ids.specs.declared.message.Mode.{Mode}
-use Rattle.ipc_ids.specs.declared.message.Msg.{Msg}
-use Rattle.ipc_ids.specs.declared.message.Reply.{Reply}
 use Rattle.ipc_ids.specs.declared.message.Request.{Request}
 use Rattle.ipc_ids.specs.declared.message.Request.TheVariants as request
 use Rattle.cleanup.specs.State.{KernelState, Transition, phone_at, is_alive}

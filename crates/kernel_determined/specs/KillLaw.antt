@@ -1,9 +1,8 @@
 -- All that a kill does: seven parts one after another, each a turn for the things that a law names, in an order that it
 -- names.
-use Rattle.std.specs.Prelude.{◌≡◌, ℕ, ◌+◌, ◌<◌, ◌≤◌, ◌⊎◌, true, false, Ok, List, [], ◌∷◌, length, Option, None, Some}
-use Rattle.ipc_ids.specs.declared.numbers.Label.{Label}
+use Rattle.std.specs.Prelude.{◌≡◌, ℕ, ◌+◌, ◌<◌, ◌≤◌, ◌⊎◌, Ok, List, [], ◌∷◌, length, None, Some}
 use Rattle.ipc_ids.specs.declared.numbers.TaskNo.{TaskNo}
-use Rattle.ipc_ids.specs.declared.message.PhoneState.TheVariants.{Free, Connected, Slammed}
+use Rattle.ipc_ids.specs.declared.message.PhoneState.TheVariants.{Slammed}
 use Rattle.ipc_ids.specs.declared.entry.Entry.{Entry}
 use Rattle.ipc_ids.specs.declared.entry.Entry.TheVariants as entry
 use Rattle.ipc_ids.specs.Codes.{ehangup}
@@ -13,7 +12,7 @@ use Rattle.call_slab.specs.declared.call.Place.TheVariants.{Incoming, Dispatched
 use Rattle.answerbox.specs.Calls.{call_at}
 use Rattle.address_space.specs.Areas.{Area}
 use Rattle.address_space.specs.Memory.{Step}
-use Rattle.cleanup.specs.State.{KernelState, Transition, is_alive, phone_at, label_of}
+use Rattle.cleanup.specs.State.{KernelState, Transition, phone_at, label_of}
 use Rattle.kernel_laws.specs.CallCodes.{own_reply}
 use Rattle.kernel_laws.specs.KillLaws.{EndsTask}
 use Rattle.kernel_laws.specs.MemoryLaws.{HasAt}

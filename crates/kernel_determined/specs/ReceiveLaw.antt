@@ -1,7 +1,6 @@
 -- All that a receive does: first the answers of hangups are dropped that came before every awaited one; then the first
 -- answer that is left is delivered, or else the first call that waits is received.
-use Rattle.std.specs.Prelude.{◌≡◌, ℕ, ◌+◌, ◌<◌, ◌⊎◌, ⊤, List, [], ◌∷◌, ◌++◌, length, slice_get, Option, None, Some}
-use Rattle.std.specs.FinMap.{get}
+use Rattle.std.specs.Prelude.{◌≡◌, ℕ, ◌+◌, ◌<◌, ◌⊎◌, List, [], ◌∷◌, ◌++◌, length, Option, None, Some}
 use Rattle.ipc_ids.specs.declared.numbers.Label.{Label}
 use Rattle.ipc_ids.specs.declared.numbers.StoreNo.{StoreNo}
 use Rattle.ipc_ids.specs.declared.numbers.TaskNo.{TaskNo}
@@ -22,7 +21,6 @@ use Rattle.kernel_laws.specs.AnswerCodes.{code_after}
 use Rattle.kernel_laws.specs.Connecting.{IsUnconnected}
 use Rattle.kernel_laws.specs.DataLaws.{first}
 use Rattle.kernel_laws.specs.Delivering.{IsBrought}
-use Rattle.kernel_laws.specs.MemoryLaws.{IsLawfulWrite}
 use Rattle.kernel_laws.specs.MemoryRequests.{written}
 use Rattle.kernel_laws.specs.ReceiveLaws.{IsAwaited, IsHangupAnswer, IsFirst, HasNone}
 use Rattle.kernel_laws.specs.UsablePhones.{IsUsable}
