@@ -46,7 +46,8 @@ use Rattle.kernel_determined.proofs.ShareDetermined.{share_is_determined}
 first_bytes_same : (xs ys zs : List ℕ) (n : ℕ) → AreFirst xs n zs → AreFirst ys n zs → xs ≡ ys
 first_bytes_same xs ys zs n f g = list_same xs ys (λ i. elim (cases_lt i n) [
   | inl few ↦ f.each i few ∙ sym (g.each i few)
-  | inr far ↦ let x = f.many in let y = g.many in past xs i (omega (arith, x, far)) ∙ sym (past ys i (omega (arith, y, far)))
+  | inr far ↦ let x = f.many in let y = g.many in past xs i (omega (arith, x, far))
+      ∙ sym (past ys i (omega (arith, y, far)))
 ])
 
 placing_same : (m : Memory) (t : TaskNo) (brought : List ℕ) (reply : Reply) (x y : Step (Option StoreNo))
@@ -97,8 +98,9 @@ module _ (t : TaskNo) (n : ℕ) (reply : Reply) (c : Call) (u : TaskNo) (k : Ker
   connects_same to x y =
       let same : x.phone ≡ y.phone = let e : Some x.phone ≡ Some y.phone = sym x.kept ∙ y.kept in cc in
       let leads = subst (λ (l : Label). PhoneComesTo l.task l.phone.0 (Connected to) k a.state) same x.leads in
-      let reaches = subst (λ (l : Label). Reaches t n reply c u eok c.buffer k.memory (entry.PhoneIs l (Connected to) ∷ []) k a)
-          same x.reaches in
+      let reaches = subst (λ (l : Label). Reaches t n reply c u eok c.buffer k.memory
+      (entry.PhoneIs l (Connected to) ∷ []) k a)
+      same x.reaches in
       reaches_same eok c.buffer k.memory _ reaches y.reaches
       (come_same k a.state b.state y.phone.task y.phone.phone.0 (Connected to) leads y.leads)
 
@@ -117,14 +119,16 @@ module _ (t : TaskNo) (n : ℕ) (reply : Reply) (c : Call) (u : TaskNo) (k : Ker
   writes_same x y =
       let same : x.step ≡ y.step = placing_same k.memory t c.buffer reply x.step y.step x.placing y.placing in
       let reaches = subst (λ (s : Step (Option StoreNo)). Reaches t n reply c u (code_after s.told) c.buffer s.memory
-          (written t (first reply.args) (second reply.args) s.told) k a) same x.reaches in
+      (written t (first reply.args) (second reply.args) s.told) k a) same x.reaches in
       reaches_same _ c.buffer y.step.memory _ reaches y.reaches (stay_same k a.state b.state x.phones y.phones)
 
   takes_same : TakesBytes t n reply c u k a → TakesBytes t n reply c u k b → a ≡ b
   takes_same x y =
-      let same : x.told ≡ y.told = taking_same k.memory t c.request.args reply (pool k) x.told y.told x.taking y.taking in
-      let reaches = subst (λ (r : Result (List ℕ) Code). Reaches t n reply c u (code_after r) (bytes_after r c.buffer) k.memory
-          [] k a) same x.reaches in
+      let same : x.told ≡ y.told = taking_same k.memory t c.request.args reply (pool k) x.told y.told x.taking
+      y.taking in
+      let reaches = subst (λ (r : Result (List ℕ) Code). Reaches t n reply c u (code_after r) (bytes_after r c.buffer)
+      k.memory
+      [] k a) same x.reaches in
       reaches_same _ _ k.memory [] reaches y.reaches (stay_same k a.state b.state x.phones y.phones)
 
   shares_same : (from : TaskNo) (base : ℕ) (to : TaskNo) (target : ℕ) → spaces.IsSound k.memory → IsAdded k.memory to
@@ -133,13 +137,14 @@ module _ (t : TaskNo) (n : ℕ) (reply : Reply) (c : Call) (u : TaskNo) (k : Ker
       let pages : ℕ = second c.request.args in
       let rights : ℕ = third c.request.args in
       let same : x.step ≡ y.step =
-          share_is_determined k.memory from base to target pages rights sound added x.step y.step x.share y.share in
+      share_is_determined k.memory from base to target pages rights sound added x.step y.step x.share y.share in
       let reaches = subst (λ (s : Step StoreNo). Reaches t n reply c u (code_after s.told) c.buffer s.memory
-          (made to target pages rights s.told) k a) same x.reaches in
+      (made to target pages rights s.told) k a) same x.reaches in
       reaches_same _ c.buffer y.step.memory _ reaches y.reaches (stay_same k a.state b.state x.phones y.phones)
 
   plainly_same : AnswersPlainly t n reply c u k a → AnswersPlainly t n reply c u k b → a ≡ b
-  plainly_same x y = reaches_same eok c.buffer k.memory [] x.reaches y.reaches (stay_same k a.state b.state x.phones y.phones)
+  plainly_same x y = reaches_same eok c.buffer k.memory [] x.reaches y.reaches
+      (stay_same k a.state b.state x.phones y.phones)
 
   accepts_same : IsSound k → is_alive k t ≡ true → is_alive k u ≡ true → Accepts t n reply c u k a
       → Accepts t n reply c u k b → a ≡ b
@@ -152,13 +157,15 @@ module _ (t : TaskNo) (n : ℕ) (reply : Reply) (c : Call) (u : TaskNo) (k : Ker
         | inr n3 ↦ elim (cases_eq c.request.method data_read) [
           | inl e ↦ takes_same (x.read e) (y.read e)
           | inr n4 ↦ elim (cases_eq c.request.method share_out) [
-            | inl e ↦ shares_same u (first c.request.args) t (first reply.args) sound.memory.spaces (added k t sound alive)
+            | inl e ↦ shares_same u (first c.request.args) t (first reply.args) sound.memory.spaces
+                (added k t sound alive)
                 (x.out e) (y.out e)
             | inr n5 ↦ elim (cases_eq c.request.method share_in) [
-              | inl e ↦ shares_same t (first reply.args) u (first c.request.args) sound.memory.spaces (added k u sound lives)
+              | inl e ↦ shares_same t (first reply.args) u (first c.request.args) sound.memory.spaces
+                  (added k u sound lives)
                   (x.inward e) (y.inward e)
               | inr n6 ↦ (let plain : IsPlain c.request.method =
-                      record { to_me = n1; me_to = n2; write = n3; read = n4; out = n5; inward = n6 } in
+                  record { to_me = n1; me_to = n2; write = n3; read = n4; out = n5; inward = n6 } in
                   plainly_same (x.others plain) (y.others plain))
             ]
           ]
@@ -181,7 +188,8 @@ module _ (t : TaskNo) (n : ℕ) (reply : Reply) (k : KernelState) (a b : Served)
   accepting_same : (c : Call) → AnswersAccepting t n reply c k a → AnswersAccepting t n reply c k b → a ≡ b
   accepting_same c x y =
       let same : x.to ≡ y.to = let e : Some x.to ≡ Some y.to = sym x.caller ∙ y.caller in cc in
-      accepts_same t n reply c y.to k a b sound alive y.lives (subst (λ (u : TaskNo). Accepts t n reply c u k a) same x.accepted)
+      accepts_same t n reply c y.to k a b sound alive y.lives
+      (subst (λ (u : TaskNo). Accepts t n reply c u k a) same x.accepted)
       y.accepted
 
   answering_same : (c : Call) → Answering c a → Answering c b → a ≡ b

@@ -109,9 +109,11 @@ out_method m h =
     by_test (λ (kind : MethodKind). kind ≡ ShareOut → m ≡ share_out) (m == 2) _ _ (λ _ e. absurd (cc e)) (λ _.
     by_test (λ (kind : MethodKind). kind ≡ ShareOut → m ≡ share_out) (m == 3) _ _ (λ _ e. absurd (cc e)) (λ _.
     by_test (λ (kind : MethodKind). kind ≡ ShareOut → m ≡ share_out) (m == 4) _ _ (λ _ e. absurd (cc e)) (λ _.
-    by_test (λ (kind : MethodKind). kind ≡ ShareOut → m ≡ share_out) (m == 5) _ _ (λ five _. grind (arith, nat_tests, five)) (λ _.
+    by_test (λ (kind : MethodKind). kind ≡ ShareOut → m ≡ share_out) (m == 5) _ _
+    (λ five _. grind (arith, nat_tests, five)) (λ _.
     by_test (λ (kind : MethodKind). kind ≡ ShareOut → m ≡ share_out) (m == 6) _ _ (λ _ e. absurd (cc e)) (λ _.
-    by_test (λ (kind : MethodKind). kind ≡ ShareOut → m ≡ share_out) (nat_lt m 512) _ _ (λ _ e. absurd (cc e)) (λ _ e. absurd (cc e))))))))) h
+    by_test (λ (kind : MethodKind). kind ≡ ShareOut → m ≡ share_out) (nat_lt m 512) _ _ (λ _ e. absurd (cc e))
+    (λ _ e. absurd (cc e))))))))) h
 
 in_method : (m : ℕ) → kind_of m ≡ ShareIn → m ≡ share_in
 in_method m h =
@@ -121,12 +123,15 @@ in_method m h =
     by_test (λ (kind : MethodKind). kind ≡ ShareIn → m ≡ share_in) (m == 3) _ _ (λ _ e. absurd (cc e)) (λ _.
     by_test (λ (kind : MethodKind). kind ≡ ShareIn → m ≡ share_in) (m == 4) _ _ (λ _ e. absurd (cc e)) (λ _.
     by_test (λ (kind : MethodKind). kind ≡ ShareIn → m ≡ share_in) (m == 5) _ _ (λ _ e. absurd (cc e)) (λ _.
-    by_test (λ (kind : MethodKind). kind ≡ ShareIn → m ≡ share_in) (m == 6) _ _ (λ six _. grind (arith, nat_tests, six)) (λ _.
-    by_test (λ (kind : MethodKind). kind ≡ ShareIn → m ≡ share_in) (nat_lt m 512) _ _ (λ _ e. absurd (cc e)) (λ _ e. absurd (cc e))))))))) h
+    by_test (λ (kind : MethodKind). kind ≡ ShareIn → m ≡ share_in) (m == 6) _ _
+    (λ six _. grind (arith, nat_tests, six)) (λ _.
+    by_test (λ (kind : MethodKind). kind ≡ ShareIn → m ≡ share_in) (nat_lt m 512) _ _ (λ _ e. absurd (cc e))
+    (λ _ e. absurd (cc e))))))))) h
 
 -- ---- a call that task t holds
 
-module _ (k : KernelState) (sound : IsSound k) (t : TaskNo) (alive : is_alive k t ≡ true) (n : ℕ) (reply : Reply) (c : Call)
+module _ (k : KernelState) (sound : IsSound k) (t : TaskNo) (alive : is_alive k t ≡ true) (n : ℕ) (reply : Reply)
+    (c : Call)
     (is : call_at k.calls n ≡ Some c) (at : c.place ≡ Dispatched t) where
   pending : IsPendingAt c.place
   pending = subst IsPendingAt (sym at) tt
@@ -142,7 +147,8 @@ module _ (k : KernelState) (sound : IsSound k) (t : TaskNo) (alive : is_alive k 
     with_code code bytes = record c { reply = record { code = code; args = reply.args }; buffer = bytes }
 
     -- the call reaches its caller, by a moment that changes the memory alone
-    reaches : (code : Code) (bytes : List ℕ) (memory : Memory) (note : Option Entry) → Reaches t n reply c u code bytes memory
+    reaches : (code : Code) (bytes : List ℕ) (memory : Memory) (note : Option Entry)
+        → Reaches t n reply c u code bytes memory
         (option_to_list note) k (Answered (record {
           state = record { tasks = k.tasks; calls = k.calls; memory = memory; events = k.events };
           call = with_code code bytes;
@@ -208,7 +214,8 @@ module _ (k : KernelState) (sound : IsSound k) (t : TaskNo) (alive : is_alive k 
     }
 
     -- a phone comes to lead to a task
-    leads : (to : TaskNo) (l : Label) (note : Option Entry) (call : Call) → c.reserved ≡ Some l → kept_phone c ≡ c.reserved
+    leads : (to : TaskNo) (l : Label) (note : Option Entry) (call : Call) → c.reserved ≡ Some l
+        → kept_phone c ≡ c.reserved
         → PhoneComesTo l.task l.phone.0 (Connected to) k
         (Answered (record { state = with_kept k (Some l) (Connected to); call = call; note = note })).state
     leads to l note call r kept = (may_come k (Some l) (Connected to) _ refl (λ m e.
@@ -277,7 +284,12 @@ module _ (k : KernelState) (sound : IsSound k) (t : TaskNo) (alive : is_alive k 
                   note = kept_note (Some l) (Connected t);
                 }))) ok (record {
                   told = refl;
-                  event = record { counted = refl; alive = refl; tasks = as_many k.tasks.phones (Some l) (Connected t) };
+                  event = record {
+                    counted = refl;
+                    alive = refl;
+                    tasks =
+                        as_many k.tasks.phones (Some l) (Connected t);
+                  };
                   calls = moves k.calls _ n (record c { reply = reply }) (Answers u) its.number refl;
                   memory_after = refl;
                   entries = refl;
@@ -290,11 +302,14 @@ module _ (k : KernelState) (sound : IsSound k) (t : TaskNo) (alive : is_alive k 
           step = step;
           placing = placing_is_whole k.memory t c.buffer reply sound.memory.spaces;
           phones = λ v q. refl;
-          reaches = subst (λ (es : List Entry). Reaches t n reply c u (code_after step.told) c.buffer step.memory es k done)
+          reaches = subst (λ (es : List Entry). Reaches t n reply c u (code_after step.told) c.buffer step.memory es k
+              done)
               (written_is t (first reply.args) (second reply.args) step.told)
               (subst (λ (code : Code). Reaches t n reply c u code c.buffer step.memory
-              (option_to_list (wrote_note t (first reply.args) (second reply.args) step.told)) k done) (same_told step.told)
-              (reaches (code_told step.told) c.buffer step.memory (wrote_note t (first reply.args) (second reply.args) step.told)));
+              (option_to_list (wrote_note t (first reply.args) (second reply.args) step.told)) k done)
+              (same_told step.told)
+              (reaches (code_told step.told) c.buffer step.memory
+              (wrote_note t (first reply.args) (second reply.args) step.told)));
         }
     accepted ok DataRead e =
         let told : Result (List ℕ) Code = read_accept k.memory t c.request.args reply (used k.calls) in
@@ -306,7 +321,8 @@ module _ (k : KernelState) (sound : IsSound k) (t : TaskNo) (alive : is_alive k 
           phones = λ v q. refl;
           reaches = subst (λ (bytes : List ℕ). Reaches t n reply c u (code_after told) bytes k.memory [] k done)
               (bytes_after_is told c.buffer)
-              (subst (λ (code : Code). Reaches t n reply c u code (bytes_told told c.buffer) k.memory [] k done) (same_told told)
+              (subst (λ (code : Code). Reaches t n reply c u code (bytes_told told c.buffer) k.memory [] k done)
+              (same_told told)
               (reaches (code_told told) (bytes_told told c.buffer) k.memory None));
         }
     accepted ok ShareOut e =
@@ -319,11 +335,13 @@ module _ (k : KernelState) (sound : IsSound k) (t : TaskNo) (alive : is_alive k 
           share = share_is_whole k.memory u (first c.request.args) t (first reply.args) pages rights sound.memory.spaces
               (added k t sound alive);
           phones = λ v q. refl;
-          reaches = subst (λ (es : List Entry). Reaches t n reply c u (code_after step.told) c.buffer step.memory es k done)
+          reaches = subst (λ (es : List Entry). Reaches t n reply c u (code_after step.told) c.buffer step.memory es k
+              done)
               (shared_is t (first reply.args) pages rights step.told)
               (subst (λ (code : Code). Reaches t n reply c u code c.buffer step.memory
               (option_to_list (shared_note t (first reply.args) pages rights step.told)) k done) (same_told step.told)
-              (reaches (code_told step.told) c.buffer step.memory (shared_note t (first reply.args) pages rights step.told)));
+              (reaches (code_told step.told) c.buffer step.memory
+              (shared_note t (first reply.args) pages rights step.told)));
         }
     accepted ok ShareIn e =
         let pages : ℕ = second c.request.args in
@@ -335,10 +353,12 @@ module _ (k : KernelState) (sound : IsSound k) (t : TaskNo) (alive : is_alive k 
           share = share_is_whole k.memory t (first reply.args) u (first c.request.args) pages rights sound.memory.spaces
               (added k u sound lives_u);
           phones = λ v q. refl;
-          reaches = subst (λ (es : List Entry). Reaches t n reply c u (code_after step.told) c.buffer step.memory es k done)
+          reaches = subst (λ (es : List Entry). Reaches t n reply c u (code_after step.told) c.buffer step.memory es k
+              done)
               (shared_is u (first c.request.args) pages rights step.told)
               (subst (λ (code : Code). Reaches t n reply c u code c.buffer step.memory
-              (option_to_list (shared_note u (first c.request.args) pages rights step.told)) k done) (same_told step.told)
+              (option_to_list (shared_note u (first c.request.args) pages rights step.told)) k done)
+              (same_told step.told)
               (reaches (code_told step.told) c.buffer step.memory
               (shared_note u (first c.request.args) pages rights step.told)));
         }
@@ -349,7 +369,8 @@ module _ (k : KernelState) (sound : IsSound k) (t : TaskNo) (alive : is_alive k 
   -- ---- an answer
 
   abbrev Answering : Served → Type 0
-  Answering done = AnswersDeclining t n reply c k done ⊎ (AnswersNobody n reply c k done ⊎ AnswersAccepting t n reply c k done)
+  Answering done = AnswersDeclining t n reply c k done
+      ⊎ (AnswersNobody n reply c k done ⊎ AnswersAccepting t n reply c k done)
 
   declining : accepts reply.code ≡ false → Answering (and_event (telling (settle k c reply (Some t)) outcome.Done))
   declining refuses = inl (record {

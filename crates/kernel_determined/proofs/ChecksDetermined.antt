@@ -39,7 +39,8 @@ ok_err x code e = cc
 
 -- ---- bytes
 
-pub bytes_read_same : (m : Memory) (t : TaskNo) (at count : ℕ) (xs ys : List ℕ) → IsLawfulRead m t at count (Ok xs) → IsLawfulRead m t at count (Ok ys) → xs ≡ ys
+pub bytes_read_same : (m : Memory) (t : TaskNo) (at count : ℕ) (xs ys : List ℕ) → IsLawfulRead m t at count (Ok xs)
+    → IsLawfulRead m t at count (Ok ys) → xs ≡ ys
 bytes_read_same m t at count xs ys f g = elim (cases_lt 0 count) [
   | inr none ↦ let z : count ≡ 0 = omega (arith, none) in ok_ok xs ys (f.none z ∙ sym (g.none z))
   | inl some ↦ by_holder (holder at count Read (areas_of m t)) refl (omega (arith, some))
@@ -60,7 +61,8 @@ bytes_read_same m t at count xs ys f g = elim (cases_lt 0 count) [
 
 -- ---- a DATA_WRITE that is sent
 
-module _ (m : Memory) (t : TaskNo) (args : List ℕ) (used : ℕ) (a b : Result (List ℕ) Code) (f : IsLawfulCopy m t args used a) (g : IsLawfulCopy m t args used b) where
+module _ (m : Memory) (t : TaskNo) (args : List ℕ) (used : ℕ) (a b : Result (List ℕ) Code)
+    (f : IsLawfulCopy m t args used a) (g : IsLawfulCopy m t args used b) where
   pub copy_same : a ≡ b
   copy_same = elim (decided_count args) [
     | inl h ↦ f.large.1 h.0 ∙ sym (g.large.1 h.0)
@@ -71,13 +73,17 @@ module _ (m : Memory) (t : TaskNo) (args : List ℕ) (used : ℕ) (a b : Result 
         | inr fits ↦ (let not_full : IsFull used (asked args) → ⊥ = λ over. omega (arith, over, fits) in
             let x = f.sent.1 (h.0, can.0, not_full) in
             let y = g.sent.1 (h.0, can.0, not_full) in
-            x.1 ∙ ap Ok (bytes_read_same m t (first args) (asked args) x.0 y.0 (f.bytes x.0 x.1) (g.bytes y.0 y.1)) ∙ sym y.1)
+            x.1 ∙ ap Ok (bytes_read_same m t (first args) (asked args) x.0 y.0 (f.bytes x.0 x.1) (g.bytes y.0 y.1))
+            ∙ sym y.1)
       ]
     ]
   ]
 
 pub asking_same : (args : List ℕ) (a b : Result ℕ Code) → IsLawfulAsking args a → IsLawfulAsking args b → a ≡ b
-asking_same args a b f g = elim (decided_count args) [ inl h ↦ f.large.1 h.0 ∙ sym (g.large.1 h.0) | inr h ↦ f.sent.1 h.0 ∙ sym (g.sent.1 h.0) ]
+asking_same args a b f g = elim (decided_count args) [
+  | inl h ↦ f.large.1 h.0 ∙ sym (g.large.1 h.0)
+  | inr h ↦ f.sent.1 h.0 ∙ sym (g.sent.1 h.0)
+]
 
 pub wish_same : (args : List ℕ) (a b : Result Unit Code) → IsLawfulWish args a → IsLawfulWish args b → a ≡ b
 wish_same args (Ok x) b f g = sym (g.sent.1 (f.sent.0 refl))
@@ -89,21 +95,26 @@ wish_same args (Err x) (Err y) f g =
 -- ---- a SHARE_OUT that is sent
 
 -- what it can come to
-offer_comes : (args : List ℕ) (o : Option Area) → (offer args o ≡ Ok tt) ⊎ ((offer args o ≡ Err enoent) ⊎ (offer args o ≡ Err eperm))
+offer_comes : (args : List ℕ) (o : Option Area) → (offer args o ≡ Ok tt)
+    ⊎ ((offer args o ≡ Err enoent) ⊎ (offer args o ≡ Err eperm))
 offer_comes args None = inr (inl refl)
-offer_comes args (Some a) = by_test (λ (r : Result Unit Code). (r ≡ Ok tt) ⊎ ((r ≡ Err enoent) ⊎ (r ≡ Err eperm))) _ _ _ (λ _. inl refl) (λ _. inr (inr refl))
+offer_comes args (Some a) = by_test (λ (r : Result Unit Code). (r ≡ Ok tt) ⊎ ((r ≡ Err enoent) ⊎ (r ≡ Err eperm))) _ _
+    _ (λ _. inl refl) (λ _. inr (inr refl))
 
-module _ (m : Memory) (t : TaskNo) (args : List ℕ) (a d : Result Unit Code) (f : IsLawfulOffer m t args a) (g : IsLawfulOffer m t args d) where
+module _ (m : Memory) (t : TaskNo) (args : List ℕ) (a d : Result Unit Code) (f : IsLawfulOffer m t args a)
+    (g : IsLawfulOffer m t args d) where
   offer_as : (d ≡ Ok tt) ⊎ ((d ≡ Err enoent) ⊎ (d ≡ Err eperm)) → a ≡ d
   offer_as (inl e) = f.sent.1 (g.sent.0 e) ∙ sym e
   offer_as (inr (inl e)) = f.gone.1 (g.gone.0 e) ∙ sym e
   offer_as (inr (inr e)) = f.unlike.1 (g.unlike.0 e) ∙ sym e
 
-pub offer_same : (m : Memory) (t : TaskNo) (args : List ℕ) (a b : Result Unit Code) → spaces.IsSound m → IsLawfulOffer m t args a → IsLawfulOffer m t args b → a ≡ b
+pub offer_same : (m : Memory) (t : TaskNo) (args : List ℕ) (a b : Result Unit Code) → spaces.IsSound m
+    → IsLawfulOffer m t args a → IsLawfulOffer m t args b → a ≡ b
 offer_same m t args a b sound f g =
     let law = offer_is_lawful m t args sound in
     let comes = offer_comes args (area_at m t (first args)) in
-    offer_as m t args a (out_before_send m t args) f law comes ∙ sym (offer_as m t args b (out_before_send m t args) g law comes)
+    offer_as m t args a (out_before_send m t args) f law comes
+    ∙ sym (offer_as m t args b (out_before_send m t args) g law comes)
 
 -- ---- the arguments of a data call
 
@@ -118,15 +129,18 @@ cut_same args xs ys f g = list_same xs ys (λ i. by i (cases_eq i 1) (cases_lt 1
   by i (inr ne) h = f.others i ne ∙ sym (g.others i ne)
   by i (inl e) (inl more) =
       let x = f.many in let y = g.many in
-      ap (slice_get xs) e ∙ here xs 1 (omega (arith, x, more)) ∙ ap Some (f.second ∙ sym g.second) ∙ sym (here ys 1 (omega (arith, y, more))) ∙ ap (slice_get ys) (sym e)
-  by i (inl e) (inr few) = let x = f.many in let y = g.many in past xs i (omega (arith, x, e, few)) ∙ sym (past ys i (omega (arith, y, e, few)))
+      ap (slice_get xs) e ∙ here xs 1 (omega (arith, x, more)) ∙ ap Some (f.second ∙ sym g.second)
+      ∙ sym (here ys 1 (omega (arith, y, more))) ∙ ap (slice_get ys) (sym e)
+  by i (inl e) (inr few) = let x = f.many in let y = g.many in past xs i (omega (arith, x, e, few))
+      ∙ sym (past ys i (omega (arith, y, e, few)))
 
 -- ---- a check
 
 some_refused : (code : Code) → None ≡ Some code → ⊥
 some_refused code e = cc
 
-module _ (k : KernelState) (t : TaskNo) (msg : Msg) (sound : spaces.IsSound k.memory) (may : IsNoCall msg.method → ⊥) (a b : Option Code) (f : IsCheck k t msg a) (g : IsCheck k t msg b) where
+module _ (k : KernelState) (t : TaskNo) (msg : Msg) (sound : spaces.IsSound k.memory) (may : IsNoCall msg.method → ⊥)
+    (a b : Option Code) (f : IsCheck k t msg a) (g : IsCheck k t msg b) where
   no_phone : (code : Code) → (z : Option Code) → z ≡ Some code → z ≡ None → ⊥
   no_phone code z r s = some_refused code (sym s ∙ r)
 
@@ -153,13 +167,17 @@ module _ (k : KernelState) (t : TaskNo) (msg : Msg) (sound : spaces.IsSound k.me
       | inr n1 ↦ elim (cases_eq msg.method connect_me_to) [
         | inl e ↦ connected_same e
         | inr n2 ↦ elim (cases_eq msg.method data_write) [
-          | inl e ↦ let x = f.write e in let y = g.write e in x.2 ∙ ap cause_of (copy_same k.memory t msg.args (pool k) x.0 y.0 x.1 y.1) ∙ sym y.2
+          | inl e ↦ let x = f.write e in let y = g.write e in x.2
+              ∙ ap cause_of (copy_same k.memory t msg.args (pool k) x.0 y.0 x.1 y.1) ∙ sym y.2
           | inr n3 ↦ elim (cases_eq msg.method data_read) [
-            | inl e ↦ let x = f.read e in let y = g.read e in x.2 ∙ ap cause_of (asking_same msg.args x.0 y.0 x.1 y.1) ∙ sym y.2
+            | inl e ↦ let x = f.read e in let y = g.read e in x.2 ∙ ap cause_of (asking_same msg.args x.0 y.0 x.1 y.1)
+                ∙ sym y.2
             | inr n4 ↦ elim (cases_eq msg.method share_out) [
-              | inl e ↦ let x = f.out e in let y = g.out e in x.2 ∙ ap cause_of (offer_same k.memory t msg.args x.0 y.0 sound x.1 y.1) ∙ sym y.2
+              | inl e ↦ let x = f.out e in let y = g.out e in x.2
+                  ∙ ap cause_of (offer_same k.memory t msg.args x.0 y.0 sound x.1 y.1) ∙ sym y.2
               | inr n5 ↦ elim (cases_eq msg.method share_in) [
-                | inl e ↦ let x = f.inward e in let y = g.inward e in x.2 ∙ ap cause_of (wish_same msg.args x.0 y.0 x.1 y.1) ∙ sym y.2
+                | inl e ↦ let x = f.inward e in let y = g.inward e in x.2
+                    ∙ ap cause_of (wish_same msg.args x.0 y.0 x.1 y.1) ∙ sym y.2
                 | inr n6 ↦ elim (cases_eq msg.method phone_hungup) [
                   | inl e ↦ absurd (may (inl e))
                   | inr n0 ↦ absurd (may (inr (omega (arith, n0, n1, n2, n3, n4, n5, n6), system)))

@@ -33,7 +33,8 @@ use Rattle.kernel_determined.proofs.MemoryDetermined.{outcome_same}
 -- ---- what is told
 
 -- what a drop can come to
-drop_comes : (m : Memory) (t : TaskNo) (o : Option ℕ) → ((drop_at m t o).told ≡ Ok tt) ⊎ ((drop_at m t o).told ≡ Err enoent)
+drop_comes : (m : Memory) (t : TaskNo) (o : Option ℕ) → ((drop_at m t o).told ≡ Ok tt)
+    ⊎ ((drop_at m t o).told ≡ Err enoent)
 drop_comes m t None = inr refl
 drop_comes m t (Some i) = inl refl
 
@@ -64,7 +65,7 @@ used_or_none m store = by (is_used store m.areas) refl where
       let back : suc row.0 - 1 ≡ row.0 = omega arith in
       let u : TaskNo = record { 0 = suc row.0 } in
       let here : list_any (stands_over store) (areas_of m u) ≡ true =
-          ap (λ (j : ℕ). list_any (stands_over store) (unwrap_or (slice_get m.areas j) [])) back ∙ row.1 in
+      ap (λ (j : ℕ). list_any (stands_over store) (unwrap_or (slice_get m.areas j) [])) back ∙ row.1 in
       let one = any_of (stands_over store) (areas_of m u) here in
       inl (record { who = u; area = one.0; some = omega arith; has = one.1; over = eqb-true one.0.store store one.2 })
   by false h = inr (λ u b some has e. false≢true (sym h
@@ -77,7 +78,8 @@ module _ (m : Memory) (t : TaskNo) (sound : spaces.IsSound m) (a : Area) where
   not_twice i j less p q =
       let some = (range_of m t a sound (i, p)).some in
       no_common a.base a a (apart_at (areas_of m t) i j a a (lawful_of m t sound).apart less p q)
-      (record { from = omega arith; to = omega (arith, some) }) (record { from = omega arith; to = omega (arith, some) })
+      (record { from = omega arith; to = omega (arith, some) })
+      (record { from = omega arith; to = omega (arith, some) })
 
   pub one_place : (i j : ℕ) → slice_get (areas_of m t) i ≡ Some a → slice_get (areas_of m t) j ≡ Some a → i ≡ j
   one_place i j p q = elim (order i j) [
@@ -140,7 +142,8 @@ module _ (m : Memory) (t : TaskNo) (base : ℕ) (some : 1 ≤ t.0) (sound : spac
       let u = f.lawful.goes some e in
       let v = g.lawful.goes some h in
       let same : u.0 ≡ v.0 = one_base m t base u.0 v.0 sound u.1 v.1 in
-      drops_same m t sound v.0 x.memory y.memory (subst (λ (a : Area). Drops m t a x.memory) same u.2) v.2 (f.spaces ∙ sym g.spaces)
+      drops_same m t sound v.0 x.memory y.memory (subst (λ (a : Area). Drops m t a x.memory) same u.2) v.2
+      (f.spaces ∙ sym g.spaces)
 
   pub drop_is_determined : x ≡ y
   drop_is_determined =
@@ -152,7 +155,8 @@ module _ (m : Memory) (t : TaskNo) (base : ℕ) (some : 1 ≤ t.0) (sound : spac
 pub drop_is_whole : (m : Memory) (t : TaskNo) (base : ℕ) → IsWholeDrop m t base (drop_area m t base)
 drop_is_whole m t base = record { lawful = drop_is_lawful m t base; spaces = length_drop m t base }
 
-pub area_drop_is_so : (k : KernelState) (t : TaskNo) (base : ℕ) → IsAreaDrop t base k (serve k t (request.AreaDrop base))
+pub area_drop_is_so : (k : KernelState) (t : TaskNo) (base : ℕ)
+    → IsAreaDrop t base k (serve k t (request.AreaDrop base))
 area_drop_is_so k t base =
     let step : Step Unit = drop_area k.memory t base in
     record {
@@ -163,7 +167,8 @@ area_drop_is_so k t base =
       events = refl;
     }
 
-pub area_drop_is_determined : (k : KernelState) (t : TaskNo) (base : ℕ) (a b : Served) → spaces.IsSound k.memory → 1 ≤ t.0
+pub area_drop_is_determined : (k : KernelState) (t : TaskNo) (base : ℕ) (a b : Served) → spaces.IsSound k.memory
+    → 1 ≤ t.0
     → IsAreaDrop t base k a → IsAreaDrop t base k b → a ≡ b
 area_drop_is_determined k t base a b sound some x y =
     let same : x.step ≡ y.step = drop_is_determined k.memory t base some sound x.step y.step x.drop y.drop in

@@ -30,8 +30,12 @@ use Rattle.kernel_determined.proofs.HangupDetermined.{phones_same, refusal_same,
 use Rattle.kernel_determined.proofs.SettleDetermined.{moves_same, back_same, may_come_same, settled_same}
 use Rattle.kernel_determined.proofs.ReceiveDetermined.{args_same}
 
-pub parts_same : (k : KernelState) (a b : Served) → IsOneEvent k a.state → IsOneEvent k b.state → ((u : TaskNo) (q : ℕ) → phone_at a.state u q ≡ phone_at b.state u q) → a.state.calls ≡ b.state.calls → a.state.memory ≡ b.state.memory → a.outcome ≡ b.outcome → a.entries ≡ b.entries → a ≡ b
-parts_same k a b x y phones calls memory outcomes entries = served_same a b (state_same a.state b.state (x.alive ∙ sym y.alive) (phones_same k a.state b.state x y phones) calls memory (x.counted ∙ sym y.counted)) outcomes entries
+pub parts_same : (k : KernelState) (a b : Served) → IsOneEvent k a.state → IsOneEvent k b.state
+    → ((u : TaskNo) (q : ℕ) → phone_at a.state u q ≡ phone_at b.state u q) → a.state.calls ≡ b.state.calls
+    → a.state.memory ≡ b.state.memory → a.outcome ≡ b.outcome → a.entries ≡ b.entries → a ≡ b
+parts_same k a b x y phones calls memory outcomes entries =
+    served_same a b (state_same a.state b.state (x.alive ∙ sym y.alive) (phones_same k a.state b.state x y phones)
+    calls memory (x.counted ∙ sym y.counted)) outcomes entries
 
 -- a message
 
@@ -50,7 +54,8 @@ message_same (Some new) c m n x y = elim (cases_lt c.request.method first_user_m
     | inl e ↦ connected (inl e)
     | inr ne ↦ elim (cases_eq c.request.method connect_me_to) [
       | inl e ↦ connected (inr e)
-      | inr other ↦ let is : IsOther c.request.method = record { to_me = ne; me_to = other; system = system } in x.others new refl is ∙ sym (y.others new refl is)
+      | inr other ↦ let is : IsOther c.request.method = record { to_me = ne; me_to = other; system = system } in
+          x.others new refl is ∙ sym (y.others new refl is)
     ]
   ]
 ] where
@@ -72,7 +77,7 @@ module _ (t : TaskNo) (n p : ℕ) (mode : Mode) (change : Option Msg) (k : Kerne
       let two = back_same c x.freed y.freed x.rest y.rest x.back y.back in
       let msg = message_same change c x.msg y.msg x.message y.message in
       let phones = may_come_same y.freed Free k a.state b.state x.note y.note
-          (subst (λ o. MayCome o Free k a.state x.note) two.0 x.phones) y.phones in
+      (subst (λ o. MayCome o Free k a.state x.note) two.0 x.phones) y.phones in
       let rest : Option Label → Msg → Call = λ o m. passed_call k c m over o u in
       quiet_same outcome.Done k a b x.quiet y.quiet (record {
         phones = phones.0;
@@ -88,16 +93,19 @@ module _ (t : TaskNo) (n p : ℕ) (mode : Mode) (change : Option Msg) (k : Kerne
   one_lead u v x y = let e : Some (Connected u) ≡ Some (Connected v) = sym x ∙ y in cc
 
   forbidden_same : MayNotForward t n change k a → MayNotForward t n change k b → a ≡ b
-  forbidden_same x y = fails_same n y.call eperm k a b (subst (λ (c : Call). Fails n c eperm k a) (one_held x.call y.call x.held y.held) x.fails) y.fails
+  forbidden_same x y = fails_same n y.call eperm k a b
+      (subst (λ (c : Call). Fails n c eperm k a) (one_held x.call y.call x.held y.held) x.fails) y.fails
 
   nowhere_same : ForwardsNowhere t n p change k a → ForwardsNowhere t n p change k b → a ≡ b
-  nowhere_same x y = fails_same n y.call enoent k a b (subst (λ (c : Call). Fails n c enoent k a) (one_held x.call y.call x.held y.held) x.fails) y.fails
+  nowhere_same x y = fails_same n y.call enoent k a b (subst (λ (c : Call). Fails n c enoent k a)
+      (one_held x.call y.call x.held y.held) x.fails) y.fails
 
   forwards_same : Forwards t n p mode change k a → Forwards t n p mode change k b → a ≡ b
   forwards_same x y =
       let one = one_held x.call y.call x.held y.held in
       let to = one_lead x.to y.to x.leads y.leads in
-      passes_same y.call y.to (subst (λ (u : TaskNo). Passes t n p mode change y.call u k a) to (subst (λ (c : Call). Passes t n p mode change c x.to k a) one x.passes)) y.passes
+      passes_same y.call y.to (subst (λ (u : TaskNo). Passes t n p mode change y.call u k a) to
+      (subst (λ (c : Call). Passes t n p mode change c x.to k a) one x.passes)) y.passes
 
   other_may : (c d : Call) → IsHeld t k n c → IsHeld t k n d → (MayPass change c → ⊥) → MayPass change d → ⊥
   other_may c d x y forbidden may = forbidden (subst (MayPass change) (one_held d c y x) may)
@@ -109,13 +117,17 @@ module _ (t : TaskNo) (n p : ℕ) (mode : Mode) (change : Option Msg) (k : Kerne
   forward_is_determined (inl x) (inr (inr (inr y))) = absurd (x.unheld y.call y.held)
   forward_is_determined (inr (inl x)) (inl y) = absurd (y.unheld x.call x.held)
   forward_is_determined (inr (inl x)) (inr (inl y)) = forbidden_same x y
-  forward_is_determined (inr (inl x)) (inr (inr (inl y))) = absurd (other_may x.call y.call x.held y.held x.forbidden y.may)
-  forward_is_determined (inr (inl x)) (inr (inr (inr y))) = absurd (other_may x.call y.call x.held y.held x.forbidden y.may)
+  forward_is_determined (inr (inl x)) (inr (inr (inl y))) =
+      absurd (other_may x.call y.call x.held y.held x.forbidden y.may)
+  forward_is_determined (inr (inl x)) (inr (inr (inr y))) =
+      absurd (other_may x.call y.call x.held y.held x.forbidden y.may)
   forward_is_determined (inr (inr (inl x))) (inl y) = absurd (y.unheld x.call x.held)
-  forward_is_determined (inr (inr (inl x))) (inr (inl y)) = absurd (other_may y.call x.call y.held x.held y.forbidden x.may)
+  forward_is_determined (inr (inr (inl x))) (inr (inl y)) =
+      absurd (other_may y.call x.call y.held x.held y.forbidden x.may)
   forward_is_determined (inr (inr (inl x))) (inr (inr (inl y))) = nowhere_same x y
   forward_is_determined (inr (inr (inl x))) (inr (inr (inr y))) = absurd (x.nowhere y.to y.leads)
   forward_is_determined (inr (inr (inr x))) (inl y) = absurd (y.unheld x.call x.held)
-  forward_is_determined (inr (inr (inr x))) (inr (inl y)) = absurd (other_may y.call x.call y.held x.held y.forbidden x.may)
+  forward_is_determined (inr (inr (inr x))) (inr (inl y)) =
+      absurd (other_may y.call x.call y.held x.held y.forbidden x.may)
   forward_is_determined (inr (inr (inr x))) (inr (inr (inl y))) = absurd (y.nowhere x.to x.leads)
   forward_is_determined (inr (inr (inr x))) (inr (inr (inr y))) = forwards_same x y

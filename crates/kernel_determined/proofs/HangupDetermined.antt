@@ -33,24 +33,29 @@ use Rattle.kernel_determined.proofs.Same.{rows_same, table_same, state_same, ser
 
 -- what is determined of a state
 
-pub phones_same : (k a b : KernelState) → IsOneEvent k a → IsOneEvent k b → ((u : TaskNo) (q : ℕ) → phone_at a u q ≡ phone_at b u q) → a.tasks.phones ≡ b.tasks.phones
+pub phones_same : (k a b : KernelState) → IsOneEvent k a → IsOneEvent k b
+    → ((u : TaskNo) (q : ℕ) → phone_at a u q ≡ phone_at b u q) → a.tasks.phones ≡ b.tasks.phones
 phones_same k a b x y at = rows_same a.tasks.phones b.tasks.phones (x.tasks ∙ sym y.tasks) at
 
-pub stay_same : (k a b : KernelState) → PhonesStay k a → PhonesStay k b → (u : TaskNo) (q : ℕ) → phone_at a u q ≡ phone_at b u q
+pub stay_same : (k a b : KernelState) → PhonesStay k a → PhonesStay k b → (u : TaskNo) (q : ℕ)
+    → phone_at a u q ≡ phone_at b u q
 stay_same k a b x y u q = x u q ∙ sym (y u q)
 
 no_of : (u t : TaskNo) → u.0 ≡ t.0 → u ≡ t
 no_of u t e = ap (λ n. let r : TaskNo = record { 0 = n } in r) e
 
-pub come_same : (k a b : KernelState) (t : TaskNo) (p : ℕ) (s : PhoneState) → PhoneComesTo t p s k a → PhoneComesTo t p s k b → (u : TaskNo) (q : ℕ) → phone_at a u q ≡ phone_at b u q
+pub come_same : (k a b : KernelState) (t : TaskNo) (p : ℕ) (s : PhoneState) → PhoneComesTo t p s k a
+    → PhoneComesTo t p s k b → (u : TaskNo) (q : ℕ) → phone_at a u q ≡ phone_at b u q
 come_same k a b t p s x y u q = by_both (cases_eq u.0 t.0) (cases_eq q p) where
   by_both : (u.0 ≡ t.0) ⊎ (u.0 ≡ t.0 → ⊥) → (q ≡ p) ⊎ (q ≡ p → ⊥) → phone_at a u q ≡ phone_at b u q
-  by_both (inl e) (inl f) = ap (λ n. state_at a.tasks.phones n q) e ∙ ap (state_at a.tasks.phones t.0) f ∙ x.this ∙ sym (ap (λ n. state_at b.tasks.phones n q) e ∙ ap (state_at b.tasks.phones t.0) f ∙ y.this)
+  by_both (inl e) (inl f) = ap (λ n. state_at a.tasks.phones n q) e ∙ ap (state_at a.tasks.phones t.0) f ∙ x.this
+      ∙ sym (ap (λ n. state_at b.tasks.phones n q) e ∙ ap (state_at b.tasks.phones t.0) f ∙ y.this)
   by_both (inr e) d = x.others u q (λ s. e s.0) ∙ sym (y.others u q (λ s. e s.0))
   by_both (inl e) (inr f) = x.others u q (λ s. f s.1) ∙ sym (y.others u q (λ s. f s.1))
 
 pub calls_stay_same : (q a b : CallTable) → CallsStay q a → CallsStay q b → a ≡ b
-calls_stay_same q a b x y = table_same a b (λ n. x.each n ∙ sym (y.each n)) (x.numbers ∙ sym y.numbers) (x.arrivals ∙ sym y.arrivals)
+calls_stay_same q a b x y = table_same a b (λ n. x.each n ∙ sym (y.each n)) (x.numbers ∙ sym y.numbers)
+    (x.arrivals ∙ sym y.arrivals)
 
 pub more_same : (q a b : CallTable) (c d : Call) → OneCallMore q a c → OneCallMore q b d → c ≡ d → a ≡ b
 more_same q a b c d x y same = table_same a b at (x.numbers ∙ sym y.numbers) (x.arrivals ∙ sym y.arrivals) where
@@ -61,7 +66,9 @@ more_same q a b c d x y same = table_same a b at (x.numbers ∙ sym y.numbers) (
   ]
 
 -- calls with the same parts are one
-pub call_same : (c d : Call) → c.number ≡ d.number → c.caller ≡ d.caller → c.from ≡ d.from → c.label ≡ d.label → c.request ≡ d.request → c.msg ≡ d.msg → c.reply ≡ d.reply → c.discard ≡ d.discard → c.buffer ≡ d.buffer → c.reserved ≡ d.reserved → c.place ≡ d.place → c.stamp ≡ d.stamp → c ≡ d
+pub call_same : (c d : Call) → c.number ≡ d.number → c.caller ≡ d.caller → c.from ≡ d.from → c.label ≡ d.label
+    → c.request ≡ d.request → c.msg ≡ d.msg → c.reply ≡ d.reply → c.discard ≡ d.discard → c.buffer ≡ d.buffer
+    → c.reserved ≡ d.reserved → c.place ≡ d.place → c.stamp ≡ d.stamp → c ≡ d
 call_same c d number caller from label request msg reply discard buffer reserved place stamp = λ i. record {
   number = number i;
   caller = caller i;
@@ -77,13 +84,21 @@ call_same c d number caller from label request msg reply discard buffer reserved
   stamp = stamp i;
 }
 
-pub made_same : (k : KernelState) (t : TaskNo) (p : ℕ) (msg : Msg) (discard : Bool) (place : Place) (c d : Call) → IsMade k t p msg discard place c → IsMade k t p msg discard place d → c.stamp ≡ d.stamp → c ≡ d
-made_same k t p msg discard place c d x y stamp = call_same c d (ap (λ n. let r : CallNo = record { 0 = n } in r) (x.number ∙ sym y.number)) (x.caller ∙ sym y.caller) (x.from ∙ sym y.from) (x.label ∙ sym y.label) (x.request ∙ sym y.request) (x.msg ∙ sym y.msg) (x.reply ∙ sym y.reply) (x.discard ∙ sym y.discard) (x.bytes ∙ sym y.bytes) (x.reserved ∙ sym y.reserved) (x.place ∙ sym y.place) stamp
+pub made_same : (k : KernelState) (t : TaskNo) (p : ℕ) (msg : Msg) (discard : Bool) (place : Place) (c d : Call)
+    → IsMade k t p msg discard place c → IsMade k t p msg discard place d → c.stamp ≡ d.stamp → c ≡ d
+made_same k t p msg discard place c d x y stamp = call_same c d
+    (ap (λ n. let r : CallNo = record { 0 = n } in r) (x.number ∙ sym y.number)) (x.caller ∙ sym y.caller)
+    (x.from ∙ sym y.from) (x.label ∙ sym y.label) (x.request ∙ sym y.request) (x.msg ∙ sym y.msg)
+    (x.reply ∙ sym y.reply) (x.discard ∙ sym y.discard) (x.bytes ∙ sym y.bytes) (x.reserved ∙ sym y.reserved)
+    (x.place ∙ sym y.place) stamp
 
-pub nothing_same : (k : KernelState) (a b : Served) → NothingHappens k a → NothingHappens k b → a.outcome ≡ b.outcome → a ≡ b
+pub nothing_same : (k : KernelState) (a b : Served) → NothingHappens k a → NothingHappens k b → a.outcome ≡ b.outcome
+    → a ≡ b
 nothing_same k a b x y outcomes = served_same a b
-    (state_same a.state b.state (x.event.alive ∙ sym y.event.alive) (phones_same k a.state b.state x.event y.event (stay_same k a.state b.state x.phones y.phones))
-    (calls_stay_same k.calls a.state.calls b.state.calls x.calls y.calls) (x.memory ∙ sym y.memory) (x.event.counted ∙ sym y.event.counted))
+    (state_same a.state b.state (x.event.alive ∙ sym y.event.alive)
+    (phones_same k a.state b.state x.event y.event (stay_same k a.state b.state x.phones y.phones))
+    (calls_stay_same k.calls a.state.calls b.state.calls x.calls y.calls) (x.memory ∙ sym y.memory)
+    (x.event.counted ∙ sym y.event.counted))
     outcomes (x.entries ∙ sym y.entries)
 
 pub refusal_same : (code : Code) (k : KernelState) (a b : Served) → IsRefusal code k a → IsRefusal code k b → a ≡ b
@@ -102,14 +117,16 @@ pub record AreAlike (a b : KernelState) (m n : List Entry) : Type 0 where
 pub quiet_same : (told : Outcome) (k : KernelState) (a b : Served) → IsQuietEvent told k a → IsQuietEvent told k b
     → AreAlike a.state b.state a.entries b.entries → a ≡ b
 quiet_same told k a b x y alike = served_same a b
-    (state_same a.state b.state (x.event.alive ∙ sym y.event.alive) (phones_same k a.state b.state x.event y.event alike.phones)
+    (state_same a.state b.state (x.event.alive ∙ sym y.event.alive)
+    (phones_same k a.state b.state x.event y.event alike.phones)
     alike.calls (x.memory ∙ sym y.memory) (x.event.counted ∙ sym y.event.counted))
     (x.answer ∙ sym y.answer) alike.entries
 
-pub step_same : (k a b : KernelState) (m n : List Entry) → IsStep k a → IsStep k b → AreAlike a b m n → (a ≡ b) × (m ≡ n)
+pub step_same : (k a b : KernelState) (m n : List Entry) → IsStep k a → IsStep k b → AreAlike a b m n
+    → (a ≡ b) × (m ≡ n)
 step_same k a b m n x y alike = (
   state_same a b (x.alive ∙ sym y.alive) (rows_same a.tasks.phones b.tasks.phones (x.tasks ∙ sym y.tasks) alike.phones)
-  alike.calls (x.memory ∙ sym y.memory) (x.counted ∙ sym y.counted),
+      alike.calls (x.memory ∙ sym y.memory) (x.counted ∙ sym y.counted),
   alike.entries,
 )
 
@@ -129,20 +146,24 @@ module _ (t : TaskNo) (p : ℕ) (k a b : KernelState) (m n : List Entry) where
     entries = x.entries ∙ sym y.entries;
   }
 
-pub hangup_is_determined : (o : Option PhoneState) (t : TaskNo) (p : ℕ) (k : KernelState) (a b : Served) → IsHangup o t p k a
+pub hangup_is_determined : (o : Option PhoneState) (t : TaskNo) (p : ℕ) (k : KernelState) (a b : Served)
+    → IsHangup o t p k a
     → IsHangup o t p k b → a ≡ b
 hangup_is_determined None t p k a b x y = refusal_same enoent k a b x y
 hangup_is_determined (Some Free) t p k a b x y = refusal_same einval k a b x y
 hangup_is_determined (Some Connecting) t p k a b x y = refusal_same einval k a b x y
 hangup_is_determined (Some HungUp) t p k a b x y = refusal_same einval k a b x y
 hangup_is_determined (Some (Connected u)) t p k a b x y =
-    quiet_same outcome.Done k a b x.quiet y.quiet (tells_same t p k a.state b.state a.entries b.entries u x.hangup y.hangup)
+    quiet_same outcome.Done k a b x.quiet y.quiet (tells_same t p k a.state b.state a.entries b.entries u x.hangup
+    y.hangup)
 hangup_is_determined (Some Slammed) t p k a b x y =
-    quiet_same outcome.Done k a b x.quiet y.quiet (nobody_same t p k a.state b.state a.entries b.entries x.hangup y.hangup)
+    quiet_same outcome.Done k a b x.quiet y.quiet (nobody_same t p k a.state b.state a.entries b.entries x.hangup
+    y.hangup)
 
 -- what the definitions do
 
-pub nothing_is_so : (k : KernelState) → NothingHappens k (and_event (record { state = k; outcome = outcome.Done; entries = [] }))
+pub nothing_is_so : (k : KernelState)
+    → NothingHappens k (and_event (record { state = k; outcome = outcome.Done; entries = [] }))
 nothing_is_so k = record {
   event = record { counted = refl; alive = refl; tasks = refl };
   phones = λ u q. refl;
@@ -164,16 +185,24 @@ refuses k code = record {
 }
 
 -- a phone elsewhere is as it was
-pub elsewhere : (rows : List (List PhoneState)) (a b t p : ℕ) (s : PhoneState) → ((t ≡ a) × (p ≡ b) → ⊥) → state_at (with_state_at rows a b s) t p ≡ state_at rows t p
+pub elsewhere : (rows : List (List PhoneState)) (a b t p : ℕ) (s : PhoneState) → ((t ≡ a) × (p ≡ b) → ⊥)
+    → state_at (with_state_at rows a b s) t p ≡ state_at rows t p
 elsewhere rows a b t p s ne = by_state (state_at (with_state_at rows a b s) t p) (state_at rows t p) refl refl where
   by_state : (o q : Option PhoneState) → state_at (with_state_at rows a b s) t p ≡ o → state_at rows t p ≡ q → o ≡ q
   by_state None None f g = refl
   by_state o (Some y) f g = sym f ∙ state_elsewhere rows a b t p s y g ne
-  by_state (Some x) None f g = elim (state_changed_at rows a b t p s x f) [ inl e ↦ absurd (ne (e.0, e.1)) | inr e ↦ sym e.1 ∙ g ]
+  by_state (Some x) None f g = elim (state_changed_at rows a b t p s x f)
+      [ inl e ↦ absurd (ne (e.0, e.1)) | inr e ↦ sym e.1 ∙ g ]
 
 pub comes_to : (k : KernelState) (t : TaskNo) (p : ℕ) (s old : PhoneState) → phone_at k t p ≡ Some old
-    → (state_at (with_state_at k.tasks.phones t.0 p s) t.0 p ≡ Some s) × ((u : TaskNo) (q : ℕ) → ((u.0 ≡ t.0) × (q ≡ p) → ⊥) → state_at (with_state_at k.tasks.phones t.0 p s) u.0 q ≡ state_at k.tasks.phones u.0 q)
-comes_to k t p s old is = (state_here k.tasks.phones t.0 p s (is_there (phone_at k t p) old is), λ u q ne. elsewhere k.tasks.phones t.0 p u.0 q s ne)
+    → (state_at (with_state_at k.tasks.phones t.0 p s) t.0 p ≡ Some s) × ((u : TaskNo) (q : ℕ)
+    → ((u.0 ≡ t.0) × (q ≡ p) → ⊥)
+    → state_at (with_state_at k.tasks.phones t.0 p s) u.0 q ≡ state_at k.tasks.phones u.0 q)
+comes_to k t p s old is = (
+  state_here k.tasks.phones t.0 p s (is_there (phone_at k t p) old is),
+  λ u q ne. elsewhere
+      k.tasks.phones t.0 p u.0 q s ne,
+)
 
 module _ (k : KernelState) (t : TaskNo) (p : ℕ) (after : KernelState)
     (phones : after.tasks.phones ≡ with_state_at k.tasks.phones t.0 p HungUp) where
@@ -217,7 +246,8 @@ module _ (k : KernelState) (t : TaskNo) (p : ℕ) (after : KernelState)
       → TellsNobody t p k after (hang_up k t p (Some Slammed)).entries
   tells_nobody is calls = record {
     phone = hung_up Slammed is;
-    calls = subst (λ (q : CallTable). CallsStay k.calls q) (sym calls) (record { each = λ n. refl; numbers = refl; arrivals = refl });
+    calls = subst (λ (q : CallTable). CallsStay k.calls q) (sym calls)
+        (record { each = λ n. refl; numbers = refl; arrivals = refl });
     entries = refl;
   }
 
@@ -244,12 +274,17 @@ hangs_up (Some Slammed) k t p is = record {
   hangup = tells_nobody k t p _ refl is refl;
 }
 
-pub hangup_is_so : (k : KernelState) (t : TaskNo) (p : ℕ) → IsHangup (phone_at k t p) t p k (serve k t (request.Hangup p))
+pub hangup_is_so : (k : KernelState) (t : TaskNo) (p : ℕ)
+    → IsHangup (phone_at k t p) t p k (serve k t (request.Hangup p))
 hangup_is_so k t p = hangs_up (phone_at k t p) k t p refl
 
 -- so any machine that does so is the definition
-pub hangup_is_served : (k : KernelState) (t : TaskNo) (p : ℕ) (done : Served) → IsHangup (phone_at k t p) t p k done → done ≡ serve k t (request.Hangup p)
-hangup_is_served k t p done is = hangup_is_determined (phone_at k t p) t p k done (serve k t (request.Hangup p)) is (hangup_is_so k t p)
+pub hangup_is_served : (k : KernelState) (t : TaskNo) (p : ℕ) (done : Served) → IsHangup (phone_at k t p) t p k done
+    → done ≡ serve k t (request.Hangup p)
+hangup_is_served k t p done is = hangup_is_determined (phone_at k t p) t p k done (serve k t (request.Hangup p)) is
+    (hangup_is_so k t p)
 
-pub nothing_is_served : (k : KernelState) (t : TaskNo) (done : Served) → IsNothing k done → done ≡ serve k t request.Nothing
-nothing_is_served k t done is = nothing_is_determined k done (serve k t request.Nothing) is (record { told = refl; nothing = nothing_is_so k })
+pub nothing_is_served : (k : KernelState) (t : TaskNo) (done : Served) → IsNothing k done
+    → done ≡ serve k t request.Nothing
+nothing_is_served k t done is = nothing_is_determined k done (serve k t request.Nothing) is
+    (record { told = refl; nothing = nothing_is_so k })

@@ -24,14 +24,14 @@ use Rattle.kernel_laws.specs.Connecting.{IsUnconnected}
 use Rattle.kernel_laws.specs.Routes.{Leads, Stands}
 use Rattle.kernel_determined.specs.Frames.{MayCome}
 use Rattle.kernel_determined.specs.HangupLaw.{TellsOfHangup, TellsNobody}
-use Rattle.kernel_determined.specs.ReceiveLaw.{CameBefore}
-use Rattle.kernel_determined.specs.SettleLaw.{IsSettled}
+use Rattle.kernel_determined.specs.Frames.{CameBefore}
+use Rattle.kernel_determined.specs.SettleLaw.{IsSettled, DropsAnswer}
 use Rattle.kernel_determined.specs.Turns.{Then}
-use Rattle.kernel_determined.specs.KillLaw.{IsMarked, IsToHangUp, HangsUpPhone, HangsUpOwn, SlamsPhone, SlamsOf, IsOther, IsOlder, SlamsOthers, SettlesCall, SettlesAll, IsKeptAtAnswer, DropsAnswer, DropsAnswers, IsOwn, ForgetsCall, ForgetsCalls, HasBase, LosesArea, LosesAreas, EndsPhones, SettlesBoth, EndsCalls, EndsParts, IsCounted, IsKill}
+use Rattle.kernel_determined.specs.KillLaw.{IsMarked, IsToHangUp, HangsUpPhone, HangsUpOwn, SlamsPhone, SlamsOf, IsOther, IsOlder, SlamsOthers, SettlesCall, SettlesAll, DropsAnswers, IsOwn, ForgetsCall, ForgetsCalls, HasBase, LosesArea, LosesAreas, EndsPhones, SettlesBoth, EndsCalls, EndsParts, IsCounted, IsKill}
 use Rattle.kernel_determined.proofs.Same.{state_same}
 use Rattle.kernel_determined.proofs.OneOrder.{came_apart, IsDetermined, each_same, each_keeps, IsPart, each_part, then_part}
 use Rattle.kernel_determined.proofs.HangupDetermined.{come_same, stay_same, calls_stay_same, AreAlike, step_same, tells_same, nobody_same}
-use Rattle.kernel_determined.proofs.SettleDetermined.{over_same, now_same, may_come_same, settled_same}
+use Rattle.kernel_determined.proofs.SettleDetermined.{now_same, settled_same, drop_same}
 use Rattle.kernel_determined.proofs.SpawnDetermined.{or_same, transition_same}
 use Rattle.kernel_determined.proofs.DropDetermined.{drop_is_determined, drop_is_whole}
 
@@ -48,8 +48,10 @@ older_apart k u v less more = omega (arith, less, more)
 -- ---- the turns
 
 hangs_same : (t : TaskNo) (p : ℕ) (k a b : KernelState) (m n : List Entry)
-    → ((u : TaskNo) × Leads k t p u × TellsOfHangup t p u k a m) ⊎ ((phone_at k t p ≡ Some Slammed) × TellsNobody t p k a m)
-    → ((u : TaskNo) × Leads k t p u × TellsOfHangup t p u k b n) ⊎ ((phone_at k t p ≡ Some Slammed) × TellsNobody t p k b n)
+    → ((u : TaskNo) × Leads k t p u × TellsOfHangup t p u k a m)
+    ⊎ ((phone_at k t p ≡ Some Slammed) × TellsNobody t p k a m)
+    → ((u : TaskNo) × Leads k t p u × TellsOfHangup t p u k b n)
+    ⊎ ((phone_at k t p ≡ Some Slammed) × TellsNobody t p k b n)
     → AreAlike a b m n
 hangs_same t p k a b m n (inl x) (inl y) =
     let same : x.0 ≡ y.0 = let e : Some (Connected x.0) ≡ Some (Connected y.0) = sym x.1 ∙ y.1 in cc in
@@ -90,54 +92,14 @@ settle_turn = record {
   same = λ k n a b es fs i x y.
       let one : x.call ≡ y.call = same_call x.call y.call (sym x.live ∙ y.live) in
       let settled = subst (λ (c : Call). IsSettled n c (own_reply ehangup) None k a es) one x.settled in
-      step_same k a b es fs x.step y.step (settled_same n y.call k a b es fs (own_reply ehangup) None settled y.settled);
+      step_same k a b es fs x.step y.step (settled_same n y.call k a b es fs (own_reply ehangup) None settled
+      y.settled);
   keeps = λ k n a es i x. still_sound k a x.step.memory i;
 }
 
--- a phone that is kept for an answer, or none
-kept_or_none : (c : Call) → ((l : Label) × IsUnconnected c l) ⊎ ((l : Label) → IsUnconnected c l → ⊥)
-kept_or_none c = elim (cases_eq c.request.method connect_me_to) [
-  | inr ne ↦ inr (λ l x. ne x.asks)
-  | inl asks ↦ by_phone asks c.reserved refl
-] where
-  by_code : c.request.method ≡ connect_me_to → (l : Label) → c.reserved ≡ Some l → (place : Place) → c.place ≡ place
-      → (c.reply.code.0 ≡ 0) ⊎ (c.reply.code.0 ≡ 0 → ⊥) → ((l : Label) × IsUnconnected c l) ⊎ ((l : Label) → IsUnconnected c l → ⊥)
-  by_code asks l kept (Incoming u) at e =
-      inl (l, record { asks = asks; kept = kept; unaccepted = λ v is code. let f : Incoming u ≡ Answers v = sym at ∙ is in cc })
-  by_code asks l kept (Dispatched u) at e =
-      inl (l, record { asks = asks; kept = kept; unaccepted = λ v is code. let f : Dispatched u ≡ Answers v = sym at ∙ is in cc })
-  by_code asks l kept (Answers u) at (inr ne) =
-      inl (l, record { asks = asks; kept = kept; unaccepted = λ v is code. ne (ap (λ (x : Code). x.0) code) })
-  by_code asks l kept (Answers u) at (inl e) =
-      inr (λ m x. x.unaccepted u at (ap (λ n. let code : Code = record { 0 = n } in code) e))
-
-  by_phone : c.request.method ≡ connect_me_to → (o : Option Label) → c.reserved ≡ o
-      → ((l : Label) × IsUnconnected c l) ⊎ ((l : Label) → IsUnconnected c l → ⊥)
-  by_phone asks None e = inr (λ l x. let f : None ≡ Some l = sym e ∙ x.kept in cc)
-  by_phone asks (Some l) e = by_code asks l e c.place refl (cases_eq c.reply.code.0 0)
-
-kept_answer_same : (c : Call) (f g : Option Label) → IsKeptAtAnswer c f → IsKeptAtAnswer c g → f ≡ g
-kept_answer_same c f g x y = elim (kept_or_none c) [
-  | inl h ↦ x.waits h.0 h.1 ∙ sym (y.waits h.0 h.1)
-  | inr none ↦ x.others none ∙ sym (y.others none)
-]
-
-drop_alike : (t : TaskNo) (i : ℕ) (k a b : KernelState) (m n : List Entry) (x : DropsAnswer t k i a m) (y : DropsAnswer t k i b n)
-    → AreAlike a b m n
-drop_alike t i k a b m n x y =
-    let one : x.call ≡ y.call = same_call x.call y.call (sym x.live ∙ y.live) in
-    let kept = kept_answer_same y.call x.kept y.kept (subst (λ (c : Call). IsKeptAtAnswer c x.kept) one x.keeps) y.keeps in
-    let phones = may_come_same y.kept Free k a b x.note y.note (subst (λ o. MayCome o Free k a x.note) kept x.phones) y.phones in
-    record {
-      phones = phones.0;
-      calls = over_same k.calls a.calls b.calls i x.calls y.calls;
-      entries = x.entries ∙ ap (λ (c : Call). entry.Dropped c.number t ∷ x.note) one
-          ∙ ap (λ es. entry.Dropped y.call.number t ∷ es) phones.1 ∙ sym y.entries;
-    }
-
 drop_turn : (t : TaskNo) → IsDetermined (DropsAnswer t) HasSoundAreas
 drop_turn t = record {
-  same = λ k i a b m n h x y. step_same k a b m n x.step y.step (drop_alike t i k a b m n x y);
+  same = λ k i a b m n h x y. drop_same t i k a b m n x y;
   keeps = λ k i a m h x. still_sound k a x.step.memory h;
 }
 
@@ -147,7 +109,8 @@ forget_turn = record {
       let one : x.call ≡ y.call = same_call x.call y.call (sym x.live ∙ y.live) in
       step_same k a b m n x.step y.step (record {
         phones = stay_same k a b x.phones y.phones;
-        calls = now_same k.calls a.calls b.calls i _ _ x.calls y.calls (ap (λ (c : Call). let d : Call = record c { caller = None } in d) one);
+        calls = now_same k.calls a.calls b.calls i _ _ x.calls y.calls
+            (ap (λ (c : Call). let d : Call = record c { caller = None } in d) one);
         entries = x.entries ∙ ap (λ (c : Call). entry.Forgotten c.number ∷ []) one ∙ sym y.entries;
       });
   keeps = λ k i a m h x. still_sound k a x.step.memory h;
@@ -156,20 +119,25 @@ forget_turn = record {
 area_turn : (t : TaskNo) → 1 ≤ t.0 → IsDetermined (LosesArea t) HasSoundAreas
 area_turn t some = record {
   same = λ k base a b m n i x y.
-      let one : x.step ≡ y.step = drop_is_determined k.memory t base some i x.step y.step x.drop y.drop in
-      (state_same a b (ap (λ (z : Tasks). z.alive) (x.tasks ∙ sym y.tasks)) (ap (λ (z : Tasks). z.phones) (x.tasks ∙ sym y.tasks))
-      (x.calls ∙ sym y.calls) (x.memory ∙ ap (λ (s : Step Unit). s.memory) one ∙ sym y.memory) (x.events ∙ sym y.events),
-      x.entries ∙ sym y.entries);
+      let one : x.step ≡ y.step = drop_is_determined k.memory t base some i x.step y.step x.drop y.drop in (
+        state_same a b (ap (λ (z : Tasks). z.alive) (x.tasks ∙ sym y.tasks))
+            (ap (λ (z : Tasks). z.phones) (x.tasks ∙ sym y.tasks))
+            (x.calls ∙ sym y.calls) (x.memory ∙ ap (λ (s : Step Unit). s.memory) one ∙ sym y.memory)
+            (x.events ∙ sym y.events),
+        x.entries ∙ sym y.entries,
+      );
   keeps = λ k base a m i x.
       let one : x.step ≡ drop_area k.memory t base =
-          drop_is_determined k.memory t base some i x.step (drop_area k.memory t base) x.drop (drop_is_whole k.memory t base) in
+      drop_is_determined k.memory t base some i x.step (drop_area k.memory t base) x.drop
+      (drop_is_whole k.memory t base) in
       subst spaces.IsSound (sym (x.memory ∙ ap (λ (s : Step Unit). s.memory) one)) (sound_drop k.memory t base i);
 }
 
 -- ---- the parts
 
 settles_part : (place : Place) → IsPart (SettlesAll place) HasSoundAreas HasSoundAreas
-settles_part place = each_part (λ k n. Stands k.calls n place) (λ k. CameBefore k.calls) SettlesCall HasSoundAreas settle_turn
+settles_part place = each_part (λ k n. Stands k.calls n place) (λ k. CameBefore k.calls) SettlesCall HasSoundAreas
+    settle_turn
     (λ k. came_apart k.calls)
 
 phones_part : (t : TaskNo) → IsPart (EndsPhones t) HasSoundAreas HasSoundAreas
@@ -185,9 +153,11 @@ both_part t = then_part (Then (EndsPhones t) (SettlesAll (Incoming t))) (Settles
     (settles_part (Dispatched t))
 
 calls_part : (t : TaskNo) → IsPart (EndsCalls t) HasSoundAreas HasSoundAreas
-calls_part t = then_part (Then (SettlesBoth t) (DropsAnswers t)) (ForgetsCalls t) HasSoundAreas HasSoundAreas HasSoundAreas
+calls_part t = then_part (Then (SettlesBoth t) (DropsAnswers t)) (ForgetsCalls t) HasSoundAreas HasSoundAreas
+    HasSoundAreas
     (then_part (SettlesBoth t) (DropsAnswers t) HasSoundAreas HasSoundAreas HasSoundAreas (both_part t)
-    (each_part (λ k n. Stands k.calls n (Answers t)) (λ k. CameBefore k.calls) (DropsAnswer t) HasSoundAreas (drop_turn t)
+    (each_part (λ k n. Stands k.calls n (Answers t)) (λ k. CameBefore k.calls) (DropsAnswer t) HasSoundAreas
+    (drop_turn t)
     (λ k. came_apart k.calls)))
     (each_part (IsOwn t) (λ k. ◌<◌) ForgetsCall HasSoundAreas forget_turn less_apart)
 
@@ -220,7 +190,7 @@ kill_is_determined t k a b some sound x y =
     let marked : x.marked ≡ y.marked = mark_same t k x.marked y.marked x.ended y.ended in
     let parts = subst (λ (j : KernelState). EndsParts t j x.last a.entries) marked x.parts in
     let same = (parts_part t some).same y.marked x.last y.last a.entries b.entries
-        (still_sound k y.marked y.ended.memory sound) parts y.parts in
+    (still_sound k y.marked y.ended.memory sound) parts y.parts in
     transition_same a b
     (state_same a.state b.state
     (ap (λ (z : Tasks). z.alive) x.counted.tasks ∙ ap (λ (j : KernelState). j.tasks.alive) same.0

@@ -59,13 +59,13 @@ use Rattle.kernel_laws.proofs.DeliveredAnswers.{connect_method}
 use Rattle.kernel_laws.proofs.LawfulAnswers.{same_code, accepts_eok}
 use Rattle.kernel_laws.proofs.LawfulAreas.{drop_is_lawful, one_base}
 use Rattle.kernel_determined.specs.Frames.{PhoneComesTo, IsStep}
-use Rattle.kernel_determined.specs.ReceiveLaw.{CameBefore}
-use Rattle.kernel_determined.specs.SettleLaw.{IsSettled}
+use Rattle.kernel_determined.specs.Frames.{CameBefore}
+use Rattle.kernel_determined.specs.SettleLaw.{IsSettled, DropsAnswer}
 use Rattle.kernel_determined.specs.Turns.{EachInTurn, Then}
-use Rattle.kernel_determined.specs.KillLaw.{IsMarked, IsToHangUp, HangsUpPhone, HangsUpOwn, SlamsPhone, SlamsOf, IsOther, IsOlder, SlamsOthers, SettlesCall, SettlesAll, IsKeptAtAnswer, DropsAnswer, DropsAnswers, IsOwn, ForgetsCall, ForgetsCalls, HasBase, LosesArea, LosesAreas, EndsPhones, SettlesBoth, EndsCalls, EndsParts, IsKill}
+use Rattle.kernel_determined.specs.KillLaw.{IsMarked, IsToHangUp, HangsUpPhone, HangsUpOwn, SlamsPhone, SlamsOf, IsOther, IsOlder, SlamsOthers, SettlesCall, SettlesAll, DropsAnswers, IsOwn, ForgetsCall, ForgetsCalls, HasBase, LosesArea, LosesAreas, EndsPhones, SettlesBoth, EndsCalls, EndsParts, IsKill}
 use Rattle.kernel_determined.proofs.TurnsKept.{no_turns, same_turns, one_turn, IsNextTurn, IsTurn, IsOwnTurn, all_drained, all_done}
 use Rattle.kernel_determined.proofs.HangupDetermined.{tells, tells_nobody}
-use Rattle.kernel_determined.proofs.SettleSo.{may_come, as_many, is_over, settled_is}
+use Rattle.kernel_determined.proofs.SettleSo.{as_many, settled_is, drops}
 use Rattle.kernel_determined.proofs.DropDetermined.{drop_is_whole, one_place}
 use Rattle.kernel_determined.proofs.LeastSo.{least_number, least_area}
 use Rattle.kernel_determined.proofs.KillDetermined.{kill_is_determined}
@@ -102,7 +102,8 @@ module _ (t : TaskNo) where
   hangs k p (Some HungUp) is = inr (quiet k p (Some HungUp) is (λ u e. cc e) (λ e. cc e), refl)
   hangs k p (Some (Connected u)) is = inl (record {
     so = inl (u, is);
-    back = λ q ne x. to_hang_up (hang_up k t p (Some (Connected u))).state k q (sym (hung_turn k p (Connected u) is q ne)) x;
+    back = λ q ne x. to_hang_up (hang_up k t p (Some (Connected u))).state k q
+        (sym (hung_turn k p (Connected u) is q ne)) x;
     forth = λ q ne x. to_hang_up k (hang_up k t p (Some (Connected u))).state q (hung_turn k p (Connected u) is q ne) x;
     turn = record {
       step = record { alive = refl; tasks = length_rows k.tasks.phones t.0 p HungUp; memory = refl; counted = refl };
@@ -120,8 +121,10 @@ module _ (t : TaskNo) where
   })
 
   pub hangs_up_own : (k : KernelState) → HangsUpOwn t k (hang_up_own_phones t k).state (hang_up_own_phones t k).entries
-  hangs_up_own k = same_turns _ (IsToHangUp t k) ◌<◌ (HangsUpPhone t) k _ _ (λ p f. f.3) (λ p so. (p, omega arith, refl, so))
-      (all_done (IsToHangUp t) ◌<◌ (HangsUpPhone t) (hang_up_at t) (λ p. p) (λ i j less. less) (λ i j less e. omega (arith, less, e))
+  hangs_up_own k = same_turns _ (IsToHangUp t k) ◌<◌ (HangsUpPhone t) k _ _ (λ p f. f.3)
+      (λ p so. (p, omega arith, refl, so))
+      (all_done (IsToHangUp t) ◌<◌ (HangsUpPhone t) (hang_up_at t) (λ p. p) (λ i j less. less)
+      (λ i j less e. omega (arith, less, e))
       (λ j. ⊤) (λ j i h. h) (λ j p h. hangs j p (phone_at j t p) refl) (width k.tasks.phones t.0) 0 k tt
       (λ p far so. quiet k p None (past_width k.tasks.phones t.0 p (omega (arith, far))) (λ u e. cc e) (λ e. cc e) so))
 
@@ -129,9 +132,11 @@ module _ (t : TaskNo) where
 
 module _ (t : TaskNo) where
   abbrev Slams : TaskNo → KernelState → ℕ → Transition → Type 0
-  Slams u k p step = IsOwnTurn (λ j q. Leads j u q t) (SlamsPhone u) k p step ⊎ ((Leads k u p t → ⊥) × (step ≡ nothing k))
+  Slams u k p step = IsOwnTurn (λ j q. Leads j u q t) (SlamsPhone u) k p step
+      ⊎ ((Leads k u p t → ⊥) × (step ≡ nothing k))
 
-  slams : (u : TaskNo) (k : KernelState) (p : ℕ) (o : Option PhoneState) → phone_at k u p ≡ o → Slams u k p (slam t u k p o)
+  slams : (u : TaskNo) (k : KernelState) (p : ℕ) (o : Option PhoneState) → phone_at k u p ≡ o
+      → Slams u k p (slam t u k p o)
   slams u k p None is = inr (λ x. let e : None ≡ Some (Connected t) = sym is ∙ x in cc, refl)
   slams u k p (Some Free) is = inr (λ x. let e : Some Free ≡ Some (Connected t) = sym is ∙ x in cc, refl)
   slams u k p (Some Connecting) is = inr (λ x. let e : Some Connecting ≡ Some (Connected t) = sym is ∙ x in cc, refl)
@@ -141,7 +146,8 @@ module _ (t : TaskNo) where
     elsewhere : (q : ℕ) → (q ≡ p → ⊥) → phone_at (with_phone k u p Slammed) u q ≡ phone_at k u q
     elsewhere q ne = written_elsewhere k.tasks.phones u.0 p u.0 q Slammed (λ e. ne e.1)
 
-    it : (v.0 == t.0) ≡ true → Slams u k p (record { state = with_phone k u p Slammed; entries = entry.PhoneIs (label_of u p) Slammed ∷ [] })
+    it : (v.0 == t.0) ≡ true
+        → Slams u k p (record { state = with_phone k u p Slammed; entries = entry.PhoneIs (label_of u p) Slammed ∷ [] })
     it e = inl (record {
       so = is ∙ ap (λ (w : TaskNo). Some (Connected w)) (no_of v t (eqb-true v.0 t.0 e));
       back = λ q ne x. sym (elsewhere q ne) ∙ x;
@@ -158,12 +164,16 @@ module _ (t : TaskNo) where
     })
 
     other : (v.0 == t.0) ≡ false → Slams u k p (nothing k)
-    other ne = inr (λ x. let same : Some (Connected v) ≡ Some (Connected t) = sym is ∙ x in
-        let one : v ≡ t = cc in
-        false≢true (sym ne ∙ eq-eqb v.0 t.0 (ap (λ (w : TaskNo). w.0) one)), refl)
+    other ne = inr (
+      λ x. let same : Some (Connected v) ≡ Some (Connected t) = sym is ∙ x in
+          let one : v ≡ t = cc in
+          false≢true (sym ne ∙ eq-eqb v.0 t.0 (ap (λ (w : TaskNo). w.0) one)),
+      refl,
+    )
 
   slams_of : (u : TaskNo) (k : KernelState) → SlamsOf t k u (slam_phones_of t u k).state (slam_phones_of t u k).entries
-  slams_of u k = same_turns _ (λ p. Leads k u p t) ◌<◌ (SlamsPhone u) k _ _ (λ p f. f.3) (λ p so. (p, omega arith, refl, so))
+  slams_of u k = same_turns _ (λ p. Leads k u p t) ◌<◌ (SlamsPhone u) k _ _ (λ p f. f.3)
+      (λ p so. (p, omega arith, refl, so))
       (all_done (λ j p. Leads j u p t) ◌<◌ (SlamsPhone u) (slam_at t u) (λ p. p) (λ i j less. less)
       (λ i j less e. omega (arith, less, e))
       (λ j. ⊤) (λ j i h. h) (λ j p h. slams u j p (phone_at j u p) refl) (width k.tasks.phones u.0) 0 k tt
@@ -202,33 +212,38 @@ module _ (t : TaskNo) where
 
   abbrev Others : KernelState → ℕ → Transition → Type 0
   Others k i step =
-      IsOwnTurn (IsOther t) (SlamsOf t) k (task_no (i + 1)) step ⊎ ((IsOther t k (task_no (i + 1)) → ⊥) × (step ≡ nothing k))
+      IsOwnTurn (IsOther t) (SlamsOf t) k (task_no (i + 1)) step
+      ⊎ ((IsOther t k (task_no (i + 1)) → ⊥) × (step ≡ nothing k))
 
-  as_other : (k j : KernelState) (u : TaskNo) → length j.tasks.phones ≡ length k.tasks.phones → IsOther t j u → IsOther t k u
-  as_other k j u many x = let known = x.known in record { from_one = x.from_one; known = omega (arith, known, many); other = x.other }
+  as_other : (k j : KernelState) (u : TaskNo) → length j.tasks.phones ≡ length k.tasks.phones → IsOther t j u
+      → IsOther t k u
+  as_other k j u many x = let known = x.known in record
+      { from_one = x.from_one; known = omega (arith, known, many); other = x.other }
 
   others : (k : KernelState) (i : ℕ) → Others k i (slam_other t k i)
   others k i = repeats.by_test (Others k i) (i + 1 == t.0) _ _
       (λ own. inr (λ x. x.other (eqb-true (i + 1) t.0 own), refl))
       (λ not. elim (cases_lt i (length k.tasks.phones)) [
         | inl few ↦ (let u : TaskNo = task_no (i + 1) in inl (record {
-            so = record {
-              from_one = omega arith;
-              known = omega (arith, few);
-              other = λ e. false≢true (sym not ∙ eq-eqb (i + 1) t.0 e);
-            };
-            back = λ w ne x. as_other k _ w (of_many u k) x;
-            forth = λ w ne x. as_other _ k w (sym (of_many u k)) x;
-            turn = slams_of u k;
-          }))
-        | inr far ↦ inr (λ x. let known = x.known in omega (arith, far, known),
-            ap (λ n. each (slam_at t (task_no (i + 1))) n 0 k) (no_width k.tasks.phones i far))
+          so = record {
+            from_one = omega arith;
+            known = omega (arith, few);
+            other = λ e. false≢true (sym not ∙ eq-eqb (i + 1) t.0 e);
+          };
+          back = λ w ne x. as_other k _ w (of_many u k) x;
+          forth = λ w ne x. as_other _ k w (sym (of_many u k)) x;
+          turn = slams_of u k;
+        }))
+        | inr far ↦ inr (
+          λ x. let known = x.known in omega (arith, far, known),
+          ap (λ n. each (slam_at t (task_no (i + 1))) n 0 k) (no_width k.tasks.phones i far),
+        )
       ])
 
   pub slams_others : (k : KernelState) → SlamsOthers t k (slam_phones_to t k).state (slam_phones_to t k).entries
   slams_others k = same_turns _ (IsOther t k) IsOlder (SlamsOf t) k _ _ (λ u f. f.3)
       (λ u so. let some = so.from_one in
-          (u.0 - 1, omega arith, no_of u (task_no (u.0 - 1 + 1)) (omega (arith, some)), so))
+      (u.0 - 1, omega arith, no_of u (task_no (u.0 - 1 + 1)) (omega (arith, some)), so))
       (all_done (IsOther t) IsOlder (SlamsOf t) (slam_other t) (λ i. task_no (i + 1)) (λ i j less. omega (arith, less))
       (λ i j less e. let f : j + 1 ≡ i + 1 = ap (λ (u : TaskNo). u.0) e in omega (arith, less, f))
       (λ j. ⊤) (λ j i h. h) (λ j i h. others j i) (length k.tasks.phones) 0 k tt
@@ -258,15 +273,18 @@ module _ (marks : List Bool) (k : KernelState) (ending : IsEnding marks k) (plac
   was : (m : ℕ) (s : Stands after m place) → call_at k.calls m ≡ Some s.0
   was m s = sym (others m (not_it m s)) ∙ s.1
 
-  came_first : (m : ℕ) (d : Call) → call_at k.calls m ≡ Some d → d.place ≡ place → (m ≡ c.number.0 → ⊥) → c.stamp < d.stamp
+  came_first : (m : ℕ) (d : Call) → call_at k.calls m ≡ Some d → d.place ≡ place → (m ≡ c.number.0 → ⊥)
+      → c.stamp < d.stamp
   came_first m d there e ne =
-      let least = (front-is_front k.calls place c.number.0 c is live).least c m d live there (stands_true place d.place e) in
+      let least = (front-is_front k.calls place c.number.0 c is live).least c m d live there
+      (stands_true place d.place e) in
       elim (cases_eq c.stamp d.stamp) [
         | inl same ↦ absurd (ne (sym (ending.sound.calls.stamps_differ c.number.0 m c d live there same)))
         | inr other ↦ omega (arith, least, other)
       ]
 
-  pub leaves : IsNextTurn (λ n. Stands k.calls n place) (λ n. Stands after n place) (CameBefore k.calls) (CameBefore after) c.number.0
+  pub leaves : IsNextTurn (λ n. Stands k.calls n place) (λ n. Stands after n place) (CameBefore k.calls)
+      (CameBefore after) c.number.0
   leaves = record {
     so = (c, live, at);
     first = λ m s. (c, s.0, live, was m s, came_first m s.0 (was m s) s.2 (not_it m s));
@@ -285,9 +303,27 @@ module _ (marks : List Bool) (place : Place) (pending : (c : Call) → stands_at
   settle_step : (k : KernelState) (c : Call) → IsStep k (settle_call k c).state
   settle_step k c = by_caller c.caller (lives k c.caller) where
     by_caller : (o : Option TaskNo) (b : Bool) → IsStep k (settle_for k c (bare_reply ehangup) None o b).state
-    by_caller None b = record { alive = refl; tasks = as_many k.tasks.phones (kept_phone c) Free; memory = refl; counted = refl }
-    by_caller (Some u) false = record { alive = refl; tasks = as_many k.tasks.phones (kept_phone c) Free; memory = refl; counted = refl }
-    by_caller (Some u) true = record { alive = refl; tasks = as_many k.tasks.phones (lent_phone c) Free; memory = refl; counted = refl }
+    by_caller None b = record {
+      alive = refl;
+      tasks = as_many k.tasks.phones (kept_phone c) Free;
+      memory =
+          refl;
+      counted = refl;
+    }
+    by_caller (Some u) false = record {
+      alive = refl;
+      tasks = as_many k.tasks.phones (kept_phone c) Free;
+      memory =
+          refl;
+      counted = refl;
+    }
+    by_caller (Some u) true = record {
+      alive = refl;
+      tasks = as_many k.tasks.phones (lent_phone c) Free;
+      memory =
+          refl;
+      counted = refl;
+    }
 
   settle_others : (k : KernelState) (c : Call) (m : ℕ) → (m ≡ c.number.0 → ⊥)
       → call_at (settle_call k c).state.calls m ≡ call_at k.calls m
@@ -298,7 +334,8 @@ module _ (marks : List Bool) (place : Place) (pending : (c : Call) → stands_at
     by_caller (Some u) false = gone_other k.calls c.number.0 m (λ e. ne (sym e))
     by_caller (Some u) true = put_other k.calls c.number.0 m _ (λ e. ne (sym e))
 
-  settle_away : (k : KernelState) (c d : Call) → call_at (settle_call k c).state.calls c.number.0 ≡ Some d → d.place ≡ place → ⊥
+  settle_away : (k : KernelState) (c d : Call) → call_at (settle_call k c).state.calls c.number.0 ≡ Some d
+      → d.place ≡ place → ⊥
   settle_away k c d = by_caller c.caller (lives k c.caller) where
     by_caller : (o : Option TaskNo) (b : Bool)
         → call_at (settle_for k c (bare_reply ehangup) None o b).state.calls c.number.0 ≡ Some d → d.place ≡ place → ⊥
@@ -330,8 +367,10 @@ module _ (marks : List Bool) (place : Place) (pending : (c : Call) → stands_at
   none_stands k i e n s =
       false≢true (sym (no_front-has_no_calls k.calls place e n s.0 s.1) ∙ stands_true place s.0.place s.2)
 
-  pub settles_all : (k : KernelState) → I k → SettlesAll place k (settle_calls_at place k).state (settle_calls_at place k).entries
-  settles_all k i = all_drained (λ j n. Stands j.calls n place) (λ j. CameBefore j.calls) SettlesCall (first_at place) settle_call
+  pub settles_all : (k : KernelState) → I k
+      → SettlesAll place k (settle_calls_at place k).state (settle_calls_at place k).entries
+  settles_all k i = all_drained (λ j n. Stands j.calls n place) (λ j. CameBefore j.calls) SettlesCall (first_at place)
+      settle_call
       (λ c. c.number.0) I (stands_at place) keeps
       (λ j c h is. let f = front_at marks j place c (ending j h) is in settle_less (stands_at place) j c f.0 f.1 moved)
       none_stands settles_turn (calls_at k.calls place) k i (omega arith)
@@ -342,84 +381,27 @@ module _ (marks : List Bool) (t : TaskNo) where
   ending_of : (k : KernelState) → IsIdle marks t k → IsEnding marks k
   ending_of k i = i.uncalled.alone.silent.ending
 
-  kept_by : (k : KernelState) (c : Call) (kind : MethodKind) → kind_of c.request.method ≡ kind → c.place ≡ Answers t
-      → kept_phone c ≡ kept_of (keeper_of kind) c.from.task (Answers t) c.reply.code c.reserved
-  kept_by k c kind e at = ap (λ m. kept_of (keeper_of m) c.from.task c.place c.reply.code c.reserved) e
-      ∙ ap (λ p. kept_of (keeper_of kind) c.from.task p c.reply.code c.reserved) at
-
-  module _ (k : KernelState) (i : IsIdle marks t k) (c : Call) (live : call_at k.calls c.number.0 ≡ Some c) (at : c.place ≡ Answers t) where
-    owner : kind_of c.request.method ≡ ConnectMeTo → (l : Label) → c.reserved ≡ Some l → phone_of c.from.task (Some l) ≡ Some l
-    owner e l r = own_phone c.from.task l (subst (λ x. IsReservedAt x c.from.task c.place l) (ap keeper_of e)
-        (((ending_of k i).sound.calls.each c.number.0 c live).reserved.owner l r))
-
-    waits : (l : Label) → IsUnconnected c l → kept_phone c ≡ Some l
-    waits l x =
-        let kind : kind_of c.request.method ≡ ConnectMeTo = ap kind_of x.asks in
-        kept_by k c ConnectMeTo kind at
-        ∙ by (accepts c.reply.code) (λ h. x.unaccepted t at (same_code c.reply.code h))
-        ∙ ap (phone_of c.from.task) x.kept ∙ owner kind l x.kept
-      where
-        by : (b : Bool) → (b ≡ true → ⊥) → (if b then None else phone_of c.from.task c.reserved) ≡ phone_of c.from.task c.reserved
-        by true never = absurd (never refl)
-        by false never = refl
-
-    nobody : (kind : MethodKind) → kind_of c.request.method ≡ kind
-        → kept_of (keeper_of kind) c.from.task (Answers t) c.reply.code c.reserved ≡ None → kept_phone c ≡ None
-    nobody kind e none = kept_by k c kind e at ∙ none
-
-    none_kept : ((l : Label) → IsUnconnected c l → ⊥) → (kind : MethodKind) → kind_of c.request.method ≡ kind → kept_phone c ≡ None
-    none_kept none ConnectMeTo e = nobody ConnectMeTo e (by (accepts c.reply.code) refl c.reserved refl) where
-      by : (b : Bool) → accepts c.reply.code ≡ b → (o : Option Label) → c.reserved ≡ o
-          → (if b then None else phone_of c.from.task o) ≡ None
-      by true a o r = refl
-      by false a None r = refl
-      by false a (Some l) r = absurd (none l (record {
-        asks = connect_method c.request.method e;
-        kept = r;
-        unaccepted = λ u p code. false≢true (sym a ∙ accepts_eok c.reply.code code);
-      }))
-    none_kept none PhoneHungUp e = nobody PhoneHungUp e refl
-    none_kept none ConnectToMe e = nobody ConnectToMe e refl
-    none_kept none DataWrite e = nobody DataWrite e refl
-    none_kept none DataRead e = nobody DataRead e refl
-    none_kept none ShareOut e = nobody ShareOut e refl
-    none_kept none ShareIn e = nobody ShareIn e refl
-    none_kept none NotBuilt e = nobody NotBuilt e refl
-    none_kept none User e = nobody User e refl
-
-    there : (l : Label) → kept_phone c ≡ Some l → IsSome (state_at k.tasks.phones l.task.0 l.phone.0)
-    there l e = is_there (state_at k.tasks.phones l.task.0 l.phone.0) Connecting
-        (subst (WaitsIn k.tasks.phones) e (kept_waits k.tasks.phones k.calls c.number.0 c (ending_of k i).sound.kept live))
-
-    drops : DropsAnswer t k c.number.0 (drop_answer t k c).state (drop_answer t k c).entries
-    drops = record {
-      call = c;
-      live = live;
-      step = record { alive = refl; tasks = as_many k.tasks.phones (kept_phone c) Free; memory = refl; counted = refl };
-      kept = kept_phone c;
-      keeps = record { waits = waits; others = λ none. none_kept none (kind_of c.request.method) refl };
-      note = option_to_list (kept_note (kept_phone c) Free);
-      phones = may_come k (kept_phone c) Free _ refl there;
-      calls = is_over k.calls _ c.number.0 c.number.0 refl refl;
-      entries = refl;
-    }
-
   drops_turn : (k : KernelState) (c : Call) → IsIdle marks t k → front k.calls (Answers t) ≡ Some c
-      → IsTurn (λ j n. Stands j.calls n (Answers t)) (λ j. CameBefore j.calls) (DropsAnswer t) k c.number.0 (drop_answer t k c)
+      → IsTurn (λ j n. Stands j.calls n (Answers t)) (λ j. CameBefore j.calls)
+      (DropsAnswer t) k c.number.0 (drop_answer t k c)
   drops_turn k c i is =
       let f = front_at marks k (Answers t) c (ending_of k i) is in
       record {
         next = leaves marks k (ending_of k i) (Answers t) c is (without_call k.calls c.number.0)
             (λ m ne. gone_other k.calls c.number.0 m (λ e. ne (sym e)))
             (λ d there at. none_some _ d (gone_here k.calls c.number.0 c.number.0 refl) there);
-        turn = drops k i c f.0 (same_place-true c.place (Answers t) f.1);
+        turn = drops marks t k (ending_of k i) c f.0 (same_place-true c.place (Answers t) f.1);
       }
 
-  pub drops_answers : (k : KernelState) → IsIdle marks t k → DropsAnswers t k (drop_answers t k).state (drop_answers t k).entries
+  pub drops_answers : (k : KernelState) → IsIdle marks t k
+      → DropsAnswers t k (drop_answers t k).state (drop_answers t k).entries
   drops_answers k i = all_drained (λ j n. Stands j.calls n (Answers t)) (λ j. CameBefore j.calls) (DropsAnswer t)
-      (first_at (Answers t)) (drop_answer t) (λ c. c.number.0) (IsIdle marks t) (stands_at (Answers t)) (drop_idle marks t)
-      (λ j c h is. let f = front_at marks j (Answers t) c (ending_of j h) is in over_less (stands_at (Answers t)) j c f.0 f.1)
-      (λ j h e n s. false≢true (sym (no_front-has_no_calls j.calls (Answers t) e n s.0 s.1) ∙ stands_true (Answers t) s.0.place s.2))
+      (first_at (Answers t)) (drop_answer t) (λ c. c.number.0) (IsIdle marks t) (stands_at (Answers t))
+      (drop_idle marks t)
+      (λ j c h is. let f = front_at marks j (Answers t) c (ending_of j h) is in
+      over_less (stands_at (Answers t)) j c f.0 f.1)
+      (λ j h e n s. false≢true (sym (no_front-has_no_calls j.calls (Answers t) e n s.0 s.1)
+      ∙ stands_true (Answers t) s.0.place s.2))
       drops_turn (calls_at k.calls (Answers t)) k i (omega arith)
 
   -- ---- calls elsewhere are forgotten
@@ -448,11 +430,13 @@ module _ (marks : List Bool) (t : TaskNo) where
     now = ap (λ (q : CallTable). call_at q c.number.0) after ∙ put_here k.calls c.number.0 c.number.0 (alone c) refl
 
     elsewhere : (m : ℕ) → (m ≡ c.number.0 → ⊥) → call_at (forget_call k c).state.calls m ≡ call_at k.calls m
-    elsewhere m ne = ap (λ (q : CallTable). call_at q m) after ∙ put_other k.calls c.number.0 m (alone c) (λ e. ne (sym e))
+    elsewhere m ne = ap (λ (q : CallTable). call_at q m) after
+        ∙ put_other k.calls c.number.0 m (alone c) (λ e. ne (sym e))
 
     not_own : (m : ℕ) → IsOwn t (forget_call k c).state m → m ≡ c.number.0 → ⊥
     not_own m s e =
-        let same : alone c ≡ s.0 = same_call (alone c) s.0 (sym now ∙ ap (call_at (forget_call k c).state.calls) (sym e) ∙ s.1) in
+        let same : alone c ≡ s.0 = same_call (alone c) s.0
+        (sym now ∙ ap (call_at (forget_call k c).state.calls) (sym e) ∙ s.1) in
         let none : None ≡ Some t = ap (λ (x : Call). x.caller) same ∙ s.2 in
         cc
 
@@ -469,7 +453,8 @@ module _ (marks : List Bool) (t : TaskNo) where
                 let no : m ≡ l.number → ⊥ = λ e. ne (e ∙ sym number) in
                 subst (λ n. n < m) (sym number) (omega (arith, le, no));
             back = λ m s. (s.0, sym (elsewhere m (not_own m s)) ∙ s.1, s.2);
-            forth = λ m s. elim (cases_eq m c.number.0) [ inl e ↦ inl e | inr ne ↦ inr (s.0, elsewhere m ne ∙ s.1, s.2) ];
+            forth = λ m s. elim (cases_eq m c.number.0)
+                [ inl e ↦ inl e | inr ne ↦ inr (s.0, elsewhere m ne ∙ s.1, s.2) ];
             order = λ m n s r b. b;
           };
           turn = record {
@@ -489,7 +474,8 @@ module _ (marks : List Bool) (t : TaskNo) where
 
     fewer : suc (count_of (is_call_of t) (entries (forget_call k c).state.calls.records))
         ≡ count_of (is_call_of t) (entries k.calls.records)
-    fewer = subst (λ (q : CallTable). suc (count_of (is_call_of t) (entries q.records)) ≡ count_of (is_call_of t) (entries k.calls.records))
+    fewer = subst (λ (q : CallTable). suc (count_of (is_call_of t) (entries q.records)) ≡ count_of (is_call_of t)
+        (entries k.calls.records))
         (sym after) (put_less (is_call_of t) k c (alone c) its_own.0 its_own.1 refl)
 
   pub forgets_calls : (k : KernelState) → IsUnanswered marks t k
@@ -529,10 +515,14 @@ module _ (t : TaskNo) (some : 1 ≤ t.0) where
     left j b h other = elim (cases_lt j gone.2.place) [
       | inl less ↦ (j, gone.2.before j less ∙ h)
       | inr from ↦ elim (cases_eq j gone.2.place) [
-        | inl e ↦ (let same : b ≡ gone.0 = let f : Some b ≡ Some gone.0 = sym h ∙ ap (slice_get (areas_of k.memory t)) e ∙ gone.2.there in cc in
+        | inl e ↦ (let same : b ≡ gone.0 = let f : Some b ≡ Some gone.0 = sym h
+            ∙ ap (slice_get (areas_of k.memory t)) e ∙ gone.2.there in cc in
             absurd (other (ap (λ (x : Area). x.base) same ∙ gone.1.begins)))
-        | inr ne ↦ (j - 1, gone.2.behind (j - 1) (omega (arith, from, ne))
-            ∙ ap (slice_get (areas_of k.memory t)) (omega (arith, from, ne)) ∙ h)
+        | inr ne ↦ (
+          j - 1,
+          gone.2.behind (j - 1) (omega (arith, from, ne))
+              ∙ ap (slice_get (areas_of k.memory t)) (omega (arith, from, ne)) ∙ h,
+        )
       ]
     ]
 
@@ -540,7 +530,8 @@ module _ (t : TaskNo) (some : 1 ≤ t.0) where
     not_gone : (b : Area) → HasAt step.memory t base b → ⊥
     not_gone b h =
         let w = stood h.has.0 b h.has.1 in
-        let same : b ≡ gone.0 = one_base k.memory t base b gone.0 sound (record { has = (w.0, w.1); begins = h.begins }) gone.1 in
+        let same : b ≡ gone.0 = one_base k.memory t base b gone.0 sound
+        (record { has = (w.0, w.1); begins = h.begins }) gone.1 in
         w.2 (one_place k.memory t sound gone.0 w.0 gone.2.place (w.1 ∙ ap Some same) gone.2.there)
 
     loses_turn : IsTurn (HasBase t) (λ j. ◌<◌) (LosesArea t) k base (lose_area t k base)
@@ -553,13 +544,17 @@ module _ (t : TaskNo) (some : 1 ≤ t.0) where
             let begins = h.1.begins in
             let ne : other ≡ base → ⊥ = λ e. not_gone h.0 (record { has = h.1.has; begins = begins ∙ e }) in
             omega (arith, le, begins, ne);
-        back = λ other h. let w = stood h.1.has.0 h.0 h.1.has.1 in (h.0, record { has = (w.0, w.1); begins = h.1.begins });
+        back = λ other h. let w = stood h.1.has.0 h.0 h.1.has.1 in
+            (h.0, record { has = (w.0, w.1); begins = h.1.begins });
         forth = λ other h. elim (cases_eq other base) [
           | inl e ↦ inl e
-          | inr ne ↦ inr (h.0, record {
+          | inr ne ↦ inr (
+            h.0,
+            record {
               has = left h.1.has.0 h.0 h.1.has.1 (λ e. ne (sym h.1.begins ∙ e));
               begins = h.1.begins;
-            })
+            },
+          )
         ];
         order = λ x y a b less. less;
       };
@@ -580,16 +575,19 @@ module _ (t : TaskNo) (some : 1 ≤ t.0) where
 
   all_lost : (most i : ℕ) (k : KernelState) → spaces.IsSound k.memory → count_areas k.memory t ≡ most
       → Lost k (each (drop_first_area t) most i k)
-  all_lost zero i k sound many = no_turns (HasBase t k) ◌<◌ (LosesArea t) k (no_areas k (empty (areas_of k.memory t) many)) where
-    empty : (areas : List Area) → length areas ≡ 0 → areas ≡ []
-    empty [] h = refl
-    empty (a ∷ areas) h = absurd (omega (arith, h))
+  all_lost zero i k sound many = no_turns (HasBase t k) ◌<◌ (LosesArea t) k
+      (no_areas k (empty (areas_of k.memory t) many)) where
+        empty : (areas : List Area) → length areas ≡ 0 → areas ≡ []
+        empty [] h = refl
+        empty (a ∷ areas) h = absurd (omega (arith, h))
   all_lost (suc most) i k sound many = by_first (first_area k.memory t) refl (all_lost most (i + 1)) where
     by_first : (o : Option ℕ) → first_area k.memory t ≡ o
-        → ((j : KernelState) → spaces.IsSound j.memory → count_areas j.memory t ≡ most → Lost j (each (drop_first_area t) most (i + 1) j))
+        → ((j : KernelState) → spaces.IsSound j.memory → count_areas j.memory t ≡ most
+        → Lost j (each (drop_first_area t) most (i + 1) j))
         → Lost k (then_do (lose_first_area t k o) (each (drop_first_area t) most (i + 1)))
     by_first None none later =
-        let zero_areas : count_areas k.memory t ≡ 0 = ap (λ (areas : List Area). length areas) (no_first k.memory t none) in
+        let zero_areas : count_areas k.memory t ≡ 0 = ap (λ (areas : List Area). length areas)
+        (no_first k.memory t none) in
         absurd (omega (arith, many, zero_areas))
     by_first (Some base) is later =
         let fewer = first_goes k.memory t base is in
@@ -598,7 +596,8 @@ module _ (t : TaskNo) (some : 1 ≤ t.0) where
         one_turn (HasBase t k) (HasBase t j) ◌<◌ ◌<◌ base turn.next (LosesArea t) k j _ _ _ turn.turn
         (later j (sound_drop k.memory t base sound) (omega (arith, many, fewer)))
 
-  loses_areas : (k : KernelState) → spaces.IsSound k.memory → LosesAreas t k (drop_areas t k).state (drop_areas t k).entries
+  loses_areas : (k : KernelState) → spaces.IsSound k.memory
+      → LosesAreas t k (drop_areas t k).state (drop_areas t k).entries
   loses_areas k sound = all_lost (count_areas k.memory t) 0 k sound refl
 
 -- ---- a kill
@@ -611,7 +610,8 @@ module _ (k : KernelState) (t : TaskNo) (sound : IsSound k) (alive : is_alive k 
   dead = mark_ended k t
 
   alone_then : IsAlone marks t (after_slams t k)
-  alone_then = phones_slammed marks t (after_hangups t k) (own_phones_hung_up marks t dead alive (record { sound = sound }))
+  alone_then = phones_slammed marks t (after_hangups t k)
+      (own_phones_hung_up marks t dead alive (record { sound = sound }))
 
   uncalled_then : IsUncalled marks t (after_incoming t k)
   uncalled_then = incoming_settled marks t (after_slams t k) alone_then
@@ -622,29 +622,57 @@ module _ (k : KernelState) (t : TaskNo) (sound : IsSound k) (alive : is_alive k 
   unanswered_then : IsUnanswered marks t (after_answers t k)
   unanswered_then = answers_dropped marks t (after_dispatched t k) idle_then
 
-  incoming_is : SettlesAll (Incoming t) (after_slams t k) (after_incoming t k) (settle_incoming t (after_slams t k)).entries
+  incoming_is : SettlesAll (Incoming t) (after_slams t k) (after_incoming t k)
+      (settle_incoming t (after_slams t k)).entries
   incoming_is = settles_all marks (Incoming t) (λ c at. incoming_pending c.place t at) (λ u. refl) (IsAlone marks t)
       (λ j i. i.silent.ending) (incoming_alone marks t) (after_slams t k) alone_then
 
-  dispatched_is : SettlesAll (Dispatched t) (after_incoming t k) (after_dispatched t k) (settle_dispatched t (after_incoming t k)).entries
+  dispatched_is : SettlesAll (Dispatched t) (after_incoming t k) (after_dispatched t k)
+      (settle_dispatched t (after_incoming t k)).entries
   dispatched_is = settles_all marks (Dispatched t) (λ c at. held_pending c.place t at) (λ u. refl) (IsUncalled marks t)
       (λ j i. i.alone.silent.ending) (dispatched_uncalled marks t) (after_incoming t k) uncalled_then
 
   ends_calls : EndsCalls t dead (after_calls t k) (end_phones_and_calls t dead).entries
-  ends_calls = (after_answers t k, _, _,
-    (after_dispatched t k, _, _,
-      (after_incoming t k, _, _,
-        (after_slams t k, _, _,
+  ends_calls = (
+    after_answers t k,
+    _,
+    _,
+    (
+      after_dispatched t k,
+      _,
+      _,
+      (
+        after_incoming t k,
+        _,
+        _,
+        (
+          after_slams t k,
+          _,
+          _,
           (after_hangups t k, _, _, hangs_up_own t dead, slams_others t (after_hangups t k), refl),
-          incoming_is, refl),
-        dispatched_is, refl),
-      drops_answers marks t (after_dispatched t k) idle_then, refl),
-    forgets_calls marks t (after_answers t k) unanswered_then, refl)
+          incoming_is,
+          refl,
+        ),
+        dispatched_is,
+        refl,
+      ),
+      drops_answers marks t (after_dispatched t k) idle_then,
+      refl,
+    ),
+    forgets_calls marks t (after_answers t k) unanswered_then,
+    refl,
+  )
 
   ends_parts : EndsParts t dead (kill k t).state (kill k t).entries
-  ends_parts = (after_calls t k, _, _, ends_calls,
+  ends_parts = (
+    after_calls t k,
+    _,
+    _,
+    ends_calls,
     loses_areas t (from_one marks t alive) (after_calls t k)
-    (subst spaces.IsSound (sym (calls_steady t dead).memory) sound.memory.spaces), refl)
+        (subst spaces.IsSound (sym (calls_steady t dead).memory) sound.memory.spaces),
+    refl,
+  )
 
   pub kill_is_so : IsKill t k (kill_event k t)
   kill_is_so = record {
@@ -665,7 +693,9 @@ module _ (k : KernelState) (t : TaskNo) (sound : IsSound k) (alive : is_alive k 
     counted = record { tasks = refl; calls = refl; memory = refl; events = refl };
   }
 
-pub kill_is_killed : (k : KernelState) (t : TaskNo) (done : Transition) → IsSound k → is_alive k t ≡ true → IsKill t k done
+pub kill_is_killed : (k : KernelState) (t : TaskNo) (done : Transition) → IsSound k → is_alive k t ≡ true
+    → IsKill t k done
     → done ≡ kill_event k t
 kill_is_killed k t done sound alive is =
-    kill_is_determined t k done (kill_event k t) (from_one k.tasks.alive t alive) sound.memory.spaces is (kill_is_so k t sound alive)
+    kill_is_determined t k done (kill_event k t) (from_one k.tasks.alive t alive) sound.memory.spaces is
+    (kill_is_so k t sound alive)

@@ -21,7 +21,8 @@ pub record IsLeast (t : TaskNo) (at : ℕ → Option Call) (c : Call) : Type 0 w
   pub least : (k : ℕ) (d : Call) → at k ≡ Some d → is_caller t d.caller ≡ true → number ≤ k
 
 module _ (t : TaskNo) where
-  behind : (e : ℕ × Call) (es : List (ℕ × Call)) (c : Call) → T (below_all nat_cmp e.0 es) → is_caller t e.1.caller ≡ false
+  behind : (e : ℕ × Call) (es : List (ℕ × Call)) (c : Call) → T (below_all nat_cmp e.0 es)
+      → is_caller t e.1.caller ≡ false
       → IsLeast t (λ k. find nat_cmp k es) c → IsLeast t (λ k. find nat_cmp k (e ∷ es)) c
   behind e es c b other h = record {
     number = h.number;
@@ -29,24 +30,30 @@ module _ (t : TaskNo) where
     least = λ k d is made. at_head k d (is_eq (nat_cmp k e.0)) refl is made (h.least k d);
   } where
     at_head : (k : ℕ) (d : Call) (q : Bool) → is_eq (nat_cmp k e.0) ≡ q → cond q (Some e.1) (find nat_cmp k es) ≡ Some d
-        → is_caller t d.caller ≡ true → (find nat_cmp k es ≡ Some d → is_caller t d.caller ≡ true → h.number ≤ k) → h.number ≤ k
-    at_head k d true q is made later = let same : e.1 ≡ d = cc in absurd (let z = rw same at other in let y = sym z ∙ made in cc)
+        → is_caller t d.caller ≡ true → (find nat_cmp k es ≡ Some d → is_caller t d.caller ≡ true → h.number ≤ k)
+        → h.number ≤ k
+    at_head k d true q is made later = let same : e.1 ≡ d = cc in
+        absurd (let z = rw same at other in let y = sym z ∙ made in cc)
     at_head k d false q is made later = later is made
 
-  at_first : (e : ℕ × Call) (es : List (ℕ × Call)) → T (below_all nat_cmp e.0 es) → IsLeast t (λ k. find nat_cmp k (e ∷ es)) e.1
+  at_first : (e : ℕ × Call) (es : List (ℕ × Call)) → T (below_all nat_cmp e.0 es)
+      → IsLeast t (λ k. find nat_cmp k (e ∷ es)) e.1
   at_first e es b = record {
     number = e.0;
     is = rw (ties e.0) refl;
     least = λ k d is made. at_head k d (is_eq (nat_cmp k e.0)) refl is;
   } where
-    at_head : (k : ℕ) (d : Call) (q : Bool) → is_eq (nat_cmp k e.0) ≡ q → cond q (Some e.1) (find nat_cmp k es) ≡ Some d → e.0 ≤ k
+    at_head : (k : ℕ) (d : Call) (q : Bool) → is_eq (nat_cmp k e.0) ≡ q
+        → cond q (Some e.1) (find nat_cmp k es) ≡ Some d → e.0 ≤ k
     at_head k d true q is = let key = key_same k e.0 q in omega (arith, key)
     at_head k d false q is = let more = greater e.0 es k d b is in omega (arith, more)
 
-  by_test : (e : ℕ × Call) (es : List (ℕ × Call)) (c : Call) (a b : Bool) → T (below_all nat_cmp e.0 es) → nat_le 0 e.0 ≡ a
+  by_test : (e : ℕ × Call) (es : List (ℕ × Call)) (c : Call) (a b : Bool) → T (below_all nat_cmp e.0 es)
+      → nat_le 0 e.0 ≡ a
       → is_caller t e.1.caller ≡ b → cond (a && b) (Some e.1) (first_from t 0 es) ≡ Some c
       → (first_from t 0 es ≡ Some c → IsLeast t (λ k. find nat_cmp k es) c) → IsLeast t (λ k. find nat_cmp k (e ∷ es)) c
-  by_test e es c true true s l m g later = let same : e.1 ≡ c = cc in subst (IsLeast t (λ k. find nat_cmp k (e ∷ es))) same (at_first e es s)
+  by_test e es c true true s l m g later = let same : e.1 ≡ c = cc in
+      subst (IsLeast t (λ k. find nat_cmp k (e ∷ es))) same (at_first e es s)
   by_test e es c true false s l m g later = behind e es c s m (later g)
   by_test e es c false b s l m g later = absurd (grind (arith, nat_tests, l))
 
@@ -78,7 +85,8 @@ one_more base so_far a areas h = record { before = so so_far h.before; each = at
   own : (o : Option ℕ) → ((l : ℕ) → lower o a.base ≡ Some l → base ≤ l) → base ≤ a.base
   own None f = f a.base refl
   own (Some s) f = by (nat_lt a.base s) refl f where
-    by : (b : Bool) → nat_lt a.base s ≡ b → ((l : ℕ) → (if b then Some a.base else Some s) ≡ Some l → base ≤ l) → base ≤ a.base
+    by : (b : Bool) → nat_lt a.base s ≡ b → ((l : ℕ) → (if b then Some a.base else Some s) ≡ Some l → base ≤ l)
+        → base ≤ a.base
     by true is f = f a.base refl
     by false is f = let le = f s refl in let from : s ≤ a.base = grind (arith, nat_tests, is) in omega (arith, le, from)
 
@@ -88,7 +96,8 @@ one_more base so_far a areas h = record { before = so so_far h.before; each = at
     same : s ≡ l
     same = cc e
 
-    by : (b : Bool) → nat_lt a.base s ≡ b → ((l : ℕ) → (if b then Some a.base else Some s) ≡ Some l → base ≤ l) → base ≤ l
+    by : (b : Bool) → nat_lt a.base s ≡ b → ((l : ℕ) → (if b then Some a.base else Some s) ≡ Some l → base ≤ l)
+        → base ≤ l
     by true is f =
         let le = f a.base refl in
         let less : a.base < s = grind (arith, nat_tests, is) in

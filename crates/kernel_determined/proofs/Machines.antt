@@ -1,26 +1,23 @@
 -- A machine that does all that is said of the requests is the kernel; and machines that the laws so far allow.
-use Rattle.std.proofs.Common.{◌≡◌, ℕ, ◌+◌, true, inl, inr, ◌∷◌, Option, Some, refl, sym, ◌∙◌}
-use Rattle.std.specs.Prelude.{Ok}
-use Rattle.std.proofs.lemmas.Bool.{cases_eq}
-use Rattle.ipc_ids.specs.declared.numbers.CallNo.{CallNo}
-use Rattle.ipc_ids.specs.declared.numbers.StoreNo.{StoreNo}
+use Rattle.std.proofs.Common.{◌≡◌, ℕ, List, Option, Some, refl, sym, ap, ◌∙◌}
 use Rattle.ipc_ids.specs.declared.numbers.TaskNo.{TaskNo}
-use Rattle.ipc_ids.specs.declared.message.Msg.{Msg}
 use Rattle.ipc_ids.specs.declared.message.Request.{Request}
 use Rattle.ipc_ids.specs.declared.message.Request.TheVariants as request
-use Rattle.ipc_ids.specs.declared.entry.Entry.TheVariants as entry
 use Rattle.call_slab.specs.declared.call.Call.{Call}
-use Rattle.answerbox.specs.Calls.{call_at, without_call}
-use Rattle.address_space.specs.Memory.{Memory, Step}
-use Rattle.cleanup.specs.State.{KernelState, Transition, with_memory, with_calls}
+use Rattle.address_space.specs.Memory.{Memory}
+use Rattle.cleanup.specs.State.{KernelState, Transition, phone_at, with_memory, with_phone}
+use Rattle.cleanup.proofs.Keepers.{state_here}
+use Rattle.cleanup.proofs.Lookups.{same_call, put_here}
+use Rattle.kernel_laws.proofs.KillRoutes.{is_there}
+use Rattle.answerbox.specs.Calls.{call_at}
+use Rattle.ipc_ids.specs.declared.message.PhoneState.{PhoneState}
+use Rattle.ipc_ids.specs.declared.entry.Entry.{Entry}
+use Rattle.kernel_determined.specs.Changed.{served_to, served_telling, ended_in, ended_telling, other_call}
 use Rattle.cleanup.specs.Sound.{IsSound}
 use Rattle.cleanup.specs.Serving.{Served}
-use Rattle.cleanup.proofs.Lookups.{gone_here, gone_other}
 use Rattle.kernel_core.specs.Kernel.{serve, kill_event, spawn_event}
 use Rattle.kernel_laws.specs.Connecting.{HasFive}
-use Rattle.kernel_laws.specs.MemoryLaws.{IsLawfulMake}
-use Rattle.kernel_laws.specs.PhoneCodes.{IsLawfulForward}
-use Rattle.kernel_laws.specs.ReceiveLaws.{IsHangupAnswer, IsLawfulReceive}
+use Rattle.kernel_determined.specs.KillLaw.{IsKill}
 use Rattle.kernel_determined.specs.KernelLaw.{MayAct, IsServed, IsKernel, IsTheKernel}
 use Rattle.kernel_determined.proofs.HangupDetermined.{hangup_is_so, hangup_is_served, nothing_is_so, nothing_is_served}
 use Rattle.kernel_determined.proofs.TakesSo.{receive_is_so, receive_is_served}
@@ -39,10 +36,12 @@ served_as : (k : KernelState) (t : TaskNo) (asked : Request) (done : Served) →
 served_as k t (request.Call p msg) done may five is = call_is_served k t p msg done may.sound five is
 served_as k t request.Receive done may five is = receive_is_served k t done may.sound is
 served_as k t (request.Answer n reply) done may five is = answer_is_served k t n reply done may.sound may.alive is
-served_as k t (request.Forward n p mode change) done may five is = forward_is_served k t n p mode change done may.sound is
+served_as k t (request.Forward n p mode change) done may five is =
+    forward_is_served k t n p mode change done may.sound is
 served_as k t (request.Hangup p) done may five is = hangup_is_served k t p done is
 served_as k t (request.AreaMake base pages rights) done may five is =
-    area_make_is_determined k t base pages rights done (serve k t (request.AreaMake base pages rights)) may.sound may.alive is
+    area_make_is_determined k t base pages rights done (serve k t (request.AreaMake base pages rights)) may.sound
+    may.alive is
     (area_make_is_so k t base pages rights may.sound may.alive)
 served_as k t (request.AreaDrop base) done may five is =
     area_drop_is_determined k t base done (serve k t (request.AreaDrop base)) may.sound.memory.spaces
@@ -55,7 +54,8 @@ served_as k t request.Nothing done may five is = nothing_is_served k t done is
 
 -- a machine that keeps the laws is the kernel
 pub one_kernel : (serves : KernelState → TaskNo → Request → Served) (kills : KernelState → TaskNo → Transition)
-    (spawns : KernelState → ℕ → Option TaskNo → Transition) → IsKernel serves kills spawns → IsTheKernel serves kills spawns
+    (spawns : KernelState → ℕ → Option TaskNo → Transition) → IsKernel serves kills spawns → IsTheKernel serves kills
+    spawns
 one_kernel serves kills spawns is = record {
   requests = λ k t asked may five. served_as k t asked (serves k t asked) may five (is.requests k t asked may five);
   killed = λ k t may. kill_is_killed k t (kills k t) may.sound may.alive (is.killed k t may);
@@ -72,7 +72,8 @@ serve_is_lawful k t request.Receive may five = receive_is_so k t may.sound
 serve_is_lawful k t (request.Answer n reply) may five = answer_is_so k t n reply may.sound may.alive
 serve_is_lawful k t (request.Forward n p mode change) may five = forward_is_so k may.sound t n p mode change
 serve_is_lawful k t (request.Hangup p) may five = hangup_is_so k t p
-serve_is_lawful k t (request.AreaMake base pages rights) may five = area_make_is_so k t base pages rights may.sound may.alive
+serve_is_lawful k t (request.AreaMake base pages rights) may five =
+    area_make_is_so k t base pages rights may.sound may.alive
 serve_is_lawful k t (request.AreaDrop base) may five = area_drop_is_so k t base
 serve_is_lawful k t (request.Poke at bytes) may five = poke_is_so k t at bytes may.sound
 serve_is_lawful k t (request.Peek at count) may five = peek_is_so k t at count may.sound
@@ -85,36 +86,63 @@ kernel_is_lawful = record {
   spawned = λ k limit names sound some. spawn_is_so k limit names sound some;
 }
 
--- ---- what the laws so far allow
+-- ---- so no change of what it does is lawful
 
--- a forward that leaves any other memory
-pub forwards_may_change_memory : (t : TaskNo) (n p : ℕ) (change : Option Msg) (k : KernelState) (done : Served) (m : Memory) → IsLawfulForward t n p change k done → IsLawfulForward t n p change k (record { state = with_memory done.state m; outcome = done.outcome; entries = done.entries })
-forwards_may_change_memory t n p change k done m is = record {
-  unheld = λ none. record { told = (is.unheld none).told; calls = (is.unheld none).calls };
-  forbidden = λ c h no_way. record { told = (is.forbidden c h no_way).told; answered = (is.forbidden c h no_way).answered };
-  dead = λ c h may none. record { told = (is.dead c h may none).told; answered = (is.dead c h may none).answered };
-  passed = is.passed;
-}
+-- of a request there is one outcome
+pub one_served : (k : KernelState) (t : TaskNo) (asked : Request) (a b : Served) → MayAct k t → HasFive asked
+    → IsServed k t asked a → IsServed k t asked b → a ≡ b
+one_served k t asked a b may five x y = served_as k t asked a may five x ∙ sym (served_as k t asked b may five y)
 
--- a receive that drops answers of hangups behind an awaited answer too
-pub receives_may_drop_more : (t : TaskNo) (k : KernelState) (done : Served) (n : CallNo) (c : Call) → call_at k.calls n.0 ≡ Some c → IsHangupAnswer t c → IsLawfulReceive t k done
-    → IsLawfulReceive t k (record { state = with_calls done.state (without_call done.state.calls n.0); outcome = done.outcome; entries = entry.Dropped n t ∷ done.entries })
-receives_may_drop_more t k done n c live answer is = record {
-  drops = ((refl, c, live, answer), is.drops);
-  dropped = λ m d at h early. elim (cases_eq n.0 m) [ inl e ↦ gone_here done.state.calls n.0 m e | inr ne ↦ gone_other done.state.calls n.0 m ne ∙ is.dropped m d at h early ];
-  answer = is.answer;
-  call = is.call;
-  nothing = is.nothing;
-  empty = is.empty;
-}
+pub one_killed : (k : KernelState) (t : TaskNo) (a b : Transition) → MayAct k t → IsKill t k a → IsKill t k b → a ≡ b
+one_killed k t a b may x y =
+    kill_is_killed k t a may.sound may.alive x ∙ sym (kill_is_killed k t b may.sound may.alive y)
 
--- an area that is made takes two numbers of stores
-pub makes_may_skip_numbers : (m : Memory) (t : TaskNo) (base pages rights : ℕ) (done : Step StoreNo) (store : StoreNo) → done.told ≡ Ok store → IsLawfulMake m t base pages rights done
-    → IsLawfulMake m t base pages rights (record { memory = record { areas = done.memory.areas; stores = done.memory.stores; next_store = done.memory.next_store + 1 }; told = done.told })
-makes_may_skip_numbers m t base pages rights done store told is = record {
-  cause = is.cause;
-  refused = λ code e. absurd (let f = sym told ∙ e in cc);
-  gives = λ s e. record { area = (is.gives s e).area; others = (is.gives s e).others };
-  zeros = is.zeros;
-  others = is.others;
-}
+phone_changed : (k : KernelState) (u : TaskNo) (q : ℕ) (old s : PhoneState) → phone_at k u q ≡ Some old
+    → k ≡ with_phone k u q s → old ≡ s
+phone_changed k u q old s is same =
+    let now : phone_at (with_phone k u q s) u q ≡ Some s =
+    state_here k.tasks.phones u.0 q s (is_there (phone_at k u q) old is) in
+    let e : Some old ≡ Some s = sym is ∙ ap (λ (j : KernelState). phone_at j u q) same ∙ now in
+    cc
+
+call_changed : (k : KernelState) (n : ℕ) (c d : Call) → call_at k.calls n ≡ Some c → k ≡ other_call k n d → c ≡ d
+call_changed k n c d is same =
+    let now : call_at (other_call k n d).calls n ≡ Some d = put_here k.calls n n d refl in
+    same_call c d (sym is ∙ ap (λ (j : KernelState). call_at j.calls n) same ∙ now)
+
+module _ (k : KernelState) (t : TaskNo) (asked : Request) (done : Served) (may : MayAct k t) (five : HasFive asked)
+    (is : IsServed k t asked done) where
+  pub served_memory : (m : Memory) → IsServed k t asked (served_to done (with_memory done.state m))
+      → done.state.memory ≡ m
+  served_memory m other = ap (λ (s : Served). s.state.memory) (one_served k t asked done _ may five is other)
+
+  pub served_phone : (u : TaskNo) (q : ℕ) (old s : PhoneState) → phone_at done.state u q ≡ Some old
+      → IsServed k t asked (served_to done (with_phone done.state u q s)) → old ≡ s
+  served_phone u q old s there other =
+      phone_changed done.state u q old s there (ap (λ (x : Served). x.state)
+      (one_served k t asked done _ may five is other))
+
+  pub served_call : (n : ℕ) (c d : Call) → call_at done.state.calls n ≡ Some c
+      → IsServed k t asked (served_to done (other_call done.state n d)) → c ≡ d
+  served_call n c d there other =
+      call_changed done.state n c d there (ap (λ (x : Served). x.state) (one_served k t asked done _ may five is other))
+
+  pub served_told : (es : List Entry) → IsServed k t asked (served_telling done es) → done.entries ≡ es
+  served_told es other = ap (λ (s : Served). s.entries) (one_served k t asked done _ may five is other)
+
+module _ (k : KernelState) (t : TaskNo) (done : Transition) (may : MayAct k t) (is : IsKill t k done) where
+  pub killed_memory : (m : Memory) → IsKill t k (ended_in done (with_memory done.state m)) → done.state.memory ≡ m
+  killed_memory m other = ap (λ (s : Transition). s.state.memory) (one_killed k t done _ may is other)
+
+  pub killed_phone : (u : TaskNo) (q : ℕ) (old s : PhoneState) → phone_at done.state u q ≡ Some old
+      → IsKill t k (ended_in done (with_phone done.state u q s)) → old ≡ s
+  killed_phone u q old s there other =
+      phone_changed done.state u q old s there (ap (λ (x : Transition). x.state) (one_killed k t done _ may is other))
+
+  pub killed_call : (n : ℕ) (c d : Call) → call_at done.state.calls n ≡ Some c
+      → IsKill t k (ended_in done (other_call done.state n d)) → c ≡ d
+  killed_call n c d there other =
+      call_changed done.state n c d there (ap (λ (x : Transition). x.state) (one_killed k t done _ may is other))
+
+  pub killed_told : (es : List Entry) → IsKill t k (ended_telling done es) → done.entries ≡ es
+  killed_told es other = ap (λ (s : Transition). s.entries) (one_killed k t done _ may is other)

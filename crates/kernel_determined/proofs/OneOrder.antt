@@ -6,18 +6,8 @@ use Rattle.call_slab.specs.declared.call.Call.{Call}
 use Rattle.answerbox.specs.Calls.{CallTable}
 use Rattle.cleanup.specs.State.{KernelState}
 use Rattle.cleanup.proofs.Lookups.{same_call}
-use Rattle.kernel_determined.specs.ReceiveLaw.{CameBefore}
+use Rattle.kernel_determined.specs.Frames.{CameBefore}
 use Rattle.kernel_determined.specs.Turns.{IsAmong, ComesBeforeEach, AreInOrder, InTurn, EachInTurn, Then}
-
-pub is_among : (n : ℕ) (ns : List ℕ) → IsAmong n ns ⊎ (IsAmong n ns → ⊥)
-is_among n [] = inr (λ h. h)
-is_among n (m ∷ ms) = elim (cases_eq n m) [
-  | inl e ↦ inl (inl e)
-  | inr ne ↦ elim (is_among n ms) [
-    | inl h ↦ inl (inr h)
-    | inr out ↦ inr (λ h. elim h [ inl e ↦ ne e | inr later ↦ out later ])
-  ]
-]
 
 -- no two calls came before each other
 pub came_apart : (q : CallTable) (m n : ℕ) → CameBefore q m n → CameBefore q n m → ⊥
@@ -59,7 +49,7 @@ module _ {A : Type 0} (Before : A → A → Type 0) (apart : (x y : A) → Befor
   order_same (x ∷ xs) (y ∷ ys) f g to from =
       let head : x ≡ y = heads x y xs ys f.0 g.0 (to x (inl refl)) (from y (inl refl)) in
       let tail : xs ≡ ys = order_same xs ys f.1 g.1 (λ n h. behind x y n xs ys f.0 head h (to n (inr h)))
-          (λ n h. behind y x n ys xs g.0 (sym head) h (from n (inr h))) in
+      (λ n h. behind y x n ys xs g.0 (sym head) h (from n (inr h))) in
       cc
 
 -- a turn of one thing is determined, and keeps what that needs
@@ -71,7 +61,8 @@ pub record IsDetermined {A : Type 0} (Turn : KernelState → A → KernelState �
 
 module _ {A : Type 0} (Turn : KernelState → A → KernelState → List Entry → Type 0) (I : KernelState → Type 0)
     (one : IsDetermined Turn I) where
-  turns_same : (xs : List A) (k a b : KernelState) (m n : List Entry) → I k → InTurn Turn xs k a m → InTurn Turn xs k b n
+  turns_same : (xs : List A) (k a b : KernelState) (m n : List Entry) → I k → InTurn Turn xs k a m
+      → InTurn Turn xs k b n
       → (a ≡ b) × (m ≡ n)
   turns_same [] k a b m n i f g = (f.0 ∙ sym g.0, f.1 ∙ sym g.1)
   turns_same (x ∷ xs) k a b m n i f g =
@@ -89,7 +80,7 @@ module _ {A : Type 0} (Turn : KernelState → A → KernelState → List Entry �
         → EachInTurn IsSo Before Turn k b n → (a ≡ b) × (m ≡ n)
     each_same k a b m n i x y =
         let same : x.things ≡ y.things = order_same Before apart x.things y.things x.order y.order
-            (λ z h. y.all z (x.each z h)) (λ z h. x.all z (y.each z h)) in
+        (λ z h. y.all z (x.each z h)) (λ z h. x.all z (y.each z h)) in
         turns_same y.things k a b m n i (subst (λ xs. InTurn Turn xs k a m) same x.turns) y.turns
 
     pub each_keeps : (k a : KernelState) (m : List Entry) → I k → EachInTurn IsSo Before Turn k a m → I a

@@ -23,36 +23,29 @@ use Rattle.kernel_laws.specs.MemoryRequests.{written}
 use Rattle.kernel_laws.specs.ReceiveLaws.{IsFirst, HasNone}
 use Rattle.kernel_determined.specs.Frames.{PhoneComesTo}
 use Rattle.kernel_determined.specs.Frames.{HasFifth}
-use Rattle.kernel_determined.specs.Turns.{IsAmong}
-use Rattle.kernel_determined.specs.ReceiveLaw.{CameBefore, DropsHangups, drops, Delivers, DeliversBytes, DeliversRefusal, DeliversPhone, IsDelivery, Receives, ReceivesWithPhone, ReceivesWithout, IsReception, IsAnswerAt, IsWaitingAt, TakesAnswer, TakesCall, Takes, with_entries, IsReceive}
+use Rattle.kernel_determined.specs.Frames.{CameBefore}
+use Rattle.kernel_determined.specs.SettleLaw.{DropsAnswer}
+use Rattle.kernel_determined.specs.ReceiveLaw.{IsDropped, Delivers, DeliversBytes, DeliversRefusal, DeliversPhone, IsDelivery, Receives, ReceivesWithPhone, ReceivesWithout, IsReception, IsAnswerAt, IsWaitingAt, TakesAnswer, TakesCall, Takes, with_entries, IsReceive}
 use Rattle.kernel_determined.proofs.Same.{list_same, table_same, state_same, served_same}
-use Rattle.kernel_determined.proofs.OneOrder.{is_among, came_apart, order_same}
+use Rattle.kernel_determined.proofs.OneOrder.{came_apart, IsDetermined, each_same, each_keeps}
+use Rattle.kernel_determined.proofs.SettleDetermined.{drop_same}
 use Rattle.kernel_determined.proofs.WriteDetermined.{write_is_determined}
 use Rattle.kernel_determined.proofs.HangupDetermined.{phones_same, stay_same, come_same, nothing_same}
 
 -- ---- what is dropped
 
-module _ (t : TaskNo) (k a b : KernelState) (ms ns : List ℕ) (f : DropsHangups t k ms a) (g : DropsHangups t k ns b) where
-  pub same_drops : ms ≡ ns
-  same_drops = order_same (CameBefore k.calls) (came_apart k.calls) ms ns f.order g.order (λ n h. g.all n (f.each n h)) (λ n h. f.all n (g.each n h))
+-- each call that is left was there before
+abbrev AreLeftOf : KernelState → KernelState → Type 0
+AreLeftOf k j = (n : ℕ) (c : Call) → call_at j.calls n ≡ Some c → call_at k.calls n ≡ Some c
 
-  same_at : (n : ℕ) → call_at a.calls n ≡ call_at b.calls n
-  same_at n = elim (is_among n ms) [
-    | inl is ↦ f.gone n is ∙ sym (g.gone n (subst (IsAmong n) same_drops is))
-    | inr out ↦ f.others n out ∙ sym (g.others n (λ h. out (subst (IsAmong n) (sym same_drops) h)))
-  ]
-
-  pub same_left : a ≡ b
-  same_left = state_same a b (ap (λ (x : Tasks). x.alive) (f.tasks ∙ sym g.tasks)) (ap (λ (x : Tasks). x.phones) (f.tasks ∙ sym g.tasks))
-      (table_same a.calls b.calls same_at (f.numbers ∙ sym g.numbers) (f.arrivals ∙ sym g.arrivals))
-      (f.memory ∙ sym g.memory) (f.events ∙ sym g.events)
-
--- what is left was there before
-still : (t : TaskNo) (k j : KernelState) (ns : List ℕ) → DropsHangups t k ns j → (n : ℕ) (c : Call) → call_at j.calls n ≡ Some c → call_at k.calls n ≡ Some c
-still t k j ns d n c is = elim (is_among n ns) [
-  | inl h ↦ absurd (let e : None ≡ Some c = sym (d.gone n h) ∙ is in cc)
-  | inr out ↦ sym (d.others n out) ∙ is
-]
+drops_left : (t : TaskNo) (k : KernelState) → IsDetermined (DropsAnswer t) (AreLeftOf k)
+drops_left t k = record {
+  same = λ j i a b m n h x y. drop_same t i j a b m n x y;
+  keeps = λ j i a m h x n c is. elim (cases_eq n i) [
+    | inl e ↦ absurd (let f : None ≡ Some c = sym x.calls.gone ∙ ap (call_at a.calls) (sym e) ∙ is in cc)
+    | inr ne ↦ h n c (sym (x.calls.others n ne) ∙ is)
+  ];
+}
 
 -- ---- arguments
 
@@ -66,34 +59,46 @@ args_same number given xs ys f g = list_same xs ys (λ i. by i (cases_eq i 4) (c
   by : (i : ℕ) → (i ≡ 4) ⊎ (i ≡ 4 → ⊥) → (4 < length given) ⊎ (length given ≤ 4) → slice_get xs i ≡ slice_get ys i
   by i (inr ne) h = f.others i ne ∙ sym (g.others i ne)
   by i (inl e) (inl more) = ap (slice_get xs) e ∙ f.fifth more ∙ sym (g.fifth more) ∙ ap (slice_get ys) (sym e)
-  by i (inl e) (inr few) = let x = f.many in let y = g.many in past xs i (omega (arith, x, e, few)) ∙ sym (past ys i (omega (arith, y, e, few)))
+  by i (inl e) (inr few) = let x = f.many in let y = g.many in past xs i (omega (arith, x, e, few))
+      ∙ sym (past ys i (omega (arith, y, e, few)))
 
 -- ---- a delivery
 
 module _ (t : TaskNo) (k : KernelState) (c : Call) (a b : Served) where
   table_of : (xs : Option Call) → (next : ℕ)
-      → call_at a.state.calls c.number.0 ≡ xs → ((n : ℕ) → (n ≡ c.number.0 → ⊥) → call_at a.state.calls n ≡ call_at k.calls n)
-      → call_at b.state.calls c.number.0 ≡ xs → ((n : ℕ) → (n ≡ c.number.0 → ⊥) → call_at b.state.calls n ≡ call_at k.calls n)
-      → a.state.calls.next_number ≡ b.state.calls.next_number → a.state.calls.next_stamp ≡ next → b.state.calls.next_stamp ≡ next → a.state.calls ≡ b.state.calls
-  table_of xs next here others there elsewhere numbers f g = table_same a.state.calls b.state.calls at numbers (f ∙ sym g) where
-    at : (n : ℕ) → call_at a.state.calls n ≡ call_at b.state.calls n
-    at n = elim (cases_eq n c.number.0) [
-      | inl e ↦ ap (call_at a.state.calls) e ∙ here ∙ sym there ∙ ap (call_at b.state.calls) (sym e)
-      | inr ne ↦ others n ne ∙ sym (elsewhere n ne)
-    ]
+      → call_at a.state.calls c.number.0 ≡ xs → ((n : ℕ) → (n ≡ c.number.0 → ⊥) → call_at a.state.calls n
+      ≡ call_at k.calls n)
+      → call_at b.state.calls c.number.0 ≡ xs → ((n : ℕ) → (n ≡ c.number.0 → ⊥) → call_at b.state.calls n
+      ≡ call_at k.calls n)
+      → a.state.calls.next_number ≡ b.state.calls.next_number → a.state.calls.next_stamp ≡ next
+      → b.state.calls.next_stamp ≡ next → a.state.calls ≡ b.state.calls
+  table_of xs next here others there elsewhere numbers f g =
+      table_same a.state.calls b.state.calls at numbers (f ∙ sym g) where
+        at : (n : ℕ) → call_at a.state.calls n ≡ call_at b.state.calls n
+        at n = elim (cases_eq n c.number.0) [
+          | inl e ↦ ap (call_at a.state.calls) e ∙ here ∙ sym there ∙ ap (call_at b.state.calls) (sym e)
+          | inr ne ↦ others n ne ∙ sym (elsewhere n ne)
+        ]
 
-  delivers_same : (r : Reply) (m : Memory) (note : List Entry) → Delivers t k c r m note a → Delivers t k c r m note b → ((u : TaskNo) (q : ℕ) → phone_at a.state u q ≡ phone_at b.state u q) → a ≡ b
+  delivers_same : (r : Reply) (m : Memory) (note : List Entry) → Delivers t k c r m note a → Delivers t k c r m note b
+      → ((u : TaskNo) (q : ℕ) → phone_at a.state u q ≡ phone_at b.state u q) → a ≡ b
   delivers_same r m note x y phones = served_same a b
-      (state_same a.state b.state (x.event.alive ∙ sym y.event.alive) (phones_same k a.state b.state x.event y.event phones)
-      (table_of None k.calls.next_stamp x.gone x.others y.gone y.others (x.numbers ∙ sym y.numbers) x.arrivals y.arrivals)
+      (state_same a.state b.state (x.event.alive ∙ sym y.event.alive)
+      (phones_same k a.state b.state x.event y.event phones)
+      (table_of None k.calls.next_stamp x.gone x.others y.gone y.others (x.numbers ∙ sym y.numbers) x.arrivals
+      y.arrivals)
       (x.memory_after ∙ sym y.memory_after) (x.event.counted ∙ sym y.event.counted))
       (x.told ∙ sym y.told) (x.entries ∙ sym y.entries)
 
   bytes_same : DeliversBytes t k c a → DeliversBytes t k c b → a ≡ b
   bytes_same x y =
-      let same : x.step ≡ y.step = write_is_determined k.memory t (first c.request.args) c.buffer x.step y.step x.write y.write in
-      let d = subst (λ (s : Step (Option StoreNo)). Delivers t k c (record { code = code_after s.told; args = c.reply.args }) s.memory (written t (first c.request.args) (length c.buffer) s.told) a) same x.delivers in
-      delivers_same _ y.step.memory (written t (first c.request.args) (length c.buffer) y.step.told) d y.delivers (stay_same k a.state b.state x.phones y.phones)
+      let same : x.step ≡ y.step = write_is_determined k.memory t (first c.request.args) c.buffer x.step y.step
+      x.write y.write in
+      let d = subst (λ (s : Step (Option StoreNo)). Delivers t k c
+      (record { code = code_after s.told; args = c.reply.args }) s.memory
+      (written t (first c.request.args) (length c.buffer) s.told) a) same x.delivers in
+      delivers_same _ y.step.memory (written t (first c.request.args) (length c.buffer) y.step.told) d y.delivers
+      (stay_same k a.state b.state x.phones y.phones)
 
   one_label : (l m : Label) → c.reserved ≡ Some l → c.reserved ≡ Some m → l ≡ m
   one_label l m e f = let g : Some l ≡ Some m = sym e ∙ f in cc
@@ -103,14 +108,16 @@ module _ (t : TaskNo) (k : KernelState) (c : Call) (a b : Served) where
       let same : x.phone ≡ y.phone = one_label x.phone y.phone x.unconnected.kept y.unconnected.kept in
       let d = subst (λ (l : Label). Delivers t k c c.reply k.memory (entry.PhoneIs l Free ∷ []) a) same x.delivers in
       let free = subst (λ (l : Label). PhoneComesTo l.task l.phone.0 Free k a.state) same x.free in
-      delivers_same c.reply k.memory (entry.PhoneIs y.phone Free ∷ []) d y.delivers (come_same k a.state b.state y.phone.task y.phone.phone.0 Free free y.free)
+      delivers_same c.reply k.memory (entry.PhoneIs y.phone Free ∷ []) d y.delivers
+      (come_same k a.state b.state y.phone.task y.phone.phone.0 Free free y.free)
 
   phone_same : DeliversPhone t k c a → DeliversPhone t k c b → a ≡ b
   phone_same x y =
       let same : x.phone ≡ y.phone = one_label x.phone y.phone x.kept y.kept in
       let names = subst (λ (l : Label). HasFifth l.phone.0 c.reply.args x.args) same x.names in
       let args : x.args ≡ y.args = args_same y.phone.phone.0 c.reply.args x.args y.args names y.names in
-      let d = subst (λ (r : List ℕ). Delivers t k c (record { code = c.reply.code; args = r }) k.memory [] a) args x.delivers in
+      let d = subst (λ (r : List ℕ). Delivers t k c (record { code = c.reply.code; args = r }) k.memory [] a) args
+      x.delivers in
       delivers_same _ k.memory [] d y.delivers (stay_same k a.state b.state x.phones y.phones)
 
   some_none : (l : Label) → c.reserved ≡ Some l → c.reserved ≡ None → ⊥
@@ -127,22 +134,28 @@ module _ (t : TaskNo) (k : KernelState) (c : Call) (a b : Served) where
   delivery_same (inr (inl x)) (inl y) = absurd (x.refused y.brought.accepted)
   delivery_same (inr (inl x)) (inr (inl y)) = refusal_same x y
   delivery_same (inr (inl x)) (inr (inr (inl y))) = absurd (x.refused y.accepted)
-  delivery_same (inr (inl x)) (inr (inr (inr y))) = absurd (some_none x.phone x.unconnected.kept (y.unkept x.unconnected.asks))
+  delivery_same (inr (inl x)) (inr (inr (inr y))) = absurd
+      (some_none x.phone x.unconnected.kept (y.unkept x.unconnected.asks))
   delivery_same (inr (inr (inl x))) (inl y) = absurd (two_methods (sym x.asks ∙ y.brought.asks))
   delivery_same (inr (inr (inl x))) (inr (inl y)) = absurd (y.refused x.accepted)
   delivery_same (inr (inr (inl x))) (inr (inr (inl y))) = phone_same x y
   delivery_same (inr (inr (inl x))) (inr (inr (inr y))) = absurd (some_none x.phone x.kept (y.unkept x.asks))
   delivery_same (inr (inr (inr x))) (inl y) = absurd (x.bare y.brought)
-  delivery_same (inr (inr (inr x))) (inr (inl y)) = absurd (some_none y.phone y.unconnected.kept (x.unkept y.unconnected.asks))
+  delivery_same (inr (inr (inr x))) (inr (inl y)) = absurd
+      (some_none y.phone y.unconnected.kept (x.unkept y.unconnected.asks))
   delivery_same (inr (inr (inr x))) (inr (inr (inl y))) = absurd (some_none y.phone y.kept (x.unkept y.asks))
-  delivery_same (inr (inr (inr x))) (inr (inr (inr y))) = delivers_same c.reply k.memory [] x.delivers y.delivers (stay_same k a.state b.state x.phones y.phones)
+  delivery_same (inr (inr (inr x))) (inr (inr (inr y))) =
+      delivers_same c.reply k.memory [] x.delivers y.delivers (stay_same k a.state b.state x.phones y.phones)
 
   -- ---- a reception
 
-  receives_same : (args : List ℕ) (kept : Option Label) (note : List Entry) → Receives t k c args kept note a → Receives t k c args kept note b → ((u : TaskNo) (q : ℕ) → phone_at a.state u q ≡ phone_at b.state u q) → a ≡ b
+  receives_same : (args : List ℕ) (kept : Option Label) (note : List Entry) → Receives t k c args kept note a
+      → Receives t k c args kept note b → ((u : TaskNo) (q : ℕ) → phone_at a.state u q ≡ phone_at b.state u q) → a ≡ b
   receives_same args kept note x y phones = served_same a b
-      (state_same a.state b.state (x.event.alive ∙ sym y.event.alive) (phones_same k a.state b.state x.event y.event phones)
-      (table_of _ (k.calls.next_stamp + 1) x.held x.others y.held y.others (x.numbers ∙ sym y.numbers) x.arrivals y.arrivals)
+      (state_same a.state b.state (x.event.alive ∙ sym y.event.alive)
+      (phones_same k a.state b.state x.event y.event phones)
+      (table_of _ (k.calls.next_stamp + 1) x.held x.others y.held y.others (x.numbers ∙ sym y.numbers) x.arrivals
+      y.arrivals)
       (x.memory ∙ sym y.memory) (x.event.counted ∙ sym y.event.counted))
       (x.told ∙ sym y.told) (x.entries ∙ sym y.entries)
 
@@ -152,7 +165,10 @@ module _ (t : TaskNo) (k : KernelState) (c : Call) (a b : Served) where
   least_same : (x : ReceivesWithPhone t k c a) (y : ReceivesWithPhone t k c b) → x.phone ≡ y.phone
   least_same x y = elim (cases_lt x.phone y.phone) [
     | inl less ↦ absurd (y.least x.phone less x.usable)
-    | inr le ↦ elim (cases_lt y.phone x.phone) [ inl less ↦ absurd (x.least y.phone less y.usable) | inr ge ↦ omega (arith, le, ge) ]
+    | inr le ↦ elim (cases_lt y.phone x.phone) [
+      | inl less ↦ absurd (x.least y.phone less y.usable)
+      | inr ge ↦ omega (arith, le, ge)
+    ]
   ]
 
   with_phone_same : ReceivesWithPhone t k c a → ReceivesWithPhone t k c b → a ≡ b
@@ -161,8 +177,10 @@ module _ (t : TaskNo) (k : KernelState) (c : Call) (a b : Served) where
       let names = subst (λ p. HasFifth p c.msg.args x.args) same x.names in
       let args : x.args ≡ y.args = args_same y.phone c.msg.args x.args y.args names y.names in
       let waits = subst (λ p. PhoneComesTo t p Connecting k a.state) same x.waits in
-      let r = subst (λ p. Receives t k c x.args (Some (label_of t p)) (entry.PhoneIs (label_of t p) Connecting ∷ []) a) same x.receives in
-      let s = subst (λ xs. Receives t k c xs (Some (label_of t y.phone)) (entry.PhoneIs (label_of t y.phone) Connecting ∷ []) a) args r in
+      let r = subst (λ p. Receives t k c x.args (Some (label_of t p)) (entry.PhoneIs (label_of t p) Connecting ∷ [])
+      a) same x.receives in
+      let s = subst (λ xs. Receives t k c xs (Some (label_of t y.phone))
+      (entry.PhoneIs (label_of t y.phone) Connecting ∷ []) a) args r in
       receives_same y.args _ _ s y.receives (come_same k a.state b.state t y.phone Connecting waits y.waits)
 
   without_same : ReceivesWithout t k c a → ReceivesWithout t k c b → a ≡ b
@@ -180,15 +198,18 @@ module _ (t : TaskNo) (k : KernelState) (c : Call) (a b : Served) where
   reception_same (inr (inl x)) (inr (inr y)) = absurd (y.others x.asks)
   reception_same (inr (inr x)) (inl y) = absurd (x.others y.asks)
   reception_same (inr (inr x)) (inr (inl y)) = absurd (x.others y.asks)
-  reception_same (inr (inr x)) (inr (inr y)) = receives_same c.msg.args c.reserved [] x.receives y.receives (stay_same k a.state b.state x.phones y.phones)
+  reception_same (inr (inr x)) (inr (inr y)) = receives_same c.msg.args c.reserved [] x.receives y.receives
+      (stay_same k a.state b.state x.phones y.phones)
 
 -- ---- of what is left the first
 
 -- no two calls came at once
 abbrev pub CameApart : CallTable → Type 0
-CameApart calls = (m n : ℕ) (c d : Call) → call_at calls m ≡ Some c → call_at calls n ≡ Some d → c.stamp ≡ d.stamp → m ≡ n
+CameApart calls = (m n : ℕ) (c d : Call) → call_at calls m ≡ Some c → call_at calls n ≡ Some
+    d → c.stamp ≡ d.stamp → m ≡ n
 
-first_same : (q : CallTable) (IsSo : Call → Type 0) (c d : Call) → CameApart q → IsFirst q IsSo c → IsFirst q IsSo d → c ≡ d
+first_same : (q : CallTable) (IsSo : Call → Type 0) (c d : Call) → CameApart q → IsFirst q IsSo c → IsFirst q IsSo d
+    → c ≡ d
 first_same q IsSo c d apart x y =
     let le = x.least d.number.0 d y.live y.so in
     let ge = y.least c.number.0 c x.live x.so in
@@ -222,12 +243,19 @@ module _ (t : TaskNo) (k : KernelState) (apart : CameApart k.calls) (a b : Serve
 
 -- ---- a receive
 
-pub receive_is_determined : (t : TaskNo) (k : KernelState) (a b : Served) → IsSound k → IsReceive t k a → IsReceive t k b → a ≡ b
+pub receive_is_determined : (t : TaskNo) (k : KernelState) (a b : Served) → IsSound k → IsReceive t k a
+    → IsReceive t k b → a ≡ b
 receive_is_determined t k a b sound x y =
-    let numbers : x.dropped ≡ y.dropped = same_drops t k x.left y.left x.dropped y.dropped x.drops_them y.drops_them in
-    let left : x.left ≡ y.left = same_left t k x.left y.left x.dropped y.dropped x.drops_them y.drops_them in
-    let apart : CameApart y.left.calls = λ m n c d e f g. sound.calls.stamps_differ m n c d (still t k y.left y.dropped y.drops_them m c e) (still t k y.left y.dropped y.drops_them n d f) g in
-    let takes : Takes t y.left (with_entries a x.told) = subst (λ (j : KernelState). Takes t j (with_entries a x.told)) left x.takes in
-    let same : with_entries a x.told ≡ with_entries b y.told = takes_same t y.left apart (with_entries a x.told) (with_entries b y.told) takes y.takes in
+    let drops = each_same (DropsAnswer t) (AreLeftOf k) (drops_left t k) (IsDropped t k.calls) (CameBefore k.calls)
+    (came_apart k.calls) k x.left y.left x.dropped y.dropped (λ n c is. is) x.drops y.drops in
+    let still : AreLeftOf k y.left = each_keeps (DropsAnswer t) (AreLeftOf k) (drops_left t k) (IsDropped t k.calls)
+    (CameBefore k.calls) (came_apart k.calls) k y.left y.dropped (λ n c is. is) y.drops in
+    let apart : CameApart y.left.calls =
+    λ m n c d e f g. sound.calls.stamps_differ m n c d (still m c e) (still n d f) g in
+    let takes : Takes t y.left (with_entries a x.told) =
+    subst (λ (j : KernelState). Takes t j (with_entries a x.told)) drops.0 x.takes in
+    let same : with_entries a x.told ≡ with_entries b y.told =
+    takes_same t y.left apart (with_entries a x.told) (with_entries b y.told) takes y.takes in
     served_same a b (ap (λ (s : Served). s.state) same) (ap (λ (s : Served). s.outcome) same)
-    (x.entries ∙ ap (λ ns. drops t ns ++ x.told) numbers ∙ ap (λ es. drops t y.dropped ++ es) (ap (λ (s : Served). s.entries) same) ∙ sym y.entries)
+    (x.entries ∙ ap (λ es. es ++ x.told) drops.1 ∙ ap (λ es. y.dropped ++ es) (ap (λ (s : Served). s.entries) same)
+    ∙ sym y.entries)

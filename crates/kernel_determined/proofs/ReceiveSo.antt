@@ -19,13 +19,16 @@ use Rattle.cleanup.specs.Sound.{IsSound}
 use Rattle.cleanup.specs.Kept.{keeper_of, kept_of, kept_phone, kept_rows, kept_note}
 use Rattle.cleanup.specs.Joins.{drop_answer}
 use Rattle.cleanup.proofs.Lookups.{same_call, gone_here, gone_other}
-use Rattle.cleanup.proofs.Queues.{sound_drop}
+use Rattle.cleanup.proofs.Queues.{sound_drop, stands_at, over_less}
 use Rattle.kernel_core.specs.Receiving.{unawaited, next_unawaited, drop_unawaited}
 use Rattle.kernel_laws.specs.ReceiveLaws.{IsAwaited}
 use Rattle.kernel_laws.proofs.ReceiveLaws.{drain_stops, at_answers, is_answers, unawaited_is, IsNext, next_is, is_hangup, no_hangup}
-use Rattle.kernel_determined.specs.Turns.{IsAmong, ComesBeforeEach, AreInOrder}
-use Rattle.kernel_determined.specs.ReceiveLaw.{CameBefore, IsDropped, DropsHangups, drops}
-use Rattle.kernel_determined.proofs.OneOrder.{is_among}
+use Rattle.kernel_determined.specs.Frames.{CameBefore}
+use Rattle.kernel_determined.specs.SettleLaw.{DropsAnswer}
+use Rattle.kernel_determined.specs.ReceiveLaw.{IsDropped, DropsHangups}
+use Rattle.kernel_determined.proofs.TurnsKept.{IsNextTurn, IsTurn, all_drained}
+use Rattle.kernel_determined.proofs.SettleSo.{drops}
+use Rattle.cleanup.proofs.Repeats.{drain_keeps}
 
 -- ---- what is dropped
 
@@ -44,13 +47,19 @@ module _ (t : TaskNo) where
   none_left : (j : KernelState) → IsSound j → next_unawaited t j ≡ None → (n : ℕ) → IsDropped t j.calls n → ⊥
   none_left j sound stop n d = by_front (front j.calls (Answers t)) refl where
     by_front : (o : Option Call) → front j.calls (Answers t) ≡ o → ⊥
-    by_front None is = false≢true (sym (no_front-has_no_calls j.calls (Answers t) is n d.call d.live) ∙ is_answers t d.call.place d.answer.place)
+    by_front None is = false≢true (sym (no_front-has_no_calls j.calls (Answers t) is n d.call d.live)
+        ∙ is_answers t d.call.place d.answer.place)
     by_front (Some x) is =
         let f = front_live j.calls (Answers t) x is in
         let mark : x.discard ≡ false = first_awaited x (ap unawaited (sym is) ∙ stop) in
-        let awaited : IsAwaited t x = record { place = at_answers t x.place f.2; wanted = no_hangup j t sound f.0 x f.1 mark } in
+        let awaited : IsAwaited t x = record {
+          place = at_answers t x.place f.2;
+          wanted =
+              no_hangup j t sound f.0 x f.1 mark;
+        } in
         let less = d.early f.0 x f.1 awaited in
-        let least = (front-is_front j.calls (Answers t) f.0 x is f.1).least x n d.call f.1 d.live (is_answers t d.call.place d.answer.place) in
+        let least = (front-is_front j.calls (Answers t) f.0 x is f.1).least x n d.call f.1 d.live
+        (is_answers t d.call.place d.answer.place) in
         omega (arith, less, least)
 
   -- one is dropped, and then the others
@@ -67,13 +76,12 @@ module _ (t : TaskNo) where
     abbrev next_state : KernelState
     next_state = (drop_answer t j x).state
 
-    unkept : kept_phone x ≡ None
-    unkept = ap (λ m. kept_of (keeper_of (kind_of m)) x.from.task x.place x.reply.code x.reserved) hangup
-
     -- every other answer came later
-    later : (n : ℕ) (d : Call) → call_at j.calls n ≡ Some d → d.place ≡ Answers t → (n ≡ x.number.0 → ⊥) → x.stamp < d.stamp
+    later : (n : ℕ) (d : Call) → call_at j.calls n ≡ Some d → d.place ≡ Answers t → (n ≡ x.number.0 → ⊥)
+        → x.stamp < d.stamp
     later n d live at ne =
-        let least = (front-is_front j.calls (Answers t) x.number.0 x first_is it.live).least x n d it.live live (is_answers t d.place at) in
+        let least = (front-is_front j.calls (Answers t) x.number.0 x first_is it.live).least x n d it.live live
+        (is_answers t d.place at) in
         elim (cases_eq x.stamp d.stamp) [
           | inl e ↦ absurd (ne (sym (sound.calls.stamps_differ x.number.0 n x d it.live live e)))
           | inr other ↦ omega (arith, least, other)
@@ -98,7 +106,8 @@ module _ (t : TaskNo) where
       by (inl e) = absurd (none_is_some (call_at next_state.calls n) d (gone_here j.calls x.number.0 n e) live)
       by (inr ne) = (λ e. ne (sym e), sym (gone_other j.calls x.number.0 n ne) ∙ live)
 
-    is_still : (n : ℕ) (d : Call) → call_at j.calls n ≡ Some d → (n ≡ x.number.0 → ⊥) → call_at next_state.calls n ≡ Some d
+    is_still : (n : ℕ) (d : Call) → call_at j.calls n ≡ Some d → (n ≡ x.number.0 → ⊥)
+        → call_at next_state.calls n ≡ Some d
     is_still n d live ne = gone_other j.calls x.number.0 n (λ e. ne (sym e)) ∙ live
 
     back : (n : ℕ) → IsDropped t next_state.calls n → IsDropped t j.calls n
@@ -120,71 +129,34 @@ module _ (t : TaskNo) where
     came_back : (m n : ℕ) → CameBefore next_state.calls m n → CameBefore j.calls m n
     came_back m n h = (h.0, h.1, (was m h.0 h.2).1, (was n h.1 h.3).1, h.4)
 
-    each_back : (m : ℕ) (ns : List ℕ) → ComesBeforeEach (CameBefore next_state.calls) m ns → ComesBeforeEach (CameBefore j.calls) m ns
-    each_back m [] h = tt
-    each_back m (n ∷ ns) h = (came_back m n h.0, each_back m ns h.1)
-
-    order_back : (ns : List ℕ) → AreInOrder (CameBefore next_state.calls) ns → AreInOrder (CameBefore j.calls) ns
-    order_back [] h = tt
-    order_back (n ∷ ns) h = (each_back n ns h.0, order_back ns h.1)
-
-    before_all : (ns : List ℕ) → ((n : ℕ) → IsAmong n ns → IsDropped t next_state.calls n) → ComesBeforeEach (CameBefore j.calls) x.number.0 ns
-    before_all [] all = tt
-    before_all (n ∷ ns) all =
-        let d = all n (inl refl) in
-        let w = was n d.call d.live in
-        ((x, d.call, it.live, w.1, later n d.call w.1 d.answer.place w.0), before_all ns (λ m h. all m (inr h)))
-
-    one_more : (ns : List ℕ) (last : KernelState) → DropsHangups t next_state ns last → DropsHangups t j (x.number.0 ∷ ns) last
-    one_more ns last d = record {
-      each = λ n h. elim h [ inl e ↦ subst (IsDropped t j.calls) (sym e) it_is_dropped | inr later ↦ back n (d.each n later) ];
-      all = λ n h. elim (cases_eq n x.number.0) [ inl e ↦ inl e | inr ne ↦ inr (d.all n (forth n ne h)) ];
-      order = (before_all ns d.each, order_back ns d.order);
-      gone = λ n h. elim h [
-        | inl e ↦ elim (is_among n ns) [ inl among ↦ d.gone n among | inr out ↦ d.others n out ∙ gone_here j.calls x.number.0 n (sym e) ]
-        | inr later ↦ d.gone n later
-      ];
-      others = λ n out. d.others n (λ h. out (inr h)) ∙ gone_other j.calls x.number.0 n (λ e. out (inl (sym e)));
-      numbers = d.numbers;
-      arrivals = d.arrivals;
-      tasks = d.tasks ∙ ap (λ (o : Option Label). let r : Tasks = record { alive = j.tasks.alive; phones = kept_rows j.tasks.phones o Free } in r) unkept;
-      memory = d.memory;
-      events = d.events;
+    next_turn : IsNextTurn (IsDropped t j.calls) (IsDropped t next_state.calls) (CameBefore j.calls)
+        (CameBefore next_state.calls)
+        x.number.0
+    next_turn = record {
+      so = it_is_dropped;
+      first = λ n d. let w = was n d.call d.live in (x, d.call, it.live, w.1, later n d.call w.1 d.answer.place w.0);
+      back = back;
+      forth = λ n d. elim (cases_eq n x.number.0) [ inl e ↦ inl e | inr ne ↦ inr (forth n ne d) ];
+      order = λ m n a b h. came_back m n h;
     }
 
-    told_one : (drop_answer t j x).entries ≡ drops t (x.number.0 ∷ [])
-    told_one = ap (λ (o : Option Label). entry.Dropped x.number t ∷ option_to_list (kept_note o Free)) unkept
+    turn : IsTurn (λ i n. IsDropped t i.calls n) (λ i. CameBefore i.calls) (DropsAnswer t) j x.number.0
+        (drop_answer t j x)
+    turn = record {
+      next = next_turn;
+      turn = drops j.tasks.alive t j (record { sound = sound }) x it.live (at_answers t x.place it.at);
+    }
 
-  none_dropped : (j : KernelState) → ((n : ℕ) → IsDropped t j.calls n → ⊥) → DropsHangups t j [] j
-  none_dropped j none = record { each = λ n h. absurd h; all = λ n h. absurd (none n h); order = tt; gone = λ n h. absurd h; others = λ n out. refl; numbers = refl; arrivals = refl; tasks = refl; memory = refl; events = refl }
+  keeps : (j : KernelState) (x : Call) → IsSound j → next_unawaited t j ≡ Some x → IsSound (drop_answer t j x).state
+  keeps j x s is = sound_drop j t x s (next_is j t s j x s is).live
 
-  -- what comes of so many drops
-  pub record DropsAll (j : KernelState) (done : Transition) : Type 0 where
-    pub numbers : List ℕ
-    pub drop : DropsHangups t j numbers done.state
-    pub told : done.entries ≡ drops t numbers
-    pub sound : IsSound done.state
+  pub unawaited_dropped : (k : KernelState) → IsSound k
+      → DropsHangups t k (drop_unawaited t k).state (drop_unawaited t k).entries
+  unawaited_dropped k sound = all_drained (λ j n. IsDropped t j.calls n) (λ j. CameBefore j.calls) (DropsAnswer t)
+      (next_unawaited t) (drop_answer t) (λ c. c.number.0) IsSound (stands_at (Answers t)) keeps
+      (λ j x s is. let n = next_is j t s j x s is in over_less (stands_at (Answers t)) j x n.live n.at)
+      none_left (λ j x s is. turn j s x is) (calls_at k.calls (Answers t)) k sound (omega arith)
 
-  drops_all : (most : ℕ) (j : KernelState) → IsSound j → calls_at j.calls (Answers t) ≤ most → DropsAll j (drain (next_unawaited t) (drop_answer t) most j)
-  drops_all zero j sound few = record { numbers = []; drop = none_dropped j (none_left j sound stop); told = refl; sound = sound } where
-    stop : next_unawaited t j ≡ None
-    stop = drain_stops (next_unawaited t) (drop_answer t) IsSound (λ c. same_place c.place (Answers t))
-        (λ i x s is. sound_drop i t x s (next_is i t s i x s is).live)
-        (λ i x s is. let n = next_is i t s i x s is in let sum = rw n.at at (count-without_call (λ c. same_place c.place (Answers t)) i.calls x.number.0 x n.live) in omega arith)
-        0 j sound few
-  drops_all (suc most) j sound few = by_next (next_unawaited t j) refl (drops_all most) where
-    by_next : (o : Option Call) → next_unawaited t j ≡ o → ((i : KernelState) → IsSound i → calls_at i.calls (Answers t) ≤ most → DropsAll i (drain (next_unawaited t) (drop_answer t) most i)) → DropsAll j (option_map_or (λ c. then_do (drop_answer t j c) (drain (next_unawaited t) (drop_answer t) most)) o (nothing j))
-    by_next None is later = record { numbers = []; drop = none_dropped j (none_left j sound is); told = refl; sound = sound }
-    by_next (Some x) is later =
-        let n = next_is j t sound j x sound is in
-        let sum = rw n.at at (count-without_call (λ c. same_place c.place (Answers t)) j.calls x.number.0 x n.live) in
-        let rest = later (drop_answer t j x).state (sound_drop j t x sound n.live) (omega (arith, sum, few)) in
-        record {
-          numbers = x.number.0 ∷ rest.numbers;
-          drop = one_more j sound x is rest.numbers _ rest.drop;
-          told = ap (λ (es : List Entry). es ++ (drain (next_unawaited t) (drop_answer t) most (drop_answer t j x).state).entries) (told_one j sound x is) ∙ ap (λ (es : List Entry). drops t (x.number.0 ∷ []) ++ es) rest.told;
-          sound = rest.sound;
-        }
-
-  pub unawaited_dropped : (k : KernelState) → IsSound k → DropsAll k (drop_unawaited t k)
-  unawaited_dropped k sound = drops_all (calls_at k.calls (Answers t)) k sound (omega arith)
+  pub unawaited_sound : (k : KernelState) → IsSound k → IsSound (drop_unawaited t k).state
+  unawaited_sound k sound =
+      drain_keeps (next_unawaited t) (drop_answer t) IsSound keeps (calls_at k.calls (Answers t)) k sound

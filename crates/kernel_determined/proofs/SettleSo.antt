@@ -1,13 +1,13 @@
 -- The definitions bring a call to its end as it is said.
 use Rattle.std.proofs.Common.{◌≡◌, ℕ, Bool, true, false, ◌⊎◌, inl, inr, List, [], ◌∷◌, length, Option, None, Some, refl, sym, ap, subst, ◌∙◌}
-use Rattle.std.specs.Prelude.{IsSome}
+use Rattle.std.specs.Prelude.{IsSome, if◌then◌else◌}
 use Rattle.std.specs.Option.{option_to_list}
 use Rattle.std.proofs.lemmas.Bool.{cases_eq, false≢true}
 use Rattle.ipc_ids.specs.declared.numbers.Label.{Label}
 use Rattle.ipc_ids.specs.declared.numbers.TaskNo.{TaskNo}
 use Rattle.ipc_ids.specs.declared.message.Reply.{Reply}
 use Rattle.ipc_ids.specs.declared.message.PhoneState.{PhoneState}
-use Rattle.ipc_ids.specs.declared.message.PhoneState.TheVariants.{Free}
+use Rattle.ipc_ids.specs.declared.message.PhoneState.TheVariants.{Free, Connecting}
 use Rattle.ipc_ids.specs.declared.message.Outcome.{Outcome}
 use Rattle.ipc_ids.specs.declared.entry.Entry.{Entry}
 use Rattle.ipc_ids.specs.declared.entry.Entry.TheVariants as entry
@@ -22,19 +22,24 @@ use Rattle.phone_table.specs.Phones.{state_at}
 use Rattle.cleanup.specs.Board.{IsPendingAt}
 use Rattle.cleanup.specs.State.{Tasks, KernelState, is_alive}
 use Rattle.cleanup.specs.Sound.{IsSoundCall, IsReservedAt}
-use Rattle.cleanup.specs.Kept.{keeper_of, kept_of, lent_of, held_phone, kept_phone, lent_phone, kept_rows, kept_note, phone_of, unless_freed, who_keeps}
+use Rattle.cleanup.specs.Kept.{keeper_of, kept_of, lent_of, held_phone, kept_phone, lent_phone, kept_rows, kept_note, phone_of, unless_freed, who_keeps, accepts, WaitsIn}
 use Rattle.cleanup.specs.Serving.{telling}
-use Rattle.cleanup.specs.Joins.{lives, settle, settle_for, vanishing, declined_call}
+use Rattle.cleanup.specs.Joins.{lives, settle, settle_for, vanishing, declined_call, drop_answer}
 use Rattle.kernel_core.specs.Kernel.{and_event}
 use Rattle.cleanup.proofs.Endings.{length_rows}
 use Rattle.cleanup.proofs.Keepers.{state_here}
 use Rattle.cleanup.proofs.KilledPhones.{written_elsewhere}
 use Rattle.cleanup.proofs.Lookups.{put_here, put_other, gone_here, gone_other}
+use Rattle.cleanup.proofs.Silence.{IsEnding}
+use Rattle.cleanup.proofs.Usable.{kept_waits}
+use Rattle.kernel_laws.specs.Connecting.{IsUnconnected}
+use Rattle.kernel_laws.proofs.KillRoutes.{is_there}
+use Rattle.kernel_laws.proofs.LawfulAnswers.{same_code, accepts_eok}
 use Rattle.kernel_laws.proofs.KeptPhones.{own_phone}
 use Rattle.kernel_laws.proofs.PhoneRoutes.{to_me_method}
 use Rattle.kernel_laws.proofs.DeliveredAnswers.{connect_method}
 use Rattle.kernel_determined.specs.Frames.{MayCome, Moves, IsOver, IsQuietEvent}
-use Rattle.kernel_determined.specs.SettleLaw.{IsGivenBack, IsKeptFor, IsWanted, IsAnswered, IsEnded, IsSettled}
+use Rattle.kernel_determined.specs.SettleLaw.{IsGivenBack, IsKeptFor, IsWanted, IsAnswered, IsEnded, IsSettled, DropsAnswer}
 
 -- ---- the parts of a step
 
@@ -52,7 +57,8 @@ may_come k (Some l) s after rows there = (
   refl,
 )
 
-pub as_many : (rows : List (List PhoneState)) (o : Option Label) (s : PhoneState) → length (kept_rows rows o s) ≡ length rows
+pub as_many : (rows : List (List PhoneState)) (o : Option Label) (s : PhoneState)
+    → length (kept_rows rows o s) ≡ length rows
 as_many rows None s = refl
 as_many rows (Some l) s = length_rows rows l.task.0 l.phone.0 s
 
@@ -89,7 +95,8 @@ settle_quiet k c reply by told = by_caller c.caller (lives k c.caller) where
     memory = refl;
   }
 
-  by_caller : (o : Option TaskNo) (b : Bool) → IsQuietEvent told k (and_event (telling (settle_for k c reply by o b) told))
+  by_caller : (o : Option TaskNo) (b : Bool)
+      → IsQuietEvent told k (and_event (telling (settle_for k c reply by o b) told))
   by_caller None b = over
   by_caller (Some u) false = over
   by_caller (Some u) true = record {
@@ -110,7 +117,8 @@ vanish_quiet k c told = record {
 
 module _ (k : KernelState) (tasks : Tasks) (rows : tasks.phones ≡ k.tasks.phones) (n : ℕ) (c : Call)
     (s : IsSoundCall tasks k.calls.next_number k.calls.next_stamp n c) (pending : IsPendingAt c.place) where
-  lent_by : (kind : MethodKind) → kind_of c.request.method ≡ kind → lent_phone c ≡ lent_of (keeper_of kind) c.place c.reserved
+  lent_by : (kind : MethodKind) → kind_of c.request.method ≡ kind
+      → lent_phone c ≡ lent_of (keeper_of kind) c.place c.reserved
   lent_by kind e = ap (λ m. lent_of (keeper_of m) c.place c.reserved) e
 
   kept_by : (kind : MethodKind) → kind_of c.request.method ≡ kind
@@ -139,7 +147,8 @@ module _ (k : KernelState) (tasks : Tasks) (rows : tasks.phones ≡ k.tasks.phon
     owner l r = subst (λ k. IsReservedAt k c.from.task c.place l) (ap keeper_of e) (s.reserved.owner l r)
 
     of_caller : (place : Place) (o : Option Label)
-        → ((l : Label) → o ≡ Some l → IsReservedAt (keeper_of ConnectMeTo) c.from.task place l) → phone_of c.from.task o ≡ o
+        → ((l : Label) → o ≡ Some l → IsReservedAt (keeper_of ConnectMeTo) c.from.task place l)
+        → phone_of c.from.task o ≡ o
     of_caller place None own = refl
     of_caller place (Some l) own = own_phone c.from.task l (own l refl)
 
@@ -252,7 +261,8 @@ module _ (k : KernelState) (tasks : Tasks) (rows : tasks.phones ≡ k.tasks.phon
     pub answered_is : (reply : Reply) (by : Option TaskNo) (u : TaskNo) → c.caller ≡ Some u
         → after.tasks.phones ≡ kept_rows k.tasks.phones (lent_phone c) Free
         → after.calls ≡ put_at k.calls (declined_call c reply) (Answers u)
-        → IsAnswered n c reply by k after (entry.Answered c.number reply by ∷ option_to_list (kept_note (lent_phone c) Free))
+        → IsAnswered n c reply by k after
+        (entry.Answered c.number reply by ∷ option_to_list (kept_note (lent_phone c) Free))
     answered_is reply by u caller phones calls = record {
       to = u;
       caller = caller;
@@ -277,7 +287,8 @@ module _ (k : KernelState) (tasks : Tasks) (rows : tasks.phones ≡ k.tasks.phon
         → IsSettled n c reply by k after (settle k c reply by).entries
     settled_is reply by left = by_caller c.caller refl (lives k c.caller) refl left where
       by_caller : (o : Option TaskNo) → c.caller ≡ o → (b : Bool) → lives k o ≡ b
-          → IsLeft (settle_for k c reply by o b).state → IsSettled n c reply by k after (settle_for k c reply by o b).entries
+          → IsLeft (settle_for k c reply by o b).state
+          → IsSettled n c reply by k after (settle_for k c reply by o b).entries
       by_caller None e b f l = inr (none_caller None refl e, ended_is l.phones l.calls)
       by_caller (Some u) e false f l = inr (unwanted, ended_is l.phones l.calls) where
         unwanted : IsWanted k c → ⊥
@@ -285,3 +296,71 @@ module _ (k : KernelState) (tasks : Tasks) (rows : tasks.phones ≡ k.tasks.phon
             let same : u ≡ w.0 = let g : Some u ≡ Some w.0 = sym e ∙ w.1 in cc in
             false≢true (sym f ∙ ap (is_alive k) same ∙ w.2)
       by_caller (Some u) e true f l = inl ((u, e, f), answered_is reply by u e l.phones l.calls)
+
+-- ---- an answer that is dropped
+
+module _ (marks : List Bool) (t : TaskNo) (k : KernelState) (ending : IsEnding marks k) (c : Call)
+    (live : call_at k.calls c.number.0 ≡ Some c) (at : c.place ≡ Answers t) where
+  kept_at : (kind : MethodKind) → kind_of c.request.method ≡ kind
+      → kept_phone c ≡ kept_of (keeper_of kind) c.from.task (Answers t) c.reply.code c.reserved
+  kept_at kind e = ap (λ m. kept_of (keeper_of m) c.from.task c.place c.reply.code c.reserved) e
+      ∙ ap (λ p. kept_of (keeper_of kind) c.from.task p c.reply.code c.reserved) at
+
+  owner : kind_of c.request.method ≡ ConnectMeTo → (l : Label) → c.reserved ≡ Some l
+      → phone_of c.from.task (Some l) ≡ Some l
+  owner e l r = own_phone c.from.task l (subst (λ x. IsReservedAt x c.from.task c.place l) (ap keeper_of e)
+      ((ending.sound.calls.each c.number.0 c live).reserved.owner l r))
+
+  waits : (l : Label) → IsUnconnected c l → kept_phone c ≡ Some l
+  waits l x =
+      let kind : kind_of c.request.method ≡ ConnectMeTo = ap kind_of x.asks in
+      kept_at ConnectMeTo kind
+      ∙ by (accepts c.reply.code) (λ h. x.unaccepted t at (same_code c.reply.code h))
+      ∙ ap (phone_of c.from.task) x.kept ∙ owner kind l x.kept
+    where
+      by : (b : Bool) → (b ≡ true → ⊥)
+          → (if b then None else phone_of c.from.task c.reserved) ≡ phone_of c.from.task c.reserved
+      by true never = absurd (never refl)
+      by false never = refl
+
+  nobody : (kind : MethodKind) → kind_of c.request.method ≡ kind
+      → kept_of (keeper_of kind) c.from.task (Answers t) c.reply.code c.reserved ≡ None → kept_phone c ≡ None
+  nobody kind e none = kept_at kind e ∙ none
+
+  none_kept : ((l : Label) → IsUnconnected c l → ⊥) → (kind : MethodKind) → kind_of c.request.method ≡ kind
+      → kept_phone c ≡ None
+  none_kept none ConnectMeTo e = nobody ConnectMeTo e (by (accepts c.reply.code) refl c.reserved refl) where
+    by : (b : Bool) → accepts c.reply.code ≡ b → (o : Option Label) → c.reserved ≡ o
+        → (if b then None else phone_of c.from.task o) ≡ None
+    by true a o r = refl
+    by false a None r = refl
+    by false a (Some l) r = absurd (none l (record {
+      asks = connect_method c.request.method e;
+      kept = r;
+      unaccepted = λ u p code. false≢true (sym a ∙ accepts_eok c.reply.code code);
+    }))
+  none_kept none PhoneHungUp e = nobody PhoneHungUp e refl
+  none_kept none ConnectToMe e = nobody ConnectToMe e refl
+  none_kept none DataWrite e = nobody DataWrite e refl
+  none_kept none DataRead e = nobody DataRead e refl
+  none_kept none ShareOut e = nobody ShareOut e refl
+  none_kept none ShareIn e = nobody ShareIn e refl
+  none_kept none NotBuilt e = nobody NotBuilt e refl
+  none_kept none User e = nobody User e refl
+
+  is_some : (l : Label) → kept_phone c ≡ Some l → IsSome (state_at k.tasks.phones l.task.0 l.phone.0)
+  is_some l e = is_there (state_at k.tasks.phones l.task.0 l.phone.0) Connecting
+      (subst (WaitsIn k.tasks.phones) e (kept_waits k.tasks.phones k.calls c.number.0 c ending.sound.kept live))
+
+  pub drops : DropsAnswer t k c.number.0 (drop_answer t k c).state (drop_answer t k c).entries
+  drops = record {
+    call = c;
+    live = live;
+    step = record { alive = refl; tasks = as_many k.tasks.phones (kept_phone c) Free; memory = refl; counted = refl };
+    kept = kept_phone c;
+    keeps = record { waits = waits; others = λ none. none_kept none (kind_of c.request.method) refl };
+    note = option_to_list (kept_note (kept_phone c) Free);
+    phones = may_come k (kept_phone c) Free _ refl is_some;
+    calls = is_over k.calls _ c.number.0 c.number.0 refl refl;
+    entries = refl;
+  }

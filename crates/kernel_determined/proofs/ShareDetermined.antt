@@ -48,7 +48,8 @@ module _ (m : Memory) (from : TaskNo) (base : ℕ) (to : TaskNo) (target pages r
         (λ may. inr (inr (record {
           area = a;
           sharable = sharable m from base to target pages rights sound added a (found_at m from base a is) may;
-          comes = by_cause a (is_malformed target pages rights) (is_taken target pages (areas_of m to)) (is_full (areas_of m to));
+          comes = by_cause a (is_malformed target pages rights) (is_taken target pages (areas_of m to))
+              (is_full (areas_of m to));
         })))
         (λ not. inr (inl refl))
 

@@ -19,7 +19,8 @@ use Rattle.kernel_determined.proofs.Same.{rows_same, state_same}
 use Rattle.kernel_determined.proofs.WriteDetermined.{memory_same}
 
 -- two lists, as long, with the same items or the same default
-pub or_same : {A : Type 0} (d : A) (xs ys : List A) → length xs ≡ length ys → ((i : ℕ) → unwrap_or (slice_get xs i) d ≡ unwrap_or (slice_get ys i) d) → xs ≡ ys
+pub or_same : {A : Type 0} (d : A) (xs ys : List A) → length xs ≡ length ys
+    → ((i : ℕ) → unwrap_or (slice_get xs i) d ≡ unwrap_or (slice_get ys i) d) → xs ≡ ys
 or_same d [] [] many at = refl
 or_same d [] (y ∷ ys) many at = absurd (omega (arith, many))
 or_same d (x ∷ xs) [] many at = absurd (omega (arith, many))
@@ -41,7 +42,8 @@ record IsNamed (k : KernelState) (names : Option TaskNo) : Type 0 where
   is : names ≡ Some who
   lives : is_alive k who ≡ true
 
-named_or_none : (k : KernelState) (names : Option TaskNo) → IsNamed k names ⊎ ((u : TaskNo) → names ≡ Some u → is_alive k u ≡ false)
+named_or_none : (k : KernelState) (names : Option TaskNo)
+    → IsNamed k names ⊎ ((u : TaskNo) → names ≡ Some u → is_alive k u ≡ false)
 named_or_none k None = inr (λ u e. absurd (cc e))
 named_or_none k (Some w) = by (is_alive k w) refl where
   by : (b : Bool) → is_alive k w ≡ b → IsNamed k (Some w) ⊎ ((u : TaskNo) → Some w ≡ Some u → is_alive k u ≡ false)
@@ -51,13 +53,15 @@ named_or_none k (Some w) = by (is_alive k w) refl where
 no_of : (u t : TaskNo) → u.0 ≡ t.0 → u ≡ t
 no_of u t e = ap (λ n. let r : TaskNo = record { 0 = n } in r) e
 
-module _ (limit : ℕ) (some : 1 ≤ limit) (names : Option TaskNo) (k : KernelState) (a b : Transition) (x : IsSpawn limit names k a) (y : IsSpawn limit names k b) where
+module _ (limit : ℕ) (some : 1 ≤ limit) (names : Option TaskNo) (k : KernelState) (a b : Transition)
+    (x : IsSpawn limit names k a) (y : IsSpawn limit names k b) where
   who : TaskNo
   who = new_number k
 
   alive_at : (u : TaskNo) → is_alive a.state u ≡ is_alive b.state u
   alive_at u = elim (cases_eq u.0 (new_number k).0) [
-    | inl e ↦ let same = no_of u (new_number k) e in ap (is_alive a.state) same ∙ x.makes.made ∙ sym y.makes.made ∙ ap (is_alive b.state) (sym same)
+    | inl e ↦ let same = no_of u (new_number k) e in ap (is_alive a.state) same ∙ x.makes.made ∙ sym y.makes.made
+        ∙ ap (is_alive b.state) (sym same)
     | inr ne ↦ x.makes.others u ne ∙ sym (y.makes.others u ne)
   ]
 
@@ -73,19 +77,24 @@ module _ (limit : ℕ) (some : 1 ≤ limit) (names : Option TaskNo) (k : KernelS
 
   phone_same : (u : TaskNo) (p : ℕ) → phone_at a.state u p ≡ phone_at b.state u p
   phone_same u p = elim (cases_eq u.0 (new_number k).0) [
-    | inl e ↦ let same = no_of u (new_number k) e in ap (λ (v : TaskNo). phone_at a.state v p) same ∙ own_phone p ∙ ap (λ (v : TaskNo). phone_at b.state v p) (sym same)
+    | inl e ↦ let same = no_of u (new_number k) e in ap (λ (v : TaskNo). phone_at a.state v p) same ∙ own_phone p
+        ∙ ap (λ (v : TaskNo). phone_at b.state v p) (sym same)
     | inr ne ↦ x.makes.phones u p ne ∙ sym (y.makes.phones u p ne)
   ]
 
-  alive_in_list : (i : ℕ) → unwrap_or (slice_get a.state.tasks.alive i) false ≡ unwrap_or (slice_get b.state.tasks.alive i) false
+  alive_in_list : (i : ℕ)
+      → unwrap_or (slice_get a.state.tasks.alive i) false ≡ unwrap_or (slice_get b.state.tasks.alive i) false
   alive_in_list i = sym (back a.state.tasks.alive) ∙ alive_at (record { 0 = suc i }) ∙ back b.state.tasks.alive where
-    back : (zs : List Bool) → (if suc i == 0 then false else unwrap_or (slice_get zs (suc i - 1)) false) ≡ unwrap_or (slice_get zs i) false
+    back : (zs : List Bool)
+        → (if suc i == 0 then false else unwrap_or (slice_get zs (suc i - 1)) false) ≡ unwrap_or (slice_get zs i) false
     back zs = let last : suc i - 1 ≡ i = omega arith in rw (ne_eqb (suc i) 0 (λ e. omega arith), last) refl
 
-  areas_in_list : (i : ℕ) → unwrap_or (slice_get a.state.memory.areas i) [] ≡ unwrap_or (slice_get b.state.memory.areas i) []
-  areas_in_list i = sym (back a.state.memory.areas) ∙ (x.makes.areas (record { 0 = suc i }) ∙ sym (y.makes.areas (record { 0 = suc i }))) ∙ back b.state.memory.areas where
-    back : (zs : List (List Area)) → unwrap_or (slice_get zs (suc i - 1)) [] ≡ unwrap_or (slice_get zs i) []
-    back zs = let last : suc i - 1 ≡ i = omega arith in rw last refl
+  areas_in_list : (i : ℕ)
+      → unwrap_or (slice_get a.state.memory.areas i) [] ≡ unwrap_or (slice_get b.state.memory.areas i) []
+  areas_in_list i = sym (back a.state.memory.areas) ∙ (x.makes.areas (record { 0 = suc i })
+      ∙ sym (y.makes.areas (record { 0 = suc i }))) ∙ back b.state.memory.areas where
+        back : (zs : List (List Area)) → unwrap_or (slice_get zs (suc i - 1)) [] ≡ unwrap_or (slice_get zs i) []
+        back zs = let last : suc i - 1 ≡ i = omega arith in rw last refl
 
   told_same : a.entries ≡ b.entries
   told_same = elim (named_or_none k names) [
@@ -99,7 +108,8 @@ module _ (limit : ℕ) (some : 1 ≤ limit) (names : Option TaskNo) (k : KernelS
       (or_same false a.state.tasks.alive b.state.tasks.alive (x.tasks ∙ sym y.tasks) alive_in_list)
       (rows_same a.state.tasks.phones b.state.tasks.phones (x.rows ∙ sym y.rows) phone_same)
       (x.makes.calls ∙ sym y.makes.calls)
-      (memory_same a.state.memory b.state.memory (or_same [] a.state.memory.areas b.state.memory.areas (x.spaces ∙ sym y.spaces) areas_in_list) (x.makes.stores ∙ sym y.makes.stores) (x.stores ∙ sym y.stores))
+      (memory_same a.state.memory b.state.memory (or_same [] a.state.memory.areas b.state.memory.areas
+      (x.spaces ∙ sym y.spaces) areas_in_list) (x.makes.stores ∙ sym y.makes.stores) (x.stores ∙ sym y.stores))
       (x.events ∙ sym y.events))
       told_same
 
@@ -108,11 +118,14 @@ module _ (limit : ℕ) (some : 1 ≤ limit) (names : Option TaskNo) (k : KernelS
 two_more : {A : Type 0} (xs : List A) (x : A) → length (xs ++ x ∷ []) ≡ length xs + 1
 two_more xs x = grind (arith, common_steps)
 
-named_is : (k : KernelState) (names : Option TaskNo) (u : TaskNo) → names ≡ Some u → is_alive k u ≡ true → named k names ≡ Some u
+named_is : (k : KernelState) (names : Option TaskNo) (u : TaskNo) → names ≡ Some u → is_alive k u ≡ true
+    → named k names ≡ Some u
 named_is k None u e lives = absurd (cc e)
-named_is k (Some w) u e lives = let same : w ≡ u = cc e in ap (λ (x : TaskNo). if is_alive k x then Some x else None) same ∙ rw lives refl
+named_is k (Some w) u e lives = let same : w ≡ u = cc e in
+    ap (λ (x : TaskNo). if is_alive k x then Some x else None) same ∙ rw lives refl
 
-named_none : (k : KernelState) (names : Option TaskNo) → ((u : TaskNo) → names ≡ Some u → is_alive k u ≡ false) → named k names ≡ None
+named_none : (k : KernelState) (names : Option TaskNo) → ((u : TaskNo) → names ≡ Some u → is_alive k u ≡ false)
+    → named k names ≡ None
 named_none k None none = refl
 named_none k (Some w) none = let dead = none w refl in rw dead refl
 
@@ -125,8 +138,21 @@ module _ (k : KernelState) (limit : ℕ) (names : Option TaskNo) where
     stores : done.state.memory.next_store ≡ k.memory.next_store
 
   one_more : (o : Option TaskNo) → HasOneMore (spawning k (new_number k) limit o)
-  one_more None = record { tasks = two_more k.tasks.alive true; rows = two_more k.tasks.phones _; spaces = two_more k.memory.areas []; stores = refl }
-  one_more (Some u) = record { tasks = two_more k.tasks.alive true; rows = length_rows (with_task k limit).tasks.phones (new_number k).0 0 (Connected u) ∙ two_more k.tasks.phones _; spaces = two_more k.memory.areas []; stores = refl }
+  one_more None = record {
+    tasks = two_more k.tasks.alive true;
+    rows = two_more k.tasks.phones _;
+    spaces =
+        two_more k.memory.areas [];
+    stores = refl;
+  }
+  one_more (Some u) = record {
+    tasks = two_more k.tasks.alive true;
+    rows =
+        length_rows (with_task k limit).tasks.phones (new_number k).0 0 (Connected u)
+        ∙ two_more k.tasks.phones _;
+    spaces = two_more k.memory.areas [];
+    stores = refl;
+  }
 
   pub spawn_is_so : IsSound k → 1 ≤ limit → IsSpawn limit names k (spawn_event k limit names)
   spawn_is_so sound some =
@@ -145,5 +171,7 @@ module _ (k : KernelState) (limit : ℕ) (names : Option TaskNo) where
         events None = refl
         events (Some u) = refl
 
-pub spawn_is_served : (limit : ℕ) (names : Option TaskNo) (k : KernelState) (done : Transition) → IsSound k → 1 ≤ limit → IsSpawn limit names k done → done ≡ spawn_event k limit names
-spawn_is_served limit names k done sound some is = spawn_is_determined limit some names k done (spawn_event k limit names) is (spawn_is_so k limit names sound some)
+pub spawn_is_served : (limit : ℕ) (names : Option TaskNo) (k : KernelState) (done : Transition) → IsSound k
+    → 1 ≤ limit → IsSpawn limit names k done → done ≡ spawn_event k limit names
+spawn_is_served limit names k done sound some is = spawn_is_determined limit some names k done
+    (spawn_event k limit names) is (spawn_is_so k limit names sound some)

@@ -48,7 +48,8 @@ module _ {A : Type 0} (P Q : A → Type 0) (B C : A → A → Type 0) (x : A) (n
   before_all [] all = tt
   before_all (y ∷ ys) all = (next.first y (all y (inl refl)), before_all ys (λ z h. all z (inr h)))
 
-  each_back : (z : A) (ys : List A) → Q z → ((y : A) → IsAmong y ys → Q y) → ComesBeforeEach C z ys → ComesBeforeEach B z ys
+  each_back : (z : A) (ys : List A) → Q z → ((y : A) → IsAmong y ys → Q y) → ComesBeforeEach C z ys
+      → ComesBeforeEach B z ys
   each_back z [] so all h = tt
   each_back z (y ∷ ys) so all h =
       (next.order z y so (all y (inl refl)) h.0, each_back z ys so (λ w g. all w (inr g)) h.1)
@@ -73,7 +74,8 @@ module _ {A : Type 0} (P Q : A → Type 0) (B C : A → A → Type 0) (x : A) (n
 
 -- the step for this call is a turn of thing x
 pub record IsTurn {A : Type 0} (IsSo : KernelState → A → Type 0) (Before : KernelState → A → A → Type 0)
-    (Turn : KernelState → A → KernelState → List Entry → Type 0) (k : KernelState) (x : A) (step : Transition) : Type 0 where
+    (Turn : KernelState → A → KernelState → List Entry → Type 0) (k : KernelState) (x : A) (step : Transition) : Type
+    0 where
   pub next : IsNextTurn (IsSo k) (IsSo step.state) (Before k) (Before step.state) x
   pub turn : Turn k x step.state step.entries
 
@@ -82,7 +84,7 @@ module _ {A : Type 0} (IsSo : KernelState → A → Type 0) (Before : KernelStat
     (step : KernelState → Call → Transition) (name : Call → A) (I : KernelState → Type 0) (test : Call → Bool)
     (keeps : (k : KernelState) (c : Call) → I k → next k ≡ Some c → I (step k c).state)
     (less : (k : KernelState) (c : Call) → I k → next k ≡ Some c
-        → suc (count_of test (entries (step k c).state.calls.records)) ≡ count_of test (entries k.calls.records))
+    → suc (count_of test (entries (step k c).state.calls.records)) ≡ count_of test (entries k.calls.records))
     (none : (k : KernelState) → I k → next k ≡ None → (x : A) → IsSo k x → ⊥)
     (turn : (k : KernelState) (c : Call) → I k → next k ≡ Some c → IsTurn IsSo Before Turn k (name c) (step k c)) where
   abbrev Drained : KernelState → Transition → Type 0
@@ -90,10 +92,12 @@ module _ {A : Type 0} (IsSo : KernelState → A → Type 0) (Before : KernelStat
 
   pub all_drained : (most : ℕ) (k : KernelState) → I k → count_of test (entries k.calls.records) ≤ most
       → Drained k (drain next step most k)
-  all_drained zero k i few = no_turns (IsSo k) (Before k) Turn k (none k i (drain_stops next step I test keeps less 0 k i few))
+  all_drained zero k i few = no_turns (IsSo k) (Before k) Turn k
+      (none k i (drain_stops next step I test keeps less 0 k i few))
   all_drained (suc most) k i few = by_next (next k) refl (all_drained most) where
     by_next : (o : Option Call) → next k ≡ o
-        → ((j : KernelState) → I j → count_of test (entries j.calls.records) ≤ most → Drained j (drain next step most j))
+        → ((j : KernelState) → I j → count_of test (entries j.calls.records) ≤ most
+        → Drained j (drain next step most j))
         → Drained k (option_map_or (λ c. then_do (step k c) (drain next step most)) o (nothing k))
     by_next None is later = no_turns (IsSo k) (Before k) Turn k (none k i is)
     by_next (Some c) is later =
@@ -107,7 +111,8 @@ module _ {A : Type 0} (IsSo : KernelState → A → Type 0) (Before : KernelStat
 
 -- the step for a number is a turn of it, and leaves the others as they are
 pub record IsOwnTurn {A : Type 0} (IsSo : KernelState → A → Type 0)
-    (Turn : KernelState → A → KernelState → List Entry → Type 0) (k : KernelState) (x : A) (step : Transition) : Type 0 where
+    (Turn : KernelState → A → KernelState → List Entry → Type 0) (k : KernelState) (x : A) (step : Transition) : Type
+    0 where
   pub so : IsSo k x
   pub back : (y : A) → (y ≡ x → ⊥) → IsSo step.state y → IsSo k y
   pub forth : (y : A) → (y ≡ x → ⊥) → IsSo k y → IsSo step.state y
@@ -118,7 +123,7 @@ module _ {A : Type 0} (IsSo : KernelState → A → Type 0) (Before : A → A �
     (rises : (i j : ℕ) → i < j → Before (name i) (name j)) (apart : (i j : ℕ) → i < j → name j ≡ name i → ⊥)
     (I : KernelState → Type 0) (keeps : (k : KernelState) (i : ℕ) → I k → I (step k i).state)
     (decided : (k : KernelState) (i : ℕ) → I k
-        → IsOwnTurn IsSo Turn k (name i) (step k i) ⊎ ((IsSo k (name i) → ⊥) × (step k i ≡ nothing k))) where
+    → IsOwnTurn IsSo Turn k (name i) (step k i) ⊎ ((IsSo k (name i) → ⊥) × (step k i ≡ nothing k))) where
   -- one of those from number i on
   abbrev From : ℕ → KernelState → A → Type 0
   From i k x = (p : ℕ) × (i ≤ p) × (x ≡ name p) × IsSo k x
@@ -131,7 +136,13 @@ module _ {A : Type 0} (IsSo : KernelState → A → Type 0) (Before : A → A �
   next_from i k t = record {
     so = (i, omega arith, refl, t.so);
     first = λ y f. let p : ℕ = f.0 in let from = f.1 in subst (Before (name i)) (sym f.2) (rises i p (omega arith));
-    back = λ y f. let from = f.1 in (f.0, omega arith, f.2, t.back y (λ e. apart i f.0 (omega arith) (sym f.2 ∙ e)) f.3);
+    back = λ y f. let from = f.1 in (
+      f.0,
+      omega arith,
+      f.2,
+      t.back y (λ e. apart i f.0 (omega arith) (sym f.2 ∙ e))
+          f.3,
+    );
     forth = λ y f. elim (cases_eq i f.0) [
       | inl e ↦ inl (f.2 ∙ ap name (sym e))
       | inr ne ↦ let from = f.1 in

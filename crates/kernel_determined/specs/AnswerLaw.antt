@@ -1,5 +1,5 @@
--- All that an answer does: who holds the call, whether it is accepted, and what its method then does to phones, bytes and
--- areas. What is done to memory is said in `MemoryLaws` and `DataLaws`.
+-- All that an answer does: who holds the call, whether it is accepted, and what its method then does to phones, bytes
+-- and areas. What is done to memory is said in `MemoryLaws` and `DataLaws` of the crate below.
 use Rattle.std.specs.Prelude.{◌≡◌, ℕ, ◌<◌, ◌≤◌, ◌⊎◌, List, [], ◌∷◌, true, length, Option, None, Some, Result, Ok, Err}
 use Rattle.ipc_ids.specs.declared.numbers.Code.{Code}
 use Rattle.ipc_ids.specs.declared.numbers.Label.{Label}

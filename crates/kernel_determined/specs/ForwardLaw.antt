@@ -33,7 +33,8 @@ pub record IsNewMessage (change : Option Msg) (c : Call) (msg : Msg) : Type 0 wh
   -- a user's call takes the change
   pub user : (new : Msg) → change ≡ Some new → first_user_method ≤ c.request.method → msg ≡ new
   -- a connect call takes its arguments, but for its own argument 5
-  pub connect : (new : Msg) → change ≡ Some new → (c.request.method ≡ connect_to_me) ⊎ (c.request.method ≡ connect_me_to)
+  pub connect : (new : Msg) → change ≡ Some new
+      → (c.request.method ≡ connect_to_me) ⊎ (c.request.method ≡ connect_me_to)
       → (msg.method ≡ c.msg.method) × HasFifth (slice_index c.msg.args 4) new.args msg.args
   -- every other call stays as it is
   pub others : (new : Msg) → change ≡ Some new → IsOther c.request.method → msg ≡ c.msg
@@ -54,7 +55,8 @@ pub record Passes (t : TaskNo) (n p : ℕ) (mode : Mode) (change : Option Msg) (
   pub back : IsGivenBack c freed rest
   pub note : List Entry
   pub phones : MayCome freed Free before done.state note
-  pub calls : Moves before.calls done.state.calls n (passed_call before c msg (label_by mode c.label (label_of t p)) rest u)
+  pub calls : Moves before.calls done.state.calls n
+      (passed_call before c msg (label_by mode c.label (label_of t p)) rest u)
   pub entries : done.entries ≡ entry.Forwarded c.number t u (label_by mode c.label (label_of t p)) ∷ note
 
 -- the forward fails with this code, and the kernel answers the call with EFORWARD

@@ -47,7 +47,8 @@ pub record OneCallMore (before after : CallTable) (c : Call) : Type 0 where
   pub arrivals : after.next_stamp ≡ before.next_stamp + 1
 
 -- a call of task t over its phone p as it is made: it has no answer, no bytes and no phone yet
-pub record IsMade (k : KernelState) (t : TaskNo) (p : ℕ) (asked : Msg) (unawaited : Bool) (at : Place) (c : Call) : Type 0 where
+pub record IsMade (k : KernelState) (t : TaskNo) (p : ℕ) (asked : Msg) (unawaited : Bool) (at : Place)
+    (c : Call) : Type 0 where
   pub number : c.number.0 ≡ k.calls.next_number
   pub caller : c.caller ≡ Some t
   pub from : c.from ≡ label_of t p
@@ -63,7 +64,13 @@ pub record IsMade (k : KernelState) (t : TaskNo) (p : ℕ) (asked : Msg) (unawai
 -- the phone, where there is one, comes to this state, and this entry tells of it; every other one is as it was
 abbrev pub MayCome : Option Label → PhoneState → KernelState → KernelState → List Entry → Type 0
 MayCome None state before after note = PhonesStay before after × (note ≡ [])
-MayCome (Some l) state before after note = PhoneComesTo l.task l.phone.0 state before after × (note ≡ entry.PhoneIs l state ∷ [])
+MayCome (Some l) state before after note =
+    PhoneComesTo l.task l.phone.0 state before after × (note ≡ entry.PhoneIs l state ∷ [])
+
+-- call m came before call n
+abbrev pub CameBefore : CallTable → ℕ → ℕ → Type 0
+CameBefore calls m n =
+    (c : Call) × (d : Call) × (call_at calls m ≡ Some c) × (call_at calls n ≡ Some d) × (c.stamp < d.stamp)
 
 -- call n goes behind all that came before, with this record, and every other call is as it was
 pub record Moves (before after : CallTable) (n : ℕ) (c : Call) : Type 0 where

@@ -25,7 +25,8 @@ abbrev pub farewell : Msg
 farewell = record { method = phone_hungup; args = 0 ∷ 0 ∷ 0 ∷ 0 ∷ 0 ∷ [] }
 
 -- phone p of task t, which leads to task u, is hung up: u is told by a new call whose answer nobody waits for
-pub record TellsOfHangup (t : TaskNo) (p : ℕ) (u : TaskNo) (before after : KernelState) (told : List Entry) : Type 0 where
+pub record TellsOfHangup (t : TaskNo) (p : ℕ) (u : TaskNo) (before after : KernelState)
+    (told : List Entry) : Type 0 where
   pub phone : PhoneComesTo t p HungUp before after
   pub call : Call
   pub made : IsMade before t p farewell true (Incoming u) call
@@ -39,11 +40,12 @@ pub record TellsNobody (t : TaskNo) (p : ℕ) (before after : KernelState) (told
   pub calls : CallsStay before.calls after.calls
   pub entries : told ≡ entry.PhoneIs (label_of t p) HungUp ∷ []
 
--- the request is done, and its phone is hung up in one of these ways
+-- so by a request, which is done
 pub record HangsUp (t : TaskNo) (p : ℕ) (u : TaskNo) (before : KernelState) (done : Served) : Type 0 where
   pub quiet : IsQuietEvent outcome.Done before done
   pub hangup : TellsOfHangup t p u before done.state done.entries
 
+-- likewise where nobody is told
 pub record HangsUpSilently (t : TaskNo) (p : ℕ) (before : KernelState) (done : Served) : Type 0 where
   pub quiet : IsQuietEvent outcome.Done before done
   pub hangup : TellsNobody t p before done.state done.entries

@@ -15,15 +15,13 @@ use Rattle.address_space.specs.Areas.{Area}
 use Rattle.address_space.specs.Memory.{Step}
 use Rattle.cleanup.specs.State.{KernelState, Transition, is_alive, phone_at, label_of}
 use Rattle.kernel_laws.specs.CallCodes.{own_reply}
-use Rattle.kernel_laws.specs.Connecting.{IsUnconnected}
 use Rattle.kernel_laws.specs.KillLaws.{EndsTask}
 use Rattle.kernel_laws.specs.MemoryLaws.{HasAt}
 use Rattle.kernel_laws.specs.Routes.{Leads, Stands}
-use Rattle.kernel_determined.specs.Frames.{PhonesStay, PhoneComesTo, MayCome, CallsStay, IsOver, IsNow, IsStep}
+use Rattle.kernel_determined.specs.Frames.{PhonesStay, PhoneComesTo, CameBefore, CallsStay, IsNow, IsStep}
 use Rattle.kernel_determined.specs.HangupLaw.{TellsOfHangup, TellsNobody}
 use Rattle.kernel_determined.specs.MemoryLaw.{IsWholeDrop}
-use Rattle.kernel_determined.specs.ReceiveLaw.{CameBefore}
-use Rattle.kernel_determined.specs.SettleLaw.{IsSettled}
+use Rattle.kernel_determined.specs.SettleLaw.{IsSettled, DropsAnswer}
 use Rattle.kernel_determined.specs.Turns.{EachInTurn, Then}
 
 -- the task has ended, and nothing else has changed yet
@@ -42,24 +40,27 @@ abbrev pub IsToHangUp : TaskNo → KernelState → ℕ → Type 0
 IsToHangUp t k p = ((u : TaskNo) × Leads k t p u) ⊎ (phone_at k t p ≡ Some Slammed)
 
 -- it is hung up
-pub record HangsUpPhone (t : TaskNo) (before : KernelState) (p : ℕ) (after : KernelState) (told : List Entry) : Type 0 where
+pub record HangsUpPhone (t : TaskNo) (before : KernelState) (p : ℕ) (after : KernelState)
+    (told : List Entry) : Type 0 where
   pub step : IsStep before after
   pub hangs_up : ((u : TaskNo) × Leads before t p u × TellsOfHangup t p u before after told)
       ⊎ ((phone_at before t p ≡ Some Slammed) × TellsNobody t p before after told)
 
+-- each such phone of it is
 abbrev pub HangsUpOwn : TaskNo → KernelState → KernelState → List Entry → Type 0
 HangsUpOwn t before after told = EachInTurn (IsToHangUp t before) ◌<◌ (HangsUpPhone t) before after told
 
 -- ---- the phones of other tasks that lead to it are slammed, by task and number
 
 -- phone p of task u, which leads to t, is slammed
-pub record SlamsPhone (u : TaskNo) (before : KernelState) (p : ℕ) (after : KernelState) (told : List Entry) : Type 0 where
+pub record SlamsPhone (u : TaskNo) (before : KernelState) (p : ℕ) (after : KernelState)
+    (told : List Entry) : Type 0 where
   pub step : IsStep before after
   pub phone : PhoneComesTo u p Slammed before after
   pub calls : CallsStay before.calls after.calls
   pub entries : told ≡ entry.PhoneIs (label_of u p) Slammed ∷ []
 
--- each of task u is
+-- each such phone of task u is
 abbrev pub SlamsOf : TaskNo → KernelState → TaskNo → KernelState → List Entry → Type 0
 SlamsOf t before u after told = EachInTurn (λ p. Leads before u p t) ◌<◌ (SlamsPhone u) before after told
 
@@ -73,6 +74,7 @@ pub record IsOther (t : TaskNo) (k : KernelState) (u : TaskNo) : Type 0 where
 abbrev pub IsOlder : TaskNo → TaskNo → Type 0
 IsOlder u v = u.0 < v.0
 
+-- the phones of each other task are
 abbrev pub SlamsOthers : TaskNo → KernelState → KernelState → List Entry → Type 0
 SlamsOthers t before after told = EachInTurn (IsOther t before) IsOlder (SlamsOf t) before after told
 
@@ -92,23 +94,7 @@ SettlesAll place before after told =
 
 -- ---- the answers that it has not received are dropped, in the order in which they came
 
--- the phone that was kept for a CONNECT_ME_TO which was not accepted
-pub record IsKeptAtAnswer (c : Call) (kept : Option Label) : Type 0 where
-  pub waits : (l : Label) → IsUnconnected c l → kept ≡ Some l
-  pub others : ((l : Label) → IsUnconnected c l → ⊥) → kept ≡ None
-
--- the answer of call n is dropped, and the call is over
-pub record DropsAnswer (t : TaskNo) (before : KernelState) (n : ℕ) (after : KernelState) (told : List Entry) : Type 0 where
-  pub call : Call
-  pub live : call_at before.calls n ≡ Some call
-  pub step : IsStep before after
-  pub kept : Option Label
-  pub keeps : IsKeptAtAnswer call kept
-  pub note : List Entry
-  pub phones : MayCome kept Free before after note
-  pub calls : IsOver before.calls after.calls n
-  pub entries : told ≡ entry.Dropped call.number t ∷ note
-
+-- each of them is
 abbrev pub DropsAnswers : TaskNo → KernelState → KernelState → List Entry → Type 0
 DropsAnswers t before after told =
     EachInTurn (λ n. Stands before.calls n (Answers t)) (CameBefore before.calls) (DropsAnswer t) before after told
@@ -128,6 +114,7 @@ pub record ForgetsCall (before : KernelState) (n : ℕ) (after : KernelState) (t
   pub calls : IsNow before.calls after.calls n (record call { caller = None })
   pub entries : told ≡ entry.Forgotten call.number ∷ []
 
+-- each of them is
 abbrev pub ForgetsCalls : TaskNo → KernelState → KernelState → List Entry → Type 0
 ForgetsCalls t before after told = EachInTurn (IsOwn t before) ◌<◌ ForgetsCall before after told
 
@@ -138,7 +125,8 @@ abbrev pub HasBase : TaskNo → KernelState → ℕ → Type 0
 HasBase t k base = (a : Area) × HasAt k.memory t base a
 
 -- it is dropped
-pub record LosesArea (t : TaskNo) (before : KernelState) (base : ℕ) (after : KernelState) (told : List Entry) : Type 0 where
+pub record LosesArea (t : TaskNo) (before : KernelState) (base : ℕ) (after : KernelState)
+    (told : List Entry) : Type 0 where
   pub step : Step Unit
   pub drop : IsWholeDrop before.memory t base step
   pub done : step.told ≡ Ok tt
@@ -148,6 +136,7 @@ pub record LosesArea (t : TaskNo) (before : KernelState) (base : ℕ) (after : K
   pub events : after.events ≡ before.events
   pub entries : told ≡ entry.AreaGone t base ∷ []
 
+-- each of them is
 abbrev pub LosesAreas : TaskNo → KernelState → KernelState → List Entry → Type 0
 LosesAreas t before after told = EachInTurn (HasBase t before) ◌<◌ (LosesArea t) before after told
 

@@ -10,3 +10,4 @@ pub mod SpawnLaw
 pub mod MemoryLaw
 pub mod KillLaw
 pub mod KernelLaw
+pub mod Changed

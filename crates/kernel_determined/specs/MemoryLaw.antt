@@ -1,4 +1,5 @@
--- All that the requests do that are about the memory of their task: a poke, a peek, and an area that is made or dropped.
+-- All that the requests do that are about the memory of their task: a poke, a peek, and an area that is made or
+-- dropped.
 use Rattle.std.specs.Prelude.{◌≡◌, ℕ, ◌+◌, List, [], length, Option, None, Result, Ok}
 use Rattle.ipc_ids.specs.declared.numbers.Code.{Code}
 use Rattle.ipc_ids.specs.declared.numbers.StoreNo.{StoreNo}

@@ -26,16 +26,10 @@ use Rattle.kernel_laws.specs.MemoryLaws.{IsLawfulWrite}
 use Rattle.kernel_laws.specs.MemoryRequests.{written}
 use Rattle.kernel_laws.specs.ReceiveLaws.{IsAwaited, IsHangupAnswer, IsFirst, HasNone}
 use Rattle.kernel_laws.specs.UsablePhones.{IsUsable}
-use Rattle.kernel_determined.specs.Frames.{IsOneEvent, PhonesStay, PhoneComesTo, NothingHappens, HasFifth}
+use Rattle.kernel_determined.specs.Frames.{IsOneEvent, PhonesStay, PhoneComesTo, CameBefore, NothingHappens, HasFifth}
 use Rattle.kernel_determined.specs.MemoryLaw.{IsWholeWrite}
-use Rattle.kernel_determined.specs.Turns.{IsAmong, AreInOrder}
-
--- ---- the order in which calls came
-
--- call m came before call n
-abbrev pub CameBefore : CallTable → ℕ → ℕ → Type 0
-CameBefore calls m n =
-    (c : Call) × (d : Call) × (call_at calls m ≡ Some c) × (call_at calls n ≡ Some d) × (c.stamp < d.stamp)
+use Rattle.kernel_determined.specs.SettleLaw.{DropsAnswer}
+use Rattle.kernel_determined.specs.Turns.{EachInTurn}
 
 -- ---- answers that are dropped
 
@@ -46,28 +40,16 @@ pub record IsDropped (t : TaskNo) (calls : CallTable) (n : ℕ) : Type 0 where
   pub answer : IsHangupAnswer t call
   pub early : (m : ℕ) (d : Call) → call_at calls m ≡ Some d → IsAwaited t d → call.stamp < d.stamp
 
--- task t drops just these calls, in the order in which they came, and nothing else changes
-pub record DropsHangups (t : TaskNo) (before : KernelState) (ns : List ℕ) (after : KernelState) : Type 0 where
-  pub each : (n : ℕ) → IsAmong n ns → IsDropped t before.calls n
-  pub all : (n : ℕ) → IsDropped t before.calls n → IsAmong n ns
-  pub order : AreInOrder (CameBefore before.calls) ns
-  pub gone : (n : ℕ) → IsAmong n ns → call_at after.calls n ≡ None
-  pub others : (n : ℕ) → (IsAmong n ns → ⊥) → call_at after.calls n ≡ call_at before.calls n
-  pub numbers : after.calls.next_number ≡ before.calls.next_number
-  pub arrivals : after.calls.next_stamp ≡ before.calls.next_stamp
-  pub tasks : after.tasks ≡ before.tasks
-  pub memory : after.memory ≡ before.memory
-  pub events : after.events ≡ before.events
-
--- the entries that tell of it
-abbrev pub drops : TaskNo → List ℕ → List Entry
-drops t [] = []
-drops t (n ∷ ns) = entry.Dropped (record { 0 = n }) t ∷ drops t ns
+-- each such answer is dropped, and no other, in the order in which they came
+abbrev pub DropsHangups : TaskNo → KernelState → KernelState → List Entry → Type 0
+DropsHangups t before after told =
+    EachInTurn (IsDropped t before.calls) (CameBefore before.calls) (DropsAnswer t) before after told
 
 -- ---- an answer that is delivered
 
 -- call c is over, and its task is told this reply; the memory is this one, and the entry is followed by these
-pub record Delivers (t : TaskNo) (before : KernelState) (c : Call) (reply : Reply) (memory : Memory) (note : List Entry) (done : Served) : Type 0 where
+pub record Delivers (t : TaskNo) (before : KernelState) (c : Call) (reply : Reply) (memory : Memory)
+    (note : List Entry) (done : Served) : Type 0 where
   pub told : done.outcome ≡ outcome.Answered c.number reply
   pub event : IsOneEvent before done.state
   pub gone : call_at done.state.calls c.number.0 ≡ None
@@ -83,7 +65,8 @@ pub record DeliversBytes (t : TaskNo) (before : KernelState) (c : Call) (done : 
   pub step : Step (Option StoreNo)
   pub write : IsWholeWrite before.memory t (first c.request.args) c.buffer step
   pub phones : PhonesStay before done.state
-  pub delivers : Delivers t before c (record { code = code_after step.told; args = c.reply.args }) step.memory (written t (first c.request.args) (length c.buffer) step.told) done
+  pub delivers : Delivers t before c (record { code = code_after step.told; args = c.reply.args }) step.memory
+      (written t (first c.request.args) (length c.buffer) step.told) done
 
 -- the phone that was kept for a CONNECT_ME_TO is free, as it was not accepted
 pub record DeliversRefusal (t : TaskNo) (before : KernelState) (c : Call) (done : Served) : Type 0 where
@@ -111,16 +94,25 @@ pub record DeliversAsGiven (t : TaskNo) (before : KernelState) (c : Call) (done 
   pub phones : PhonesStay before done.state
   pub delivers : Delivers t before c c.reply before.memory [] done
 
+-- one of these
 abbrev pub IsDelivery : TaskNo → KernelState → Call → Served → Type 0
-IsDelivery t before c done = DeliversBytes t before c done ⊎ (DeliversRefusal t before c done ⊎ (DeliversPhone t before c done ⊎ DeliversAsGiven t before c done))
+IsDelivery t before c done =
+    DeliversBytes t before c done
+    ⊎ (DeliversRefusal t before c done ⊎ (DeliversPhone t before c done ⊎ DeliversAsGiven t before c done))
 
 -- ---- a call that is received
 
 -- task t holds call c from then on, with these arguments and this phone, behind all that came before
-pub record Receives (t : TaskNo) (before : KernelState) (c : Call) (args : List ℕ) (kept : Option Label) (note : List Entry) (done : Served) : Type 0 where
+pub record Receives (t : TaskNo) (before : KernelState) (c : Call) (args : List ℕ) (kept : Option Label)
+    (note : List Entry) (done : Served) : Type 0 where
   pub told : done.outcome ≡ outcome.Received c.number (record { method = c.msg.method; args = args }) c.label
   pub event : IsOneEvent before done.state
-  pub held : call_at done.state.calls c.number.0 ≡ Some (record c { msg = record { method = c.msg.method; args = args }; reserved = kept; place = Dispatched t; stamp = before.calls.next_stamp })
+  pub held : call_at done.state.calls c.number.0 ≡ Some (record c {
+    msg = record { method = c.msg.method; args = args };
+    reserved = kept;
+    place = Dispatched t;
+    stamp = before.calls.next_stamp;
+  })
   pub others : (n : ℕ) → (n ≡ c.number.0 → ⊥) → call_at done.state.calls n ≡ call_at before.calls n
   pub numbers : done.state.calls.next_number ≡ before.calls.next_number
   pub arrivals : done.state.calls.next_stamp ≡ before.calls.next_stamp + 1
@@ -136,7 +128,8 @@ pub record ReceivesWithPhone (t : TaskNo) (before : KernelState) (c : Call) (don
   pub args : List ℕ
   pub names : HasFifth phone c.msg.args args
   pub waits : PhoneComesTo t phone Connecting before done.state
-  pub receives : Receives t before c args (Some (label_of t phone)) (entry.PhoneIs (label_of t phone) Connecting ∷ []) done
+  pub receives : Receives t before c args (Some (label_of t phone))
+      (entry.PhoneIs (label_of t phone) Connecting ∷ []) done
 
 -- or argument 5 is 64, where none is usable
 pub record ReceivesWithout (t : TaskNo) (before : KernelState) (c : Call) (done : Served) : Type 0 where
@@ -153,15 +146,18 @@ pub record ReceivesAsSent (t : TaskNo) (before : KernelState) (c : Call) (done :
   pub phones : PhonesStay before done.state
   pub receives : Receives t before c c.msg.args c.reserved [] done
 
+-- one of these
 abbrev pub IsReception : TaskNo → KernelState → Call → Served → Type 0
-IsReception t before c done = ReceivesWithPhone t before c done ⊎ (ReceivesWithout t before c done ⊎ ReceivesAsSent t before c done)
+IsReception t before c done =
+    ReceivesWithPhone t before c done ⊎ (ReceivesWithout t before c done ⊎ ReceivesAsSent t before c done)
 
 -- ---- a receive
 
--- the call stands at the answers of task t, or waits at it
+-- the call stands at the answers of task t
 abbrev pub IsAnswerAt : TaskNo → Call → Type 0
 IsAnswerAt t c = c.place ≡ Answers t
 
+-- the call waits at task t
 abbrev pub IsWaitingAt : TaskNo → Call → Type 0
 IsWaitingAt t c = c.place ≡ Incoming t
 
@@ -185,18 +181,19 @@ pub record TakesNothing (t : TaskNo) (before : KernelState) (done : Served) : Ty
   pub told : done.outcome ≡ outcome.Empty
   pub nothing : NothingHappens before done
 
+-- one of these
 abbrev pub Takes : TaskNo → KernelState → Served → Type 0
 Takes t before done = TakesAnswer t before done ⊎ (TakesCall t before done ⊎ TakesNothing t before done)
 
--- what is left, with these entries
+-- what is done, with these entries
 abbrev pub with_entries : Served → List Entry → Served
 with_entries done told = record { state = done.state; outcome = done.outcome; entries = told }
 
 -- a receive by task t
 pub record IsReceive (t : TaskNo) (before : KernelState) (done : Served) : Type 0 where
-  pub dropped : List ℕ
   pub left : KernelState
-  pub drops_them : DropsHangups t before dropped left
+  pub dropped : List Entry
+  pub drops : DropsHangups t before left dropped
   pub told : List Entry
   pub takes : Takes t left (with_entries done told)
-  pub entries : done.entries ≡ drops t dropped ++ told
+  pub entries : done.entries ≡ dropped ++ told

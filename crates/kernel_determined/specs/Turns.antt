@@ -19,8 +19,8 @@ AreInOrder Before [] = ⊤
 AreInOrder Before (x ∷ xs) = ComesBeforeEach Before x xs × AreInOrder Before xs
 
 -- a turn for each of these, one after another, and the entries of each behind those of the one before
-abbrev pub InTurn : {A : Type 0} → (KernelState → A → KernelState → List Entry → Type 0) → List A → KernelState → KernelState
-    → List Entry → Type 0
+abbrev pub InTurn : {A : Type 0} → (KernelState → A → KernelState → List Entry → Type 0) → List A
+    → KernelState → KernelState → List Entry → Type 0
 InTurn Turn [] before after told = (after ≡ before) × (told ≡ [])
 InTurn Turn (x ∷ xs) before after told =
     (between : KernelState) × (now : List Entry) × (later : List Entry) × Turn before x between now
@@ -28,7 +28,8 @@ InTurn Turn (x ∷ xs) before after told =
 
 -- each thing that is so has its turn, and no other, in this order
 pub record EachInTurn {A : Type 0} (IsSo : A → Type 0) (Before : A → A → Type 0)
-    (Turn : KernelState → A → KernelState → List Entry → Type 0) (before after : KernelState) (told : List Entry) : Type 0 where
+    (Turn : KernelState → A → KernelState → List Entry → Type 0) (before after : KernelState)
+    (told : List Entry) : Type 0 where
   pub things : List A
   pub each : (x : A) → IsAmong x things → IsSo x
   pub all : (x : A) → IsSo x → IsAmong x things
@@ -36,8 +37,8 @@ pub record EachInTurn {A : Type 0} (IsSo : A → Type 0) (Before : A → A → T
   pub turns : InTurn Turn things before after told
 
 -- one part, and then another on what it leaves
-abbrev pub Then : (KernelState → KernelState → List Entry → Type 0) → (KernelState → KernelState → List Entry → Type 0)
-    → KernelState → KernelState → List Entry → Type 0
+abbrev pub Then : (KernelState → KernelState → List Entry → Type 0)
+    → (KernelState → KernelState → List Entry → Type 0) → KernelState → KernelState → List Entry → Type 0
 Then First Next before after told =
-    (between : KernelState) × (now : List Entry) × (later : List Entry) × First before between now × Next between after later
-    × (told ≡ now ++ later)
+    (between : KernelState) × (now : List Entry) × (later : List Entry) × First before between now
+    × Next between after later × (told ≡ now ++ later)

@@ -10,8 +10,8 @@
 mod requests;
 
 pub use requests::{
-    answers_are_determined, areas_are_determined, calls_are_determined, forwards_are_determined,
-    hangups_are_determined, kills_are_determined, pokes_and_peeks_are_determined,
-    receives_are_determined, spawns_are_determined, the_kernel_keeps_its_laws,
-    the_laws_determine_the_kernel,
+    answers_are_determined, areas_are_determined, calls_are_determined, changed_kills_break_a_law,
+    changed_requests_break_a_law, forwards_are_determined, hangups_are_determined,
+    kills_are_determined, pokes_and_peeks_are_determined, receives_are_determined,
+    spawns_are_determined, the_kernel_keeps_its_laws, the_laws_determine_the_kernel,
 };

@@ -1,12 +1,12 @@
 //! Whatever keeps the laws of the kernel is the kernel.
-ghost use Rattle.std.specs.Prelude.{◌≡◌, ℕ, ◌≤◌, true, List, Option, length};
+ghost use Rattle.std.specs.Prelude.{◌≡◌, ℕ, ◌≤◌, true, List, Option, Some, length};
 ghost use Rattle.ipc_ids.specs.declared.message.Mode.{Mode};
 ghost use Rattle.ipc_ids.specs.declared.message.Msg.{Msg};
 ghost use Rattle.ipc_ids.specs.declared.message.Reply.{Reply};
 ghost use Rattle.ipc_ids.specs.declared.numbers.TaskNo.{TaskNo};
 ghost use Rattle.ipc_ids.specs.declared.message.Request.{Request};
 ghost use Rattle.ipc_ids.specs.declared.message.Request.TheVariants as request;
-ghost use Rattle.cleanup.specs.State.{KernelState, Transition, is_alive, phone_at};
+ghost use Rattle.cleanup.specs.State.{KernelState, Transition, is_alive, phone_at, with_memory, with_phone};
 ghost use Rattle.cleanup.specs.Serving.{Served};
 ghost use Rattle.cleanup.specs.Sound.{IsSound};
 ghost use Rattle.kernel_core.specs.Kernel.{serve, kill_event, spawn_event};
@@ -14,7 +14,14 @@ ghost use Rattle.kernel_determined.specs.AnswerLaw.{IsAnswer};
 ghost use Rattle.kernel_determined.specs.CallLaw.{IsCall};
 ghost use Rattle.kernel_determined.specs.ForwardLaw.{IsForward};
 ghost use Rattle.kernel_determined.specs.HangupLaw.{IsNothing, IsHangup};
-ghost use Rattle.kernel_determined.specs.KernelLaw.{IsKernel, IsTheKernel};
+ghost use Rattle.kernel_determined.specs.KernelLaw.{MayAct, IsServed, IsKernel, IsTheKernel};
+ghost use Rattle.kernel_determined.specs.Changed.{served_to, served_telling, ended_in, ended_telling, other_call};
+ghost use Rattle.kernel_laws.specs.Connecting.{HasFive};
+ghost use Rattle.ipc_ids.specs.declared.message.PhoneState.{PhoneState};
+ghost use Rattle.ipc_ids.specs.declared.entry.Entry.{Entry};
+ghost use Rattle.call_slab.specs.declared.call.Call.{Call};
+ghost use Rattle.answerbox.specs.Calls.{call_at};
+ghost use Rattle.address_space.specs.Memory.{Memory};
 ghost use Rattle.kernel_determined.specs.KillLaw.{IsKill};
 ghost use Rattle.kernel_determined.specs.MemoryLaw.{IsPoke, IsPeek, IsAreaMake, IsAreaDrop};
 ghost use Rattle.kernel_determined.specs.ReceiveLaw.{IsReceive};
@@ -122,4 +129,46 @@ pub fn the_laws_determine_the_kernel()
         (kills : KernelState → TaskNo → Transition)
         (spawns : KernelState → ℕ → Option TaskNo → Transition)
         → IsKernel serves kills spawns → IsTheKernel serves kills spawns }
+{}
+
+/// What a machine does with a request is lawful in one form only: with another memory, another
+/// state of a phone, another record of a call (its place, stamp, message, label, answer, bytes,
+/// phone or caller), or other entries, it is not.
+pub fn changed_requests_break_a_law()
+    ensures one { (k : KernelState) (t : TaskNo) (asked : Request) (a b : Served)
+        → MayAct k t → HasFive asked → IsServed k t asked a → IsServed k t asked b → a ≡ b }
+    ensures memory { (k : KernelState) (t : TaskNo) (asked : Request) (done : Served)
+        → MayAct k t → HasFive asked → IsServed k t asked done → (m : Memory)
+        → IsServed k t asked (served_to done (with_memory done.state m))
+        → done.state.memory ≡ m }
+    ensures phone { (k : KernelState) (t : TaskNo) (asked : Request) (done : Served)
+        → MayAct k t → HasFive asked → IsServed k t asked done
+        → (u : TaskNo) (q : ℕ) (old new : PhoneState) → phone_at done.state u q ≡ Some old
+        → IsServed k t asked (served_to done (with_phone done.state u q new)) → old ≡ new }
+    ensures call { (k : KernelState) (t : TaskNo) (asked : Request) (done : Served)
+        → MayAct k t → HasFive asked → IsServed k t asked done
+        → (n : ℕ) (c d : Call) → call_at done.state.calls n ≡ Some c
+        → IsServed k t asked (served_to done (other_call done.state n d)) → c ≡ d }
+    ensures entries { (k : KernelState) (t : TaskNo) (asked : Request) (done : Served)
+        → MayAct k t → HasFive asked → IsServed k t asked done → (told : List Entry)
+        → IsServed k t asked (served_telling done told) → done.entries ≡ told }
+{}
+
+/// So it is with a kill.
+pub fn changed_kills_break_a_law()
+    ensures one { (k : KernelState) (t : TaskNo) (a b : Transition) → MayAct k t
+        → IsKill t k a → IsKill t k b → a ≡ b }
+    ensures memory { (k : KernelState) (t : TaskNo) (done : Transition) → MayAct k t
+        → IsKill t k done → (m : Memory)
+        → IsKill t k (ended_in done (with_memory done.state m)) → done.state.memory ≡ m }
+    ensures phone { (k : KernelState) (t : TaskNo) (done : Transition) → MayAct k t
+        → IsKill t k done → (u : TaskNo) (q : ℕ) (old new : PhoneState)
+        → phone_at done.state u q ≡ Some old
+        → IsKill t k (ended_in done (with_phone done.state u q new)) → old ≡ new }
+    ensures call { (k : KernelState) (t : TaskNo) (done : Transition) → MayAct k t
+        → IsKill t k done → (n : ℕ) (c d : Call) → call_at done.state.calls n ≡ Some c
+        → IsKill t k (ended_in done (other_call done.state n d)) → c ≡ d }
+    ensures entries { (k : KernelState) (t : TaskNo) (done : Transition) → MayAct k t
+        → IsKill t k done → (told : List Entry) → IsKill t k (ended_telling done told)
+        → done.entries ≡ told }
 {}
