@@ -14,12 +14,28 @@ class Refused(Exception):
     """What the program says instead of a trace."""
 
 
+def is_fresh() -> bool:
+    """Whether the proved program is built, of the sources as they are."""
+    return not subprocess.run([os.path.join(TOP, "tools", "is-fresh")], check=False).returncode
+
+
 def program_of(tool: str) -> str:
-    """The program that the variable HIPC names, else the built one; ends the tool where it is older than a source."""
+    """The program that the variable HIPC names, else the proved one, else what ./hipc keeps of the sources before their
+    proof, which is said; ends the tool where there is none."""
     named = os.environ.get("HIPC")
-    if not named and subprocess.run([os.path.join(TOP, "tools", "is-fresh")], check=False).returncode:
-        sys.exit(f"{tool}: there is no program that is as new as the sources: run ./build, or name one in HIPC")
-    return named or os.path.join(TOP, "crates", "hipc", "out", "hipc")
+    if named or is_fresh():
+        return named or os.path.join(TOP, "crates", "hipc", "out", "hipc")
+    kept = os.path.join(TOP, "crates", "hipc", "out", "unproved")
+    sums = subprocess.run([os.path.join(TOP, "tools", "sums")], stdout=subprocess.PIPE, text=True, check=True).stdout
+    try:
+        with open(os.path.join(kept, "sources"), encoding="ascii") as file:
+            is_kept = file.read() == sums
+    except OSError:
+        is_kept = False
+    if not is_kept:
+        sys.exit(f"{tool}: there is no program of the sources as they are: run ./build, or ./hipc, or name one in HIPC")
+    print(f"{tool}: these runs are of the sources before their proof; ./build proves and builds them", file=sys.stderr)
+    return os.path.join(kept, "hipc")
 
 
 def schedule_of(steps: list[str]) -> str:

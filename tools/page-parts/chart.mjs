@@ -1,6 +1,7 @@
 // The chart of a run: what each event is drawn as, and the part of it that is in view, as SVG. A column is a task, and
-// time goes down. Each effect, each line of a fibril and each refusal is a row.
-import {CODES, METHODS, RIGHTS, endOf, isShown, numberOf} from "./fold.mjs";
+// time goes down. Each effect, each line of a fibril and each refusal is a row. The words are those of tools/chart, with
+// which tools/page-check compares them.
+import {CODES, METHODS, RIGHTS, endOf, isShown, isTold, numberOf} from "./fold.mjs";
 
 /** @typedef {import("./fold.mjs").Run} Run */
 /** @typedef {import("./fold.mjs").Event} Event */
@@ -9,8 +10,9 @@ import {CODES, METHODS, RIGHTS, endOf, isShown, numberOf} from "./fold.mjs";
 export const ROW = 22; // pixels
 export const LEFT = 58; // pixels before the first column, for the numbers of events
 const WIDE = 7.9, MIDDLE = 6.5, NARROW = 4; // pixels of capitals and digits, of small letters, and of points and spaces, about
-// What a narrow column leaves out, in this order: the numbers beside names of codes and methods, and words that are plain.
-const SHORTER = /** @type {[RegExp, string][]} */ ([[/ \(\d+\)/, ""], [/\b(gets|receives|drops) (?:answer|call) /, "$1 "]]);
+// What a narrow column leaves out, in this order: the phone of a call, and words that are plain.
+const SHORTER = /** @type {[RegExp, string][]} */ ([[/^(call \d+) over t\d+\.\d+/, "$1"], [/\b(gets|receives|drops) (?:answer|call) /, "$1 "]]);
+const MOST_BYTES = 8; // that are shown of a poke or a peek
 const BLACK = "#1c2530", RED = "#b00020", GREY = "#8a94a0", LATER = "#bcc4cd";
 
 /** @param {string | number} text */
@@ -38,78 +40,98 @@ export function trimmed(args) {
   return words.map(word => " " + word).join("");
 }
 
+/** A method by its name, or by its number where it has none.
+ * @param {string} number */
+function methodName(number) {
+  return METHODS[Number(number)] || number;
+}
+
+/** @param {string} count @param {string} what */
+function counted(count, what) {
+  return `${count} ${what}${count === "1" ? "" : "s"}`;
+}
+
+/** Bytes in hexadecimal digits, of which the first are shown where there are many.
+ * @param {string} digits */
+function shortened(digits) {
+  const shown = 2 * MOST_BYTES;
+  return digits.length <= shown ? digits : `${digits.slice(0, shown)}.., ${counted(String(digits.length / 2), "byte")}`;
+}
+
+/** @param {number} task @param {string} text @param {number} [call] @returns {Row} */
+function boxAt(task, text, call = 0) {
+  return {kind: "box", from: task, to: task, text, call};
+}
+
 /** The row of each effect, by its first word, or by its third where it is one of a call. */
 const DRAWN = {
   /** @param {string[]} words @param {Event} event @returns {Row} */
   accepted(words, event) {
     const [from] = endOf(words[3]), isTo = words[6] === "to", args = event.kind === "call" ? trimmed(event.head.slice(4)) : "";
-    const text = `call ${words[1]}: ${methodText(words[5])}${args}${isTo ? "" : ", back"}`, kind = event.kind === "kill" ? "kernel" : "call";
-    return {kind, from, to: isTo ? numberOf(words[7]) : from, text, call: Number(words[1])};
+    const text = `call ${words[1]} over ${words[3]}: ${methodName(words[5])}${args}${isTo ? "" : ", back"}`;
+    return {kind: event.kind === "kill" ? "kernel" : "call", from, to: isTo ? numberOf(words[7]) : from, text, call: Number(words[1])};
   },
   /** @param {string[]} words @param {Event} event @returns {Row} */
   received(words, event) {
-    const task = numberOf(words[3]), label = event.outcome && event.outcome[0] === "received" ? ` from ${event.outcome[9]}` : "";
-    return {kind: "box", from: task, to: task, text: `receives call ${words[1]}${label}`, call: Number(words[1])};
+    const label = event.outcome && event.outcome[0] === "received" ? ` from ${event.outcome[9]}` : "";
+    return boxAt(numberOf(words[3]), `receives call ${words[1]}${label}`, Number(words[1]));
   },
   /** @param {string[]} words @param {Event} event @returns {Row} */
   delivered(words, event) {
-    const task = numberOf(words[3]), told = event.outcome || [];
-    const what = told[0] === "answer" ? `: ${codeText(told[2])}${trimmed(told.slice(3))}` : "";
-    return {kind: "box", from: task, to: task, text: `gets answer ${words[1]}${what}`, call: Number(words[1])};
+    const told = event.outcome || [], what = told[0] === "answer" ? `: ${told[2]}${trimmed(told.slice(3))}` : "";
+    return boxAt(numberOf(words[3]), `gets answer ${words[1]}${what}`, Number(words[1]));
   },
   /** @param {string[]} words @param {Event} event @returns {Row} */
   forwarded(words, event) {
-    const change = event.head[5] ? `: ${methodText(event.head[5])}${trimmed(event.head.slice(6))}` : "";
-    const text = `call ${words[1]}, ${event.head[4] || "passed on"}${change}`;
+    const change = event.head[5] ? `: ${methodName(event.head[5])}${trimmed(event.head.slice(6))}` : "";
+    const text = `call ${words[1]}${event.head[4] ? `, ${event.head[4]}` : ""}${change}`;
     return {kind: "forward", from: numberOf(words[3]), to: numberOf(words[5]), text, call: Number(words[1])};
   },
   /** @param {string[]} words @param {Event} event @param {Run} run @returns {Row} */
   answered(words, event, run) {
     const call = Number(words[1]), isOwn = words[10] !== "kernel", from = isOwn ? numberOf(words[10]) : event.task;
-    const text = `answer ${call}: ${codeText(words[3])}${trimmed(words.slice(4, 9))}`;
+    const text = `answer ${call}: ${words[3]}${trimmed(words.slice(4, 9))}`;
     return {kind: isOwn ? "answer" : "kernel", from, to: run.calls[call].caller, text, call};
   },
   /** @param {string[]} words @returns {Row} */
   dropped(words) {
-    const task = numberOf(words[3]);
-    return {kind: "box", from: task, to: task, text: `drops answer ${words[1]}`, call: Number(words[1])};
+    return boxAt(numberOf(words[3]), `drops answer ${words[1]}`, Number(words[1]));
   },
   /** @param {string[]} words @param {Event} event @returns {Row} */
   vanished(words, event) {
-    return {kind: "box", from: event.task, to: event.task, text: `call ${words[1]} vanishes`, call: Number(words[1])};
+    return boxAt(event.task, `call ${words[1]} vanishes`, Number(words[1]));
   },
-  /** @param {string[]} words @param {Event} event @returns {Row} */
-  forgotten(words, event) {
-    return {kind: "box", from: event.task, to: event.task, text: `call ${words[1]} forgotten`, call: Number(words[1])};
+  /** At the task where the call stays.
+   * @param {string[]} words @param {Event} event @param {Run} run @returns {Row} */
+  forgotten(words, event, run) {
+    return boxAt(run.calls[Number(words[1])].stays || event.task, `call ${words[1]} forgotten`, Number(words[1]));
   },
   /** @param {string[]} words @param {Event} event @returns {Row} */
   phone(words, event) {
     const [task] = endOf(words[1]);
     if (words[3]) return {kind: "kernel", from: task, to: numberOf(words[3]), text: `${words[1]} connected`, call: 0};
     if (words[2] === "slammed") return {kind: "kernel", from: event.task, to: task, text: `${words[1]} slammed`, call: 0};
-    return {kind: "box", from: task, to: task, text: `phone ${words[1]} ${words[2] === "hungup" ? "hung up" : words[2]}`, call: 0};
+    return boxAt(task, `${words[1]} ${words[2] === "hungup" ? "hung up" : words[2]}`);
   },
   /** @param {string[]} words @returns {Row} */
   area(words) {
-    const task = numberOf(words[1]), pages = `${words[3]} page${words[3] === "1" ? "" : "s"}`;
-    return {kind: "box", from: task, to: task, text: `area ${words[2]}: ${pages}, ${RIGHTS[Number(words[4])]}, store ${words[6]}`, call: 0};
+    return boxAt(numberOf(words[1]), `area at ${words[2]}: ${counted(words[3], "page")}, ${RIGHTS[Number(words[4])] || words[4]}, store ${words[6]}`);
   },
   /** @param {string[]} words @returns {Row} */
   unarea(words) {
-    const task = numberOf(words[1]);
-    return {kind: "box", from: task, to: task, text: `no area at ${words[2]}`, call: 0};
+    return boxAt(numberOf(words[1]), `no area at ${words[2]}`);
   },
   /** @param {string[]} words @param {Event} event @returns {Row} */
   write(words, event) {
-    const task = numberOf(words[1]), what = event.kind === "poke" ? event.head[3] : `${words[3]} byte${words[3] === "1" ? "" : "s"}`;
-    return {kind: "box", from: task, to: task, text: `written at ${words[2]}: ${what}`, call: 0};
+    const what = event.kind === "poke" ? `: ${shortened(event.head[3])}` : `, ${counted(words[3], "byte")}`;
+    return boxAt(numberOf(words[1]), `written at ${words[2]}${what}`);
   },
 };
 
 /** The text of what a fibril does.
  * @param {string[]} words */
 function ownText(words) {
-  const [who, what, first, ...rest] = words, fibril = `fibril ${who.split("/")[1]}`;
+  const [fibril, what, first, ...rest] = words;
   const texts = /** @type {Record<string, string>} */ ({
     sent: `sends call ${first}, ${rest.join(" ")}`,
     gets: `gets answer ${first}, ${rest[0] === "begin" ? "begin" : `slot ${rest[1]}`}`,
@@ -118,9 +140,20 @@ function ownText(words) {
     ends: rest.length ? `ends exchange ${rest[0]}` : "ends",
     begins: `begins exchange ${rest[0]}: ${rest[1]}, session ${rest[3]}, phone ${rest[5]}`,
     drops: `drops exchange ${rest[0]}`,
-    refused: `is refused: ${codeText(first || "")}`,
+    refused: `is refused: ${first || ""}`,
   });
   return `${fibril} ${texts[what] || what}`;
+}
+
+/** What a task asks for, where it is refused.
+ * @param {Event} event */
+function asked(event) {
+  const [me, what, first] = event.head, over = `${me}.${first}`;
+  const texts = /** @type {Record<string, string>} */ ({
+    call: `call over ${over}`, hangup: `hangup of ${over}`, area: `area at ${first}`, unarea: `unarea ${first}`, poke: `poke at ${first}`,
+    peek: `peek at ${first}`, answer: `answer ${first}`, forward: `forward ${first}`,
+  });
+  return texts[what] || what;
 }
 
 /** The rows of an event: as many as `Run.rows` counts.
@@ -132,15 +165,16 @@ export function rowsOf(run, event) {
   if (event.kind === "kill" || event.kind === "spawn") {
     rows.push({kind: event.kind, from: 0, to: 0, text: `${event.kind} t${me} ${nameOf(run, me)}`, call: 0});
   }
-  if (event.kind === "ended") box("has ended", "small");
+  if (event.kind === "ended") box(`t${me} ended`, "small");
   for (const words of event.effects) {
+    if (isTold(event, words)) continue;
     rows.push(/** @type {Record<string, any>} */ (DRAWN)[words[0] === "call" ? words[2] : words[0]](words, event, run));
   }
   const told = event.outcome;
   if (told && isShown(told)) {
-    if (told[0] === "EMPTY") box("receives nothing", "small");
-    else if (told[0] === "bytes") box(`reads ${told[1]}`);
-    else box(`${event.head.slice(1, event.kind === "receive" ? 2 : 3).join(" ")}: ${codeText(told[0])}`);
+    if (told[0] === "EMPTY") box("EMPTY", "small");
+    else if (told[0] === "bytes") box(`reads at ${event.head[2]}: ${shortened(told[1])}`);
+    else box(`${asked(event)}: ${told[0]}`);
   }
   for (const words of event.own) box(ownText(words), "box", ["sent", "gets"].includes(words[1]) ? Number(words[2]) : 0);
   if (!rows.length) box(event.kind === "nothing" ? "nothing" : event.head.slice(1).join(" "), "small");
@@ -213,7 +247,7 @@ function drawArrow(row, from, to, y, way, colour) {
 
 /** @param {Row} row @param {(task: number) => number} x @param {number} y @param {Way} way */
 export function drawRow(row, x, y, way) {
-  const {column, width} = way, isRed = ["kill", "kernel"].includes(row.kind), plain = isRed ? RED : BLACK;
+  const {column, width} = way, plain = row.kind === "kill" ? RED : BLACK;
   const isOther = way.picked !== 0 && row.call !== way.picked, colour = way.isLater ? LATER : isOther ? GREY : plain;
   if (row.kind === "kill" || row.kind === "spawn") {
     return `<line x1="${LEFT}" x2="${width}" y1="${y + 18}" y2="${y + 18}" stroke="${colour}" stroke-dasharray="6 4"/>`

@@ -2,6 +2,7 @@
 // Usage: node check.mjs EXAMPLES [--self-test]
 import fs from "fs";
 import path from "path";
+import {execFileSync} from "child_process";
 import {fileURLToPath} from "url";
 import {rowsOf} from "./chart.mjs";
 
@@ -11,6 +12,7 @@ import {rowsOf} from "./chart.mjs";
 /** @typedef {import("./fold.mjs").Task} Task */
 /** @typedef {typeof import("./fold.mjs")} Fold */
 
+const CHART = path.join(path.dirname(fileURLToPath(import.meta.url)), "../chart");
 const FOLD = path.join(path.dirname(fileURLToPath(import.meta.url)), "fold.mjs");
 const MOST_ACTIVE = 64;
 // The states from which a phone comes to each state.
@@ -37,6 +39,8 @@ const PLANTED = [
   ["a fibril that waits for a call sleeps on", 'wake(task, "message", fibril)', 'wake(task, "messages", fibril)'],
   ["a fibril that waits for an exchange sleeps on", 'wake(task, `mutex ${exchange.session}`)', 'wake(task, "mutex")'],
   ["a fibril that waits for a phone sleeps on", 'wake(task, "phone")', 'wake(task, "phones")'],
+  ["a forgotten call is drawn where its caller was", "call.stays = holder ? holder.number : 0", "call.stays = 0"],
+  ["a hangup is drawn twice", 'words[2] === "hungup" && event', 'words[2] === "hung up" && event'],
   ["an idle exchange keeps its fibril", "{...exchange, fibril: 0}", "{...exchange}"],
 ];
 
@@ -310,6 +314,38 @@ export function compare(fold, texts) {
   return {events: run.length, compared: reader.compared, wrong: reader.wrong};
 }
 
+/** The rows of a run as tools/chart prints them. What is drawn only here is left out: an event that nothing is drawn of there.
+ * @param {string[]} texts @param {Fold} fold */
+function rowsAsText(texts, fold) {
+  const run = new fold.Run(texts[0], texts[1], texts[2]), lines = [];
+  for (let number = 1; number <= run.length; number++) {
+    const event = run.event(number);
+    for (const {kind, from, to, text} of rowsOf(run, event)) {
+      const isMark = text === "EMPTY" || text.endsWith(" ended"), task = (/** @type {number} */ it) => `t${it || event.task}`;
+      if (kind !== "small" || isMark) lines.push(`${number} ${kind === "small" ? "mark" : kind} ${task(from)} ${task(to)} ${text}`);
+    }
+  }
+  return lines;
+}
+
+/** The rows that tools/chart prints of each lesson.
+ * @param {string} folder @param {Map<string, string[]>} lessons @returns {Map<string, string[]>} */
+function chartsOf(folder, lessons) {
+  return new Map([...lessons.keys()].map(name => {
+    const files = ["trace", "script", "schedule"].map(file => path.join(folder, name, file));
+    return [name, execFileSync(CHART, ["--rows", ...files], {encoding: "utf8"}).trimEnd().split("\n")];
+  }));
+}
+
+/** What the page's chart of a lesson says otherwise than tools/chart does.
+ * @param {string[]} due @param {string[]} texts @param {Fold} fold */
+function differentRows(due, texts, fold) {
+  const rows = rowsAsText(texts, fold);
+  const place = due.findIndex((line, i) => line !== rows[i]);
+  if (place < 0 && rows.length === due.length) return [];
+  return [`the page draws '${rows[place < 0 ? due.length : place]}', and tools/chart '${due[place]}'`];
+}
+
 /** The texts of each folder that has a script, a schedule and a trace, by its name.
  * @param {string} folder @returns {Map<string, string[]>} */
 function lessonsIn(folder) {
@@ -321,13 +357,14 @@ function lessonsIn(folder) {
   return lessons;
 }
 
-/** @param {Fold} fold @param {Map<string, string[]>} lessons */
-function compareAll(fold, lessons) {
+/** @param {Fold} fold @param {Map<string, string[]>} lessons @param {Map<string, string[]>} charts */
+function compareAll(fold, lessons, charts) {
   const sum = {events: 0, compared: 0, wrong: /** @type {string[]} */ ([])};
   for (const [name, texts] of lessons) {
     const one = compare(fold, texts);
     sum.events += one.events;
     sum.compared += one.compared;
+    if (!one.wrong.length) one.wrong.push(...differentRows(charts.get(name) || [], texts, fold));
     sum.wrong.push(...one.wrong.map(text => `${name}: ${text}`));
   }
   return sum;
@@ -342,11 +379,11 @@ async function planted(from, to) {
 }
 
 /** Plants each fault in turn, and sees that a lesson finds it.
- * @param {Map<string, string[]>} lessons */
-async function testItself(lessons) {
+ * @param {Map<string, string[]>} lessons @param {Map<string, string[]>} charts */
+async function testItself(lessons, charts) {
   let missed = 0;
   for (const [name, from, to] of PLANTED) {
-    const {wrong} = compareAll(await planted(from, to), lessons);
+    const {wrong} = compareAll(await planted(from, to), lessons, charts);
     if (!wrong.length) console.error(`tools/page-check: no lesson finds that ${name}`);
     if (!wrong.length) missed += 1;
   }
@@ -357,14 +394,15 @@ async function testItself(lessons) {
 async function main() {
   const lessons = lessonsIn(process.argv[2]);
   if (!lessons.size) throw new Error(`${process.argv[2]} has no lessons`);
-  if (process.argv[3] === "--self-test") return testItself(lessons);
-  const {events, compared, wrong} = compareAll(await import(FOLD), lessons);
+  const charts = chartsOf(process.argv[2], lessons);
+  if (process.argv[3] === "--self-test") return testItself(lessons, charts);
+  const {events, compared, wrong} = compareAll(await import(FOLD), lessons, charts);
   for (const text of wrong.slice(0, 20)) console.error(`tools/page-check: ${text}`);
   if (wrong.length) {
     console.error(`tools/page-check: the page's state differs from the traces at ${wrong.length} places`);
     process.exit(1);
   }
-  console.log(`tools/page-check: all ${lessons.size} lessons agree, ${events} events, in ${compared} comparisons`);
+  console.log(`tools/page-check: all ${lessons.size} lessons agree, ${events} events, in ${compared} comparisons, and so do both charts of each`);
 }
 
 main();

@@ -35,8 +35,9 @@ WORDS.delete("");
  *   registers: string[], place: number}} Task
  * @typedef {{at: number, tasks: Task[]}} State the state behind event `at`; task N stands at place N, and none at 0
  * @typedef {{event: number, method: string, args: string, label: string}} Message what the next receiver sees of a call
- * @typedef {{number: number, over: string, caller: number, messages: Message[], events: number[], forgotten: number,
+ * @typedef {{number: number, over: string, caller: number, messages: Message[], events: number[], forgotten: number, stays: number,
  *   answer: {event: number, code: string, args: string, by: string} | null}} Call
+ *   behind the event `forgotten` it stays with the task `stays`, both 0 where that is not so
  * @typedef {(effect: string[], state: State, event: Event) => void} Watch is told of each effect before it is folded in
  */
 
@@ -262,7 +263,7 @@ const EFFECTS = {
     if (words[6] === "to") state.tasks[numberOf(words[7])].incoming.push(number);
     if (run.calls[number]) return;
     const args = event.kind === "call" ? event.head.slice(4).join(" ") : "0 0 0 0 0";
-    run.calls[number] = {number, over: words[3], caller, events: [], forgotten: 0, answer: null,
+    run.calls[number] = {number, over: words[3], caller, events: [], forgotten: 0, stays: 0, answer: null,
       messages: [{event: event.number, method: words[5], args, label: words[3]}]};
   },
   /** @param {Run} run @param {State} state @param {string[]} words @param {Event} event */
@@ -305,7 +306,9 @@ const EFFECTS = {
   },
   /** @param {Run} run @param {State} state @param {string[]} words @param {Event} event */
   forgotten(run, state, words, event) {
-    run.calls[Number(words[1])].forgotten = event.number;
+    const call = run.calls[Number(words[1])], holder = state.tasks.find(it => it && (it.incoming.includes(call.number) || it.held.includes(call.number)));
+    call.forgotten = event.number;
+    call.stays = holder ? holder.number : 0;
   },
   /** @param {Run} run @param {State} state @param {string[]} words */
   phone(run, state, words) {
@@ -561,7 +564,7 @@ export class Run {
       if (words[0] === "call") this.name(number, this.calls[Number(words[1])].caller);
     }
     for (const words of event.own) if (words[1] === "gets" || words[1] === "sent") this.touch(Number(words[2]), number);
-    const rows = rowsBefore(event) + event.effects.length + event.own.length + (isShown(outcome) ? 1 : 0);
+    const rows = rowsBefore(event) + event.effects.filter(words => !isTold(event, words)).length + event.own.length + (isShown(outcome) ? 1 : 0);
     this.rows[number] = Math.max(1, rows);
     this.isIdle[number] = told === "EMPTY" && !event.effects.length || event.kind === "ended" || isPast ? 1 : 0;
     if (event.kind === "spawn") this.born[event.task] = number;
@@ -632,6 +635,12 @@ function rowsBefore(event) {
  * @param {string[] | null} outcome */
 export function isShown(outcome) {
   return Boolean(outcome) && !["EOK", "call", "received", "answer"].includes(/** @type {string[]} */ (outcome)[0]);
+}
+
+/** Whether an effect is no row of its own in a chart: the end of a phone over which a hangup goes in the same event.
+ * @param {Event} event @param {string[]} words */
+export function isTold(event, words) {
+  return words[0] === "phone" && words[2] === "hungup" && event.effects.some(it => it[2] === "accepted" && it[3] === words[1]);
 }
 
 /** The lines of an event that are about a call: its own, and the phone, area or write directly behind them.

@@ -1,5 +1,5 @@
 //! How many bytes a call keeps, and whether there is room for them beside those of all other calls.
-ghost use Rattle.std.specs.Prelude.{◌≡◌, ◌≤◌, ◌+◌, length, IsOk, IfOk};
+ghost use Rattle.std.specs.Prelude.{◌≡◌, ◌≢◌, ◌≤◌, ◌+◌, length, IfOk};
 ghost use Rattle.ipc_ids.specs.Tables.{most_buffered};
 ghost use Rattle.address_space.specs.Memory.{IsAdded, Tells, read};
 ghost use Rattle.data_hooks.specs.DataMoments.{cut_args, kept_count, pooled};
@@ -53,12 +53,11 @@ pub(crate) fn read_pooled(
     used: u64,
 ) -> Result<Buffer, SpaceFault>
     requires added { IsAdded spaces.now t }
-    requires few { used ≤ most_buffered }
     ensures told { Tells result (pooled used count (read spaces.now t at count)) }
-    ensures empty { count ≡ 0 → IsOk result }
+    ensures empty { count ≡ 0 → result ≢ Err SpaceFault.NoMemory }
     ensures fits { IfOk result (λ bytes. used + length bytes ≤ most_buffered) }
 {
-    if count > MOST_BUFFERED - used {
+    if used.saturating_add(count) > MOST_BUFFERED {
         return match spaces.may_read(t, at, count) {
             Ok(()) => Err(SpaceFault::Refused(Code::ENOMEM)),
             Err(code) => Err(SpaceFault::Refused(code)),

@@ -1,5 +1,5 @@
 //! The moments of a DATA_READ.
-ghost use Rattle.std.specs.Prelude.{◌≡◌, ◌≤◌, ◌+◌, length, IsOk, IfOk};
+ghost use Rattle.std.specs.Prelude.{◌≡◌, ◌≢◌, ◌≤◌, ◌+◌, length, IfOk};
 ghost use Rattle.ipc_ids.specs.Tables.{most_buffered};
 ghost use Rattle.address_space.specs.Memory.{Did, IsAdded, Tells};
 ghost use Rattle.data_hooks.specs.DataMoments.{count_of, read_before_send, read_accept, read_deliver};
@@ -37,9 +37,8 @@ pub fn read_accept(
     used: u64,
 ) -> Result<Buffer, SpaceFault>
     requires added { IsAdded spaces.now answerer }
-    requires few { used ≤ most_buffered }
     ensures told { Tells result (read_accept spaces.now answerer args.now reply.now used) }
-    ensures empty { count_of reply.now.args ≡ 0 → IsOk result }
+    ensures empty { count_of reply.now.args ≡ 0 → result ≢ Err SpaceFault.NoMemory }
     ensures fits { IfOk result (λ bytes. used + length bytes ≤ most_buffered) }
 {
     if reply.args[1] > args[1] {

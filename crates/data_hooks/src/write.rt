@@ -1,5 +1,5 @@
 //! The moments of a DATA_WRITE.
-ghost use Rattle.std.specs.Prelude.{◌≡◌, ◌≤◌, ◌+◌, length, IsOk, IfOk};
+ghost use Rattle.std.specs.Prelude.{◌≡◌, ◌≢◌, ◌≤◌, ◌+◌, length, IfOk};
 ghost use Rattle.ipc_ids.specs.Tables.{most_buffered};
 ghost use Rattle.address_space.specs.Memory.{Did, IsAdded, Tells};
 ghost use Rattle.data_hooks.specs.DataMoments.{count_of, write_before_send, write_accept};
@@ -24,9 +24,8 @@ pub fn write_before_send(
     used: u64,
 ) -> Result<Buffer, SpaceFault>
     requires added { IsAdded spaces.now caller }
-    requires few { used ≤ most_buffered }
     ensures told { Tells result (write_before_send spaces.now caller args.now used) }
-    ensures empty { count_of args.now ≡ 0 → IsOk result }
+    ensures empty { count_of args.now ≡ 0 → result ≢ Err SpaceFault.NoMemory }
     ensures fits { IfOk result (λ bytes. used + length bytes ≤ most_buffered) }
 {
     match kept_count(args) {

@@ -1,9 +1,10 @@
-//! Loads and puts that fail, each with what is answered and what was written by then.
+//! Loads and puts that fail, each with what is answered and what was written by then; and a generated run that is
+//! made whole.
 use crate::rows::{FIRST_CALL_SCHEDULE, FIRST_CALL_SCRIPT};
 use crate::tests::{files, words};
 use command_line::{Status, run};
 use io_edge::MemSink;
-use schedule_replay::{ReplayFault, SliceFeed, replay};
+use schedule_replay::{ReplayFault, SliceFeed, generate, replay};
 use script_reader::{read_schedule, read_script};
 use std::alloc::Global;
 use std::test::Fail;
@@ -103,5 +104,31 @@ fn each_file_that_fails_has_its_status(rt: HostRuntime) -> Result<(), Fail> {
         assert!(rt; fails_so(rt.alloc(), row)?, "{shows}");
     }
     assert!(rt; tells_of_the_sink(rt.alloc())?);
+    Ok(())
+}
+
+/// Three events of the seed 0: two calls of the second task, and one of the tenth.
+const GENERATED_TEXT: &[u8] = b"t2 call 0 512 0 0 0 0 0\n\
+\x20 call 1 accepted t2.0 method 512 to t3\n\
+\x20 = call 1\n\
+t2 call 1 512 0 0 0 0 0\n\
+\x20 call 2 accepted t2.1 method 512 to t4\n\
+\x20 = call 2\n\
+t10 call 0 512 0 0 0 0 0\n\
+\x20 call 3 accepted t10.0 method 512 to t11\n\
+\x20 = call 3\n";
+
+/// Whether a run is generated, where memory is ample, and prints its text.
+fn is_generated(alloc: Global) -> Result<bool, Fail> {
+    let generated = generate(alloc, 0, 3)?;
+    let mut sink = MemSink::new(alloc, 1000)?;
+    let mut feed = SliceFeed::new(generated.events.as_slice());
+    replay(alloc, &generated.script, &mut feed, &mut sink)?;
+    Ok(generated.script.tasks.as_slice().len() == 16 && sink.written() == GENERATED_TEXT)
+}
+
+#[test]
+fn a_run_is_generated_whole(rt: HostRuntime) -> Result<(), Fail> {
+    assert!(rt; is_generated(rt.alloc())?);
     Ok(())
 }

@@ -46,7 +46,7 @@ brought_kind ShareIn code h = absurd (cc h)
 brought_kind NotBuilt code h = absurd (cc h)
 brought_kind User code h = absurd (cc h)
 
-read_method : (m : ℕ) → kind_of m ≡ DataRead → m ≡ data_read
+pub read_method : (m : ℕ) → kind_of m ≡ DataRead → m ≡ data_read
 read_method m h =
     by_test (λ (kind : MethodKind). kind ≡ DataRead → m ≡ data_read) (m == 0) _ _ (λ _ e. absurd (cc e)) (λ _.
     by_test (λ (kind : MethodKind). kind ≡ DataRead → m ≡ data_read) (m == 1) _ _ (λ _ e. absurd (cc e)) (λ _.
@@ -57,13 +57,13 @@ read_method m h =
     by_test (λ (kind : MethodKind). kind ≡ DataRead → m ≡ data_read) (m == 6) _ _ (λ _ e. absurd (cc e)) (λ _.
     by_test (λ (kind : MethodKind). kind ≡ DataRead → m ≡ data_read) (nat_lt m 512) _ _ (λ _ e. absurd (cc e)) (λ _ e. absurd (cc e))))))))) h
 
-brings : (c : Call) → IsBrought c → brings_bytes c ≡ true
+pub brings : (c : Call) → IsBrought c → brings_bytes c ≡ true
 brings c b = rw (b.asks) (accepts_eok c.reply.code b.accepted)
 
-is_brought : (c : Call) → brings_bytes c ≡ true → IsBrought c
+pub is_brought : (c : Call) → brings_bytes c ≡ true → IsBrought c
 is_brought c h = let b = brought_kind (kind_of c.request.method) c.reply.code h in record { asks = read_method c.request.method b.0; accepted = same_code c.reply.code b.1 }
 
-same_reply : (kind : MethodKind) (c : Call) → (kind ≡ ConnectMeTo → ⊥) → reply_of kind c ≡ c.reply
+pub same_reply : (kind : MethodKind) (c : Call) → (kind ≡ ConnectMeTo → ⊥) → reply_of kind c ≡ c.reply
 same_reply ConnectMeTo c other = absurd (other refl)
 same_reply DataRead c other = refl
 same_reply PhoneHungUp c other = refl
@@ -89,7 +89,7 @@ reply_code ShareIn c = refl
 reply_code NotBuilt c = refl
 reply_code User c = refl
 
-connect_method : (m : ℕ) → kind_of m ≡ ConnectMeTo → m ≡ connect_me_to
+pub connect_method : (m : ℕ) → kind_of m ≡ ConnectMeTo → m ≡ connect_me_to
 connect_method m h =
     by_test (λ (kind : MethodKind). kind ≡ ConnectMeTo → m ≡ connect_me_to) (m == 0) _ _ (λ _ e. absurd (cc e)) (λ _.
     by_test (λ (kind : MethodKind). kind ≡ ConnectMeTo → m ≡ connect_me_to) (m == 1) _ _ (λ _ e. absurd (cc e)) (λ _.

@@ -22,7 +22,7 @@ pub any_of : (p : Area → Bool) (areas : List Area) → list_any p areas ≡ tr
 any_of p [] h = absurd (cc h)
 any_of p (x ∷ areas) h = any_if p x areas (p x) refl h (λ r. any_of p areas r)
 
-any_at : (p : Area → Bool) (areas : List Area) (i : ℕ) (a : Area) → slice_get areas i ≡ Some a → p a ≡ true → list_any p areas ≡ true
+pub any_at : (p : Area → Bool) (areas : List Area) (i : ℕ) (a : Area) → slice_get areas i ≡ Some a → p a ≡ true → list_any p areas ≡ true
 any_at p [] i a is h = absurd (cc is)
 any_at p (x ∷ areas) zero a is h =
     let same : x ≡ a = cc in

@@ -341,7 +341,7 @@ module _ (m : Memory) (from : TaskNo) (base : ℕ) (to : TaskNo) (target pages r
   same_test : (p q b : Bool) → p && q ≡ true → (p ≡ true) × (q ≡ true)
   same_test p q b h = both_true p q h
 
-  sharable : (a : Area) → HasAt m from base a → (a.pages == pages) && is_subset rights a.rights ≡ true → IsSharable m from base pages rights a
+  pub sharable : (a : Area) → HasAt m from base a → (a.pages == pages) && is_subset rights a.rights ≡ true → IsSharable m from base pages rights a
   sharable a has h =
       let tests = both_true (a.pages == pages) (is_subset rights a.rights) h in
       let range = range_of m from a sound has.has in

@@ -43,14 +43,14 @@ use Rattle.kernel_laws.proofs.LawfulShares.{offer_is_lawful, wish_is_lawful}
 
 -- ---- methods
 
-abbrev IsTested : ℕ → MethodKind → Type 0
+abbrev pub IsTested : ℕ → MethodKind → Type 0
 IsTested m kind = (is_callable kind ≡ false → IsNoCall m) × (is_callable kind ≡ true → IsNoCall m → ⊥)
 
 can_call : (m n : ℕ) → m ≡ n → 1 ≤ n → n ≤ 6 → (true ≡ false → IsNoCall m) × (true ≡ true → IsNoCall m → ⊥)
 can_call m n is some few = ((λ e. absurd (cc e)), λ _ b. elim b [ inl e ↦ omega (arith, e, is, some) | inr e ↦ (let from = e.0 in omega (arith, from, is, few)) ])
 
 -- of a method, whether a task may call with it
-method_test : (m : ℕ) → IsTested m (kind_of m)
+pub method_test : (m : ℕ) → IsTested m (kind_of m)
 method_test m =
     by_test (IsTested m) (m == 0) _ _ (λ h. ((λ _. inl (grind (arith, nat_tests, h))), (λ e. absurd (cc e)))) (λ n0.
     by_test (IsTested m) (m == 1) _ _ (λ h. can_call m 1 (grind (arith, nat_tests, h)) (omega arith) (omega arith)) (λ n1.
@@ -138,7 +138,7 @@ unusable calls t p [] i s e is usable = absurd (cc is)
 unusable calls t p (x ∷ states) i s e is usable = unusable_by calls t p x states s (λ j g has can. unusable calls t (p + 1) states j s g has can) (is_usable x (active_calls calls (label_of t p))) refl e i is usable
 
 module _ (k : KernelState) (t : TaskNo) where
-  some_usable : (l : Label) → first_usable_of k t ≡ Some l → HasUsable k t
+  pub some_usable : (l : Label) → first_usable_of k t ≡ Some l → HasUsable k t
   some_usable l is =
       let u = usable_is k t l is in
       let p : ℕ = l.phone.0 in
@@ -177,7 +177,7 @@ module _ (k : KernelState) (t : TaskNo) (p : ℕ) (msg : Msg) (sound : IsSound k
   }
 
   -- what is checked of a call of each kind, and what its record has once it is sent
-  abbrev CheckOf : MethodKind → Option Code → Type 0
+  abbrev pub CheckOf : MethodKind → Option Code → Type 0
   CheckOf DataWrite cause = (told : Result (List ℕ) Code) × IsLawfulCopy k.memory t msg.args (pool k) told × (cause ≡ cause_of told)
   CheckOf DataRead cause = (told : Result ℕ Code) × IsLawfulAsking msg.args told × (cause ≡ cause_of told)
   CheckOf ShareOut cause = (told : Result Unit Code) × IsLawfulOffer k.memory t msg.args told × (cause ≡ cause_of told)
@@ -188,7 +188,7 @@ module _ (k : KernelState) (t : TaskNo) (p : ℕ) (msg : Msg) (sound : IsSound k
   CheckOf ConnectToMe cause = cause ≡ None
   CheckOf User cause = cause ≡ None
 
-  check_by : (kind : MethodKind) → kind_of msg.method ≡ kind → (cause : Option Code) → CheckOf kind cause → IsCheck k t msg cause
+  pub check_by : (kind : MethodKind) → kind_of msg.method ≡ kind → (cause : Option Code) → CheckOf kind cause → IsCheck k t msg cause
   check_by kind is cause h = record {
     write = λ e. subst (λ x. CheckOf x cause) (sym is ∙ ap kind_of e) h;
     read = λ e. subst (λ x. CheckOf x cause) (sym is ∙ ap kind_of e) h;

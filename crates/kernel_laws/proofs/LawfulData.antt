@@ -30,7 +30,7 @@ differ : {A : Type 0} (r s : Result A Code) → (code_in r ≡ code_in s → ⊥
 differ r s other e = other (ap code_in e)
 
 -- bytes cannot be read, or they are
-decided_read : (m : Memory) (t : TaskNo) (at count : ℕ) → (IsUnreadable m t at count × (read m t at count ≡ Err eperm)) ⊎ ((IsUnreadable m t at count → ⊥) × AreTold (read m t at count))
+pub decided_read : (m : Memory) (t : TaskNo) (at count : ℕ) → (IsUnreadable m t at count × (read m t at count ≡ Err eperm)) ⊎ ((IsUnreadable m t at count → ⊥) × AreTold (read m t at count))
 decided_read m t at count = by_count (count == 0) refl where
   by_holder : (o : Option Area) → 1 ≤ count → holder at count Read (areas_of m t) ≡ o → (IsUnreadable m t at count × (read_at m count (spot_in at o) ≡ Err eperm)) ⊎ ((IsUnreadable m t at count → ⊥) × AreTold (read_at m count (spot_in at o)))
   by_holder None some e = inl (record { some = some; none = λ a r. none_readable m t at count a e r }, refl)
@@ -44,7 +44,7 @@ abbrev count_told : ℕ → Result ℕ Code
 count_told n = Ok n
 
 -- a data call is too large, or it asks for so many bytes
-decided_count : (args : List ℕ) → (IsTooLarge args × (kept_count args ≡ Err elimit)) ⊎ ((IsTooLarge args → ⊥) × (kept_count args ≡ Ok (asked args)))
+pub decided_count : (args : List ℕ) → (IsTooLarge args × (kept_count args ≡ Err elimit)) ⊎ ((IsTooLarge args → ⊥) × (kept_count args ≡ Ok (asked args)))
 decided_count args = by (nat_lt 65536 (second args)) (third args == 1) refl refl where
   by : (large restricted : Bool) → nat_lt 65536 (second args) ≡ large → (third args == 1) ≡ restricted → (IsTooLarge args × ((if large then (if restricted then count_told most_data else Err elimit) else Ok (count_of args)) ≡ Err elimit)) ⊎ ((IsTooLarge args → ⊥) × ((if large then (if restricted then count_told most_data else Err elimit) else Ok (count_of args)) ≡ Ok (if large then 65536 else second args)))
   by true true is re = let one : third args ≡ 1 = grind (arith, nat_tests, re) in inr ((λ l. l.whole one), refl)
@@ -109,7 +109,7 @@ module _ (m : Memory) (caller : TaskNo) (args : List ℕ) (used : ℕ) (sound : 
     | inr h ↦ subst (λ r. Copy (write_kept m caller args used r)) (sym h.1) (by_read h.0)
   ]
 
-length_taken : (bytes : List ℕ) (n : ℕ) → n ≤ length bytes → length (take n bytes) ≡ n
+pub length_taken : (bytes : List ℕ) (n : ℕ) → n ≤ length bytes → length (take n bytes) ≡ n
 length_taken bytes n few = grind (arith, common_steps)
 
 module _ (m : Memory) (answerer : TaskNo) (brought : List ℕ) (reply : Reply) (sound : IsSound m) where

@@ -1,37 +1,37 @@
-mod KilledCalls
-mod KillOrder
-mod KilledAreas
-mod KillLaws
-mod ReceiveLaws
-mod PoolChanges
-mod PoolSteps
-mod KilledPool
-mod ServedPool
-mod FullPool
-mod SpawnLaws
-mod CallRoutes
-mod KillRoutes
-mod PhoneRoutes
-mod PhoneCodes
-mod KeptPhones
-mod FreedPhones
-mod ArgumentFive
-mod MovedBytes
-mod ToldMessages
-mod KeptReplies
-mod OneArea
-mod LawfulReads
-mod LawfulWrites
-mod DroppedAreas
-mod LawfulAreas
-mod LawfulData
-mod LawfulShares
-mod LawfulCalls
-mod LawfulAnswers
-mod CarriedCalls
-mod MemoryRequests
-mod DeliveredAnswers
-mod ActiveCalls
-mod UsablePhones
-mod ToldHangups
-mod LawExamples
+pub mod KilledCalls
+pub mod KillOrder
+pub mod KilledAreas
+pub mod KillLaws
+pub mod ReceiveLaws
+pub mod PoolChanges
+pub mod PoolSteps
+pub mod KilledPool
+pub mod ServedPool
+pub mod FullPool
+pub mod SpawnLaws
+pub mod CallRoutes
+pub mod KillRoutes
+pub mod PhoneRoutes
+pub mod PhoneCodes
+pub mod KeptPhones
+pub mod FreedPhones
+pub mod ArgumentFive
+pub mod MovedBytes
+pub mod ToldMessages
+pub mod KeptReplies
+pub mod OneArea
+pub mod LawfulReads
+pub mod LawfulWrites
+pub mod DroppedAreas
+pub mod LawfulAreas
+pub mod LawfulData
+pub mod LawfulShares
+pub mod LawfulCalls
+pub mod LawfulAnswers
+pub mod CarriedCalls
+pub mod MemoryRequests
+pub mod DeliveredAnswers
+pub mod ActiveCalls
+pub mod UsablePhones
+pub mod ToldHangups
+pub mod LawExamples

@@ -19,28 +19,28 @@ use Rattle.kernel_laws.proofs.LawfulReads.{peek_is_lawful}
 use Rattle.kernel_laws.proofs.LawfulWrites.{write_is_lawful}
 use Rattle.kernel_laws.proofs.LawfulAreas.{make_is_lawful, drop_is_lawful}
 
-tells : {A : Type 0} (told : Result A Code) → Tells told (done_or_refused told)
+pub tells : {A : Type 0} (told : Result A Code) → Tells told (done_or_refused told)
 tells (Ok x) = refl
 tells (Err code) = refl
 
-tells_bytes : (told : Result (List ℕ) Code) → TellsBytes told (bytes_or_refused told)
+pub tells_bytes : (told : Result (List ℕ) Code) → TellsBytes told (bytes_or_refused told)
 tells_bytes (Ok bytes) = refl
 tells_bytes (Err code) = refl
 
-made_is : (t : TaskNo) (base pages rights : ℕ) (told : Result StoreNo Code) → made_note t base pages rights told ≡ made t base pages rights told
+pub made_is : (t : TaskNo) (base pages rights : ℕ) (told : Result StoreNo Code) → made_note t base pages rights told ≡ made t base pages rights told
 made_is t base pages rights (Ok store) = refl
 made_is t base pages rights (Err code) = refl
 
-gone_is : (t : TaskNo) (base : ℕ) (told : Result Unit Code) → gone_note t base told ≡ gone t base told
+pub gone_is : (t : TaskNo) (base : ℕ) (told : Result Unit Code) → gone_note t base told ≡ gone t base told
 gone_is t base (Ok x) = refl
 gone_is t base (Err code) = refl
 
-written_is : (t : TaskNo) (at count : ℕ) (told : Result (Option StoreNo) Code) → option_to_list (wrote_note t at count told) ≡ written t at count told
+pub written_is : (t : TaskNo) (at count : ℕ) (told : Result (Option StoreNo) Code) → option_to_list (wrote_note t at count told) ≡ written t at count told
 written_is t at count (Ok (Some store)) = refl
 written_is t at count (Ok None) = refl
 written_is t at count (Err code) = refl
 
-added : (k : KernelState) (t : TaskNo) → IsSound k → is_alive k t ≡ true → IsAdded k.memory t
+pub added : (k : KernelState) (t : TaskNo) → IsSound k → is_alive k t ≡ true → IsAdded k.memory t
 added k t sound alive =
     let few = within k.tasks.alive t.0 alive in
     let same = sound.memory.paired in

@@ -17,7 +17,7 @@ use Rattle.kernel_laws.specs.MemoryLaws.{Has, IsIn, Spans, IsReadable, IsWritabl
 
 -- ---- one area has an address
 
-order : (i j : ℕ) → (i ≡ j) ⊎ ((i < j) ⊎ (j < i))
+pub order : (i j : ℕ) → (i ≡ j) ⊎ ((i < j) ⊎ (j < i))
 order zero zero = inl refl
 order zero (suc j) = inr (inl (omega arith))
 order (suc i) zero = inr (inr (omega arith))
@@ -26,12 +26,12 @@ order (suc i) (suc j) = elim (order i j) [
   | inr o ↦ elim o [ inl lt ↦ inr (inl (omega arith)) | inr gt ↦ inr (inr (omega arith)) ]
 ]
 
-apart_at : (areas : List Area) (i j : ℕ) (a b : Area) → AllPairs AreApart areas → i < j → slice_get areas i ≡ Some a → slice_get areas j ≡ Some b → AreApart a b
+pub apart_at : (areas : List Area) (i j : ℕ) (a b : Area) → AllPairs AreApart areas → i < j → slice_get areas i ≡ Some a → slice_get areas j ≡ Some b → AreApart a b
 apart_at areas i j a b all lt p q =
     let there : AreApart (slice_index_or areas i a) (slice_index_or areas j a) = all i j a lt (slice_get_within areas j b q) in
     subst (AreApart a) (get_or_from_slice_get areas j b a q) (subst (λ x. AreApart x (slice_index_or areas j a)) (get_or_from_slice_get areas i a a p) there)
 
-no_common : (x : ℕ) (a b : Area) → AreApart a b → IsIn a.base a.pages x → IsIn b.base b.pages x → ⊥
+pub no_common : (x : ℕ) (a b : Area) → AreApart a b → IsIn a.base a.pages x → IsIn b.base b.pages x → ⊥
 no_common x a b apart v w =
     let v0 = v.from in let v1 = v.to in let w0 = w.from in let w1 = w.to in
     let p : a.base < b.base + b.pages * 4096 = omega arith in

@@ -105,7 +105,7 @@ is_below m h = grind (arith, nat_tests)
 not_below : (m : ℕ) → 512 ≤ m → nat_lt m 512 ≡ false
 not_below m h = grind (arith, nat_tests)
 
-may_pass : (change : Option Msg) (c : Call) → is_forwardable change c ≡ true → MayPass change c
+pub may_pass : (change : Option Msg) (c : Call) → is_forwardable change c ≡ true → MayPass change c
 may_pass change c h = record {
   asks = λ e. false≢true (sym (first_of (c.request.method == 0) _ h) ∙ eq-eqb c.request.method 0 e);
   user = λ msg is user.
@@ -114,7 +114,7 @@ may_pass change c h = record {
       at_least msg.method (stays_user (nat_lt c.request.method 512) (nat_lt msg.method 512) (not_below c.request.method user) changed);
 }
 
-may_not_pass : (change : Option Msg) (c : Call) → is_forwardable change c ≡ false → MayPass change c → ⊥
+pub may_not_pass : (change : Option Msg) (c : Call) → is_forwardable change c ≡ false → MayPass change c → ⊥
 may_not_pass change c h may = elim (one_of (c.request.method == 0) _ h) [
   | inl e ↦ may.asks (eqb-true c.request.method 0 e)
   | inr e ↦ let both = becomes_system (nat_lt c.request.method 512) (has_system_method change) e in by_change change refl both.0 both.1

@@ -43,7 +43,7 @@ use Rattle.kernel_laws.specs.ReceiveLaws.{IsAwaited, IsHangupAnswer, IsFirst, Ha
 module _ (next : KernelState → Option Call) (step : KernelState → Call → Transition) (I : KernelState → Type 0) (test : Call → Bool)
     (keeps : (k : KernelState) (c : Call) → I k → next k ≡ Some c → I (step k c).state)
     (less : (k : KernelState) (c : Call) → I k → next k ≡ Some c → suc (count_of test (entries (step k c).state.calls.records)) ≡ count_of test (entries k.calls.records)) where
-  drain_stops : (n : ℕ) (k : KernelState) → I k → count_of test (entries k.calls.records) ≤ n → next (drain next step n k).state ≡ None
+  pub drain_stops : (n : ℕ) (k : KernelState) → I k → count_of test (entries k.calls.records) ≤ n → next (drain next step n k).state ≡ None
   drain_stops zero k h few = by_next (next k) refl where
     by_next : (o : Option Call) → next k ≡ o → o ≡ None
     by_next None is = refl
@@ -114,15 +114,15 @@ at_answers t (Incoming u) h = absurd (false≢true h)
 at_answers t (Dispatched u) h = absurd (false≢true h)
 at_answers t (Answers u) h = ap (λ n. let r : TaskNo = record { 0 = n } in Answers r) (eqb-true u.0 t.0 h)
 
-at_incoming : (t : TaskNo) (place : Place) → same_place place (Incoming t) ≡ true → place ≡ Incoming t
+pub at_incoming : (t : TaskNo) (place : Place) → same_place place (Incoming t) ≡ true → place ≡ Incoming t
 at_incoming t (Incoming u) h = ap (λ n. let r : TaskNo = record { 0 = n } in Incoming r) (eqb-true u.0 t.0 h)
 at_incoming t (Dispatched u) h = absurd (false≢true h)
 at_incoming t (Answers u) h = absurd (false≢true h)
 
-is_answers : (t : TaskNo) (place : Place) → place ≡ Answers t → same_place place (Answers t) ≡ true
+pub is_answers : (t : TaskNo) (place : Place) → place ≡ Answers t → same_place place (Answers t) ≡ true
 is_answers t place e = ap (λ (p : Place). same_place p (Answers t)) e ∙ eq-eqb t.0 t.0 refl
 
-is_incoming : (t : TaskNo) (place : Place) → place ≡ Incoming t → same_place place (Incoming t) ≡ true
+pub is_incoming : (t : TaskNo) (place : Place) → place ≡ Incoming t → same_place place (Incoming t) ≡ true
 is_incoming t place e = ap (λ (p : Place). same_place p (Incoming t)) e ∙ eq-eqb t.0 t.0 refl
 
 not_both_places : (t : TaskNo) (place : Place) → place ≡ Incoming t → place ≡ Answers t → ⊥
@@ -149,10 +149,10 @@ awaited_is d e = by_mark d.discard e where
 
 module _ (k : KernelState) (t : TaskNo) (sound : IsSound k) where
   -- the mark on an answer, and its method
-  is_hangup : (n : ℕ) (c : Call) → call_at k.calls n ≡ Some c → c.discard ≡ true → c.request.method ≡ phone_hungup
+  pub is_hangup : (n : ℕ) (c : Call) → call_at k.calls n ≡ Some c → c.discard ≡ true → c.request.method ≡ phone_hungup
   is_hangup n c is mark = eqb-true c.request.method 0 (sym (sound.calls.each n c is).discard ∙ mark)
 
-  no_hangup : (n : ℕ) (c : Call) → call_at k.calls n ≡ Some c → c.discard ≡ false → c.request.method ≡ phone_hungup → ⊥
+  pub no_hangup : (n : ℕ) (c : Call) → call_at k.calls n ≡ Some c → c.discard ≡ false → c.request.method ≡ phone_hungup → ⊥
   no_hangup n c is mark e = false≢true (sym mark ∙ (sound.calls.each n c is).discard ∙ eq-eqb c.request.method 0 e)
 
   own_number : (n : ℕ) (c : Call) → call_at k.calls n ≡ Some c → call_at k.calls c.number.0 ≡ Some c
@@ -166,12 +166,12 @@ module _ (k : KernelState) (t : TaskNo) (sound : IsSound k) where
     pub drops : DropsHangupsOnly t k p
 
   -- the answer that is dropped next
-  record IsNext (j : KernelState) (x : Call) : Type 0 where
+  pub record IsNext (j : KernelState) (x : Call) : Type 0 where
     pub live : call_at j.calls x.number.0 ≡ Some x
     pub at : same_place x.place (Answers t) ≡ true
     pub mark : x.discard ≡ true
 
-  next_is : (j : KernelState) (x : Call) → IsSound j → next_unawaited t j ≡ Some x → IsNext j x
+  pub next_is : (j : KernelState) (x : Call) → IsSound j → next_unawaited t j ≡ Some x → IsNext j x
   next_is j x s is =
       let u = unawaited_is (front j.calls (Answers t)) x is in
       let f = front_live j.calls (Answers t) x u.0 in

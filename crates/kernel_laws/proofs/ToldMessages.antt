@@ -66,7 +66,7 @@ not_write false false false false false true h is = cc
 not_write false false false false false false true is = cc
 not_write false false false false false false false is = cc
 
-write_method : (m : ℕ) → kind_of m ≡ DataWrite → m ≡ data_write
+pub write_method : (m : ℕ) → kind_of m ≡ DataWrite → m ≡ data_write
 write_method m is = elim (cases_eq m 3) [ inl e ↦ e | inr ne ↦ absurd (not_write (m == 0) (m == 1) (m == 2) (m == 4) (m == 5) (m == 6) (nat_lt m 512) (rw (ne_eqb m 3 ne) at is)) ]
 
 not_read : (a b c d f g h : Bool) → (if a then PhoneHungUp else if b then ConnectToMe else if c then ConnectMeTo else if d then DataWrite else if false then DataRead else if f then ShareOut else if g then ShareIn else if h then NotBuilt else User) ≡ DataRead → ⊥

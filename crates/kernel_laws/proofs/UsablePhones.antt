@@ -92,22 +92,22 @@ module _ (k : KernelState) (t : TaskNo) where
   usable_by p Slammed at can = absurd (cc can)
 
   -- where the search finds none, none is usable
-  none_is : first_usable_of k t ≡ None → (p : ℕ) → IsUsable k k.calls t p → ⊥
+  pub none_is : first_usable_of k t ≡ None → (p : ℕ) → IsUsable k k.calls t p → ⊥
   none_is e p (inl free) = none_usable k t e (p, inl free)
   none_is e p (inr hung) = none_usable k t e (p, inr (hung.0, no_count k.calls t p hung.1))
 
   module _ (l : Label) (e : first_usable_of k t ≡ Some l) where
-    own : l ≡ label_of t l.phone.0
+    pub own : l ≡ label_of t l.phone.0
     own = same_phone l (label_of t l.phone.0) (ap (λ (u : TaskNo). u.0) (usable_is k t l e).own) refl
 
     -- what it finds is usable
-    usable_one : IsUsable k k.calls t l.phone.0
+    pub usable_one : IsUsable k k.calls t l.phone.0
     usable_one =
         let u = usable_is k t l e in
         usable_by l.phone.0 u.state (subst (λ (v : TaskNo). phone_at k v l.phone.0 ≡ Some u.state) u.own u.is) (subst (λ (m : Label). is_usable u.state (active_calls k.calls m) ≡ true) own u.usable)
 
     -- and none before it
-    least_one : (p : ℕ) → p < l.phone.0 → IsUsable k k.calls t p → ⊥
+    pub least_one : (p : ℕ) → p < l.phone.0 → IsUsable k k.calls t p → ⊥
     least_one p less h = by_row (row_at k.tasks.phones t.0) refl e (tested p h) where
       by_row : (row : Option (List PhoneState)) → row_at k.tasks.phones t.0 ≡ row → first_usable_of k t ≡ Some l → ((s : PhoneState) × (phone_at k t p ≡ Some s) × (is_usable s (active_calls k.calls (label_of t p)) ≡ true)) → ⊥
       by_row None at f s = let g = rw at at f in absurd (cc g)

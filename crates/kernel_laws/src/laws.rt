@@ -37,8 +37,9 @@ pub fn kills_leave_nothing()
         → TellsWhereItLed t k (kill k t).state }
 {}
 
-/// A receive drops the answers of hangups that came before all others, and no other call; then it
-/// tells the first answer that is left, or else the first call that waits.
+/// A receive drops answers of hangups alone, among them each that came before all awaited ones; then
+/// it tells the first awaited answer, or else the first call that waits. Which answers of hangups it
+/// leaves is said in `kernel_determined`.
 pub fn receives_are_lawful()
     ensures { (k : KernelState) (t : TaskNo) → IsSound k
         → IsLawfulReceive t k (receive k t) }

@@ -28,9 +28,9 @@ use Rattle.script_lines.specs.Names.{task_names, place_of, ns_name, is_ns}
 use Rattle.script_lines.specs.Operation.{◌>>=◌, needed, op_in}
 use Rattle.script_lines.specs.Plan.{Plan}
 use Rattle.script_lines.specs.Sound.{IsSound, AreApart, IsRawOrAsync}
-use Rattle.script_lines.specs.Draft.{plan_of, IsWhole, on_last, body_with_op, task_with_op, with_op, empty_body, is_full, task_with_body, with_body, present, takes_bodies, service, with_service, new_task, with_task, with_new, limit_at, is_wired, leads_to_service, wire_between, with_wire, has_no_task}
+use Rattle.script_lines.specs.Draft.{plan_of, IsWhole, on_last, body_with_op, task_with_op, with_op, empty_body, is_full, task_with_body, with_body, present, takes_bodies, service, with_service, new_task, with_task, with_new, limit_at, is_wired, leads_to_service, wire_between, with_wire, stands_first}
 use Rattle.script_lines.specs.Line.{kinds, kind_of, number_up_to, most_behind, head, plain_task, counted_task, task_of, template_of, wire_of, alone_at, ns, task, template, body, wire, operation, after_verb, after_words, after_line}
-use Rattle.script_lines.specs.ScriptParts.{ScriptParts, no_parts, with_tasks, with_templates, with_wires, part, with_part, PartsFit}
+use Rattle.script_lines.specs.ScriptParts.{ScriptParts, no_parts, script_of_parts, with_tasks, with_templates, with_wires, part, with_part, PartsFit}
 use Rattle.script_lines.proofs.Faultless.{given, ok_is, then_ok, chosen_ok}
 use Rattle.script_lines.proofs.Soundness.{other_name, none_passes}
 use Rattle.script_lines.proofs.TaskKinds.{each_is_raw_or_async}
@@ -252,9 +252,9 @@ part_fits tasks templates false q fit same = record {
   raw_or_async = fit.raw_or_async;
 }
 
-ns_made : (p q : Plan) (words : List (List ℕ)) → ns p words ≡ Ok q → with_service p ≡ q
+ns_made : (w : ScriptParts) (q : Plan) (words : List (List ℕ)) → ns w words ≡ Ok q → with_service w.tasks ≡ q
 unfolding ns
-ns_made p q words e = ok_is (with_service p) q (alone_ok (has_no_task p) words (given (with_service p)) q e)
+ns_made w q words e = ok_is (with_service w.tasks) q (alone_ok (stands_first (script_of_parts w)) words (given (with_service w.tasks)) q e)
 
 module _ (w v : ScriptParts) (fit : PartsFit w) where
   put : (r : Result Plan Reason) (f : Plan → ScriptParts) → (r >>= λ plan. given (f plan)) ≡ Ok v → (q : Plan) × (r ≡ Ok q) × (f q ≡ v)
@@ -263,8 +263,8 @@ module _ (w v : ScriptParts) (fit : PartsFit w) where
   verb_fits : (verb : Option Verb) (words : List (List ℕ)) → after_verb w verb words ≡ Ok v → PartsFit v
   verb_fits None words e = absurd cc
   verb_fits (Some first.Ns) words e =
-      let got = put (ns w.tasks words) (with_tasks w) e in
-      subst PartsFit (ap (with_tasks w) (ns_made w.tasks got.0 words got.1) ∙ got.2) (service_fits w fit)
+      let got = put (ns w words) (with_tasks w) e in
+      subst PartsFit (ap (with_tasks w) (ns_made w got.0 words got.1) ∙ got.2) (service_fits w fit)
   verb_fits (Some first.Task) words e =
       let got = put (task (task_names w.templates.tasks) w.tasks words) (with_tasks w) e in
       subst PartsFit got.2 (task_fits w got.0 fit (task_keeps (task_names w.templates.tasks) w.tasks got.0 words got.1))

@@ -42,9 +42,10 @@ if_any (Some x) = x ∷ []
 abbrev pub service : TaskPlan
 service = record { name = ns_name; kind = Naming; limit = most_phones; bodies = []; blocks = 0; service = None }
 
--- no line made a task yet
-unfoldable pub has_no_task : Plan → Bool
-has_no_task plan = length plan.tasks == 0
+-- the next line that has words is the first: any before it would have made a task or a template, or
+-- stood behind one
+unfoldable pub stands_first : Plan → Bool
+stands_first plan = length plan.tasks == 0 && length plan.templates == 0
 
 -- the naming service, as the first task
 unfoldable pub with_service : Plan → Plan

@@ -17,8 +17,8 @@ use Rattle.script_lines.specs.Operation.{◌>>=◌, needed, op_in}
 use Rattle.script_lines.specs.Plan.{Plan}
 use Rattle.script_lines.specs.Sound.{most_blocks}
 use Rattle.script_lines.specs.Names.{task_names}
-use Rattle.script_lines.specs.ScriptParts.{ScriptParts, with_tasks, with_templates, with_wires, part, with_part}
-use Rattle.script_lines.specs.Draft.{with_service, with_new, with_body, with_wire, with_op, has_no_task, present, takes_bodies}
+use Rattle.script_lines.specs.ScriptParts.{ScriptParts, script_of_parts, with_tasks, with_templates, with_wires, part, with_part}
+use Rattle.script_lines.specs.Draft.{with_service, with_new, with_body, with_wire, with_op, stands_first, present, takes_bodies}
 
 -- the kinds whose lines may go without a number, may have one, and may have two
 abbrev pub kinds : List (List ℕ × Kind)
@@ -111,9 +111,9 @@ alone_at false words made = Err OutOfPlace
 alone_at true [] made = made
 alone_at true (_ ∷ _) made = Err WrongCount
 
--- only as the first task; no words
-unfoldable pub ns : Plan → List (List ℕ) → Result Plan Reason
-ns plan words = alone_at (has_no_task plan) words (Ok (with_service plan))
+-- only as the first line that has words; none behind it
+unfoldable pub ns : ScriptParts → List (List ℕ) → Result Plan Reason
+ns w words = alone_at (stands_first (script_of_parts w)) words (Ok (with_service w.tasks))
 
 -- a task, whose name is none of the templates'
 unfoldable pub task : List (List ℕ) → Plan → List (List ℕ) → Result Plan Reason
@@ -142,7 +142,7 @@ operation_of_last w verb words = operation (part w) verb words >>= λ plan. Ok (
 
 abbrev pub after_verb : ScriptParts → Option Verb → List (List ℕ) → Result ScriptParts Reason
 after_verb w None words = Err UnknownOperation
-after_verb w (Some Ns) words = ns w.tasks words >>= λ plan. Ok (with_tasks w plan)
+after_verb w (Some Ns) words = ns w words >>= λ plan. Ok (with_tasks w plan)
 after_verb w (Some Task) words =
     task (task_names w.templates.tasks) w.tasks words >>= λ plan. Ok (with_tasks w plan)
 after_verb w (Some Template) words =

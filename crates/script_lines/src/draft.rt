@@ -2,7 +2,7 @@
 ghost use Rattle.std.specs.Prelude.{◌≡◌, ◌≢◌, ◌≤◌, ◌==◌, [], ◌++◌, length, true, None, Some, Ok, IfOk, IfSome, OnOk, option_copied};
 ghost use Rattle.ipc_ids.specs.declared.op.Op.{Op};
 ghost use Rattle.script_lines.specs.declared.plan.Kind.TheVariants.{Naming};
-ghost use Rattle.script_lines.specs.Draft.{last_plan, last_plans, plan_of, IsStep, IsWhole, is_wired, limit_at, leads_to_service, if_any, first_body, new_task, is_async, is_full, has_no_task, present, last_is_async, takes_bodies, taken_by, taker, with_service, with_task, with_body, with_wire, with_op, task_with_body, task_with_op, body_with_op, HasHeadOf, HasLastBody, Follows};
+ghost use Rattle.script_lines.specs.Draft.{last_plan, last_plans, plan_of, IsStep, IsWhole, is_wired, limit_at, leads_to_service, if_any, first_body, new_task, is_async, is_full, stands_first, present, last_is_async, takes_bodies, taken_by, taker, with_service, with_task, with_body, with_wire, with_op, task_with_body, task_with_op, body_with_op, HasHeadOf, HasLastBody, Follows};
 ghost use Rattle.script_lines.specs.LastLine.{last_in, last_op_of, last_op, TakesLastOp, KeepsLastOp};
 ghost use Rattle.script_lines.specs.Names.{is_ns};
 ghost use Rattle.script_lines.specs.Plan.{nothing};
@@ -275,11 +275,10 @@ impl Draft {
     }
 
     /// Whether there is no task yet.
-    #[tactic(auto, unfolding(crate::specs::Draft::has_no_task))]
-    pub fn is_empty(&self) -> bool
+    fn is_empty(&self) -> bool
         requires { IsWhole self.now }
         ensures names { result ≡ (length self.now.names == 0) }
-        ensures value { result ≡ has_no_task (plan_of self.now) }
+        ensures value { result ≡ (length (plan_of self.now).tasks == 0) }
     {
         self.names.len() == 0
     }
@@ -516,6 +515,16 @@ impl Drafts {
             templates: Draft::new(alloc),
             on_template: false,
         }
+    }
+
+    /// Whether no line so far had words: each makes a task or a template, or stands behind one.
+    #[tactic(auto, unfolding(crate::specs::Draft::stands_first))]
+    pub fn are_empty(&self) -> bool
+        requires { AreWhole self.now }
+        ensures names { result ≡ true → length self.now.tasks.names ≡ 0 }
+        ensures value { result ≡ stands_first (script_of_parts (parts_of self.now)) }
+    {
+        self.tasks.is_empty() && self.templates.is_empty()
     }
 
     /// The script of all the lines.

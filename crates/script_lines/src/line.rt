@@ -197,18 +197,20 @@ fn wire_of(words: &[&[u8]]) -> Result<(Name, u64, Name), Reason>
     }
 }
 
-/// Only as the first task; no words.
+/// Only as the first line that has words; none behind it.
 #[tactic(auto, unfolding(crate::specs::Line::ns))]
-fn add_service(draft: &mut Draft, alloc: Global, words: &[&[u8]]) -> Result<(), LineFault>
-    requires { IsWhole draft.old }
-    ensures value { IsStep result draft.old draft.new (λ plan. ns plan (texts words.now)) }
-    ensures whole { OnOk result (IsWhole draft.new) }
+fn add_service(drafts: &mut Drafts, alloc: Global, words: &[&[u8]]) -> Result<(), LineFault>
+    requires { AreWhole drafts.old }
+    ensures value { Follows result (plan_of drafts.new.tasks)
+        (ns (parts_of drafts.old) (texts words.now)) }
+    ensures templates { drafts.new.templates ≡ drafts.old.templates }
+    ensures whole { OnOk result (AreWhole drafts.new) }
 {
-    if !draft.is_empty() {
+    if !drafts.are_empty() {
         return Err(LineFault::Bad(Reason::OutOfPlace));
     }
     match words {
-        [] => draft.add_service(alloc),
+        [] => drafts.tasks.add_service(alloc),
         _ => Err(LineFault::Bad(Reason::WrongCount)),
     }
 }
@@ -396,7 +398,7 @@ fn add_words(drafts: &mut Drafts, alloc: Global, words: &[&[u8]]) -> Result<bool
     match verb_of(*first) {
         None => Err(LineFault::Bad(Reason::UnknownOperation)),
         Some(Verb::Ns) => {
-            add_service(&mut drafts.tasks, alloc, others)?;
+            add_service(drafts, alloc, others)?;
             drafts.on_template = false;
             Ok(false)
         }

@@ -21,8 +21,8 @@ use Rattle.script_lines.specs.Word.{number, is_name, name_of, verb_of}
 use Rattle.script_lines.specs.Names.{task_names, place_of, is_ns}
 use Rattle.script_lines.specs.Operation.{◌>>=◌, needed, raw_op_of, async_op_of, op_in}
 use Rattle.script_lines.specs.Plan.{Plan}
-use Rattle.script_lines.specs.Draft.{last_of, open_kind, has_no_task, present, takes_bodies, is_async, is_full, empty_body, on_last, body_with_op, task_with_op, with_op, task_with_body, with_body, with_service, with_task, with_new, with_wire, wire_between}
-use Rattle.script_lines.specs.ScriptParts.{ScriptParts, with_tasks, with_templates, with_wires, part, with_part}
+use Rattle.script_lines.specs.Draft.{last_of, open_kind, stands_first, present, takes_bodies, is_async, is_full, empty_body, on_last, body_with_op, task_with_op, with_op, task_with_body, with_body, with_service, with_task, with_new, with_wire, wire_between}
+use Rattle.script_lines.specs.ScriptParts.{ScriptParts, script_of_parts, with_tasks, with_templates, with_wires, part, with_part}
 use Rattle.script_lines.specs.Line.{kind_of, counted_kind_of, service_kind_of, number_up_to, most_behind, head, plain_task, counted_task, service_task, task_of, template_of, wire_of, alone_at, ns, task, template, body, wire, operation, after_verb, after_words, after_line}
 use Rattle.script_reader.specs.Reasons.{Form, UP_TO, raw_forms, async_forms, op_forms, alone_where, forms, is_out_of_place, has_wrong_count, has_bad_word, names_unknown, name_is_taken, cannot_lead_from, cannot_lead, phone_is_bad, of_last_task, is_too_many, subject, is_among, is_taken_beside, is_known, line_reasons}
 use Rattle.script_lines.specs.Sound.{most_blocks}
@@ -141,9 +141,9 @@ alone_rows false words made rest h = refl
 alone_rows true [] made rest h = h refl
 alone_rows true (word ∷ words) made rest h = rw (differ 0 (suc (length words)) (omega arith)) refl
 
-ns_line : (plan : Plan) (words : List (List ℕ)) → fault_in (ns plan words) ≡ first_reason (verb_rows plan first.Ns words)
+ns_line : (w : ScriptParts) (words : List (List ℕ)) → fault_in (ns w words) ≡ first_reason (verb_rows (script_of_parts w) first.Ns words)
 unfolding ns
-ns_line plan words = alone_rows (has_no_task plan) words (Ok (with_service plan)) [] (λ _. refl)
+ns_line w words = alone_rows (stands_first (script_of_parts w)) words (Ok (with_service w.tasks)) [] (λ _. refl)
 
 with_body_fault : (plan : Plan) (connection : Bool) → takes_bodies plan ≡ true → fault_in (with_body plan connection) ≡ first_reason ((TooMany, of_last_task plan (λ task. is_full connection task.bodies)) ∷ [])
 unfolding with_body takes_bodies task_with_body
@@ -488,7 +488,7 @@ same_template_rows : (names : List (List ℕ)) (plan : Plan) (words : List (List
 same_template_rows names plan words = refl
 
 verb_line : (w : ScriptParts) (verb : Verb) (words : List (List ℕ)) → fault_in (after_verb w (Some verb) words) ≡ first_reason (line_rows w verb words)
-verb_line w first.Ns words = kept (ns w.tasks words) (with_tasks w) ∙ ns_line w.tasks words
+verb_line w first.Ns words = kept (ns w words) (with_tasks w) ∙ ns_line w words
 verb_line w first.Task words = kept (task (task_names w.templates.tasks) w.tasks words) (with_tasks w) ∙ task_line (task_names w.templates.tasks) w.tasks words ∙ same_task_rows (task_names w.templates.tasks) w.tasks words
 verb_line w first.Template words = kept (template (task_names w.tasks.tasks) w.templates words) (with_templates w) ∙ template_line (task_names w.tasks.tasks) w.templates words ∙ same_template_rows (task_names w.tasks.tasks) w.templates words
 verb_line w first.Fibril words = kept (body (part w) false words) (with_part w) ∙ fibril_line (part w) words

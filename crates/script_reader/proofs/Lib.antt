@@ -13,3 +13,4 @@ pub mod ReadingExamples
 pub mod LineByLine
 pub mod WholeScripts
 mod EventWordExamples
+pub mod FirstLines

@@ -5,7 +5,7 @@ use Rattle.ipc_ids.specs.declared.op.Value.TheVariants.{Number, Register}
 use Rattle.ipc_ids.specs.declared.op.Op.TheVariants as op
 use Rattle.script_lines.specs.declared.plan.Kind.TheVariants.{Raw}
 use Rattle.script_lines.specs.Plan.{Plan}
-use Rattle.script_lines.specs.Draft.{limit_at, has_no_task, with_service, with_task, with_new, with_wire, present, takes_bodies, task_with_body, with_body, with_op}
+use Rattle.script_lines.specs.Draft.{limit_at, stands_first, with_service, with_task, with_new, with_wire, present, takes_bodies, task_with_body, with_body, with_op}
 use Rattle.script_reader.specs.Schedule.{event_verb_of, count_of, step_with, step_of, kill_of, hangup_of, with_events}
 use Rattle.script_reader.specs.EventLine.{is_taken, spawn_place, after_event_line}
 use Rattle.script_lines.specs.Line.{kind_of, counted_kind_of, service_kind_of, number_up_to, plain_task, counted_task, service_task, task_of, template_of, wire_of, ns, task, template, body, wire, operation, after_line}
@@ -58,10 +58,10 @@ plan =
     }
 
 pub script_is_read : script_of (codes "task a raw\ncall 0 512 7\nreceive\ntask b raw\nreceive\nanswer r2 EOK 8\nwire a 0 b\n") ≡ Ok plan
-unfolding after_event_line after_line answer_op area_op arguments begin_op body bytes_of call_op call_slot_op close_op count_of counted_kind_of counted_task end_op event_verb_of exchange_mode_of forward_op handle_of hangup_of hangup_op has_no_task hex_digit in_base is_name is_taken jump_differ_op jump_equal_op jump_op kill_of kind_of limit_at mode_of name_of named next_op ns number number_below number_up_to open_op operation peek_op plain_task poke_op present reading receive_op register register_number send_op service_kind_of service_task session_of set_op slot_of spawn_place step_of step_with takes_bodies task task_named task_of task_with_body template template_of two_and_arguments two_and_place unarea_op value verb_of wait_op wire wire_of with_body with_events with_new with_op with_service with_task with_wire yield_op
+unfolding after_event_line after_line answer_op area_op arguments begin_op body bytes_of call_op call_slot_op close_op count_of counted_kind_of counted_task end_op event_verb_of exchange_mode_of forward_op handle_of hangup_of hangup_op stands_first hex_digit in_base is_name is_taken jump_differ_op jump_equal_op jump_op kill_of kind_of limit_at mode_of name_of named next_op ns number number_below number_up_to open_op operation peek_op plain_task poke_op present reading receive_op register register_number send_op service_kind_of service_task session_of set_op slot_of spawn_place step_of step_with takes_bodies task task_named task_of task_with_body template template_of two_and_arguments two_and_place unarea_op value verb_of wait_op wire wire_of with_body with_events with_new with_op with_service with_task with_wire yield_op
 script_is_read = refl
 
 pub schedule_is_read : schedule_of plan (codes "step a\nstep b x 2\nstep a\n")
     ≡ Ok (Step (record { 0 = 1 }) ∷ Step (record { 0 = 2 }) ∷ Step (record { 0 = 2 }) ∷ Step (record { 0 = 1 }) ∷ [])
-unfolding after_event_line after_line answer_op area_op arguments begin_op body bytes_of call_op call_slot_op close_op count_of counted_kind_of counted_task end_op event_verb_of exchange_mode_of forward_op handle_of hangup_of hangup_op has_no_task hex_digit in_base is_name is_taken jump_differ_op jump_equal_op jump_op kill_of kind_of limit_at mode_of name_of named next_op ns number number_below number_up_to open_op operation peek_op plain_task poke_op present reading receive_op register register_number send_op service_kind_of service_task session_of set_op slot_of spawn_place step_of step_with takes_bodies task task_named task_of task_with_body template template_of two_and_arguments two_and_place unarea_op value verb_of wait_op wire wire_of with_body with_events with_new with_op with_service with_task with_wire yield_op
+unfolding after_event_line after_line answer_op area_op arguments begin_op body bytes_of call_op call_slot_op close_op count_of counted_kind_of counted_task end_op event_verb_of exchange_mode_of forward_op handle_of hangup_of hangup_op stands_first hex_digit in_base is_name is_taken jump_differ_op jump_equal_op jump_op kill_of kind_of limit_at mode_of name_of named next_op ns number number_below number_up_to open_op operation peek_op plain_task poke_op present reading receive_op register register_number send_op service_kind_of service_task session_of set_op slot_of spawn_place step_of step_with takes_bodies task task_named task_of task_with_body template template_of two_and_arguments two_and_place unarea_op value verb_of wait_op wire wire_of with_body with_events with_new with_op with_service with_task with_wire yield_op
 schedule_is_read = refl

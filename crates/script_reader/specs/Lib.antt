@@ -7,3 +7,4 @@ pub mod EventLine
 pub mod StepLine
 pub mod Grammar
 pub mod Rows
+pub mod FirstLine

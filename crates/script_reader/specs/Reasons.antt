@@ -22,9 +22,9 @@ use Rattle.script_lines.specs.Text.{is_allowed, words}
 use Rattle.script_lines.specs.Word.{number, number_below, value, register, bytes_of, is_name, mode_of, exchange_mode_of, verb_of}
 use Rattle.script_lines.specs.Names.{task_names, place_of, is_ns}
 use Rattle.script_lines.specs.Plan.{Plan}
-use Rattle.script_lines.specs.ScriptParts.{ScriptParts, part}
+use Rattle.script_lines.specs.ScriptParts.{ScriptParts, script_of_parts, part}
 use Rattle.script_lines.specs.Sound.{most_fibrils, most_blocks, fibrils, connections}
-use Rattle.script_lines.specs.Draft.{limit_at, is_wired, leads_to_service, last_of, has_no_task, present, takes_bodies}
+use Rattle.script_lines.specs.Draft.{limit_at, is_wired, leads_to_service, last_of, stands_first, present, takes_bodies}
 use Rattle.script_reader.specs.Schedule.{event_verb_of}
 use Rattle.script_reader.specs.EventLine.{EventsAndNames, is_taken}
 
@@ -145,7 +145,7 @@ block_forms =
 
 -- the forms of a first word after a script of the lines before; there is none where the line is out of place
 abbrev pub forms : Plan → Verb → List Form
-forms plan Ns = alone_where (has_no_task plan)
+forms plan Ns = alone_where (stands_first plan)
 forms plan Task = task_forms (codes "raw") ++ task_forms (codes "async") ++ block_forms
 forms plan Template = task_forms (codes "raw") ++ task_forms (codes "async")
 forms plan Fibril = alone_where (takes_bodies plan)
@@ -245,9 +245,9 @@ is_too_many plan Wire words = false
 is_too_many plan (Op verb) words =
     option_map_or (λ body. nat_le most_operations (length body.ops)) (present_body plan) false
 
--- the part that a line of this first word is about
+-- the part that a line of this first word is about; `ns` is about all of the script so far
 abbrev pub subject : ScriptParts → Verb → Plan
-subject w Ns = w.tasks
+subject w Ns = script_of_parts w
 subject w Task = w.tasks
 subject w Template = w.templates
 subject w Fibril = part w

@@ -1,13 +1,15 @@
 //! What is read is what bytes spell, and a fault is the first reason of its table.
-ghost use Rattle.std.specs.Prelude.{◌≡◌, ◌↔◌, ℕ, List, [], Ok, Err};
+ghost use Rattle.std.specs.Prelude.{◌≡◌, ◌↔◌, ℕ, List, [], Ok, Err, true};
 ghost use Rattle.ipc_ids.specs.declared.message.Event.{Event};
 ghost use Rattle.script_lines.specs.declared.fault.Reason.{Reason};
-ghost use Rattle.script_reader.specs.Grammar.{IsFirstFault, SpellsScript};
+ghost use Rattle.script_reader.specs.Grammar.{IsFirstFault, Makes, SpellsScript};
 ghost use Rattle.script_lines.specs.Line.{after_line};
 ghost use Rattle.script_reader.specs.Reasons.{line_reasons, event_reasons};
 ghost use Rattle.script_reader.specs.Rows.{fault_in, first_reason, IsFirstReason, NoReason};
 ghost use Rattle.script_lines.specs.Plan.{Plan};
-ghost use Rattle.script_lines.specs.ScriptParts.{ScriptParts, no_parts};
+ghost use Rattle.script_lines.specs.ScriptParts.{ScriptParts, no_parts, script_of_parts};
+ghost use Rattle.script_lines.specs.Draft.{stands_first};
+ghost use Rattle.script_reader.specs.FirstLine.{HaveNoWords};
 ghost use Rattle.script_reader.specs.Reading.{script_of, schedule_of};
 ghost use Rattle.script_reader.specs.EventLine.{EventsAndNames, no_events, after_event, SpellsEvents};
 
@@ -45,4 +47,11 @@ pub fn faults_are_the_first_reasons()
     ensures schedule_good { (script : Plan) (before : EventsAndNames) (line : List ℕ)
         → ((made : EventsAndNames) × (after_event script before line ≡ Ok made))
         ↔ NoReason (event_reasons script before line) }
+{}
+
+/// `ns` has its place behind these lines, which are not at fault, just where none of them has words.
+pub fn the_service_is_the_first_line()
+    ensures { (before : List (List ℕ)) (made : ScriptParts)
+        → Makes after_line no_parts before made
+        → (stands_first (script_of_parts made) ≡ true) ↔ HaveNoWords before }
 {}

@@ -15,7 +15,9 @@ mod schedule;
 mod step_line;
 
 pub use copying::copies_of_plans;
-pub use laws::{faults_are_the_first_reasons, readings_are_what_bytes_spell};
+pub use laws::{
+    faults_are_the_first_reasons, readings_are_what_bytes_spell, the_service_is_the_first_line,
+};
 pub use reading::read_script;
 pub use repeated::{EventsLeft, RepeatedEvents};
 pub use schedule::{read_repeated_events, read_schedule};

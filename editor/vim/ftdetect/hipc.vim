@@ -1,4 +1,21 @@
-" The three kinds of files, by their names: script, schedule and trace, or any name with such an ending.
+" The three kinds of files, by their names: script, schedule and trace, or any name with such an ending; and any other file
+" that has no kind yet, by its first line that is no comment.
 autocmd BufRead,BufNewFile script,*.script set filetype=hipcscript
 autocmd BufRead,BufNewFile schedule,*.schedule set filetype=hipcschedule
 autocmd BufRead,BufNewFile trace,*.trace set filetype=hipctrace
+autocmd BufRead * if &filetype ==# '' | call s:ByFirstLine() | endif
+
+function! s:ByFirstLine() abort
+  let l:number = nextnonblank(1)
+  while l:number > 0 && getline(l:number) =~# '^\s*#'
+    let l:number = nextnonblank(l:number + 1)
+  endwhile
+  let l:line = getline(l:number)
+  if l:line =~# '^\s*\(ns\s*\|\(task\|template\)\s\+[a-z][a-z0-9_]*\s\+\(raw\|async\|block\)\>.*\)$'
+    set filetype=hipcscript
+  elseif l:line =~# '^\s*\(step\|kill\)\s\+[a-z][a-z0-9_]*\(\s\+x\s\+\d\+\)\?\s*\(#.*\)\?$' && l:line !~# '^kill t\d\+$'
+    set filetype=hipcschedule
+  elseif l:line =~# '^\(t\d\+ \(call\|receive\|answer\|forward\|hangup\|area\|unarea\|poke\|peek\|nothing\|ended\)\>\|\(kill\|spawn\) t\d\+$\)'
+    set filetype=hipctrace
+  endif
+endfunction

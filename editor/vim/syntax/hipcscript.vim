@@ -6,6 +6,7 @@ syntax case match
 syntax iskeyword @,48-57,_
 syntax match hipcComment /#.*$/
 syntax match hipcBadByte /[^\x20-\x7e\t]/
+syntax match hipcUnknown /^\s*\zs[^ \t#]\+/
 syntax match hipcStructure /^\s*\zs\(ns\|task\|template\|fibril\|connection\|wire\)\>/
 syntax match hipcOperation /^\s*\zs\(call\|receive\|answer\|forward\|hangup\|area\|unarea\|poke\|peek\|set\|jump\|jumpeq\|jumpne\|wait\|next\|yield\|open\|send\|begin\|end\|close\)\>/
 syntax keyword hipcKind raw async block plain route atomic serialize parallel
@@ -18,6 +19,7 @@ syntax keyword hipcRights R W RW RESTRICT
 
 highlight default link hipcComment Comment
 highlight default link hipcBadByte Error
+highlight default link hipcUnknown Error
 highlight default link hipcStructure Structure
 highlight default link hipcOperation Statement
 highlight default link hipcKind Type

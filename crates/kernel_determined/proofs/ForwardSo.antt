@@ -1,0 +1,242 @@
+-- The definition of a forward does what is said of it.
+use Rattle.std.proofs.Common.{◌≡◌, ℕ, Bool, true, false, ◌⊎◌, inl, inr, List, length, Option, None, Some, refl, sym, ap, subst, ◌∙◌, arith, nat_lt}
+use Rattle.std.specs.Prelude.{◌==◌, if◌then◌else◌, slice_index, IsSome, Err}
+use Rattle.std.specs.Option.{option_map_or, option_to_list}
+use Rattle.std.proofs.lemmas.Bool.{cases_eq, false≢true}
+use Rattle.std.proofs.lemmas.Bool.Decides.{nat_tests}
+use Rattle.ipc_ids.specs.declared.numbers.Code.{Code}
+use Rattle.ipc_ids.specs.declared.numbers.Label.{Label}
+use Rattle.ipc_ids.specs.declared.numbers.TaskNo.{TaskNo}
+use Rattle.ipc_ids.specs.declared.message.Mode.{Mode}
+use Rattle.ipc_ids.specs.declared.message.Mode.TheVariants.{Plain, Route}
+use Rattle.ipc_ids.specs.declared.message.Msg.{Msg}
+use Rattle.ipc_ids.specs.declared.message.PhoneState.{PhoneState}
+use Rattle.ipc_ids.specs.declared.message.PhoneState.TheVariants.{Free, Connecting, Connected, HungUp, Slammed}
+use Rattle.ipc_ids.specs.declared.message.Request.TheVariants as request
+use Rattle.ipc_ids.specs.declared.message.Outcome.TheVariants as outcome
+use Rattle.ipc_ids.specs.declared.methods.MethodKind.{MethodKind}
+use Rattle.ipc_ids.specs.declared.methods.MethodKind.TheVariants.{PhoneHungUp, ConnectToMe, ConnectMeTo, DataWrite, DataRead, ShareOut, ShareIn, NotBuilt, User}
+use Rattle.ipc_ids.specs.Codes.{enoent, eperm, eforward}
+use Rattle.ipc_ids.specs.Methods.{kind_of, connect_to_me, connect_me_to}
+use Rattle.call_slab.specs.declared.call.Call.{Call}
+use Rattle.call_slab.specs.declared.call.Place.TheVariants.{Incoming, Dispatched}
+use Rattle.answerbox.specs.Calls.{call_at}
+use Rattle.phone_table.specs.Phones.{state_at}
+use Rattle.forwarding.specs.declared.passing.ForwardFault.TheVariants.{NotHeld, NotForwardable}
+use Rattle.forwarding.specs.Forwarding.{is_held, is_forwardable, changed_msg, msg_after, label_after}
+use Rattle.forwarding.specs.Routes.{callee_of, receiver_of, as_forwarded}
+use Rattle.cleanup.specs.State.{KernelState, is_alive, phone_at, label_of}
+use Rattle.cleanup.specs.Sound.{IsSound, IsSoundCall}
+use Rattle.cleanup.specs.Kept.{keeper_of, kept_of, lent_of, kept_phone, lent_phone, kept_rows, kept_note, phone_of, unless_freed, who_keeps}
+use Rattle.cleanup.specs.Board.{IsPendingAt}
+use Rattle.cleanup.specs.Joins.{bare_reply, lives, passage, passed_call, settle_for}
+use Rattle.cleanup.specs.Serving.{Served, telling, refusal}
+use Rattle.cleanup.proofs.Endings.{length_rows}
+use Rattle.cleanup.proofs.Keepers.{state_here}
+use Rattle.cleanup.proofs.KilledPhones.{written_elsewhere}
+use Rattle.cleanup.proofs.Lookups.{put_here, put_other, gone_here, gone_other, same_call}
+use Rattle.kernel_core.specs.Forward.{failed_forward, forward_told}
+use Rattle.kernel_core.specs.Kernel.{and_event, serve}
+use Rattle.kernel_laws.specs.PhoneCodes.{IsHeld, MayPass}
+use Rattle.kernel_laws.specs.Routes.{label_by}
+use Rattle.kernel_laws.proofs.CallRoutes.{at_dispatched}
+use Rattle.kernel_laws.proofs.KeptPhones.{own_phone}
+use Rattle.kernel_laws.proofs.PhoneCodes.{holds, may_pass, may_not_pass}
+use Rattle.kernel_laws.proofs.PhoneRoutes.{to_me_method}
+use Rattle.kernel_laws.proofs.DeliveredAnswers.{connect_method}
+use Rattle.kernel_laws.proofs.ReceiveLaws.{user_kind}
+use Rattle.kernel_determined.specs.Frames.{IsOneEvent, HasFifth}
+use Rattle.kernel_determined.specs.ForwardLaw.{IsOther, IsNewMessage, Passes, Fails, IsForward}
+use Rattle.kernel_determined.proofs.SettleSo.{may_come, as_many, moves, lent_is, lent_there, settle_quiet, settled_is}
+use Rattle.kernel_determined.proofs.TakesSo.{has_fifth}
+use Rattle.kernel_determined.proofs.ForwardDetermined.{forward_is_determined}
+
+-- a call that task t holds
+module _ (k : KernelState) (sound : IsSound k) (t : TaskNo) (n : ℕ) (c : Call) (is : call_at k.calls n ≡ Some c)
+    (at : c.place ≡ Dispatched t) where
+  pending : IsPendingAt c.place
+  pending = subst IsPendingAt (sym at) tt
+
+  its : IsSoundCall k.tasks k.calls.next_number k.calls.next_stamp n c
+  its = sound.calls.each n c is
+
+  -- the forward fails
+  fails : (code : Code) → Fails n c code k (and_event (failed_forward k (Some c) code))
+  fails code = record {
+    quiet = settle_quiet k c (bare_reply eforward) None (outcome.Refused code);
+    settled = settled_is k k.tasks refl n c its pending _ (bare_reply eforward) None
+        (record { phones = refl; calls = refl });
+  }
+
+  -- ---- the call is passed on
+
+  system_kind : (m : ℕ) → IsOther m → (change msg : Msg) → changed_msg (kind_of m) change msg ≡ msg
+  system_kind m other change msg = by_kind (kind_of m) refl where
+    user_method : kind_of m ≡ User → ⊥
+    user_method e = user (m == 0) (m == 1) (m == 2) (m == 3) (m == 4) (m == 5) (m == 6) (nat_lt m 512)
+        (let low = other.system in grind (arith, nat_tests, low)) e where
+          user : (a b c d e f g h : Bool) → h ≡ true
+              → (if a then PhoneHungUp else if b then ConnectToMe else if c then ConnectMeTo else if d then DataWrite
+              else if e then DataRead else if f then ShareOut else if g then ShareIn else if h then NotBuilt else User)
+              ≡ User → ⊥
+          user true b c d e f g h is x = cc x
+          user false true c d e f g h is x = cc x
+          user false false true d e f g h is x = cc x
+          user false false false true e f g h is x = cc x
+          user false false false false true f g h is x = cc x
+          user false false false false false true g h is x = cc x
+          user false false false false false false true h is x = cc x
+          user false false false false false false false true is x = cc x
+          user false false false false false false false false is x = cc is
+
+    by_kind : (kind : MethodKind) → kind_of m ≡ kind → changed_msg kind change msg ≡ msg
+    by_kind User e = absurd (user_method e)
+    by_kind ConnectToMe e = absurd (other.to_me (to_me_method m e))
+    by_kind ConnectMeTo e = absurd (other.me_to (connect_method m e))
+    by_kind PhoneHungUp e = refl
+    by_kind DataWrite e = refl
+    by_kind DataRead e = refl
+    by_kind ShareOut e = refl
+    by_kind ShareIn e = refl
+    by_kind NotBuilt e = refl
+
+  message : (change : Option Msg) → IsNewMessage change c (msg_after change c)
+  message None = record {
+    unchanged = λ _. refl;
+    user = λ new e. absurd (cc e);
+    connect =
+        λ new e. absurd (cc e);
+    others = λ new e. absurd (cc e);
+  }
+  message (Some change) = record {
+    unchanged = λ e. absurd (cc e);
+    user = λ new e user. ap (λ kind. changed_msg kind change c.msg) (user_kind c.request.method user)
+        ∙ some_same change new e;
+    connect = λ new e asks. subst (λ (x : Msg). ((msg_after (Some change) c).method ≡ c.msg.method) × HasFifth
+        (slice_index c.msg.args 4) x.args (msg_after (Some change) c).args) (some_same change new e) (connected asks);
+    others = λ new e other. system_kind c.request.method other change c.msg;
+  } where
+    some_same : (a b : Msg) → Some a ≡ Some b → a ≡ b
+    some_same a b e = cc
+
+    IsConnected : Msg → Type 0
+    IsConnected m = (m.method ≡ c.msg.method) × HasFifth (slice_index c.msg.args 4) change.args m.args
+
+    connected : (c.request.method ≡ connect_to_me) ⊎ (c.request.method ≡ connect_me_to)
+        → ((msg_after (Some change) c).method
+        ≡ c.msg.method) × HasFifth (slice_index c.msg.args 4) change.args (msg_after (Some change) c).args
+    connected (inl asks) = subst (λ (kind : MethodKind). ((changed_msg kind change c.msg).method ≡ c.msg.method)
+        × HasFifth (slice_index c.msg.args 4) change.args (changed_msg kind change c.msg).args)
+        (sym (ap kind_of asks)) (refl, has_fifth (slice_index c.msg.args 4) change.args)
+    connected (inr asks) = subst (λ (kind : MethodKind). ((changed_msg kind change c.msg).method ≡ c.msg.method)
+        × HasFifth (slice_index c.msg.args 4) change.args (changed_msg kind change c.msg).args)
+        (sym (ap kind_of asks)) (refl, has_fifth (slice_index c.msg.args 4) change.args)
+
+  label_is : (p : ℕ) (mode : Mode) → label_after t p mode c ≡ label_by mode c.label (label_of t p)
+  label_is p Plain = refl
+  label_is p Route = refl
+
+  passed : (p : ℕ) (mode : Mode) (change : Option Msg) (u : TaskNo)
+      → Passes t n p mode change c u k
+      (and_event (telling (passage (msg_after change c) (label_after t p mode c) t u k c) outcome.Done))
+  passed p mode change u =
+      subst (λ l. Passes t n p mode change c u k (and_event
+      (telling (passage (msg_after change c) l t u k c) outcome.Done)))
+      (sym (label_is p mode)) (record {
+        quiet = record {
+          answer = refl;
+          event = record { counted = refl; alive = refl; tasks = as_many k.tasks.phones (lent_phone c) Free };
+          memory = refl;
+        };
+        msg = msg_after change c;
+        message = message change;
+        freed = lent_phone c;
+        rest = unless_freed (lent_phone c) c.reserved;
+        back = lent_is k k.tasks refl n c its pending;
+        note = option_to_list (kept_note (lent_phone c) Free);
+        phones = may_come k (lent_phone c) Free _ refl (lent_there k k.tasks refl n c its pending);
+        calls = moves k.calls _ n (passed_call (msg_after change c) (label_by mode c.label (label_of t p)) c)
+            (Incoming u)
+            its.number refl;
+        entries = refl;
+      })
+
+-- ---- a forward
+
+module _ (k : KernelState) (sound : IsSound k) (t : TaskNo) (n p : ℕ) (mode : Mode) (change : Option Msg) where
+  abbrev Comes : Served → Type 0
+  Comes done = IsForward t n p mode change k (and_event done)
+
+  unheld : ((c : Call) → IsHeld t k n c → ⊥) → Comes (refusal k enoent)
+  unheld none = inl (record {
+    unheld = none;
+    refusal = record {
+      told = refl;
+      nothing = record {
+        event =
+            record { counted = refl; alive = refl; tasks = refl };
+        phones = λ u q. refl;
+        calls =
+            record { each = λ m. refl; numbers = refl; arrivals = refl };
+        memory = refl;
+        entries = refl;
+      };
+    };
+  })
+
+  module _ (c : Call) (is : call_at k.calls n ≡ Some c) where
+    module _ (at : c.place ≡ Dispatched t) (may : MayPass change c) where
+      nowhere : ((u : TaskNo) → phone_at k t p ≡ Some (Connected u) → ⊥) → Comes (failed_forward k (Some c) enoent)
+      nowhere none = inr (inr (inl (record {
+        call = c;
+        held = (is, at);
+        may = may;
+        nowhere = none;
+        fails =
+            fails k sound t n c is at enoent;
+      })))
+
+      by_phone : (o : Option PhoneState) → phone_at k t p ≡ o
+          → Comes (forward_told k t p mode change (Some c) (as_forwarded n (callee_of o)))
+      by_phone None e = nowhere (λ u f. let g : None ≡ Some (Connected u) = sym e ∙ f in cc)
+      by_phone (Some Free) e = nowhere (λ u f. let g : Some Free ≡ Some (Connected u) = sym e ∙ f in cc)
+      by_phone (Some Connecting) e = nowhere (λ u f. let g : Some Connecting ≡ Some (Connected u) = sym e ∙ f in cc)
+      by_phone (Some HungUp) e = nowhere (λ u f. let g : Some HungUp ≡ Some (Connected u) = sym e ∙ f in cc)
+      by_phone (Some Slammed) e = nowhere (λ u f. let g : Some Slammed ≡ Some (Connected u) = sym e ∙ f in cc)
+      by_phone (Some (Connected u)) e = inr (inr (inr (record {
+        call = c;
+        held = (is, at);
+        may = may;
+        to = u;
+        leads = e;
+        passes =
+            passed k sound t n c is at p mode change u;
+      })))
+
+    by_tests : (held may : Bool) → is_held t c ≡ held → is_forwardable change c ≡ may
+        → Comes (forward_told k t p mode change (Some c) (as_forwarded n
+        (if held then (if may then callee_of (phone_at k t p) else Err NotForwardable) else Err NotHeld)))
+    by_tests true true e f = by_phone (at_dispatched t c.place e) (may_pass change c f) (phone_at k t p) refl
+    by_tests true false e f = inr (inl (record {
+      call = c;
+      held = (is, at_dispatched t c.place e);
+      forbidden =
+          may_not_pass change c f;
+      fails = fails k sound t n c is (at_dispatched t c.place e) eperm;
+    }))
+    by_tests false may e f = unheld (λ d h. false≢true
+        (sym e ∙ ap (is_held t) (same_call c d (sym is ∙ h.0)) ∙ holds t d h.1))
+
+  by_call : (o : Option Call) → call_at k.calls n ≡ o
+      → Comes (forward_told k t p mode change o
+      (as_forwarded n (option_map_or (receiver_of t (phone_at k t p) change) o (Err NotHeld))))
+  by_call None is = unheld (λ c h. let g : None ≡ Some c = sym is ∙ h.0 in cc)
+  by_call (Some c) is = by_tests c is (is_held t c) (is_forwardable change c) refl refl
+
+  pub forward_is_so : IsForward t n p mode change k (serve k t (request.Forward n p mode change))
+  forward_is_so = by_call (call_at k.calls n) refl
+
+pub forward_is_served : (k : KernelState) (t : TaskNo) (n p : ℕ) (mode : Mode) (change : Option Msg) (done : Served)
+    → IsSound k → IsForward t n p mode change k done → done ≡ serve k t (request.Forward n p mode change)
+forward_is_served k t n p mode change done sound is = forward_is_determined t n p mode change k done
+    (serve k t (request.Forward n p mode change)) is (forward_is_so k sound t n p mode change)

@@ -1,0 +1,13 @@
+pub mod Frames
+pub mod Turns
+pub mod HangupLaw
+pub mod ReceiveLaw
+pub mod SettleLaw
+pub mod ForwardLaw
+pub mod CallLaw
+pub mod AnswerLaw
+pub mod SpawnLaw
+pub mod MemoryLaw
+pub mod KillLaw
+pub mod KernelLaw
+pub mod Changed
