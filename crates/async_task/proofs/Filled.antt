@@ -27,6 +27,13 @@ pub filled_at : (used : List Slot) (k : ℕ) →
     slot_in (slice_get (filled used) k) ≡ slot_in (slice_get used k)
 filled_at used k = append_at used (8 - length used) k
 
+-- there are those that take memory and the others
+
+pub length_filled : (used : List Slot) → length (filled used) ≡ length used + (8 - length used)
+length_filled used =
+    let all = length-append used (replicate (8 - length used) slot.Closed) in
+    let closed = length-replicate (8 - length used) slot.Closed in omega (arith, all, closed)
+
 -- a slot that takes memory holds something else
 
 held_there : (slots : List Slot) (k : ℕ) (s : Slot) → k < 8 →

@@ -31,6 +31,14 @@ named_past (e ∷ es) [] k past = refl
 named_past (e ∷ es) (b ∷ bs) zero past = absurd (omega (arith, past))
 named_past (e ∷ es) (b ∷ bs) (suc k) past = named_past es bs k (omega (arith, past))
 
+-- there are as many as there are numbers and marks
+
+pub length_names : (es : List ExchangeNo) (bs : List Bool) → length es ≡ length bs →
+    length (names_of es bs) ≡ length es
+length_names [] bs same = refl
+length_names (e ∷ es) [] same = absurd (omega (arith, same))
+length_names (e ∷ es) (b ∷ bs) same = ap suc (length_names es bs (omega (arith, same)))
+
 -- a handle names another exchange, or none
 
 pub set_some : (es : List ExchangeNo) (bs : List Bool) (k : ℕ) (e : ExchangeNo) →

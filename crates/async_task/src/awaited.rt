@@ -56,6 +56,13 @@ impl AwaitedCalls {
         }
     }
 
+    /// The calls in the order in which they were sent, in two slices.
+    pub(crate) fn as_slices(&self) -> (&[Awaited], &[Awaited])
+        ensures { result.0.now ++ result.1.now ≡ self.now.calls }
+    {
+        self.calls.as_slices()
+    }
+
     /// Makes room for one more.
     ///
     /// # Errors

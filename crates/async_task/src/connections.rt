@@ -1,7 +1,7 @@
 //! Calls that come, the connections that they belong to, and how fibrils start and end.
 ghost use Rattle.std.specs.Prelude.{◌≡◌, ◌+◌, ◌^◌, ◌<◌, ◌≤◌, ◌++◌, OnOk, OnErr, None, Some, IsSome};
-ghost use Rattle.std.specs.Prelude.{length, position, vec_len, ◌-◌};
-ghost use Rattle.std.specs.Vec.{vec_capacity};
+ghost use Rattle.std.specs.Prelude.{length, position, ◌-◌};
+ghost use Rattle.std.specs.VecDeque.{deque_capacity, deque_len};
 ghost use Rattle.fibril_core.specs.Fibrils.{IsWithinBounds, current, why_of};
 ghost use Rattle.fibril_core.specs.Conns.{conn_of_fibril};
 ghost use Rattle.async_task.specs.AsyncState.{Does, Stays, IsReady, IsWithinLimits, context_at};
@@ -18,6 +18,7 @@ use ipc_ids::methods::CONNECT_ME_TO;
 use ipc_ids::{
     Body, CallNo, Code, Entry, FibrilNo, Label, Msg, NoMemory, PhoneNo, TaskNo, Trace, Why,
 };
+use std::collections::VecDeque;
 
 impl Machine {
     /// A call came.
@@ -184,7 +185,7 @@ impl Machine {
         match routed {
             Routed::Queued(f) => self.reach(*f),
             Routed::Closed(f) => self.reach(*f),
-            Routed::Unknown => self.work.push_reserved((call, Code::EHANGUP)),
+            Routed::Unknown => self.work.push_back_reserved((call, Code::EHANGUP)),
         }
     }
 
@@ -268,12 +269,12 @@ impl Machine {
 }
 
 /// Adds these answers at the end.
-fn add_work(work: &mut Vec<(CallNo, Code)>, owed: &[(CallNo, Code)])
-    requires room { length owed.now ≤ vec_capacity work.old - vec_len work.old }
+fn add_work(work: &mut VecDeque<(CallNo, Code)>, owed: &[(CallNo, Code)])
+    requires room { length owed.now ≤ deque_capacity work.old - deque_len work.old }
     ensures { work.new.items ≡ work.old.items ++ owed.now }
 {
     for item in owed {
-        work.push_reserved(*item);
+        work.push_back_reserved(*item);
     }
 }
 

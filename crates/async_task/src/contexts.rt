@@ -2,7 +2,7 @@
 //!
 //! What stands at a place lies in a map until it is removed. So what an ended fibril kept takes no
 //! memory, and the places themselves take none.
-ghost use Rattle.std.specs.Prelude.{◌≡◌, ◌<◌, ◌++◌, ◌∷◌, [], None, Some, OnOk, slice_set};
+ghost use Rattle.std.specs.Prelude.{◌≡◌, ◌<◌, ◌++◌, ◌∷◌, [], None, Some, OnOk, length, slice_set};
 ghost use Rattle.std.specs.Option.{option_copied, option_copied_mut};
 ghost use Rattle.async_task.specs.Kept.{kept_at, StandsAt};
 
@@ -17,7 +17,7 @@ const MOST: usize = 1 << 62;
 
 /// What the fibrils keep.
 #[derive(Drop)]
-pub(crate) struct Contexts {
+pub struct Contexts {
     // How many places were made.
     made: usize,
     // What stands at the places where something does.
@@ -80,8 +80,16 @@ impl Contexts {
         self.made += 1;
     }
 
-    /// What stands at a place.
-    pub(crate) fn get(&self, place: usize) -> Option<&Context>
+    /// How many places were made. Takes no memory.
+    #[tactic(auto, using(crate::proofs::Listed::length_listed))]
+    pub fn made(&self) -> usize
+        ensures { result ≡ length self.now.kept }
+    {
+        self.made
+    }
+
+    /// What stands at a place. Takes no memory.
+    pub fn get(&self, place: usize) -> Option<&Context>
         ensures { option_copied result ≡ kept_at self.now.kept place }
     {
         match position_of(&self.kept, self.last, place) {

@@ -1,5 +1,5 @@
 //! The handles of a fibril.
-ghost use Rattle.std.specs.Prelude.{◌≡◌, None, replicate, slice_get};
+ghost use Rattle.std.specs.Prelude.{◌≡◌, None, length, replicate, slice_get};
 ghost use Rattle.async_task.specs.Contexts.{handle_in};
 ghost use Rattle.async_task.specs.Handles.{with_named};
 
@@ -19,13 +19,15 @@ pub struct Handles {
 }
 
 impl Model for Handles {
-    ghost use Rattle.std.specs.Prelude.{List, Option};
+    ghost use Rattle.std.specs.Prelude.{List, Option, ◌≡◌, length};
     ghost use Rattle.ipc_ids.specs.declared.numbers.ExchangeNo.{ExchangeNo};
     ghost use Rattle.async_task.specs.Handles.{names_of};
 
     ghost Value = { List (Option ExchangeNo) };
 
     ghost view = { λ handles. names_of handles.numbers handles.named };
+
+    ghost invariant = { λ handles. length handles.numbers ≡ 8 };
 }
 
 impl Handles {
@@ -39,9 +41,16 @@ impl Handles {
         }
     }
 
-    /// The exchange that a handle names.
+    /// How many handles there are: 8. Takes no memory.
+    pub fn count(&self) -> u32
+        ensures { result ≡ length self.now }
+    {
+        self.numbers.as_slice().len() as u32
+    }
+
+    /// The exchange that a handle names; one from 8 on names none. Takes no memory.
     #[tactic(auto, using(crate::proofs::Named::named_at, crate::proofs::Named::unnamed_at, crate::proofs::Named::named_past))]
-    pub(crate) fn get(&self, handle: u32) -> Option<ExchangeNo>
+    pub fn get(&self, handle: u32) -> Option<ExchangeNo>
         ensures { result ≡ handle_in (slice_get self.now handle) }
     {
         let place = handle as usize;

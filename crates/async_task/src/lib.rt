@@ -25,6 +25,7 @@ mod wanted;
 
 pub use awaited::Awaited;
 pub use context::{Context, Slot};
+pub use contexts::Contexts;
 pub use handles::Handles;
 pub use program::AsyncProgram;
 pub use slots::FibrilSlots;

@@ -18,6 +18,7 @@ use ipc_ids::{
     Bodies, CallNo, Code, ExchangeNo, FibrilNo, Label, Msg, NoMemory, Op, Outcome, Reply, TaskNo,
 };
 use std::alloc::Global;
+use std::collections::VecDeque;
 use std::marker::Model;
 
 /// A task, with room for more of what it may add.
@@ -30,12 +31,12 @@ pub(crate) struct Machine {
     pub(crate) conns: Conns,
     pub(crate) sessions: Sessions,
     pub(crate) awaited: AwaitedCalls,
-    pub(crate) work: Vec<(CallNo, Code)>,
+    pub(crate) work: VecDeque<(CallNo, Code)>,
 }
 
 impl Model for Machine {
-    ghost use Rattle.std.specs.Prelude.{◌-◌, vec_len};
-    ghost use Rattle.std.specs.Vec.{vec_capacity};
+    ghost use Rattle.std.specs.Prelude.{◌-◌};
+    ghost use Rattle.std.specs.VecDeque.{deque_capacity, deque_len};
     ghost use Rattle.async_task.specs.AsyncState.{MachineState};
 
     ghost Value = { MachineState };
@@ -56,7 +57,7 @@ impl Model for Machine {
         contexts = m.contexts.spare;
         exchanges = m.sessions.spare;
         awaited = m.awaited.spare;
-        work = vec_capacity m.work - vec_len m.work;
+        work = deque_capacity m.work - deque_len m.work;
       };
       conn_room = m.conns.spare;
     } };
@@ -75,7 +76,7 @@ impl Machine {
             conns: Conns::new(alloc),
             sessions: Sessions::new(alloc),
             awaited: AwaitedCalls::new(alloc),
-            work: Vec::new(alloc),
+            work: VecDeque::new(alloc),
         }
     }
 

@@ -1,13 +1,19 @@
 //! The program of an async task.
-ghost use Rattle.std.specs.Prelude.{◌≡◌, ◌+◌, ◌^◌, ◌<◌, ◌≤◌, OnOk, IfOk, length, slice_get, true};
+ghost use Rattle.std.specs.Prelude.{◌≡◌, ◌+◌, ◌++◌, ◌^◌, ◌<◌, ◌≤◌, OnOk, IfOk, length, slice_get, true};
 ghost use Rattle.fibril_core.specs.Fibrils.{IsWithinBounds};
 ghost use Rattle.async_task.specs.AsyncState.{Grows};
 ghost use Rattle.async_task.specs.Steps.{start_bodies, start_at, start_in};
 ghost use Rattle.async_task.specs.Program.{wanted, after, entries, taken, started};
 
+use crate::awaited::Awaited;
 use crate::context::Context;
+use crate::contexts::Contexts;
 use crate::machine::Machine;
-use ipc_ids::{Bodies, Body, NoMemory, Op, Ops, Outcome, Program, Request, TaskNo, Trace};
+use async_sessions::Sessions;
+use fibril_core::{Conns, Fibrils};
+use ipc_ids::{
+    Bodies, Body, CallNo, Code, NoMemory, Op, Ops, Outcome, Program, Request, TaskNo, Trace,
+};
 use std::alloc::Global;
 use std::marker::Model;
 
@@ -66,6 +72,50 @@ impl AsyncProgram {
         let mut machine = Machine::new(alloc, me, copies_of(alloc, bodies)?);
         machine.start_bodies(bodies.len())?;
         Ok(AsyncProgram { machine, taken: 0 })
+    }
+
+    /// The fibrils of the task. Takes no memory.
+    pub fn fibrils(&self) -> &Fibrils
+        ensures { result.now.order ≡ self.now.state.order }
+    {
+        &self.machine.fibrils
+    }
+
+    /// What the fibrils keep: fibril 1 at place 0, and so on. Takes no memory.
+    pub fn contexts(&self) -> &Contexts
+        ensures { result.now.kept ≡ self.now.state.contexts }
+    {
+        &self.machine.contexts
+    }
+
+    /// The connections of the task. Takes no memory.
+    pub fn conns(&self) -> &Conns
+        ensures { result.now.conns ≡ self.now.state.conns }
+    {
+        &self.machine.conns
+    }
+
+    /// The sessions of the task and their exchanges. Takes no memory.
+    pub fn sessions(&self) -> &Sessions
+        ensures { result.now.now ≡ self.now.state.pool }
+    {
+        &self.machine.sessions
+    }
+
+    /// The calls whose answers are awaited, in the order in which they were sent, in two slices.
+    /// Takes no memory.
+    pub fn awaited(&self) -> (&[Awaited], &[Awaited])
+        ensures { result.0.now ++ result.1.now ≡ self.now.state.awaited }
+    {
+        self.machine.awaited.as_slices()
+    }
+
+    /// The answers that the task owes, in the order in which it gives them, in two slices. Takes no
+    /// memory.
+    pub fn work(&self) -> (&[(CallNo, Code)], &[(CallNo, Code)])
+        ensures { result.0.now ++ result.1.now ≡ self.now.state.work }
+    {
+        self.machine.work.as_slices()
     }
 }
 

@@ -40,8 +40,17 @@ impl FibrilSlots {
         }
     }
 
-    /// What a slot holds.
-    pub(crate) fn get(&self, slot: u32) -> Slot
+    /// How many slots there are: 8. Takes no memory.
+    #[tactic(auto, using(crate::proofs::Filled::length_filled))]
+    pub fn count(&self) -> u32
+        ensures { result ≡ length self.now }
+    {
+        let used = self.used.len();
+        (used + (SLOTS - used)) as u32
+    }
+
+    /// What a slot holds; a slot from 8 on is closed. Takes no memory.
+    pub fn get(&self, slot: u32) -> Slot
         ensures { result ≡ slot_in (slice_get self.now slot) }
     {
         match self.used.as_slice().get(slot as usize) {

@@ -90,9 +90,7 @@ impl Machine {
     fn drop_work(&mut self)
         ensures { self.new.state ≡ record self.old.state { work = rest_of self.old.state.work } }
     {
-        if !self.work.is_empty() {
-            self.work.remove(0);
-        }
+        let _ = self.work.pop_front();
     }
 
     /// The manager received something, or nothing.

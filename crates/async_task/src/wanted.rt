@@ -22,7 +22,7 @@ impl Machine {
     pub(crate) fn next(&self) -> Request
         ensures { result ≡ wanted self.now.state }
     {
-        match self.work.first() {
+        match self.work.front() {
             Some(owed) => Request::Answer {
                 call: owed.0.0,
                 reply: Reply::bare(owed.1),

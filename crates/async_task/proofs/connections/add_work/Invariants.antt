@@ -1,6 +1,5 @@
 use Rattle.std.proofs.Common.{◌≡◌, ◌+◌, ◌-◌, ◌≤◌, ◌++◌, take, length}
-use Rattle.std.specs.Prelude.{vec_len}
-use Rattle.std.specs.Vec.{vec_capacity}
+use Rattle.std.specs.VecDeque.{deque_capacity, deque_len}
 use Rattle.async_task.proofs.connections.add_work.Given as goal
 
 -- those that the loop saw are added, and there is room for the others
@@ -8,5 +7,5 @@ abbrev pub invariant-loop-item : goal.invariant-loop-item
 invariant-loop-item l =
     record {
       items : l.work.items ≡ l.fn.work.items ++ take l.item-index l.owed;
-      room : length l.owed ≤ vec_capacity l.work - vec_len l.work + l.item-index;
+      room : length l.owed ≤ deque_capacity l.work - deque_len l.work + l.item-index;
     }

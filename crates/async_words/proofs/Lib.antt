@@ -1,0 +1,3 @@
+pub mod AsyncSplits
+mod Halves
+mod Places

@@ -1,0 +1,57 @@
+-- The words of a goal, as a loop reads them.
+use Rattle.std.proofs.Common.{◌≡◌, ℕ, ◌+◌, List, [], ◌∷◌, ◌++◌, Result, Ok, Err, sym, ap, ◌∙◌}
+use Rattle.std.specs.Global.{Vec}
+use Rattle.std.proofs.lemmas.List.{map_push}
+use Rattle.script_lines.specs.declared.fault.Reason.{Reason}
+use Rattle.script_lines.specs.Operation.{◌>>=◌}
+use Rattle.script_reader.specs.Reading.{lines_from, at_line}
+use Rattle.search_goals.specs.Goals.{listed}
+use Rattle.search_goals.specs.GoalText.{word_in, with_word, in_word, Answers}
+use Rattle.search_goals.specs.declared.goal.GoalFault.{GoalFault}
+use Rattle.search_goals.specs.declared.goal.GoalFault.TheVariants.{Bad, NoMemory}
+
+abbrev Numbered : Type 0
+Numbered = Result (List (List ℕ)) (ℕ × Reason)
+
+-- a word that is read
+one_more : (n : ℕ) (r : Result (List ℕ) Reason) (so_far : List (List ℕ)) (w : List ℕ) (go : List (List ℕ) →
+    Numbered) → in_word n r ≡ Ok w
+    → at_line n (r >>= λ word. Ok (so_far ++ word ∷ [])) go ≡ go (so_far ++ w ∷ [])
+one_more n (Ok v) so_far w go e = let same : v ≡ w = cc in ap (λ (z : List ℕ). go (so_far ++ z ∷ [])) same
+one_more n (Err reason) so_far w go e = absurd cc
+
+-- a word that is at fault
+one_fault : (n m : ℕ) (reason : Reason) (r : Result (List ℕ) Reason) (so_far : List (List ℕ)) (go : List (List ℕ) →
+    Numbered) → in_word n r ≡ Err (m, reason)
+    → at_line n (r >>= λ word. Ok (so_far ++ word ∷ [])) go ≡ Err (m, reason)
+one_fault n m reason (Ok v) so_far go e = absurd cc
+one_fault n m reason (Err why) so_far go e = ap (λ (z : Numbered). z) (again e) where
+  again : in_word {A = List ℕ} n (Err why) ≡ Err (m, reason) → at_line n (Err why) go ≡ Err (m, reason)
+  again h = cc
+
+module _ (names : List (List ℕ)) (n : ℕ) (so_far : List (Vec ℕ)) (word : List ℕ) (words all : List (List ℕ))
+    (whole : Numbered) (is : all ≡ word ∷ words)
+    (told : lines_from (with_word names) n (listed so_far) all ≡ whole) where
+  pub word_read : (v : Vec ℕ) → in_word n (word_in names word) ≡ Ok v.items →
+      lines_from (with_word names) (n + 1) (listed (so_far ++ v ∷ [])) words ≡ whole
+  unfolding with_word
+  word_read v e =
+      ap (λ (ws : List (List ℕ)). lines_from (with_word names) (n + 1) ws words)
+      (map_push (λ (z : Vec ℕ). z.items) so_far v)
+      ∙ sym (one_more n (word_in names word) (listed so_far) v.items (λ next. lines_from (with_word names)
+      (n + 1) next words) e)
+      ∙ ap (lines_from (with_word names) n (listed so_far)) (sym is) ∙ told
+
+  pub word_fault : (m : ℕ) (reason : Reason) → in_word n (word_in names word) ≡ Err (m, reason) →
+      whole ≡ Err (m, reason)
+  unfolding with_word
+  word_fault m reason e =
+      sym told ∙ ap (lines_from (with_word names) n (listed so_far)) is
+      ∙ one_fault n m reason (word_in names word) (listed so_far) (λ next. lines_from (with_word names)
+      (n + 1) next words) e
+
+  pub fault_told : {A : Type 0} (f : A → List (List ℕ)) (fault : GoalFault) →
+      Answers {A = Vec ℕ} (λ text. text.items) (Err fault) (in_word n (word_in names word)) →
+      Answers f (Err fault) whole
+  fault_told f (Bad m reason) e = word_fault m reason e
+  fault_told f NoMemory e = tt

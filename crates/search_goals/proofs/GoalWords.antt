@@ -1,0 +1,120 @@
+-- The words of a text, one after the other.
+use Rattle.std.proofs.Common.{◌≡◌, ℕ, suc, ◌+◌, ◌≤◌, Bool, true, false, cond, not, List, [], ◌∷◌, length, take, drop, Some, None, refl, sym, ap, subst, ◌∙◌, inl, inr, arith}
+use Rattle.std.specs.Prelude.{filter, ◌==◌, is_some, position}
+use Rattle.std.specs.List.{slice_split, onto_first, position_or_len}
+use Rattle.std.proofs.lemmas.Bool.{cases_Bool, cases_lt, lt-ltb, le-ltb, ne_eqb, true≢false}
+use Rattle.std.proofs.lemmas.List.Sums.{prefix_len-le-length}
+use Rattle.std.proofs.lemmas.List.Splits.{slice_split-cons_yes, slice_split-cons_no}
+use Rattle.search_goals.specs.Goals.{is_gap, text_words, after_gaps}
+
+abbrev pieces : List ℕ → List (List ℕ)
+pieces text = slice_split is_gap text
+
+abbrev kept : List (List ℕ) → List (List ℕ)
+kept parts = filter (λ word. not (length word == 0)) parts
+
+abbrev len : List ℕ → ℕ
+len xs = position_or_len is_gap xs
+
+-- where no byte passes, the place is the end
+pub none_found : (p : ℕ → Bool) (xs : List ℕ) → position p xs ≡ None → length xs ≡ position_or_len p xs
+none_found p xs e = elim (cases_lt (position_or_len p xs) (length xs)) [
+  | inl lt ↦ absurd (true≢false (sym (ap (λ b. is_some (cond b (Some (position_or_len p xs)) None))
+      (lt-ltb (position_or_len p xs) (length xs) lt)) ∙ ap is_some e))
+  | inr ge ↦ let most = prefix_len-le-length (λ x. not (p x)) xs in omega (arith, ge, most)
+]
+
+some_is : (a b : ℕ) → Some a ≡ Some b → a ≡ b
+some_is a b h = cc
+
+pub found_at : (p : ℕ → Bool) (xs : List ℕ) (at : ℕ) → position p xs ≡ Some at →
+    (at ≡ position_or_len p xs) × (at ≤ length xs)
+found_at p xs at e = elim (cases_lt (position_or_len p xs) (length xs)) [
+  | inl lt ↦
+      let found : position p xs ≡ Some (position_or_len p xs) = ap (λ b. cond b (Some (position_or_len p xs)) None)
+      (lt-ltb (position_or_len p xs) (length xs) lt) in
+      let same : position_or_len p xs ≡ at = some_is (position_or_len p xs) at (sym found ∙ e) in
+      (sym same, omega (arith, same, lt))
+  | inr ge ↦ let most = prefix_len-le-length (λ x. not (p x)) xs in absurd (true≢false (ap is_some (sym e
+      ∙ none ge)))
+]
+  where
+    none : length xs ≤ position_or_len p xs → position p xs ≡ None
+    none ge = ap (λ b. cond b (Some (position_or_len p xs)) None) (le-ltb (position_or_len p xs) (length xs) ge)
+
+-- ---- a word at the front
+
+len_gap : (x : ℕ) (xs : List ℕ) → is_gap x ≡ true → len (x ∷ xs) ≡ 0
+len_gap x xs e = rw e refl
+
+len_more : (x : ℕ) (xs : List ℕ) → is_gap x ≡ false → len (x ∷ xs) ≡ suc (len xs)
+len_more x xs e = rw e (omega arith)
+
+gap_words : (x : ℕ) (xs : List ℕ) → is_gap x ≡ true → text_words (x ∷ xs) ≡ text_words xs
+gap_words x xs e = ap kept (slice_split-cons_yes is_gap x xs e)
+
+abbrev Cut : ℕ → List ℕ → Type 0
+Cut i xs = (pieces xs ≡ take i xs ∷ drop 1 (pieces (drop i xs))) × (text_words (drop i xs) ≡ kept (drop 1 (pieces
+    (drop i xs))))
+
+cut_here : (xs : List ℕ) (parts : List (List ℕ)) → pieces xs ≡ [] ∷ parts → Cut 0 xs
+cut_here xs parts e =
+    let whole : pieces xs ≡ [] ∷ drop 1 (pieces xs) = e ∙ ap (λ z. [] ∷ drop 1 z) (sym e) in
+    (whole, ap kept whole)
+
+cut_more : (i x : ℕ) (xs : List ℕ) → pieces (x ∷ xs) ≡ onto_first x (pieces xs) → Cut i xs → Cut (suc i) (x ∷ xs)
+cut_more i x xs e cut = (e ∙ ap (onto_first x) cut.0, cut.1)
+
+cut : (xs : List ℕ) → Cut (len xs) xs
+cut [] = (refl, refl)
+cut (x ∷ xs) = elim (cases_Bool (is_gap x)) [
+  | inl gap ↦ subst (λ i. Cut i (x ∷ xs)) (sym (len_gap x xs gap)) (cut_here (x ∷ xs) (pieces xs)
+      (slice_split-cons_yes is_gap x xs gap))
+  | inr goes ↦ subst (λ i. Cut i (x ∷ xs)) (sym (len_more x xs goes))
+      (cut_more (len xs) x xs (slice_split-cons_no is_gap x xs goes) (cut xs))
+]
+
+kept_cons : (word : List ℕ) (parts : List (List ℕ)) → (length word == 0) ≡ false →
+    kept (word ∷ parts) ≡ word ∷ kept parts
+kept_cons word parts e = rw e refl
+
+word_first : (x : ℕ) (xs : List ℕ) → is_gap x ≡ false →
+    text_words (x ∷ xs) ≡ (x ∷ take (len xs) xs) ∷ text_words (drop (len xs) xs)
+word_first x xs goes =
+    let both = cut_more (len xs) x xs (slice_split-cons_no is_gap x xs goes) (cut xs) in
+    ap kept both.0 ∙ kept_cons (x ∷ take (len xs) xs) (drop 1 (pieces (drop (len xs) xs)))
+    (ne_eqb _ 0 (λ e. omega arith)) ∙ ap (λ ws. (x ∷ take (len xs) xs) ∷ ws) (sym both.1)
+
+-- ---- behind gaps
+
+after_gap : (x : ℕ) (xs : List ℕ) → is_gap x ≡ true → after_gaps (x ∷ xs) ≡ after_gaps xs
+after_gap x xs e = rw e (let one : 1 + position_or_len (λ b. not (is_gap b)) xs ≡ suc (position_or_len (λ b. not
+    (is_gap b)) xs) = omega arith in rw one refl)
+
+after_none : (x : ℕ) (xs : List ℕ) → is_gap x ≡ false → after_gaps (x ∷ xs) ≡ x ∷ xs
+after_none x xs e = rw e refl
+
+-- the first word, and those behind it
+abbrev Next : List ℕ → List ℕ → Type 0
+Next text t = (len t ≡ 0 → text_words text ≡ []) × (1 ≤ len t →
+    text_words text ≡ take (len t) t ∷ text_words (drop (len t) t))
+
+next_here : (x : ℕ) (xs : List ℕ) → is_gap x ≡ false → Next (x ∷ xs) (x ∷ xs)
+next_here x xs goes =
+    let more = len_more x xs goes in (
+      λ (none : len (x ∷ xs) ≡ 0). absurd (omega (arith, more, none)),
+      λ (some : 1 ≤ len (x ∷ xs)). rw more (word_first x xs goes),
+    )
+
+pub next_is : (text : List ℕ) → Next text (after_gaps text)
+next_is [] = (λ none. refl, λ some. absurd (omega (arith, some)))
+next_is (x ∷ xs) = elim (cases_Bool (is_gap x)) [
+  | inl gap ↦
+      let less = next_is xs in
+      subst (Next (x ∷ xs)) (sym (after_gap x xs gap)) (
+        λ none. gap_words x xs gap
+            ∙ less.0 none,
+        λ some. gap_words x xs gap ∙ less.1 some,
+      )
+  | inr goes ↦ subst (Next (x ∷ xs)) (sym (after_none x xs goes)) (next_here x xs goes)
+]

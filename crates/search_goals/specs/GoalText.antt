@@ -1,0 +1,128 @@
+-- The goal that a text says, or its first fault.
+use Rattle.std.specs.Prelude.{◌≡◌, ℕ, ◌-◌, ◌&&◌, ◌==◌, ⊤, not, List, [], ◌∷◌, ◌++◌, length, take, drop, codes, nat_eq, nat_lt, Option, Some, None, Result, Ok, Err, if◌then◌else◌, slice_index}
+use Rattle.std.specs.List.{list_all, starts_with, position_or_len}
+use Rattle.std.specs.Option.{ok_or}
+use Rattle.std.specs.Str.{bytes_eq}
+use Rattle.ipc_ids.specs.Tables.{most_bytes}
+use Rattle.ipc_ids.specs.declared.numbers.TaskNo.{TaskNo}
+use Rattle.script_lines.specs.declared.fault.Reason.{Reason}
+use Rattle.script_lines.specs.declared.fault.Reason.TheVariants.{TooLong, BadByte, WrongCount, UnknownName}
+use Rattle.script_lines.specs.Names.{task_named}
+use Rattle.script_lines.specs.Operation.{◌>>=◌}
+use Rattle.script_lines.specs.Text.{is_allowed}
+use Rattle.script_lines.specs.Word.{is_name_byte}
+use Rattle.script_reader.specs.Reading.{lines_from}
+use Rattle.trace_print.specs.Text.{task_text}
+use Rattle.search_goals.specs.declared.goal.Goal.{Goal}
+use Rattle.search_goals.specs.declared.goal.Goal.TheVariants as goals
+use Rattle.search_goals.specs.declared.goal.GoalFault.{GoalFault}
+use Rattle.search_goals.specs.declared.goal.GoalFault.TheVariants.{Bad, NoMemory}
+use Rattle.search_goals.specs.Goals.{text_words, listed}
+
+-- what is looked for: that nothing can change but counters; that a call is not answered besides, of a
+-- task or of any; or a line of an event
+pub data Asked : Type 0 where
+  IsRest : Asked
+  IsStuck : Option TaskNo → Asked
+  HasLine : (head asked : List (List ℕ)) → Asked
+
+-- a goal as the code has it
+abbrev pub said : Goal → Asked
+said goals.Rest = IsRest
+said (goals.Stuck task) = IsStuck task
+said (goals.Line head asked) = HasLine (listed head.items) (listed asked.items)
+
+-- how many bytes at the front may stand in a name
+abbrev pub name_len : List ℕ → ℕ
+name_len word = position_or_len (λ b. not (is_name_byte b)) word
+
+-- t and the number of the task with this name
+unfoldable pub named_task : (names : List (List ℕ)) → List ℕ → Result (List ℕ) Reason
+named_task names name = ok_or (task_named names name) UnknownName >>= λ task. Ok (task_text task)
+
+-- the same of a name at the front, and what stands behind it
+unfoldable pub behind_at : (names : List (List ℕ)) → List ℕ → Result (List ℕ) Reason
+behind_at names word =
+    named_task names (take (name_len word) word) >>= λ task. Ok (task ++ drop (name_len word) word)
+
+-- a word of a goal: itself, or @ and the name of a task
+unfoldable pub word_in : (names : List (List ℕ)) → List ℕ → Result (List ℕ) Reason
+word_in names word = if starts_with nat_eq word (codes "@") then behind_at names (drop 1 word) else Ok word
+
+-- one word more
+unfoldable pub with_word : (names : List (List ℕ)) → List (List ℕ) → List ℕ → Result (List (List ℕ)) Reason
+with_word names so_far word = word_in names word >>= λ word. Ok (so_far ++ word ∷ [])
+
+-- the words from this number on
+abbrev pub words_in : (names : List (List ℕ)) → ℕ → List (List ℕ) → Result (List (List ℕ)) (ℕ × Reason)
+words_in names n words = lines_from (with_word names) n [] words
+
+-- the name before a colon, which is the last byte
+unfoldable pub owner_of : List ℕ → Option (List ℕ)
+owner_of word =
+    if nat_lt 0 (length word) && slice_index word (length word - 1) == 58 then Some (take (length word - 1) word)
+    else None
+
+-- the fault is in the word of this number
+abbrev pub in_word : {A : Type 0} → ℕ → Result A Reason → Result A (ℕ × Reason)
+in_word n (Ok x) = Ok x
+in_word n (Err reason) = Err (n, reason)
+
+-- what follows where there is no fault
+infixl 10 ◌>>>◌
+abbrev pub ◌>>>◌ : {A B : Type 0} → Result A (ℕ × Reason) → (A → Result B (ℕ × Reason)) → Result B (ℕ × Reason)
+(Ok x) >>> f = f x
+(Err e) >>> f = Err e
+
+-- at least one word is asked for, behind so many
+abbrev pub line_of : ℕ → (head asked : List (List ℕ)) → Result Asked (ℕ × Reason)
+line_of n head [] = Err (n, WrongCount)
+line_of n head (word ∷ asked) = Ok (HasLine head (word ∷ asked))
+
+-- by whether the first word says whose event it is
+abbrev pub goal_by : (names : List (List ℕ)) → Option (List ℕ) → (first : List ℕ) (others : List (List ℕ)) →
+    Result Asked (ℕ × Reason)
+goal_by names None first others = words_in names 1 (first ∷ others) >>> line_of 1 []
+goal_by names (Some owner) first others =
+    in_word 1 (named_task names owner) >>> λ task. (words_in names 2 others >>> line_of 2 (task ∷ []))
+
+-- no word stands behind
+abbrev pub rest_of : List (List ℕ) → Result Asked (ℕ × Reason)
+rest_of [] = Ok IsRest
+rest_of (word ∷ words) = Err (2, WrongCount)
+
+-- of the task with this name
+unfoldable pub stuck_task : (names : List (List ℕ)) → List ℕ → Result Asked (ℕ × Reason)
+stuck_task names name = in_word 2 (ok_or (task_named names name) UnknownName >>= λ task. Ok (IsStuck (Some task)))
+
+-- of any task or, where a name stands behind, of that one
+abbrev pub stuck_of : (names : List (List ℕ)) → List (List ℕ) → Result Asked (ℕ × Reason)
+stuck_of names [] = Ok (IsStuck None)
+stuck_of names (name ∷ []) = stuck_task names name
+stuck_of names (name ∷ word ∷ words) = Err (3, WrongCount)
+
+-- that nothing moves, by the first word, or else a line
+abbrev pub goal_from : (names : List (List ℕ)) → (first : List ℕ) (others : List (List ℕ)) →
+    Result Asked (ℕ × Reason)
+goal_from names first others =
+    if bytes_eq first (codes "rest") then rest_of others
+    else (if bytes_eq first (codes "stuck") then stuck_of names others
+    else goal_by names (owner_of first) first others)
+
+-- what some words say
+abbrev pub goal_of_words : (names : List (List ℕ)) → List (List ℕ) → Result Asked (ℕ × Reason)
+goal_of_words names [] = Err (1, WrongCount)
+goal_of_words names (first ∷ others) = goal_from names first others
+
+-- the goal that a text says for tasks of these names, or its first fault with the number of the word; 0 for a text
+-- that is too long, and for a byte that may not stand in a line
+unfoldable pub goal_of : (names : List (List ℕ)) → List ℕ → Result Asked (ℕ × Reason)
+goal_of names text =
+    if nat_lt most_bytes (length text) then Err (0, TooLong)
+    else (if list_all is_allowed text then goal_of_words names (text_words text) else Err (0, BadByte))
+
+-- the answer is what is said, unless memory ran out
+abbrev pub Answers : {A B : Type 0} → (A → B) → Result A GoalFault → Result B (ℕ × Reason) → Type 0
+Answers f (Ok x) told = told ≡ Ok (f x)
+Answers f (Err (Bad word reason)) told = told ≡ Err (word, reason)
+Answers f (Err NoMemory) told = ⊤

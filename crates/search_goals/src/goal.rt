@@ -1,0 +1,344 @@
+//! Reads a goal.
+ghost use Rattle.std.specs.Prelude.{◌≡◌, ◌<◌, ◌≤◌, ◌+◌, ◌^◌, ◌∷◌, [], ℕ, not, position, length, codes, ◌&&◌, ◌==◌};
+ghost use Rattle.std.specs.List.{list_all, position_or_len};
+ghost use Rattle.std.specs.Option.{option_map};
+ghost use Rattle.std.specs.Str.{bytes_eq};
+ghost use Rattle.script_lines.specs.Text.{is_allowed};
+ghost use Rattle.script_lines.specs.Word.{is_name_byte};
+ghost use Rattle.script_lines.specs.Names.{task_names};
+ghost use Rattle.search_goals.specs.declared.goal.GoalFault.TheVariants as faults;
+ghost use Rattle.search_goals.specs.Goals.{text_words, listed};
+ghost use Rattle.search_goals.specs.GoalText.{said, name_len, named_task, behind_at, word_in, with_word, words_in};
+ghost use Rattle.search_goals.specs.GoalText.{owner_of, in_word, line_of, goal_by, rest_of, stuck_task, stuck_of};
+ghost use Rattle.search_goals.specs.GoalText.{goal_from, goal_of_words, goal_of, Answers};
+
+use crate::meeting::next_word;
+use ipc_ids::{NoMemory, TaskNo};
+use script_lines::{MOST_BYTES, Names, Reason, is_name_byte, names_of};
+use script_reader::Script;
+use std::alloc::{AllocError, AllocFailed, Global};
+
+/// What a search looks for.
+#[derive(Drop)]
+pub enum Goal {
+    /// A state in which no step of a living task changes anything but counters.
+    Rest,
+    /// The same, and a call of this task is not answered or, with `None`, a call of any living task.
+    Stuck(Option<TaskNo>),
+    /// An event whose first line begins with the words of `head`, and some line of which begins with
+    /// those of `asked`, where `*` is any word.
+    Line {
+        head: Vec<Vec<u8>>,
+        asked: Vec<Vec<u8>>,
+    },
+}
+
+/// Why a goal is not read.
+#[derive(Clone, Copy, Debug, PartialEq, Eq)]
+pub enum GoalFault {
+    /// The first word at fault, numbered from 1; 0 for the text as a whole, which is too long or
+    /// has a byte that may not stand in a line.
+    Bad { word: u64, reason: Reason },
+    /// No memory was found.
+    NoMemory,
+}
+
+impl From<NoMemory> for GoalFault {
+    ghost from_gives = { λ _ e. e ≡ faults.NoMemory };
+
+    fn from(_error: NoMemory) -> GoalFault {
+        GoalFault::NoMemory
+    }
+}
+
+impl From<AllocError> for GoalFault {
+    ghost from_gives = { λ _ e. e ≡ faults.NoMemory };
+
+    fn from(_error: AllocError) -> GoalFault {
+        GoalFault::NoMemory
+    }
+}
+
+impl<T: Drop> From<AllocFailed<T>> for GoalFault {
+    ghost from_gives = { λ _ e. e ≡ faults.NoMemory };
+
+    fn from(_error: AllocFailed<T>) -> GoalFault {
+        GoalFault::NoMemory
+    }
+}
+
+/// Whether a byte may stand in a line.
+fn is_allowed(byte: u8) -> bool
+    ensures { result ≡ is_allowed byte }
+{
+    (32 <= byte && byte <= 126) || byte == b'\t'
+}
+
+/// Whether each byte may stand in a line.
+fn all_allowed(text: &[u8]) -> bool
+    ensures { result ≡ list_all is_allowed text.now }
+{
+    text.iter().all(|byte| is_allowed(*byte))
+}
+
+/// Where the first byte stands that may not stand in a name.
+fn name_end(word: &[u8]) -> Option<usize>
+    ensures { result ≡ position (λ b. not (is_name_byte b)) word.now }
+{
+    word.iter().position(|byte| !is_name_byte(*byte))
+}
+
+/// How many bytes at the front may stand in a name.
+#[tactic(auto, using(crate::proofs::GoalWords::none_found, crate::proofs::GoalWords::found_at))]
+fn name_len(word: &[u8]) -> usize
+    ensures value { result ≡ name_len word.now }
+    ensures within { result ≤ length word.now }
+{
+    match name_end(word) {
+        Some(at) => at,
+        None => word.len(),
+    }
+}
+
+/// The name before a colon, which is the last byte.
+#[tactic(auto, unfolding(crate::specs::GoalText::owner_of))]
+fn owner_of(word: &[u8]) -> Option<&[u8]>
+    ensures { option_map (λ name. name.now) result ≡ owner_of word.now }
+{
+    let len = word.len();
+    if 0 < len && word[len - 1] == b':' {
+        Some(&word[..len - 1])
+    } else {
+        None
+    }
+}
+
+/// `t` and the number of the task with this name.
+#[tactic(auto, unfolding(crate::specs::GoalText::named_task))]
+fn named_task(alloc: Global, names: &Names, place: u64, name: &[u8]) -> Result<Vec<u8>, GoalFault>
+    ensures { Answers (λ text. text.items) result (in_word place (named_task names.now name.now)) }
+{
+    match names.task_named(name) {
+        None => Err(GoalFault::Bad {
+            word: place,
+            reason: Reason::UnknownName,
+        }),
+        Some(task) => {
+            let number = task.0;
+            let text = format!(in alloc; "t{number}")?;
+            Ok(text.into_bytes())
+        }
+    }
+}
+
+/// The same of a name at the front, and what stands behind it.
+#[tactic(auto, unfolding(crate::specs::GoalText::behind_at))]
+fn behind_at(alloc: Global, names: &Names, place: u64, word: &[u8]) -> Result<Vec<u8>, GoalFault>
+    ensures { Answers (λ text. text.items) result (in_word place (behind_at names.now word.now)) }
+{
+    let (name, rest) = word.split_at(name_len(word));
+    let mut text = named_task(alloc, names, place, name)?;
+    text.extend_from_slice(rest)?;
+    Ok(text)
+}
+
+/// A word of a goal: itself, or `@` and the name of a task.
+#[tactic(auto, unfolding(crate::specs::GoalText::word_in))]
+fn word_in(alloc: Global, names: &Names, place: u64, word: &[u8]) -> Result<Vec<u8>, GoalFault>
+    ensures { Answers (λ text. text.items) result (in_word place (word_in names.now word.now)) }
+{
+    match word {
+        [b'@', behind @ ..] => behind_at(alloc, names, place, behind),
+        _ => {
+            let text = Vec::from_slice(alloc, word)?;
+            Ok(text)
+        }
+    }
+}
+
+/// The words of a text, numbered from this place on.
+fn words_in(
+    alloc: Global,
+    names: &Names,
+    place: u64,
+    text: &[u8],
+) -> Result<Vec<Vec<u8>>, GoalFault>
+    requires low { place ≤ 2 }
+    requires small { length text.now ≤ 1048576 }
+    ensures { Answers (λ words. listed words.items) result
+        (words_in names.now place (text_words text.now)) }
+{
+    let mut words = Vec::new(alloc);
+    let mut rest = text;
+    let mut number = place;
+    while let Some((word, others)) = next_word(rest) {
+        match word_in(alloc, names, number, word) {
+            Ok(text) => words.push(text)?,
+            Err(fault) => return Err(fault),
+        }
+        rest = others;
+        number += 1;
+    }
+    Ok(words)
+}
+
+/// At least one word is asked for, behind so many.
+fn line_of(place: u64, head: Vec<Vec<u8>>, asked: Vec<Vec<u8>>) -> Result<Goal, GoalFault>
+    ensures { Answers said result (line_of place (listed head.items) (listed asked.items)) }
+{
+    if asked.is_empty() {
+        return Err(GoalFault::Bad {
+            word: place,
+            reason: Reason::WrongCount,
+        });
+    }
+    Ok(Goal::Line { head, asked })
+}
+
+/// A line, of a task where the first word says so.
+fn goal_by(
+    alloc: Global,
+    names: &Names,
+    owner: Option<&[u8]>,
+    text: &[u8],
+    first: &[u8],
+    others: &[u8],
+) -> Result<Goal, GoalFault>
+    requires parts { text_words text.now ≡ first.now ∷ text_words others.now }
+    requires small { length text.now ≤ 1048576 }
+    requires less { length others.now ≤ 1048576 }
+    ensures { Answers said result (goal_by names.now (option_map (λ name. name.now) owner.entry) first.now
+        (text_words others.now)) }
+{
+    match owner {
+        None => {
+            let asked = words_in(alloc, names, 1, text)?;
+            line_of(1, Vec::new(alloc), asked)
+        }
+        Some(owner) => {
+            let task = named_task(alloc, names, 1, owner)?;
+            let asked = words_in(alloc, names, 2, others)?;
+            let mut head = Vec::new(alloc);
+            head.push(task)?;
+            line_of(2, head, asked)
+        }
+    }
+}
+
+/// That nothing moves: no word stands behind.
+fn rest_of(others: &[u8]) -> Result<Goal, GoalFault>
+    ensures { Answers said result (rest_of (text_words others.now)) }
+{
+    match next_word(others) {
+        None => Ok(Goal::Rest),
+        Some(_) => Err(GoalFault::Bad {
+            word: 2,
+            reason: Reason::WrongCount,
+        }),
+    }
+}
+
+/// That a call of the task with this name is not answered.
+#[tactic(auto, unfolding(crate::specs::GoalText::stuck_task))]
+fn stuck_task(names: &Names, name: &[u8]) -> Result<Goal, GoalFault>
+    ensures { Answers said result (stuck_task names.now name.now) }
+{
+    match names.task_named(name) {
+        None => Err(GoalFault::Bad {
+            word: 2,
+            reason: Reason::UnknownName,
+        }),
+        Some(task) => Ok(Goal::Stuck(Some(task))),
+    }
+}
+
+/// That nothing moves and a call is not answered: of the task that is named, if one is.
+fn stuck_of(names: &Names, others: &[u8]) -> Result<Goal, GoalFault>
+    ensures { Answers said result (stuck_of names.now (text_words others.now)) }
+{
+    match next_word(others) {
+        None => Ok(Goal::Stuck(None)),
+        Some((name, more)) => match next_word(more) {
+            None => stuck_task(names, name),
+            Some(_) => Err(GoalFault::Bad {
+                word: 3,
+                reason: Reason::WrongCount,
+            }),
+        },
+    }
+}
+
+/// What a text of at least one word says: that nothing moves, or a line.
+fn goal_from(
+    alloc: Global,
+    names: &Names,
+    text: &[u8],
+    first: &[u8],
+    others: &[u8],
+) -> Result<Goal, GoalFault>
+    requires parts { text_words text.now ≡ first.now ∷ text_words others.now }
+    requires small { length text.now ≤ 1048576 }
+    requires less { length others.now ≤ 1048576 }
+    ensures { Answers said result (goal_from names.now first.now (text_words others.now)) }
+{
+    if first == b"rest".as_slice() {
+        return rest_of(others);
+    }
+    if first == b"stuck".as_slice() {
+        return stuck_of(names, others);
+    }
+    goal_by(alloc, names, owner_of(first), text, first, others)
+}
+
+/// What the words of a text say.
+fn goal_of_words(alloc: Global, names: &Names, text: &[u8]) -> Result<Goal, GoalFault>
+    requires small { length text.now ≤ 1048576 }
+    ensures { Answers said result (goal_of_words names.now (text_words text.now)) }
+{
+    match next_word(text) {
+        None => Err(GoalFault::Bad {
+            word: 1,
+            reason: Reason::WrongCount,
+        }),
+        Some((first, others)) => goal_from(alloc, names, text, first, others),
+    }
+}
+
+/// What a text says for tasks of these names.
+#[tactic(auto, unfolding(crate::specs::GoalText::goal_of))]
+fn goal_for(alloc: Global, names: &Names, text: &[u8]) -> Result<Goal, GoalFault>
+    ensures { Answers said result (goal_of names.now text.now) }
+{
+    if text.len() > MOST_BYTES {
+        return Err(GoalFault::Bad {
+            word: 0,
+            reason: Reason::TooLong,
+        });
+    }
+    if !all_allowed(text) {
+        return Err(GoalFault::Bad {
+            word: 0,
+            reason: Reason::BadByte,
+        });
+    }
+    goal_of_words(alloc, names, text)
+}
+
+/// The goal that a text of at most 1,048,576 bytes says for the tasks of a script. Its words stand
+/// between spaces, tabs and line feeds:
+///
+/// - `rest`, or `stuck` with the name of a task or alone, says `Rest` or `Stuck`;
+/// - all else says a line, of an event of that task where the first word is its name and `:`. A word
+///   `@NAME` there, with whatever follows the name, stands for the number of that task.
+///
+/// # Errors
+///
+/// `Bad` where it says none, with its first fault: a text that is too long, a byte that may not
+/// stand in a line, too few or too many words, or a name of no task. `NoMemory` where no memory was
+/// found.
+pub fn read_goal(alloc: Global, script: &Script, text: &[u8]) -> Result<Goal, GoalFault>
+    ensures { Answers said result (goal_of (task_names script.now.tasks) text.now) }
+{
+    let names = names_of(alloc, script.tasks.as_slice())?;
+    goal_for(alloc, &names, text)
+}

@@ -1,0 +1,15 @@
+//! What a search over schedules is asked, and the schedule that it answers.
+//!
+//! `read_goal` reads what is looked for, `meets_line` says whether the entries of an event meet a goal
+//! that is a line, and `schedule_text` writes the events that were found as a schedule.
+#![tactic(auto)]
+
+mod goal;
+mod meeting;
+#[cfg(test)]
+mod tests;
+mod writer;
+
+pub use goal::{Goal, GoalFault, read_goal};
+pub use meeting::{entry_fits, meets_line};
+pub use writer::{are_named, schedule_text};
