@@ -19,7 +19,10 @@ use Rattle.law_check.specs.declared.areas.Areas.{Areas}
 use Rattle.law_check.specs.Lives.{kept_at}
 use Rattle.law_check.specs.Allowed.{WasAllowed}
 use Rattle.law_check.specs.AreaState.{KnowsAreas, IsLeastRead, holding, called_of}
-use Rattle.law_check.specs.Held.{area_at, placed_at, over_store, covers}
+use Rattle.std.specs.BTreeMap.{BTreeMap, get}
+use Rattle.law_check.specs.declared.held.Held.{Held}
+use Rattle.law_check.specs.Stores.{pair_cmp, reaches, IsAround}
+use Rattle.law_check.specs.Held.{area_at, over_store, AreByStore}
 use Rattle.law_check.proofs.AtMostOnce.{above}
 use Rattle.law_check.proofs.Kept.{kept_push, kept_push_other, length_push}
 
@@ -79,13 +82,15 @@ knows_made p n from method to old new x knows now l a made held store wants read
       least = rw (read) (least_stays old.read p n from method to (λ i d. not_new (delivered_is_known p i l d) (next_of p n from method to a)) knows.least);
     }
 
-covers_means : (base : ℕ) (a : Area) (at count store : ℕ) → covers base a at count store ≡ true →
-    (a.store ≡ store) × IsPartOf 2 a.rights × (base ≤ at) × (at + count ≤ base + a.pages * 4096)
-covers_means base a at count store h = grind (arith, common_steps)
+reaches_means :
+    (base : ℕ) (a : Area) (at count : ℕ) → reaches base a at count ≡ true →
+    IsPartOf 2 a.rights × (base ≤ at) × (at + count ≤ base + a.pages * 4096)
+reaches_means base a at count h = grind (arith, common_steps)
 
-covers_if : (base : ℕ) (a : Holding) (at count store : ℕ) → (a.store ≡ store) → IsPartOf 2 a.rights → base ≤ at →
-    at + count ≤ base + a.pages * 4096 → covers base (record { pages = a.pages; rights = a.rights; store = a.store }) at count store ≡ true
-covers_if base a at count store e w b h = grind (arith, common_steps, eq-eqb)
+reaches_if :
+    (base : ℕ) (a : Holding) (at count : ℕ) → IsPartOf 2 a.rights → base ≤ at → at + count ≤ base + a.pages * 4096 →
+    reaches base (record { pages = a.pages; rights = a.rights; store = a.store }) at count ≡ true
+reaches_if base a at count w b h = grind (arith, common_steps, eq-eqb)
 
 some_holding : (x : Option Area) (h : Holding) → option_map holding x ≡ Some h → x ≡ Some (record { pages = h.pages; rights = h.rights; store = h.store })
 some_holding None h e = cc
@@ -96,12 +101,21 @@ some_holding (Some a) h e =
     same_holding x y e = cc
 
 -- an area that is found over a store is held, and stands over it
-found_is_held : (store : ℕ) (o : Option Area) (a : Area) → over_store store o ≡ Some a → o ≡ Some a
-found_is_held store None a h = cc
-found_is_held store (Some b) a h = by (b.store == store) h where
-  by : (x : Bool) → (if x then Some b else None) ≡ Some a → Some b ≡ Some a
-  by true e = e
-  by false e = cc
+no_area : (a : Area) → None ≡ Some a → ⊥
+no_area a e = cc
+
+same_store : (b a : Area) → Some b ≡ Some a → b.store ≡ a.store
+same_store b a e = cc
+
+same_number : (m n : ℕ) → (m == n) ≡ true → m ≡ n
+same_number m n e = grind (arith, common_steps)
+
+found_is_held : (store : ℕ) (o : Option Area) (a : Area) → over_store store o ≡ Some a → (o ≡ Some a) × (a.store ≡ store)
+found_is_held store None a h = absurd (no_area a h)
+found_is_held store (Some b) a h = by (b.store == store) refl h where
+  by : (x : Bool) → (b.store == store) ≡ x → (if x then Some b else None) ≡ Some a → (Some b ≡ Some a) × (a.store ≡ store)
+  by true s e = (e, sym (same_store b a e) ∙ same_number b.store store s)
+  by false s e = absurd (no_area a e)
 
 held_is_found : (store : ℕ) (a : Area) → a.store ≡ store → over_store store (Some a) ≡ Some a
 held_is_found store a e = rw (eq-eqb a.store store e) refl
@@ -109,18 +123,34 @@ held_is_found store a e = rw (eq-eqb a.store store e) refl
 -- a write into an area that is held
 pub held_around :
     (p : List Entry) (s : Areas) (t at count store : ℕ) (b : Bool) → KnowsAreas p s →
-    (IsTrue b → (base : ℕ) × (area : Area) × (placed_at s.held t store base ≡ Some area) × (covers base area at count store ≡ true)) →
-    ((base : ℕ) (area : Area) → placed_at s.held t store base ≡ Some area → covers base area at count store ≡ true → IsTrue b) →
-    IsTrue b ↔ HoldsAround p t at count store
-held_around p s t at count store b knows good none = (
+    (IsTrue b ↔ IsAround s.held.stores.areas t at count store) → IsTrue b ↔ HoldsAround p t at count store
+held_around p s t at count store b knows is = (
   λ h.
-      let g = good h in
-      let c = covers_means g.0 g.1 at count store g.3 in
-      let there : area_at s.held t g.0 ≡ Some g.1 = found_is_held store (area_at s.held t g.0) g.1 (sym (knows.by_store t store g.0) ∙ g.2) in
-      record { base = g.0; area = holding g.1; held_there = knows.areas t g.0 ∙ ap (option_map holding) there; same_store = c.0; writable = c.1; begins = c.2; ends = c.3 },
+      let g = is.0 h in
+      let m = reaches_means g.0 g.1 at count g.3 in
+      let there = found_is_held store (area_at s.held t g.0) g.1 (sym (knows.by_store.found t store g.0) ∙ g.2) in
+      record { base = g.0; area = holding g.1; held_there = knows.areas t g.0 ∙ ap (option_map holding) there.0; same_store = there.1; writable = m.0; begins = m.1; ends = m.2 },
   λ h.
       let a : Area = record { pages = h.area.pages; rights = h.area.rights; store = h.area.store } in
       let there : area_at s.held t h.base ≡ Some a = some_holding (area_at s.held t h.base) h.area (sym (knows.areas t h.base) ∙ h.held_there) in
-      none h.base a (knows.by_store t store h.base ∙ ap (over_store store) there ∙ held_is_found store a h.same_store)
-      (covers_if h.base h.area at count store h.same_store h.writable h.begins h.ends),
+      is.1 (
+        h.base,
+        a,
+        knows.by_store.found t store h.base ∙ ap (over_store store) there ∙ held_is_found store a h.same_store,
+        reaches_if h.base h.area at count h.writable h.begins h.ends,
+      ),
 )
+
+-- what is kept to find areas soon says nothing
+pub knows_prepared :
+    (p : List Entry) (s : Areas) (held : Held) → held.areas ≡ s.held.areas → (AreByStore s.held → AreByStore held) → KnowsAreas p s →
+    KnowsAreas p (record s { held = held })
+knows_prepared p s held same stay knows = record {
+  calls = knows.calls;
+  count = knows.count;
+  areas = λ t base. knows.areas t base ∙ ap (λ (m : BTreeMap (ℕ × ℕ) Area). option_map holding (get pair_cmp m (t, base))) (sym same);
+  by_store = stay knows.by_store;
+  store = knows.store;
+  wanted = knows.wanted;
+  least = knows.least;
+}

@@ -1,6 +1,6 @@
 -- Maps by two or three numbers, as the value of one key changes, and as a part of one is looked through.
 use Rattle.std.proofs.Common.{ℕ, ◌≡◌, ◌==◌, Option, Some, None, Bool, true, false, List, [], ◌∷◌, ◌++◌, refl, sym, ap, subst, ◌∙◌, arith, eq-eqb, ne_eqb}
-use Rattle.std.specs.Prelude.{if◌then◌else◌, ◌&&◌, ◌||◌, ◌≤◌, cond}
+use Rattle.std.specs.Prelude.{if◌then◌else◌, ◌&&◌, ◌||◌, ◌<◌, ◌≤◌, ◌+◌, cond, nat_lt}
 use Rattle.std.specs.BTreeMap.Range.{range_contains, IsInRange, IsEntryInRange}
 use Rattle.std.specs.declared.ops.Bound.TheVariants.{Included}
 use Rattle.std.specs.declared.cmp.Ordering.{Ordering}
@@ -11,8 +11,8 @@ use Rattle.std.specs.Map.{lookup}
 use Rattle.std.specs.List.{filter, list_any}
 use Rattle.std.proofs.lemmas.Grind.{common_steps}
 use Rattle.law_check.specs.declared.held.Area.{Area}
-use Rattle.law_check.specs.declared.held.Held.{Held}
-use Rattle.law_check.specs.Held.{ByStore, pair_cmp, triple_cmp, placed_in, placed_at, over_store, covers}
+use Rattle.law_check.specs.Stores.{ByStore, pair_cmp, triple_cmp, placed_in, reach, reaches, Changes}
+use Rattle.law_check.specs.Held.{over_store}
 
 both : (x y : Ordering) → is_eq (ordering_then x y) ≡ (is_eq x && is_eq y)
 both Less y = refl
@@ -22,7 +22,7 @@ both Greater y = refl
 same_number : (a b : ℕ) → is_eq (nat_cmp a b) ≡ (a == b)
 same_number a b = grind (arith, common_steps, eq-eqb, ne_eqb)
 
-same_pair : (t b u c : ℕ) → is_at (pair_cmp (t, b)) (u, c) ≡ ((t == u) && (b == c))
+pub same_pair : (t b u c : ℕ) → is_at (pair_cmp (t, b)) (u, c) ≡ ((t == u) && (b == c))
 same_pair t b u c = both (nat_cmp t u) (nat_cmp b c) ∙ ap (λ (x : Bool). x && is_eq (nat_cmp b c)) (same_number t u) ∙ ap (λ (x : Bool). (t == u) && x) (same_number b c)
 
 same_triple : (t s b u r c : ℕ) → is_at (triple_cmp (t, s, b)) (u, r, c) ≡ (((t == u) && (s == r)) && (b == c))
@@ -36,9 +36,7 @@ pub pair_put :
     get pair_cmp n (u, c) ≡ (if (t == u) && (b == c) then w else get pair_cmp m (u, c))
 pair_put m n t b w h u c = h.0 (u, c) ∙ ap (λ (x : Bool). if x then w else get pair_cmp m (u, c)) (same_pair t b u c)
 
-triple_put :
-    (m n : ByStore) (t s b : ℕ) (w : Option Area) → Updates triple_cmp m n (t, s, b) w → (u r c : ℕ) →
-    placed_in n u r c ≡ (if ((t == u) && (s == r)) && (b == c) then w else placed_in m u r c)
+pub triple_put : (m n : ByStore) (t s b : ℕ) (w : Option Area) → Updates triple_cmp m n (t, s, b) w → Changes m n t s b w
 triple_put m n t s b w h u r c = h.0 (u, r, c) ∙ ap (λ (x : Bool). if x then w else placed_in m u r c) (same_triple t s b u r c)
 
 -- one area that is no longer found by its store
@@ -71,11 +69,11 @@ over_another : (s : ℕ) (a : Area) → (a.store == s) ≡ false → over_store 
 over_another s a h = rw h refl
 
 pub one_taken :
-    (m n : ByStore) (t b : ℕ) (a : Area) → Updates triple_cmp m n (t, a.store, b) None →
+    (m n : ByStore) (t b : ℕ) (a : Area) → Changes m n t a.store b None →
     ((s : ℕ) → placed_in m t s b ≡ over_store s (Some a)) → (u s c : ℕ) →
     placed_in n u s c ≡ (if (t == u) && (b == c) then None else placed_in m u s c)
 one_taken m n t b a taken h u s c =
-    triple_put m n t a.store b None taken u s c
+    taken u s c
     ∙ taken_step (t == u) (a.store == s) (b == c) _ _ (placed_in m u s c) refl refl
     (λ same apart. at_key (λ v d. placed_in m v s d) t u b c same ∙ h s ∙ over_another s a apart)
 
@@ -96,11 +94,11 @@ over_if s false w v = refl
 pub put_by_store :
     (k m n : ByStore) (t b : ℕ) (a : Area) (old new : ℕ → ℕ → Option Area) →
     ((u s c : ℕ) → placed_in m u s c ≡ (if (t == u) && (b == c) then None else placed_in k u s c)) →
-    Updates triple_cmp m n (t, a.store, b) (Some a) →
+    Changes m n t a.store b (Some a) →
     ((u c : ℕ) → new u c ≡ (if (t == u) && (b == c) then Some a else old u c)) →
     ((u s c : ℕ) → placed_in k u s c ≡ over_store s (old u c)) → (u s c : ℕ) → placed_in n u s c ≡ over_store s (new u c)
 put_by_store k m n t b a old new taken put now was u s c =
-    triple_put m n t a.store b (Some a) put u s c
+    put u s c
     ∙ ap (λ (v : Option Area). if ((t == u) && (a.store == s)) && (b == c) then Some a else v) (taken u s c)
     ∙ put_step (t == u) (a.store == s) (b == c) (Some a) (placed_in k u s c) (over_store s (Some a)) (λ e. sym (over_itself s a e)) (λ e. over_another s a e)
     ∙ ap (λ (v : Option Area). if (t == u) && (b == c) then over_store s (Some a) else v) (was u s c)
@@ -164,14 +162,23 @@ seen_in f keep (e ∷ es) u r c a found kept good =
     seen_step f keep e es u r c a (λ later. seen_in f keep es u r c a later kept good) (is_at (triple_cmp (u, r, c)) e.0) refl
     (λ h. triple_is u e.0.0 r e.0.1 c e.0.2 (sym (same_triple u r c e.0.0 e.0.1 e.0.2) ∙ h)) found kept good
 
-pub in_range : (t s b at : ℕ) → b ≤ at → range_contains triple_cmp (Included (t, s, 0)) (Included (t, s, at)) (t, s, b) ≡ true
-in_range t s b at h = grind (arith, common_steps, eq-eqb)
+pub in_range :
+    (t s b first last : ℕ) → first ≤ b → b ≤ last →
+    range_contains triple_cmp (Included (t, s, first)) (Included (t, s, last)) (t, s, b) ≡ true
+in_range t s b first last l h = grind (arith, common_steps, eq-eqb)
 
-pub covers_from : (b : ℕ) (a : Area) (at count store : ℕ) → covers b a at count store ≡ true → b ≤ at
-covers_from b a at count store h = grind (arith, common_steps)
+pub reaches_from : (b : ℕ) (a : Area) (at count : ℕ) → reaches b a at count ≡ true → (b ≤ at) × (at + count < reach b a)
+reaches_from b a at count h = grind (arith, common_steps)
 
-abbrev pub covering : ℕ → ℕ → ℕ → (ℕ × ℕ × ℕ) × Area → Bool
-covering at count store e = covers e.0.2 e.1 at count store
+pub reaches_if : (b : ℕ) (a : Area) (at count : ℕ) → b ≤ at → at + count < reach b a → reaches b a at count ≡ true
+reaches_if b a at count l h = grind (arith, common_steps)
+
+abbrev pub reaching : ℕ → ℕ → (ℕ × ℕ × ℕ) × Area → Bool
+reaching at count e = reaches e.0.2 e.1 at count
+
+-- the area reaches further than this
+abbrev pub exceeds : ℕ → (ℕ × ℕ × ℕ) × Area → Bool
+exceeds k e = nat_lt k (reach e.0.2 e.1)
 
 -- the last of a list, of which the others are left
 pub any_but_last :
@@ -183,12 +190,14 @@ any_but_last f xs ys e whole bad = sym (ap (list_any f) whole ∙ last ys) where
   last (y ∷ ys) = ap (λ (b : Bool). f y || b) (last ys)
 
 -- the keys between these bounds are of this task and this store
-pub own_keys : (t s at : ℕ) (k : ℕ × ℕ × ℕ) → IsInRange triple_cmp (Included (t, s, 0)) (Included (t, s, at)) k → (k.0 ≡ t) × (k.1 ≡ s)
-own_keys t s at k h = grind (arith, common_steps, h.0, h.1)
+pub own_keys :
+    (t s first last : ℕ) (k : ℕ × ℕ × ℕ) → IsInRange triple_cmp (Included (t, s, first)) (Included (t, s, last)) k →
+    (k.0 ≡ t) × (k.1 ≡ s) × (k.2 ≤ last)
+own_keys t s first last k h = grind (arith, common_steps, h.0, h.1)
 
 pub found_there :
-    (held : Held) (t s at : ℕ) (k : ℕ × ℕ × ℕ) (a : Area) →
-    IsEntryInRange triple_cmp (Included (t, s, 0)) (Included (t, s, at)) held.by_store (k, a) → placed_at held t s k.2 ≡ Some a
-found_there held t s at k a h =
-    let own = own_keys t s at k h.0 in
-    ap (λ (x : ℕ). placed_at held x s k.2) (sym own.0) ∙ ap (λ (x : ℕ). placed_at held k.0 x k.2) (sym own.1) ∙ h.1
+    (areas : ByStore) (t s first last : ℕ) (k : ℕ × ℕ × ℕ) (a : Area) →
+    IsEntryInRange triple_cmp (Included (t, s, first)) (Included (t, s, last)) areas (k, a) → placed_in areas t s k.2 ≡ Some a
+found_there areas t s first last k a h =
+    let own = own_keys t s first last k h.0 in
+    ap (λ (x : ℕ). placed_in areas x s k.2) (sym own.0) ∙ ap (λ (x : ℕ). placed_in areas k.0 x k.2) (sym own.1) ∙ h.1

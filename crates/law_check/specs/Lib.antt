@@ -4,6 +4,7 @@ pub mod Kills
 pub mod KillState
 pub mod AreaSteps
 pub mod AreaState
+pub mod Stores
 pub mod Held
 pub mod Allowed
 pub mod Verdict

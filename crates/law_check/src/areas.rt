@@ -380,6 +380,21 @@ impl Areas {
         Ok(())
     }
 
+    /// Before an entry comes: where it says that a task writes, its area is found soon.
+    fn prepare(&mut self, entry: &Entry)
+        ensures { (p : List Entry) → KnowsAreas p self.old → KnowsAreas p self.new }
+    {
+        match entry {
+            Entry::Wrote {
+                task,
+                at,
+                count,
+                store,
+            } => self.held.prepare(task.0, *at, *count, store.0),
+            _ => (),
+        }
+    }
+
     /// Takes a lawful entry, in the event with this head, after this last entry, and tells whether
     /// the law still holds, as it did before or not.
     pub fn go_on(
@@ -397,6 +412,7 @@ impl Areas {
         if !holds {
             return Ok(false);
         }
+        self.prepare(entry);
         if !self.may_come(now, last, entry) {
             return Ok(false);
         }

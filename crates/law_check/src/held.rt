@@ -1,7 +1,9 @@
 //! The areas that tasks hold, found by their bases and by their stores.
-ghost use Rattle.std.specs.Prelude.{◌≡◌, ◌==◌, ◌&&◌, ℕ, Option, Some, None, OnOk, IsTrue, if◌then◌else◌, true};
-ghost use Rattle.law_check.specs.Held.{area_at, placed_at, over_store, placed_in, AreByStore, covers};
+ghost use Rattle.std.specs.Prelude.{◌≡◌, ◌↔◌, ◌==◌, ◌&&◌, ℕ, Option, Some, None, OnOk, IsTrue, if◌then◌else◌, true};
+ghost use Rattle.law_check.specs.Held.{area_at, over_store, AreByStore};
+ghost use Rattle.law_check.specs.Stores.{placed_in, IsAround, AreBounded};
 
+use crate::stores::Stores;
 use ipc_ids::NoMemory;
 use std::alloc::Global;
 use std::collections::BTreeMap;
@@ -18,32 +20,19 @@ pub struct Area {
 #[derive(Drop)]
 pub struct Held {
     areas: BTreeMap<(u64, u64), Area>,
-    by_store: BTreeMap<(u64, u64, u64), Area>,
-}
-
-/// The area, with this base and over this store, may be written around so many bytes.
-fn may_be_written(base: u64, area: Area, at: u64, count: u64, store: u64) -> bool
-    ensures { result ≡ covers base area at count store }
-{
-    area.store == store
-        && 2 & area.rights == 2
-        && base <= at
-        && at as u128 + count as u128 <= base as u128 + area.pages as u128 * 4096
+    stores: Stores,
 }
 
 /// The task's area with this base is no longer found by its store.
-fn take_out(
-    by_store: &mut BTreeMap<(u64, u64, u64), Area>,
-    task: u64,
-    base: u64,
-    area: Option<Area>,
-)
-    ensures { ((store : ℕ) → placed_in by_store.old task store base ≡ over_store store area)
-        → (t store b : ℕ) → placed_in by_store.new t store b
-        ≡ (if (task == t) && (base == b) then None else placed_in by_store.old t store b) }
+fn take_out(stores: &mut Stores, task: u64, base: u64, area: Option<Area>)
+    ensures placed { ((store : ℕ) → placed_in stores.old.areas task store base ≡ over_store store area)
+        → (t store b : ℕ) → placed_in stores.new.areas t store b
+        ≡ (if (task == t) && (base == b) then None else placed_in stores.old.areas t store b) }
+    ensures bounded { AreBounded stores.old.areas stores.old.blocks
+        → AreBounded stores.new.areas stores.new.blocks }
 {
     if let Some(area) = area {
-        by_store.remove(&(task, area.store, base));
+        stores.remove(task, base, area.store);
     }
 }
 
@@ -54,7 +43,7 @@ impl Held {
     {
         Held {
             areas: BTreeMap::new(alloc),
-            by_store: BTreeMap::new(alloc),
+            stores: Stores::new(alloc),
         }
     }
 
@@ -72,8 +61,8 @@ impl Held {
         ensures by_store { AreByStore self.old → OnOk result (AreByStore self.new) }
     {
         let old = self.areas.insert((task, base), area)?;
-        take_out(&mut self.by_store, task, base, old);
-        self.by_store.insert((task, area.store, base), area)?;
+        take_out(&mut self.stores, task, base, old);
+        self.stores.insert(task, base, area)?;
         Ok(())
     }
 
@@ -84,25 +73,22 @@ impl Held {
         ensures by_store { AreByStore self.old → AreByStore self.new }
     {
         let old = self.areas.remove(&(task, base));
-        take_out(&mut self.by_store, task, base, old);
+        take_out(&mut self.stores, task, base, old);
     }
 
-    /// The task holds an area over this store that it may write around so many bytes. Of its areas
-    /// over this store the nearest to the address are tried first, so a write that is lawful passes
-    /// over those alone that overlap the area around it.
-    pub fn covers(&self, task: u64, at: u64, count: u64, store: u64) -> bool
-        ensures yes { IsTrue result → (base : ℕ) × (area : Area)
-            × (placed_at self.now task store base ≡ Some area)
-            × (covers base area at count store ≡ true) }
-        ensures no { (base : ℕ) (area : Area) → placed_at self.now task store base ≡ Some area
-            → covers base area at count store ≡ true → IsTrue result }
+    /// Before a write is looked for: what is kept to find its area soon.
+    pub fn prepare(&mut self, task: u64, at: u64, count: u64, store: u64)
+        ensures areas { self.new.areas ≡ self.old.areas }
+        ensures by_store { AreByStore self.old → AreByStore self.new }
     {
-        let areas = self.by_store.range((task, store, 0)..=(task, store, at));
-        for (key, area) in areas.rev() {
-            if may_be_written(key.2, *area, at, count, store) {
-                return true;
-            }
-        }
-        false
+        self.stores.prepare(task, at, count, store);
+    }
+
+    /// The task holds an area over this store that it may write around so many bytes.
+    pub fn covers(&self, task: u64, at: u64, count: u64, store: u64) -> bool
+        ensures { AreByStore self.now
+            → (IsTrue result ↔ IsAround self.now.stores.areas task at count store) }
+    {
+        self.stores.covers(task, at, count, store)
     }
 }

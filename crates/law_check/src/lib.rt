@@ -9,6 +9,7 @@ mod areas;
 mod held;
 mod kills;
 mod lives;
+mod stores;
 mod verdict;
 
 pub use areas::is_head;

@@ -6,6 +6,6 @@ returns-then-may_write c =
     let a = c.args in
     let w = c.in-Wrote in
     λ p knows now last.
-    let around = held_around p a.self.now w.task.0 w.at w.count w.store.0 c.covers.result knows c.covers.ensures.yes c.covers.ensures.no in
+    let around = held_around p a.self.now w.task.0 w.at w.count w.store.0 c.covers.result knows (c.covers.ensures knows.by_store) in
     let sort = (c.may_write.ensures p knows now).0 c.if-may_write.true in
     rw (w.is) (λ yes. (sort, around.0 yes), λ may. around.1 may.1)

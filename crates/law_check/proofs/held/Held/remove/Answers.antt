@@ -11,7 +11,10 @@ pub returns-clause-by_store : goal.returns-clause-by_store
 returns-clause-by_store c =
     let a = c.args in
     λ was.
-    taken_by_store a.self.now.by_store c.take_out.new.by_store a.task a.base (area_at a.self.now)
-    (area_at (record { areas = c.remove-old.new.self; by_store = c.take_out.new.by_store }))
-    (c.take_out.ensures (λ s. was a.task s a.base ∙ ap (over_store s) (sym c.remove-old.ensures.value)))
-    (pair_put a.self.now.areas c.remove-old.new.self a.task a.base None c.remove-old.ensures.updates) was
+    record {
+      found = taken_by_store a.self.now.stores.areas c.take_out.new.stores.areas a.task a.base (area_at a.self.now)
+          (area_at (record { areas = c.remove-old.new.self; stores = c.take_out.new.stores }))
+          (c.take_out.ensures.placed (λ s. was.found a.task s a.base ∙ ap (over_store s) (sym c.remove-old.ensures.value)))
+          (pair_put a.self.now.areas c.remove-old.new.self a.task a.base None c.remove-old.ensures.updates) was.found;
+      bounded = c.take_out.ensures.bounded was.bounded;
+    }
