@@ -7,7 +7,7 @@ import {performance} from "perf_hooks";
 import {Run} from "./fold.mjs";
 
 const [, , CHROMIUM, TOP, FOLDER, SHOTS] = process.argv;
-const MOST_WAIT = 30000; // milliseconds for an answer of the browser
+const MOST_WAIT = 1000 * Number(process.env.BROWSER_SECONDS || 30); // milliseconds for an answer of the browser
 const MOST_OPEN = 3000; // of the long run
 const MOST_STEP = 50;
 const STEPS = 10; // that are timed together
