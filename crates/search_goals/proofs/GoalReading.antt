@@ -6,31 +6,31 @@ use Rattle.script_lines.specs.declared.fault.Reason.{Reason}
 use Rattle.script_lines.specs.Operation.{◌>>=◌}
 use Rattle.script_reader.specs.Reading.{lines_from, at_line}
 use Rattle.search_goals.specs.Goals.{listed}
-use Rattle.search_goals.specs.GoalText.{word_in, with_word, in_word, Answers}
+use Rattle.search_goals.specs.GoalText.{word_in, with_word, condition_in, with_condition, in_word, Answers}
+use Rattle.search_goals.specs.declared.conditions.Condition.{Condition}
 use Rattle.search_goals.specs.declared.goal.GoalFault.{GoalFault}
 use Rattle.search_goals.specs.declared.goal.GoalFault.TheVariants.{Bad, NoMemory}
 
-abbrev Numbered : Type 0
-Numbered = Result (List (List ℕ)) (ℕ × Reason)
+-- what words say, or the first fault with its number
+abbrev Numbered : Type 0 → Type 0
+Numbered A = Result (List A) (ℕ × Reason)
 
 -- a word that is read
-one_more : (n : ℕ) (r : Result (List ℕ) Reason) (so_far : List (List ℕ)) (w : List ℕ) (go : List (List ℕ) →
-    Numbered) → in_word n r ≡ Ok w
-    → at_line n (r >>= λ word. Ok (so_far ++ word ∷ [])) go ≡ go (so_far ++ w ∷ [])
-one_more n (Ok v) so_far w go e = let same : v ≡ w = cc in ap (λ (z : List ℕ). go (so_far ++ z ∷ [])) same
-one_more n (Err reason) so_far w go e = absurd cc
+one_more : {A : Type 0} (n : ℕ) (r : Result A Reason) (so_far : List A) (x : A) (go : List A → Numbered A) → in_word n r ≡ Ok x
+    → at_line n (r >>= λ y. Ok (so_far ++ y ∷ [])) go ≡ go (so_far ++ x ∷ [])
+one_more {A} n (Ok v) so_far x go e = let same : v ≡ x = cc in ap (λ (z : A). go (so_far ++ z ∷ [])) same
+one_more n (Err reason) so_far x go e = absurd cc
 
 -- a word that is at fault
-one_fault : (n m : ℕ) (reason : Reason) (r : Result (List ℕ) Reason) (so_far : List (List ℕ)) (go : List (List ℕ) →
-    Numbered) → in_word n r ≡ Err (m, reason)
-    → at_line n (r >>= λ word. Ok (so_far ++ word ∷ [])) go ≡ Err (m, reason)
+one_fault : {A : Type 0} (n m : ℕ) (reason : Reason) (r : Result A Reason) (so_far : List A) (go : List A → Numbered A)
+    → in_word n r ≡ Err (m, reason) → at_line n (r >>= λ y. Ok (so_far ++ y ∷ [])) go ≡ Err (m, reason)
 one_fault n m reason (Ok v) so_far go e = absurd cc
-one_fault n m reason (Err why) so_far go e = ap (λ (z : Numbered). z) (again e) where
-  again : in_word {A = List ℕ} n (Err why) ≡ Err (m, reason) → at_line n (Err why) go ≡ Err (m, reason)
+one_fault {A} n m reason (Err why) so_far go e = again e where
+  again : in_word {A = A} n (Err why) ≡ Err (m, reason) → at_line n (Err why) go ≡ Err (m, reason)
   again h = cc
 
 module _ (names : List (List ℕ)) (n : ℕ) (so_far : List (Vec ℕ)) (word : List ℕ) (words all : List (List ℕ))
-    (whole : Numbered) (is : all ≡ word ∷ words)
+    (whole : Numbered (List ℕ)) (is : all ≡ word ∷ words)
     (told : lines_from (with_word names) n (listed so_far) all ≡ whole) where
   pub word_read : (v : Vec ℕ) → in_word n (word_in names word) ≡ Ok v.items →
       lines_from (with_word names) (n + 1) (listed (so_far ++ v ∷ [])) words ≡ whole
@@ -55,3 +55,27 @@ module _ (names : List (List ℕ)) (n : ℕ) (so_far : List (Vec ℕ)) (word : L
       Answers f (Err fault) whole
   fault_told f (Bad m reason) e = word_fault m reason e
   fault_told f NoMemory e = tt
+
+module _ (names : List (List ℕ)) (n : ℕ) (so_far : List Condition) (word : List ℕ) (words all : List (List ℕ))
+    (whole : Numbered Condition) (is : all ≡ word ∷ words)
+    (told : lines_from (with_condition names) n so_far all ≡ whole) where
+  pub condition_read : (x : Condition) → in_word n (condition_in names word) ≡ Ok x →
+      lines_from (with_condition names) (n + 1) (so_far ++ x ∷ []) words ≡ whole
+  unfolding with_condition
+  condition_read x e =
+      sym (one_more n (condition_in names word) so_far x (λ next. lines_from (with_condition names) (n + 1) next words) e)
+      ∙ ap (lines_from (with_condition names) n so_far) (sym is) ∙ told
+
+  pub condition_fault : (m : ℕ) (reason : Reason) → in_word n (condition_in names word) ≡ Err (m, reason) →
+      whole ≡ Err (m, reason)
+  unfolding with_condition
+  condition_fault m reason e =
+      sym told ∙ ap (lines_from (with_condition names) n so_far) is
+      ∙ one_fault n m reason (condition_in names word) so_far
+      (λ next. lines_from (with_condition names) (n + 1) next words) e
+
+  pub fault_found : {A : Type 0} (f : A → List Condition) (fault : GoalFault) →
+      Answers {A = Condition} (λ condition. condition) (Err fault) (in_word n (condition_in names word)) →
+      Answers f (Err fault) whole
+  fault_found f (Bad m reason) e = condition_fault m reason e
+  fault_found f NoMemory e = tt

@@ -6,35 +6,34 @@ use Rattle.std.specs.Str.{bytes_eq}
 use Rattle.ipc_ids.specs.Tables.{most_bytes}
 use Rattle.ipc_ids.specs.declared.numbers.TaskNo.{TaskNo}
 use Rattle.script_lines.specs.declared.fault.Reason.{Reason}
-use Rattle.script_lines.specs.declared.fault.Reason.TheVariants.{TooLong, BadByte, WrongCount, UnknownName}
+use Rattle.script_lines.specs.declared.fault.Reason.TheVariants.{TooLong, BadByte, WrongCount, BadWord, UnknownName}
 use Rattle.script_lines.specs.Names.{task_named}
 use Rattle.script_lines.specs.Operation.{◌>>=◌}
 use Rattle.script_lines.specs.Text.{is_allowed}
-use Rattle.script_lines.specs.Word.{is_name_byte}
 use Rattle.script_reader.specs.Reading.{lines_from}
 use Rattle.trace_print.specs.Text.{task_text}
 use Rattle.search_goals.specs.declared.goal.Goal.{Goal}
 use Rattle.search_goals.specs.declared.goal.Goal.TheVariants as goals
 use Rattle.search_goals.specs.declared.goal.GoalFault.{GoalFault}
 use Rattle.search_goals.specs.declared.goal.GoalFault.TheVariants.{Bad, NoMemory}
+use Rattle.search_goals.specs.declared.conditions.Condition.{Condition}
+use Rattle.search_goals.specs.Conditions.{name_len, asked_of}
 use Rattle.search_goals.specs.Goals.{text_words, listed}
 
 -- what is looked for: that nothing can change but counters; that a call is not answered besides, of a
--- task or of any; or a line of an event
+-- task or of any; that each of these holds in one state; or a line of an event
 pub data Asked : Type 0 where
   IsRest : Asked
   IsStuck : Option TaskNo → Asked
+  HoldAll : List Condition → Asked
   HasLine : (head asked : List (List ℕ)) → Asked
 
 -- a goal as the code has it
 abbrev pub said : Goal → Asked
 said goals.Rest = IsRest
 said (goals.Stuck task) = IsStuck task
+said (goals.When conditions) = HoldAll conditions.items
 said (goals.Line head asked) = HasLine (listed head.items) (listed asked.items)
-
--- how many bytes at the front may stand in a name
-abbrev pub name_len : List ℕ → ℕ
-name_len word = position_or_len (λ b. not (is_name_byte b)) word
 
 -- t and the number of the task with this name
 unfoldable pub named_task : (names : List (List ℕ)) → List ℕ → Result (List ℕ) Reason
@@ -101,13 +100,36 @@ stuck_of names [] = Ok (IsStuck None)
 stuck_of names (name ∷ []) = stuck_task names name
 stuck_of names (name ∷ word ∷ words) = Err (3, WrongCount)
 
--- that nothing moves, by the first word, or else a line
+-- the name of a task, and what is asked of it
+unfoldable pub condition_in : (names : List (List ℕ)) → List ℕ → Result Condition Reason
+condition_in names word =
+    ok_or (task_named names (take (name_len word) word)) UnknownName >>= λ task.
+    ok_or (asked_of task (drop (name_len word) word)) BadWord
+
+-- one condition more
+unfoldable pub with_condition : (names : List (List ℕ)) → List Condition → List ℕ → Result (List Condition) Reason
+with_condition names so_far word = condition_in names word >>= λ condition. Ok (so_far ++ condition ∷ [])
+
+-- the conditions that the words behind the first say
+abbrev pub conditions_in : (names : List (List ℕ)) → List (List ℕ) → Result (List Condition) (ℕ × Reason)
+conditions_in names words = lines_from (with_condition names) 2 [] words
+
+-- there is at least one
+abbrev pub when_all : List Condition → Result Asked (ℕ × Reason)
+when_all [] = Err (2, WrongCount)
+when_all (condition ∷ conditions) = Ok (HoldAll (condition ∷ conditions))
+
+-- what is asked of one state
+abbrev pub when_of : (names : List (List ℕ)) → List (List ℕ) → Result Asked (ℕ × Reason)
+when_of names words = conditions_in names words >>> when_all
+
+-- by the first word what is asked of a state, or else a line
 abbrev pub goal_from : (names : List (List ℕ)) → (first : List ℕ) (others : List (List ℕ)) →
     Result Asked (ℕ × Reason)
 goal_from names first others =
     if bytes_eq first (codes "rest") then rest_of others
     else (if bytes_eq first (codes "stuck") then stuck_of names others
-    else goal_by names (owner_of first) first others)
+    else (if bytes_eq first (codes "when") then when_of names others else goal_by names (owner_of first) first others))
 
 -- what some words say
 abbrev pub goal_of_words : (names : List (List ℕ)) → List (List ℕ) → Result Asked (ℕ × Reason)

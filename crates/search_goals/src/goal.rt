@@ -7,11 +7,14 @@ ghost use Rattle.script_lines.specs.Text.{is_allowed};
 ghost use Rattle.script_lines.specs.Word.{is_name_byte};
 ghost use Rattle.script_lines.specs.Names.{task_names};
 ghost use Rattle.search_goals.specs.declared.goal.GoalFault.TheVariants as faults;
+ghost use Rattle.search_goals.specs.Conditions.{name_len};
 ghost use Rattle.search_goals.specs.Goals.{text_words, listed};
-ghost use Rattle.search_goals.specs.GoalText.{said, name_len, named_task, behind_at, word_in, with_word, words_in};
+ghost use Rattle.search_goals.specs.GoalText.{said, named_task, behind_at, word_in, with_word, words_in};
 ghost use Rattle.search_goals.specs.GoalText.{owner_of, in_word, line_of, goal_by, rest_of, stuck_task, stuck_of};
+ghost use Rattle.search_goals.specs.GoalText.{condition_in, conditions_in, when_all, when_of};
 ghost use Rattle.search_goals.specs.GoalText.{goal_from, goal_of_words, goal_of, Answers};
 
+use crate::conditions::{Condition, asked_of};
 use crate::meeting::next_word;
 use ipc_ids::{NoMemory, TaskNo};
 use script_lines::{MOST_BYTES, Names, Reason, is_name_byte, names_of};
@@ -25,6 +28,8 @@ pub enum Goal {
     Rest,
     /// The same, and a call of this task is not answered or, with `None`, a call of any living task.
     Stuck(Option<TaskNo>),
+    /// A state in which each of these holds.
+    When(Vec<Condition>),
     /// An event whose first line begins with the words of `head`, and some line of which begins with
     /// those of `asked`, where `*` is any word.
     Line {
@@ -90,7 +95,7 @@ fn name_end(word: &[u8]) -> Option<usize>
 
 /// How many bytes at the front may stand in a name.
 #[tactic(auto, using(crate::proofs::GoalWords::none_found, crate::proofs::GoalWords::found_at))]
-fn name_len(word: &[u8]) -> usize
+pub(crate) fn name_len(word: &[u8]) -> usize
     ensures value { result ≡ name_len word.now }
     ensures within { result ≤ length word.now }
 {
@@ -268,7 +273,71 @@ fn stuck_of(names: &Names, others: &[u8]) -> Result<Goal, GoalFault>
     }
 }
 
-/// What a text of at least one word says: that nothing moves, or a line.
+/// What is asked of the state of the task whose name stands at the front.
+#[tactic(auto, unfolding(crate::specs::GoalText::condition_in))]
+fn condition_in(names: &Names, place: u64, word: &[u8]) -> Result<Condition, GoalFault>
+    ensures { Answers (λ condition. condition) result
+        (in_word place (condition_in names.now word.now)) }
+{
+    let (name, rest) = word.split_at(name_len(word));
+    match names.task_named(name) {
+        None => Err(GoalFault::Bad {
+            word: place,
+            reason: Reason::UnknownName,
+        }),
+        Some(task) => match asked_of(task, rest) {
+            None => Err(GoalFault::Bad {
+                word: place,
+                reason: Reason::BadWord,
+            }),
+            Some(condition) => Ok(condition),
+        },
+    }
+}
+
+/// What the words behind the first ask of one state.
+fn conditions_in(alloc: Global, names: &Names, text: &[u8]) -> Result<Vec<Condition>, GoalFault>
+    requires small { length text.now ≤ 1048576 }
+    ensures { Answers (λ conditions. conditions.items) result
+        (conditions_in names.now (text_words text.now)) }
+{
+    let mut conditions = Vec::new(alloc);
+    let mut rest = text;
+    let mut number = 2;
+    while let Some((word, others)) = next_word(rest) {
+        match condition_in(names, number, word) {
+            Ok(condition) => conditions.push(condition)?,
+            Err(fault) => return Err(fault),
+        }
+        rest = others;
+        number += 1;
+    }
+    Ok(conditions)
+}
+
+/// At least one thing is asked.
+fn when_all(conditions: Vec<Condition>) -> Result<Goal, GoalFault>
+    ensures { Answers said result (when_all conditions.items) }
+{
+    if conditions.is_empty() {
+        return Err(GoalFault::Bad {
+            word: 2,
+            reason: Reason::WrongCount,
+        });
+    }
+    Ok(Goal::When(conditions))
+}
+
+/// What is asked of one state.
+fn when_of(alloc: Global, names: &Names, others: &[u8]) -> Result<Goal, GoalFault>
+    requires small { length others.now ≤ 1048576 }
+    ensures { Answers said result (when_of names.now (text_words others.now)) }
+{
+    let conditions = conditions_in(alloc, names, others)?;
+    when_all(conditions)
+}
+
+/// What a text of at least one word says: something of a state, or a line.
 fn goal_from(
     alloc: Global,
     names: &Names,
@@ -286,6 +355,9 @@ fn goal_from(
     }
     if first == b"stuck".as_slice() {
         return stuck_of(names, others);
+    }
+    if first == b"when".as_slice() {
+        return when_of(alloc, names, others);
     }
     goal_by(alloc, names, owner_of(first), text, first, others)
 }
@@ -328,14 +400,17 @@ fn goal_for(alloc: Global, names: &Names, text: &[u8]) -> Result<Goal, GoalFault
 /// between spaces, tabs and line feeds:
 ///
 /// - `rest`, or `stuck` with the name of a task or alone, says `Rest` or `Stuck`;
+/// - `when` says `When`; each word behind it is the name of a task, of a fibril of it also `/` and
+///   the number, and then `@N` (it stands at operation N), `.rK=N` (register K holds N) or `$` (it is
+///   at its end), or for a task `!` (it was killed);
 /// - all else says a line, of an event of that task where the first word is its name and `:`. A word
 ///   `@NAME` there, with whatever follows the name, stands for the number of that task.
 ///
 /// # Errors
 ///
 /// `Bad` where it says none, with its first fault: a text that is too long, a byte that may not
-/// stand in a line, too few or too many words, or a name of no task. `NoMemory` where no memory was
-/// found.
+/// stand in a line, too few or too many words, a name of no task, or a condition that is none.
+/// `NoMemory` where no memory was found.
 pub fn read_goal(alloc: Global, script: &Script, text: &[u8]) -> Result<Goal, GoalFault>
     ensures { Answers said result (goal_of (task_names script.now.tasks) text.now) }
 {

@@ -4,12 +4,14 @@
 //! that is a line, and `schedule_text` writes the events that were found as a schedule.
 #![tactic(auto)]
 
+mod conditions;
 mod goal;
 mod meeting;
 #[cfg(test)]
 mod tests;
 mod writer;
 
+pub use conditions::{Condition, Subject};
 pub use goal::{Goal, GoalFault, read_goal};
 pub use meeting::{entry_fits, meets_line};
 pub use writer::{are_named, schedule_text};

@@ -1,6 +1,6 @@
 //! What needs memory, once with ample memory: a goal is read and tested, and a schedule is written.
-use crate::{Goal, GoalFault, are_named, meets_line, read_goal, schedule_text};
-use ipc_ids::{CallNo, Entry, Event, Request, TaskNo};
+use crate::{Condition, Goal, GoalFault, Subject, are_named, meets_line, read_goal, schedule_text};
+use ipc_ids::{CallNo, Entry, Event, FibrilNo, Request, TaskNo};
 use script_reader::{Reason, Script, read_script};
 use std::alloc::Global;
 
@@ -14,7 +14,7 @@ const SERVER: TaskNo = TaskNo(2);
 fn is_met(goal: &Goal, entries: &[Entry]) -> bool {
     match goal {
         Goal::Line { head, asked } => meets_line(head.as_slice(), asked.as_slice(), entries),
-        Goal::Rest | Goal::Stuck(_) => false,
+        Goal::Rest | Goal::Stuck(_) | Goal::When(_) => false,
     }
 }
 
@@ -39,6 +39,40 @@ fn stuck_task(alloc: Global, script: &Script, text: &[u8]) -> Option<TaskNo> {
         Ok(Goal::Stuck(task)) => task,
         _ => None,
     }
+}
+
+/// Whether each of these is asked of one state.
+fn asks(alloc: Global, script: &Script, text: &[u8], conditions: &[Condition]) -> bool {
+    match read_goal(alloc, script, text) {
+        Ok(Goal::When(asked)) => asked.as_slice() == conditions,
+        _ => false,
+    }
+}
+
+/// Whether conditions are read as their words say.
+fn conditions_are_read(alloc: Global, script: &Script) -> bool {
+    let client = Subject {
+        task: CLIENT,
+        fibril: None,
+    };
+    let second = Subject {
+        task: SERVER,
+        fibril: Some(FibrilNo(2)),
+    };
+    let conditions = [
+        Condition::At(client, 3),
+        Condition::Holds(second, 5, 16),
+        Condition::Killed(SERVER),
+        Condition::AtEnd(client),
+    ];
+    asks(
+        alloc,
+        script,
+        b"when client@3 server/2.r5=0x10 server! client$".as_slice(),
+        conditions.as_slice(),
+    ) && fault(alloc, script, b"when client@3 nobody!".as_slice()) == Some((3, Reason::UnknownName))
+        && fault(alloc, script, b"when client?".as_slice()) == Some((2, Reason::BadWord))
+        && fault(alloc, script, b"when".as_slice()) == Some((2, Reason::WrongCount))
 }
 
 /// The word at fault, and the reason.
@@ -85,7 +119,11 @@ fn events_are_written(alloc: Global, script: &Script) -> bool {
 /// Whether all that can be done for the script.
 fn serves(alloc: Global) -> bool {
     match read_script(alloc, SCRIPT) {
-        Ok(script) => goals_are_read(alloc, &script) && events_are_written(alloc, &script),
+        Ok(script) => {
+            goals_are_read(alloc, &script)
+                && conditions_are_read(alloc, &script)
+                && events_are_written(alloc, &script)
+        }
         Err(_) => false,
     }
 }

@@ -11,6 +11,6 @@ loop-place-preserved c =
     let k = c.loop-place.place in
     one_more _ _ _ _ _ _ c.loop-place.invariant
     (left_words (option_words context_words) kept k _
-    (kept_there kept k (subst (λ (n : ℕ). k < n) c.made.ensures c.loop-place-test.true)))
+    (kept_there kept k (subst (λ (n : ℕ). k < n) c.made-made.ensures c.loop-place-test.true)))
     (c.in_ok-push_kept.ensures
     ∙ ap (λ z. c.loop-place.out.items ++ option_words context_words z) c.get.ensures)

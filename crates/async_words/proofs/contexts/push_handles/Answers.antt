@@ -11,6 +11,6 @@ loop-handle-preserved c =
     let k = c.loop-handle.handle in
     one_more _ _ _ _ _ _ c.loop-handle.invariant
     (left_words (option_words exchange_number_words) handles k _
-    (handle_there handles k (subst (λ (n : ℕ). k < n) c.count.ensures c.loop-handle-test.true)))
+    (handle_there handles k (subst (λ (n : ℕ). k < n) c.count-count.ensures c.loop-handle-test.true)))
     (c.in_ok-push_handle.ensures
     ∙ ap (λ z. c.loop-handle.out.items ++ option_words exchange_number_words z) c.get.ensures)

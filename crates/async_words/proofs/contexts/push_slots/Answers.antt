@@ -9,5 +9,5 @@ loop-slot-preserved c =
     let slots = c.args.slots.now in
     let k = c.loop-slot.slot in
     one_more _ _ _ _ _ _ c.loop-slot.invariant
-    (left_words slot_words slots k _ (slot_there slots k (subst (λ (n : ℕ). k < n) c.count.ensures c.loop-slot-test.true)))
+    (left_words slot_words slots k _ (slot_there slots k (subst (λ (n : ℕ). k < n) c.count-count.ensures c.loop-slot-test.true)))
     (c.in_ok-push_slot.ensures ∙ ap (λ z. c.loop-slot.out.items ++ slot_words z) c.get.ensures)
