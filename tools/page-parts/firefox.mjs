@@ -96,8 +96,8 @@ async function stepThrough(browser, name, wrong) {
     const shown = await browser.run(LINES);
     if (shown !== event.trimEnd()) wrong.push(`${name}: event ${i + 1} is shown as ${shown}`);
   }
-  const drawn = await browser.run(`return document.querySelectorAll("#numbers text").length`);
-  if (drawn !== events.length) wrong.push(`${name}: the chart has ${drawn} events`);
+  const drawn = await browser.run(`return Math.max(...[...document.querySelectorAll("#numbers text")].map(it => Number(it.textContent)))`);
+  if (drawn !== events.length) wrong.push(`${name}: the chart is drawn to event ${drawn}, not to ${events.length}`);
   return events.length;
 }
 
