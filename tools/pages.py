@@ -7,7 +7,7 @@ import importlib
 import json
 import re
 from pathlib import Path
-from typing import Any, Sequence, Tuple
+from typing import Any, Dict, Optional, Sequence, Tuple
 
 try:
     markdown: Any = importlib.import_module("markdown").markdown
@@ -39,14 +39,16 @@ def as_html(text: str) -> str:
     return re.sub(r"</?a\b[^>]*>|<img\b[^>]*>", "", str(markdown(text, extensions=["fenced_code", "tables"])))
 
 
-def page(name: str, texts: Sequence[str], lessons: Sequence[Tuple[str, str]] = (), told: Tuple[str, str] = ("", "")) -> str:
+def page(name: str, texts: Sequence[str], lessons: Sequence[Tuple[str, str]] = (), told: Tuple[str, str] = ("", ""),
+         course: Optional[Dict[str, Any]] = None) -> str:
     """The page of a run: its name, and the texts of script, schedule and trace. One that is served has names and titles of
-    the lessons, for its list, and what the one that it shows says, with its answer."""
+    the lessons, for its list, and what the one that it shows says, with its answer; of the course the paths and the
+    questions, and the question that it asks."""
     script, schedule, trace = texts
     is_served = bool(lessons)
     data = {"name": name, "script": script, "schedule": schedule, "trace": trace, "lessons": list(lessons),
             "isServed": is_served, "about": told[0], "answer": told[1],
-            "set": [as_html(text) for text in told]}
+            "set": [as_html(text) for text in told], "paths": [], "questions": [], "quiz": None, **(course or {})}
     values = {
         "@TITLE@": html.escape(f"{name}: a run of hipc"),
         "@CONNECT@": "'self'" if is_served else "'none'",

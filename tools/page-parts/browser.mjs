@@ -104,9 +104,10 @@ class Browser {
 
   /** @param {string} key @param {number} [times] */
   async press(key, times = 1) {
+    const words = key === "Tab" ? {key, code: key, windowsVirtualKeyCode: 9} : {key};
     for (let i = 0; i < times; i++) {
-      await this.tell("Input.dispatchKeyEvent", {type: "keyDown", key});
-      await this.tell("Input.dispatchKeyEvent", {type: "keyUp", key});
+      await this.tell("Input.dispatchKeyEvent", {type: "keyDown", ...words});
+      await this.tell("Input.dispatchKeyEvent", {type: "keyUp", ...words});
     }
   }
 
@@ -167,14 +168,34 @@ function pageOf(name, files) {
 /** The lines of the present event, as the page shows them. */
 const LINES = `[...document.querySelectorAll("#event pre .line")].map(it => it.textContent).join("\\n")`;
 
-/** Steps through a lesson by keys, there and back, and compares each event with the trace.
+/** What is wrong with the cards: a row without a part, a row that is not changed above one that is, or a change out of view. */
+const CARDS = `(() => {
+  const found = [], changed = ".new, .gone", room = document.querySelector("#tasks").getBoundingClientRect();
+  for (const row of document.querySelectorAll("#tasks .row")) if (!row.querySelector(".chip, .lines")) found.push("an empty row " + row.textContent);
+  for (const task of document.querySelectorAll(".task")) {
+    const marks = [...task.querySelectorAll(".row")].map(row => row.querySelector(changed) ? 1 : 0);
+    if (marks.some((mark, i) => mark > (i ? marks[i - 1] : 1))) found.push("a change below a row that is the same");
+  }
+  const first = document.querySelector("#tasks .new, #tasks .gone"), box = first && first.getBoundingClientRect();
+  if (box && (box.top < room.top || box.bottom > room.bottom)) found.push("a change out of view, " + first.textContent);
+  return found.join("; ");
+})()`;
+
+/** Steps through a lesson by keys, there and back, and compares each event with the trace, by what is seen and by what is
+ * told to who does not see; and what the operation of a raw task was that asks the kernel for nothing.
  * @param {Browser} browser @param {string} name */
 async function stepThrough(browser, name) {
-  const events = eventsOf(textOf(`examples/${name}/trace`));
+  const [script, schedule, trace] = ["script", "schedule", "trace"].map(file => textOf(`examples/${name}/${file}`));
+  const events = eventsOf(trace), {did} = new Run(script, schedule, trace), operations = script.split("\n");
   for (let at = 1; at <= events.length; at++) {
     await browser.press("ArrowRight");
-    const shown = await browser.run(LINES);
+    const shown = await browser.run(LINES), cards = await browser.run(CARDS), told = await browser.run(`document.querySelector("#live").textContent`);
     expect(shown === events[at - 1], `${name}: event ${at} is shown as ${shown}`);
+    expect(!cards, `${name}: the cards of event ${at} have ${cards}`);
+    expect(told.includes(`event ${at} of ${events.length}: `) && told.includes(events[at - 1].split("\n")[0]), `${name}: event ${at} is told as ${told}`);
+    const done = did[at] ? `the operation was ${operations[did[at] - 1].replace(/#.*/, "").trim()}` : "";
+    const said = await browser.run(`(document.querySelector("#event .quiet") || {textContent: ""}).textContent`);
+    expect(said === done, `${name}: of event ${at} it is said "${said}", where "${done}" is due`);
   }
   await browser.press("ArrowLeft", events.length - 1);
   expect(await browser.run(LINES) === events[0], `${name}: ${events.length - 1} events back is not the first`);
@@ -199,6 +220,36 @@ async function filter(browser, name) {
   const named = events.filter(text => /\bt1\b/.test(text)).length;
   expect(own.length >= named && own.length <= events.length, `${name}: ${own.length} events are shown of task 1, which ${named} name`);
   await browser.run(`(() => { const box = document.querySelector("#task"); box.value = "0"; box.onchange(); })()`);
+}
+
+/** Picks calls by keys alone: Enter goes over the calls of the present event, Tab from one to the next in the chart. Arrows
+ * move from a number field too.
+ * @param {Browser} browser @param {string} name @param {number} at */
+async function pickByKeys(browser, name, at) {
+  const lines = eventsOf(textOf(`examples/${name}/trace`))[at - 1].split("\n"), picked = `document.querySelector("#call").value`;
+  const calls = [...new Set(lines.map(line => (line.match(/^ {2}call (\d+) /) || [])[1]).filter(Boolean))];
+  await browser.run(`location.hash = "#at=${at}"; new Promise(done => setTimeout(done, 300))`);
+  for (const call of [...calls, ""]) {
+    await browser.press("Enter");
+    const shown = await browser.run(picked);
+    expect(shown === call, `${name}: Enter picks call "${shown}" of event ${at}, where "${call}" is due`);
+  }
+  const focused = `(document.activeElement.closest("#chart [data-call]") || {dataset: {}}).dataset.call || ""`;
+  await browser.run(`document.querySelector("#chart").focus()`);
+  for (const call of calls) {
+    await browser.press("Tab");
+    expect(await browser.run(focused) === call, `${name}: Tab does not go to call ${call} of event ${at} in the chart`);
+    await browser.press("Enter");
+    expect(await browser.run(picked) === call, `${name}: call ${call} is not picked in the chart by Enter`);
+    expect((await browser.run(`document.querySelector("#story h2").textContent`)).startsWith(`call ${call}: `), `${name}: another story than that of call ${call}`);
+    expect(await browser.run(focused) === call, `${name}: picking call ${call} takes the focus from it`);
+  }
+  await browser.shot(`picked-${name}`);
+  await browser.run(`document.querySelector("#number").focus()`);
+  await browser.press("ArrowRight");
+  expect((await browser.run(LINES)).split("\n")[0] === eventsOf(textOf(`examples/${name}/trace`))[at].split("\n")[0], `${name}: the right arrow does nothing in a number field`);
+  await browser.run("document.activeElement.blur()");
+  await browser.press("Escape");
 }
 
 /** Clicks a call in the chart, and reads its story.
@@ -234,6 +285,8 @@ const LESSONS = [
     says: ["t1 disk block server", "4096 1 page, RW, store 1, shared with left", "4 SHARE_OUT (5) from right.1", "3 EOK (0) 4096"]},
   {name: "respawned-server", at: 18, call: 3, end: "over", place: "over",
     says: ["t3 first raw, ended", "t4 second raw", "0 hungup", "0 \u2192 t1 ns", "1 slammed"]},
+  {name: "dispatch", at: 6, call: 1, end: "over", place: "answered; the answer waits for t1 client",
+    says: ["t2 server raw", "r20 600", "jump 1", "1 EOK (0) 7"]},
   {name: "child-value", at: 14, call: 2, end: "over", place: "answered; the answer waits for t2 parent",
     says: ["t1 ns naming service", "2 EOK (0) 1 42", "0 \u2192 t1 ns, 1 active"]},
 ];
@@ -263,6 +316,7 @@ async function tryLessons(browser) {
     await stepThrough(browser, name);
     await filter(browser, name);
     await story(browser, name, call, end);
+    await pickByKeys(browser, name, at);
     await browser.go(`${address}#at=${at}&call=${call}`);
     const cards = await browser.run(`document.querySelector("#tasks").innerText.replace(/\\s+/g, " ")`);
     for (const text of says) expect(cards.includes(text), `${name}: no card says "${text}" at event ${at}: ${cards}`);
@@ -403,7 +457,9 @@ async function predict(browser, address) {
   await browser.press("h");
   expect((await browser.run(numbers)).split(",").length > 2, "the key h shows nothing");
   await browser.press("?");
-  expect(await browser.run(`document.querySelector("#help").open`), "the key ? shows no keys");
+  const keys = await browser.run(`document.querySelector("#help[open]") ? document.querySelector("#help").innerText : ""`);
+  for (const key of ["right arrow", "Home", "Enter", "Tab, then Enter", "c, then a number", "n, p", "1 to 9"]) expect(keys.includes(key), `the key ? does not tell of ${key}`);
+  await browser.shot("keys");
   await browser.press("Escape");
 }
 
@@ -430,6 +486,77 @@ async function driveByHand(browser, address) {
   await until(browser, `document.querySelector("#title").textContent === "first-call, changed"`);
   expect(await browser.run(LINES) === lines, `the link shows ${await browser.run(LINES)}`);
   await saved(browser);
+  await dropped(browser);
+  await hangUpAndSpawn(browser, address);
+}
+
+/** Hangs up a phone by hand, and makes a task from a template.
+ * @param {Browser} browser @param {string} address */
+async function hangUpAndSpawn(browser, address) {
+  const tries = [["first-call", 1, "hangup a 0", "t1 hangup 0\n  call 2 accepted t1.0 method 0 to t2\n  phone t1.0 hungup\n  = EOK"],
+    ["workers", 0, "spawn worker worker1", "spawn t3\n  phone t3.0 connected t1"]];
+  for (const [lesson, at, line, due] of tries) {
+    await browser.go(`${address}lesson/${lesson}#at=${at}`);
+    await browser.run(`(() => { const it = document.querySelector("#drive details"); if (it) it.open = true; })()`);
+    await browser.click(`[data-drive="${line}"]`);
+    await until(browser, `document.querySelector("#title").textContent === "${lesson}, changed"`);
+    const shown = await browser.run(LINES);
+    expect(shown === due, `${line} by hand is shown as ${shown}`);
+  }
+}
+
+/** Drops the files of another lesson on a page: they are the run then.
+ * @param {Browser} browser */
+async function dropped(browser) {
+  const files = ["script", "schedule", "trace"].map(name => [name, textOf(`examples/forwarding/${name}`)]);
+  await browser.run(`(() => { const data = new DataTransfer();
+    for (const [name, text] of ${JSON.stringify(files)}) data.items.add(new File([text], name));
+    dispatchEvent(new DragEvent("drop", {dataTransfer: data, cancelable: true})); })()`);
+  await until(browser, `document.querySelector("#title").textContent === "files"`);
+  await browser.press("End");
+  const lines = await browser.run(LINES);
+  expect(lines === eventsOf(files[2][1]).pop(), `of dropped files the last event is shown as ${lines}`);
+}
+
+/** Follows a path of the course to its end by the link to the next lesson.
+ * @param {Browser} browser @param {string} address */
+async function followPath(browser, address) {
+  const [, title, part] = textOf("docs/COURSE.md").match(/^## (.*)\n([^]*?)\n## /m) || [];
+  const names = [...part.matchAll(/examples\/([a-z-]+)\/README/g)].map(found => found[1]);
+  await browser.go(address);
+  await browser.run(`(() => { const box = document.querySelector("#lessons"), it = [...box.options].find(it => it.textContent === ${JSON.stringify(title)}); box.value = it.value; box.onchange(); })()`);
+  for (const [i, name] of names.entries()) {
+    await until(browser, `location.pathname === "/lesson/${name}" && document.readyState === "complete"`);
+    const link = `document.querySelector("#next")`, isLast = i + 1 === names.length;
+    await until(browser, `${link}.hidden === ${isLast}`);
+    const told = await browser.run(`${link}.textContent`);
+    expect(isLast || told === `next on the path, ${i + 2} of ${names.length}`, `the link of ${name} is ${told}`);
+    if (!isLast) await browser.click("#next");
+  }
+}
+
+/** Asks the questions of the quiz: of each trace the program says whether it can happen, and of one that cannot, both runs
+ * stand side by side from the first event on that is another.
+ * @param {Browser} browser @param {string} address */
+async function askQuiz(browser, address) {
+  const names = fs.readdirSync(path.join(TOP, "quiz"));
+  for (const name of names) {
+    const right = textOf(`quiz/${name}/right`).split("\n")[0];
+    await browser.go(`${address}quiz/${name}`);
+    for (const [i, letter] of [..."abcd"].entries()) {
+      const events = eventsOf(textOf(`quiz/${name}/${letter}`));
+      expect(await browser.run(`document.querySelectorAll(".four pre")[${i}].textContent`) === events.join("\n").replace(/\n/g, ""), `${name}: trace ${letter} is another one`);
+      await browser.click(`[data-choose="${i + 1}"]`);
+      await until(browser, `/^(?:Yes|No): trace ${letter} can/.test(document.querySelector("#chosen").textContent)`);
+      const told = await browser.run(`document.querySelector("#chosen").textContent`), shown = await browser.run(LINES);
+      expect(told.startsWith("Yes") === (letter === right), `${name}: of trace ${letter} it is said ${told}`);
+      const cell = await browser.run(`(document.querySelector("#versus:not([hidden]) pre") || {textContent: ""}).textContent`);
+      const at = Number(cell.split(" ")[0]);
+      expect(letter === right ? !cell : cell === `${at} ${events[at - 1]}` && shown !== events[at - 1], `${name}: beside each other stands ${cell}, and ${shown} is shown`);
+      if (name === "killed-server") await browser.shot(`quiz-${letter}`);
+    }
+  }
+  return names.length;
 }
 
 /** Saves the page and the chart of the run that is shown: the file is the page of that run, and asks for nothing.
@@ -465,6 +592,17 @@ async function keepEdit(browser, address) {
   await browser.press("Escape");
 }
 
+/** The contrast of what is to come in the chart, against the paper, by the formula of the web's guidelines.
+ * @param {Browser} browser */
+async function contrastOfLater(browser) {
+  const colours = await browser.run(`(() => { const text = [...document.querySelectorAll("#rows text")].pop(); return [getComputedStyle(text).fill, getComputedStyle(document.body).backgroundColor]; })()`);
+  const [ink, paper] = colours.map((/** @type {string} */ colour) => {
+    const [red, green, blue] = (colour.match(/\d+/g) || []).map(it => Number(it) / 255).map(it => it <= 0.03928 ? it / 12.92 : ((it + 0.055) / 1.055) ** 2.4);
+    return 0.2126 * red + 0.7152 * green + 0.0722 * blue;
+  });
+  return (Math.max(ink, paper) + 0.05) / (Math.min(ink, paper) + 0.05);
+}
+
 /** Windows of other sizes, the dark, and paper: no scroll bar that nothing needs, panes and buttons in reach, all events printed.
  * @param {Browser} browser @param {string} address */
 async function looks(browser, address) {
@@ -474,6 +612,7 @@ async function looks(browser, address) {
   const bars = await browser.run(`(() => { const it = document.querySelector("#chart"); return it.scrollWidth > it.clientWidth; })()`);
   expect(!bars, "the chart has a scroll bar below it that nothing needs");
   expect(await browser.run(`document.querySelector("h1").textContent`) === "kill", "the page has no heading");
+  expect(await contrastOfLater(browser) >= 3, "what is to come is too pale");
   await browser.shot("wide");
   await size(1024, 768);
   await browser.go(`${kill}#at=8`);
@@ -494,12 +633,21 @@ async function looks(browser, address) {
   await browser.tell("Emulation.setEmulatedMedia", {features: [{name: "prefers-color-scheme", value: "dark"}]});
   await browser.go(`${kill}#at=9&call=4`);
   expect(await browser.run(`getComputedStyle(document.body).backgroundColor`) === "rgb(20, 25, 31)", "the page is not dark in the dark");
+  expect(await contrastOfLater(browser) >= 3, "what is to come is too pale in the dark");
   await browser.shot("dark");
   await browser.tell("Emulation.setEmulatedMedia", {features: []});
   await browser.go(`${kill}#at=9`);
   await browser.run(`dispatchEvent(new Event("beforeprint"))`);
   const numbers = await browser.run(`document.querySelectorAll("#numbers text").length`);
   expect(numbers === eventsOf(textOf("examples/kill/trace")).length, `${numbers} events are printed`);
+  await browser.tell("Emulation.setEmulatedMedia", {media: "print"});
+  const cut = await browser.run(`[...document.querySelectorAll("#chart, #side, #tasks, #event pre")].filter(it => it.scrollHeight > it.clientHeight + 1).map(it => it.id).join()`);
+  expect(!cut, `on paper a part is cut off: ${cut}`);
+  const hidden = await browser.run(`[...document.querySelectorAll("header > :not(h1), #texts, #drive")].every(it => !it.clientHeight)`);
+  expect(hidden, "the bars are printed");
+  const tasks = await browser.run(`document.querySelectorAll(".task").length`);
+  expect(tasks === 4, `${tasks} cards are printed`);
+  await browser.tell("Emulation.setEmulatedMedia", {media: ""});
   const {data} = await browser.tell("Page.printToPDF", {printBackground: true});
   if (SHOTS) fs.writeFileSync(path.join(SHOTS, "print.pdf"), Buffer.from(data, "base64"));
   await browser.run(`dispatchEvent(new Event("afterprint"))`);
@@ -516,6 +664,8 @@ async function tryServer(browser) {
     await predict(browser, found[0]);
     await driveByHand(browser, found[0]);
     await keepEdit(browser, found[0]);
+    await followPath(browser, found[0]);
+    await askQuiz(browser, found[0]);
     await looks(browser, found[0]);
   } finally {
     server.kill("SIGINT");
@@ -544,7 +694,7 @@ async function main() {
     if (isBuilt()) {
       if (!process.env.HIPC_SHORT) tell(await tryLongRun(browser));
       await tryServer(browser);
-      tell("editing, predicting, driving by hand, links and files, windows of three sizes, the dark and paper, by tools/serve");
+      tell("editing, predicting, driving by hand, links and files, a path and the quiz, windows of three sizes, the dark and paper, by tools/serve");
     } else tell("the long run and editing were NOT tried, since no fresh program is built");
   } finally {
     await browser.close();

@@ -231,7 +231,7 @@ function drawBox(row, x, y, column, colour) {
  * @param {Row} row @param {number} from @param {number} to @param {number} y @param {Way} way @param {string} colour */
 function drawArrow(row, from, to, y, way, colour) {
   const line = y + 18, dashes = {kernel: "stroke-dasharray=\"4 3\"", forward: "stroke-width=\"3\""}[row.kind] || "";
-  const isOpen = row.kind === "answer", side = from === to ? -1 : Math.sign(to - from), call = row.call ? ` data-call="${row.call}"` : "";
+  const isOpen = row.kind === "answer", side = from === to ? -1 : Math.sign(to - from), call = callOf(row, way);
   const tip = `M${to - 9 * side} ${line - 4}L${to} ${line}L${to - 9 * side} ${line + 4}${isOpen ? "" : "Z"}`;
   const head = `<path d="${tip}" fill="${isOpen ? "none" : colour}" stroke="${colour}"/>`;
   if (from === to) {
@@ -247,9 +247,16 @@ function drawArrow(row, from, to, y, way, colour) {
     + textAt(middle, y + 13, text, `text-anchor="middle" fill="${colour}"`, row.text) + "</g>";
 }
 
-/** How a row is drawn: the widths of a column and of all, the picked call or 0, which part of the width is in view, and
- * whether the event is still to come.
- * @typedef {{column: number, width: number, picked: number, from: number, to: number, isLater: boolean}} Way */
+/** How a row is drawn: the widths of a column and of all, the picked call or 0, which part of the width is in view,
+ * whether the event is still to come, and whether it is the present one.
+ * @typedef {{column: number, width: number, picked: number, from: number, to: number, isLater: boolean, isNow: boolean}} Way */
+
+/** What marks a row of a call; in the present event it can have the focus too, and is picked by Enter.
+ * @param {Row} row @param {Way} way */
+function callOf(row, way) {
+  const keys = way.isNow ? ` tabindex="0" role="button" aria-label="${escaped(`pick call ${row.call}: ${row.text}`)}"` : "";
+  return row.call ? ` data-call="${row.call}"${keys}` : "";
+}
 
 /** @param {Row} row @param {(task: number) => number} x @param {number} y @param {Way} way */
 export function drawRow(row, x, y, way) {
@@ -259,6 +266,6 @@ export function drawRow(row, x, y, way) {
     return `<line x1="${LEFT}" x2="${width}" y1="${y + 18}" y2="${y + 18}" stroke="${colour}" stroke-dasharray="6 4"/>`
       + textAt(way.from + 4, y + 14, row.text, `fill="${colour}" font-weight="600"`, row.text);
   }
-  const isBox = row.kind === "box" || row.kind === "small", call = row.call ? ` data-call="${row.call}"` : "";
+  const isBox = row.kind === "box" || row.kind === "small", call = callOf(row, way);
   return isBox ? `<g${call}>${drawBox(row, x(row.from), y, column, colour)}</g>` : drawArrow(row, x(row.from), x(row.to), y, way, colour);
 }

@@ -2,6 +2,9 @@
 
 /** @typedef {{name: string, script: string, schedule: string, trace: string}} Texts */
 
+// Compilers that are older than these two classes do not know them.
+const {CompressionStream: Packing, DecompressionStream: Unpacking} = /** @type {any} */ (globalThis);
+
 /** All bytes that come out of a stream into which these go.
  * @param {Uint8Array} bytes @param {any} through @returns {Promise<Uint8Array>} */
 async function streamed(bytes, through) {
@@ -10,8 +13,8 @@ async function streamed(bytes, through) {
 
 /** @param {Texts} texts @returns {Promise<string>} */
 export async function packed(texts) {
-  if (typeof CompressionStream === "undefined") return "";
-  const bytes = await streamed(new TextEncoder().encode(JSON.stringify(texts)), new CompressionStream("deflate-raw"));
+  if (!Packing) return "";
+  const bytes = await streamed(new TextEncoder().encode(JSON.stringify(texts)), new Packing("deflate-raw"));
   let letters = "";
   for (const byte of bytes) letters += String.fromCharCode(byte);
   return btoa(letters).replace(/\+/g, "-").replace(/\//g, "_").replace(/=+$/, "");
@@ -22,7 +25,7 @@ export async function packed(texts) {
 export async function unpacked(text) {
   try {
     const letters = atob(text.replace(/-/g, "+").replace(/_/g, "/")), bytes = Uint8Array.from(letters, letter => letter.charCodeAt(0));
-    const told = JSON.parse(new TextDecoder().decode(await streamed(bytes, new DecompressionStream("deflate-raw"))));
+    const told = JSON.parse(new TextDecoder().decode(await streamed(bytes, new Unpacking("deflate-raw"))));
     const parts = [told.name, told.script, told.schedule, told.trace].map(String);
     return {name: parts[0], script: parts[1], schedule: parts[2], trace: parts[3]};
   } catch (error) {

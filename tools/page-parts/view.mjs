@@ -9,7 +9,10 @@ import {packed, unpacked} from "./pack.mjs";
 /** @typedef {{lines: string[], from: number, to: number, above: number, marked: any[]}} Listing the lines of a text that are drawn, and
  *   the elements of those that are marked; `above` is 1 where a line says how many there are above */
 /** @typedef {{name: string, script: string, schedule: string, trace: string, lessons: [string, string][],
+ *   paths: [string, string[]][], questions: [string, string][], quiz: Quiz | null,
  *   isServed: boolean, about: string, answer: string, set: string[], isChanged?: boolean}} Data */
+/** @typedef {{name: string, text: string, traces: string[], why: string}} Quiz a question, with the traces of which one can happen, and why
+ *   that one can */
 
 const MOST_CHIPS = 24; // of one row of a task's card
 const MOST_LINES = 300; // of a listing
@@ -43,7 +46,10 @@ const view = {
   guessed: "", // what came of the last guess
   packed: "", // a changed run as a part of a link, or nothing
   base: /** @type {Data} */ ({...data}), // the run that was opened, before any change
-  beside: /** @type {string[][]} */ ([[], []]), // the events of the run that was opened and of the present one, where they differ
+  against: /** @type {{name: string, trace: string} | null} */ (null), // what the run is compared with, where that is not the one that was opened
+  path: 0, // the path through the lessons that the reader follows, or 0
+  beside: {old: /** @type {string[]} */ ([]), now: /** @type {string[]} */ ([]), first: -1}, // the events of the run that was opened and of
+  // the present one, and the place of the first that is another, or -1
   undone: /** @type {Data[]} */ ([]), // the runs before those that were driven by hand, the last one last
   isEdited: false, // whether the editor has texts that were not run
   isPrinting: false,
@@ -133,6 +139,14 @@ function pick(call) {
   draw();
 }
 
+/** Picks the first call of the present event; where one of its calls is picked, the one behind it, and none behind the last. */
+function pickHere() {
+  const {run, at, picked} = view;
+  if (!at) return;
+  const calls = [...new Set(rowsOf(run, run.event(at)).map(row => row.call).filter(Boolean))];
+  pick(calls[calls.indexOf(picked) + 1] || 0);
+}
+
 /** Finds the events that are shown, and where each begins. */
 function sift() {
   const {run, task, isQuiet} = view, call = view.isOnly ? run.calls[view.picked] : undefined;
@@ -200,7 +214,7 @@ function drawEvent(place, from, width) {
   const way = {column: view.column, width, picked, from: scroll.left + LEFT, to: view.isPrinting ? width : scroll.left + scroll.width};
   const number = shown[place], top = tops[place] - from, high = tops[place + 1] - tops[place];
   if (view.isHidden && number > at) return `<g></g>`;
-  const rows = rowsOf(run, run.event(number)).map((row, i) => drawRow(row, x, top + i * ROW, {...way, isLater: number > at})).join("");
+  const rows = rowsOf(run, run.event(number)).map((row, i) => drawRow(row, x, top + i * ROW, {...way, isLater: number > at, isNow: number === at})).join("");
   const back = number === at ? `<rect x="0" y="${top}" width="${width}" height="${high}" ${PRESENT}/>` : "";
   return `<g>${back}<rect class="hit" data-at="${number}" x="0" y="${top}" width="${width}" height="${high}"/>`
     + `${rows}</g>`;
@@ -335,7 +349,8 @@ function drawLines() {
   const title = turn ? `event ${at} of ${run.length}, ${of}` : `before the first of ${run.length} events`;
   $("event").innerHTML = `<div class="box"><h2>${title}</h2>${turn ? `<pre>${listed(run.event(at).lines)}</pre>` : ""}${didText(at)}</div>`;
   const head = turn ? run.event(at).lines : [];
-  $("live").textContent = turn ? `${view.guessed} event ${at} of ${run.length}: ${who(run.event(at).task)}, ${head.join(", ")}` : title;
+  const picked = view.picked ? `; call ${view.picked} ${placeOf(view.picked)}` : "";
+  $("live").textContent = turn ? `${view.guessed} event ${at} of ${run.length}: ${who(run.event(at).task)}, ${head.join(", ")}${picked}` : title;
 }
 
 /** What a raw task did in an event that asks the kernel for nothing.
@@ -596,7 +611,7 @@ let later = 0;
 /** The address of the place where one stands. */
 function address() {
   const {at, picked, task, isOnly, isQuiet} = view;
-  const parts = [view.packed ? `run=${view.packed}` : "", picked ? `call=${picked}` : "", task ? `task=${task}` : "", isOnly ? "only=1" : "", isQuiet ? "idle=0" : ""];
+  const parts = [view.packed ? `run=${view.packed}` : "", view.path ? `path=${view.path}` : "", picked ? `call=${picked}` : "", task ? `task=${task}` : "", isOnly ? "only=1" : "", isQuiet ? "idle=0" : ""];
   return [`#at=${at}`, ...parts.filter(Boolean)].join("&");
 }
 
@@ -609,8 +624,17 @@ function scrollTo(name, selector) {
   if (!isIn) box.scrollTop = Math.max(0, element.offsetHeight > box.clientHeight ? top - 6 : top - box.clientHeight / 3);
 }
 
-/** Draws all; what must know where things stand comes last, so that the page is laid out once. */
+/** Draws all, and gives the focus back to the call that had it, whose element may be another one then. */
 function draw() {
+  const had = document.activeElement, box = had && had.closest("#chart, #tasks"), call = had && had.getAttribute("data-call");
+  drawAll();
+  if (!box || !call || had.isConnected) return;
+  const again = box.querySelector(`[data-call="${call}"][tabindex]`) || $("chart");
+  if (again instanceof HTMLElement || again instanceof SVGElement) again.focus({preventScroll: true});
+}
+
+/** Draws all; what must know where things stand comes last, so that the page is laid out once. */
+function drawAll() {
   drawLines();
   drawQuestion();
   drawDrive();
@@ -623,8 +647,8 @@ function draw() {
   $("chart").scrollTop = view.scroll.top;
   $("chart").scrollLeft = view.scroll.left;
   scrollTo("#story .lines", ".now");
-  scrollTo("#tasks", ".task:has(.new, .gone)");
   scrollTo("#tasks", ".on");
+  scrollTo("#tasks", ".task:has(.new, .gone)");
   scrollTo("#script", ".now");
   if (!document.querySelector("#script .now")) scrollTo("#script", ".next");
   scrollTo("#schedule", ".now");
@@ -665,6 +689,8 @@ function openPlace(wanted) {
   view.task = view.run.names[number("task")] ? number("task") : 0;
   view.isOnly = wanted.get("only") === "1";
   view.isQuiet = wanted.get("idle") === "0";
+  view.path = data.paths[number("path") - 1] ? number("path") : view.path;
+  drawNext();
   sift();
   layOut();
   go(number("at"));
@@ -707,8 +733,8 @@ async function keepInLink(texts) {
 
 /** The page with the present run in it, as one file that asks for nothing. */
 function wholePage() {
-  const {name, script, schedule, trace, about, answer, set} = data;
-  const own = JSON.stringify({name, script, schedule, trace, lessons: [], isServed: false, about, answer, set}).replace(/</g, "\\u003c");
+  const {name, script, schedule, trace, about, answer, set} = data, none = {lessons: [], paths: [], questions: [], quiz: null};
+  const own = JSON.stringify({name, script, schedule, trace, ...none, isServed: false, about, answer, set}).replace(/</g, "\\u003c");
   // the end of a script element must not stand in this one
   const [open, close] = ['id="data">', "<" + "/script>"];
   return bare.replace("connect-src 'self'", "connect-src 'none'").replace(open + close, () => open + own + close);
@@ -722,7 +748,7 @@ function wholeChart() {
   const width = widthOfAll(), last = Math.min(shown.length, MOST_PRINTED), high = (tops[last] || 0) + 40;
   const heads = view.columns.map(task => `<text x="${x(task)}" y="19" text-anchor="middle" font-weight="600">${escaped(who(task))}</text>`).join("");
   const rows = shown.slice(0, last).map((at, place) => {
-    const way = {column: view.column, width, picked: 0, from: LEFT, to: width, isLater: false};
+    const way = {column: view.column, width, picked: 0, from: LEFT, to: width, isLater: false, isNow: false};
     return `<text x="${LEFT - 10}" y="${tops[place] + 15}" text-anchor="end">${at}</text>`
       + rowsOf(run, run.event(at)).map((row, i) => drawRow(row, x, tops[place] + i * ROW, way)).join("");
   });
@@ -766,19 +792,25 @@ async function take(files) {
 
 // Two runs side by side
 
+/** The events of a trace, each as its text.
+ * @param {string} trace */
+function eventsOf(trace) {
+  return trace.trimEnd().split(/\n(?! )/).filter(Boolean);
+}
+
 /** Keeps the events of a changed run and of the one that was opened. */
 function keepBeside() {
-  const isOther = view.base.trace !== data.trace;
-  view.beside = isOther ? [view.base.trace, data.trace].map(text => text.split(/\n(?! )/).filter(Boolean)) : [[], []];
+  const {trace} = view.against || view.base, isSame = trace === data.trace, old = isSame ? [] : eventsOf(trace), now = isSame ? [] : eventsOf(data.trace);
+  const differs = now.findIndex((text, i) => text !== old[i]);
+  view.beside = {old, now, first: differs < 0 && old.length > now.length ? now.length : differs};
 }
 
 /** Shows a changed run beside the one that was opened, from the first event at which they differ; while what is to come is
  * hidden, up to the present event. */
 function drawVersus() {
-  const [old, now] = view.beside, longer = Math.max(old.length, now.length), isHere = now.some((text, i) => text !== old[i]) || old.length > now.length;
-  $("versus").hidden = !isHere;
-  if (!isHere) return;
-  const differs = now.findIndex((text, i) => text !== old[i]), first = differs < 0 ? now.length : differs;
+  const {old, now, first} = view.beside, longer = Math.max(old.length, now.length);
+  $("versus").hidden = first < 0;
+  if (first < 0) return;
   const end = Math.min(first + MOST_BESIDE, view.isHidden ? view.at : longer, longer);
   const cell = (/** @type {string[]} */ list, /** @type {number} */ i) => {
     const kind = old[i] === now[i] ? "" : " class=\"other\"", place = list === now && list[i] ? ` data-at="${i + 1}"` : "";
@@ -788,7 +820,7 @@ function drawVersus() {
   for (let i = first; i < end; i++) cells.push(cell(old, i), cell(now, i));
   const isOpen = !$("versus").firstChild || $("versus").firstChild.open;
   $("versus").innerHTML = `<details${isOpen ? " open" : ""}><summary>two runs side by side: from event ${first + 1} on they differ</summary>`
-    + `<div><h2>${escaped(view.base.name)}</h2><h2>${escaped(data.name)}</h2>${cells.join("")}</div></details>`;
+    + `<div><h2>${escaped((view.against || view.base).name)}</h2><h2>${escaped(view.against ? "what the program prints" : data.name)}</h2>${cells.join("")}</div></details>`;
 }
 
 // A run that is driven by hand
@@ -796,11 +828,11 @@ function drawVersus() {
 /** The lines of a schedule for its first events, and then one more.
  * @param {number} count @param {string} line */
 function cutSchedule(count, line) {
-  const lines = [];
-  for (let at = 0; at < count; at++) {
-    const turn = view.run.turns[at], many = turn.words[2] === "x" && turn.words[0] === "step", last = at + 1 === count || view.run.turns[at + 1] !== turn;
-    if (!many) lines.push(turn.words.join(" "));
-    else if (last) lines.push(`${turn.words[0]} ${turn.words[1]} x ${at + 1 - view.run.turns.indexOf(turn)}`);
+  const lines = [], {turns} = view.run;
+  for (let at = 0, first = 0; at < count; at++) {
+    const {words} = turns[at], isMany = words[0] === "step" && words[2] === "x", isLast = at + 1 === count || turns[at + 1] !== turns[at];
+    if (isLast) lines.push(isMany ? `step ${words[1]} x ${at + 1 - first}` : words.join(" "));
+    if (isLast) first = at + 1;
   }
   return [...lines, line, ""].join("\n");
 }
@@ -920,19 +952,78 @@ function tellLesson(id, text, html) {
   $(id).classList.toggle("plain", !html);
 }
 
+/** The list: paths, lessons and questions. What is opened is an address behind that of the server. */
+function drawList() {
+  const option = (/** @type {string} */ value, /** @type {string} */ title) => `<option value="${value}">${escaped(title)}</option>`;
+  const group = (/** @type {string} */ title, /** @type {string[]} */ options) => options.length ? `<optgroup label="${title}">${options.join("")}</optgroup>` : "";
+  $("lessons").innerHTML = option("", "lessons ..")
+    + group("paths", data.paths.map(([title, names], i) => option(`lesson/${names[0]}#path=${i + 1}`, title)))
+    + group("lessons", data.lessons.map(([name, title]) => option(`lesson/${name}`, title)))
+    + group("which of these four can happen?", data.questions.map(([name, title], i) => option(`quiz/${name}`, `${i + 1}. ${title}`)));
+  $("lessons").value = location.pathname.slice(1);
+  $("lessons").onchange = () => location.assign(`/${$("lessons").value}`);
+}
+
+/** The link to what comes next: on a path its next lesson, else that of the list, and behind a question the next one. */
+function drawNext() {
+  const [kind, name] = location.pathname.split("/").slice(1), path = kind === "lesson" ? data.paths[view.path - 1] : undefined;
+  const titles = new Map(kind === "quiz" ? data.questions : data.lessons), names = path ? path[1] : [...titles.keys()];
+  const place = names.indexOf(name || names[0]) + 1, next = place ? names[place] : undefined;
+  $("next").hidden = !data.isServed || !next;
+  $("next").textContent = path ? `next on the path, ${place + 1} of ${names.length}` : kind === "quiz" ? "next question" : "next lesson";
+  $("next").title = titles.get(next || "") || "";
+  $("next").href = `/${kind || "lesson"}/${next}${path ? `#path=${view.path}` : ""}`;
+}
+
+// A question: which of these four traces can happen?
+
+/** The schedule whose events have the heads of those of a trace.
+ * @param {string} trace */
+function scheduleOf(trace) {
+  const names = new Run(data.script, "", "").names;
+  return eventsOf(trace).map(event => {
+    const [, kill, number] = event.match(/^(kill )?t(\d+)/) || [];
+    return `${kill ? "kill" : "step"} ${names[Number(number)]}\n`;
+  }).join("");
+}
+
+function drawQuiz() {
+  const {quiz} = data;
+  $("quiz").hidden = !quiz;
+  if (!quiz) return;
+  const buttons = quiz.traces.map((_, i) => `<button data-choose="${i + 1}">${"abcd"[i]} can happen</button>`);
+  const traces = quiz.traces.map((trace, i) => `<div><h2>${"abcd"[i]}</h2><pre>${listed(trace.trimEnd().split("\n"))}</pre></div>`);
+  $("quiz").innerHTML = `<p>${escaped(quiz.text.replace(/\s+/g, " "))} Which of these four traces can happen?</p><div>${buttons.join(" ")}</div>`
+    + `<p id="chosen" aria-live="polite"></p><details open><summary>the four traces</summary><div class="four">${traces.join("")}</div></details>`;
+}
+
+/** Runs the schedule of a trace, says whether the program prints that trace, and opens what it prints.
+ * @param {number} number of the trace, from 1 */
+async function choose(number) {
+  const quiz = /** @type {Quiz} */ (data.quiz), trace = quiz.traces[number - 1], letter = "abcd"[number - 1], schedule = scheduleOf(trace);
+  $("chosen").textContent = "asks the program ..";
+  const told = await answerTo(data.script, schedule);
+  if (told.text) {
+    $("chosen").textContent = told.text;
+    return;
+  }
+  const due = eventsOf(told.trace), differs = eventsOf(trace).findIndex((event, i) => event !== due[i]) + 1;
+  view.against = {name: `trace ${letter}`, trace};
+  openRun({...data, name: quiz.name, schedule, trace: told.trace, isChanged: true}, true);
+  $("quiz").querySelector("details").open = false;
+  $("chosen").textContent = differs ? `No: trace ${letter} cannot happen. By the same turns event ${differs} is another one: both stand side by side here.`
+    : `Yes: trace ${letter} can happen. The program prints it, and this is its run. ${quiz.why.replace(/\s+/g, " ")}`;
+  go(differs);
+}
+
 function serve() {
   $("lessons").hidden = $("edit").hidden = !data.isServed;
+  drawQuiz();
   $("about").hidden = !data.about;
   tellLesson("lesson", data.about, data.set[0]);
   $("answer").hidden = !data.answer;
   tellLesson("solution", data.answer, data.set[1]);
-  const next = data.lessons[data.lessons.findIndex(([name]) => name === data.name) + 1];
-  $("next").hidden = !next;
-  if (next) [$("next").title, $("next").href] = [next[1], `/lesson/${next[0]}`];
-  const lessons = data.lessons.map(([name, title]) => `<option value="${name}">${escaped(title)}</option>`);
-  $("lessons").innerHTML = `<option value="">lessons ..</option>${lessons.join("")}`;
-  $("lessons").value = data.lessons.some(([name]) => name === data.name) ? data.name : "";
-  $("lessons").onchange = () => location.assign(`/lesson/${$("lessons").value}`);
+  drawList();
   $("edit").onclick = openEditor;
   $("close").onclick = openEditor;
   $("run").onclick = runTexts;
@@ -962,8 +1053,9 @@ for (let digit = 1; digit <= 9; digit++) KEYS[digit] = () => guess(digit);
 /** @param {KeyboardEvent} press */
 function onKey(press) {
   const target = press.target instanceof Element ? press.target : document.body;
-  const isArrow = press.key === "ArrowLeft" || press.key === "ArrowRight", isPicked = press.key === "Enter" && target.matches("[data-call]");
-  if (isPicked) return pick(Number(target.getAttribute("data-call")));
+  const isArrow = press.key === "ArrowLeft" || press.key === "ArrowRight", isEnter = press.key === "Enter" && !press.ctrlKey;
+  if (isEnter && target.matches("[data-call]")) return pick(Number(target.getAttribute("data-call")));
+  if (isEnter && !target.closest("a, button, input, select, textarea, summary, dialog")) return pickHere();
   const isTyping = target.matches("textarea, select, dialog, dialog *, input:not([type=checkbox]):not([type=range])") && !(isArrow && target.matches("input[type=number]"));
   const isOwn = press.key === " " && target.matches("button, input, summary");
   if (isTyping || isOwn || press.ctrlKey || press.metaKey || press.altKey || !KEYS[press.key]) return;
@@ -978,6 +1070,7 @@ function onClick(click) {
   if (told("guess")) return guess(Number(told("guess")));
   if (told("drive")) return void drive(told("drive"));
   if (told("undo")) return undo();
+  if (told("choose")) return void choose(Number(told("choose")));
   if (told("save")) return save(told("save"));
   if (told("pane")) return showPane(told("pane"));
   const call = target.closest("[data-call]"), event = target.closest("[data-at]"), number = call ? Number(call.getAttribute("data-call")) : 0;
