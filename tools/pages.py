@@ -1,6 +1,7 @@
 """Puts a run into a page of one file, for tools/page and tools/serve.
 
-What a lesson says is set by the library `markdown` of Python, where it is installed, and else stands there as it is written.
+What a lesson says is set by the library `markdown` of Python, where it is installed, and else by what the lessons use of
+that language; tools/serve-check compares the two.
 """
 import html
 import importlib
@@ -32,10 +33,35 @@ def module(name: str) -> str:
     return f"const {name} = (() => {{\n{body}\nreturn {{{exports}}};\n}})();\n"
 
 
+def set_words(text: str) -> str:
+    """The words of a piece of a lesson: what stands in backticks is code, and of a link its words are left."""
+    words = re.sub(r"!?\[([^]]*)\]\([^)]*\)", r"\1", html.escape(" ".join(text.split()), quote=False))
+    return re.sub(r"`([^`]*)`", r"<code>\1</code>", words)
+
+
+def set_simply(text: str) -> str:
+    """A text of a lesson without the library: headings, paragraphs, lists and blocks of code are all that it may have."""
+    parts = []
+    for number, block in enumerate(re.split(r"^```\w*\n", text, flags=re.M)):
+        if number % 2:
+            parts.append(f"<pre><code>{html.escape(block, quote=False)}</code></pre>")
+            continue
+        for piece in filter(None, map(str.strip, re.split(r"\n\s*\n", block))):
+            heading, items = re.match(r"(#+) ", piece), re.split(r"^- ", piece, flags=re.M)[1:]
+            if heading:
+                level = len(heading[1])
+                parts.append(f"<h{level}>{set_words(piece[level:])}</h{level}>")
+            elif piece.startswith("- "):
+                parts.append(f"<ul>{''.join(f'<li>{set_words(item)}</li>' for item in items)}</ul>")
+            else:
+                parts.append(f"<p>{set_words(piece)}</p>")
+    return "\n".join(parts)
+
+
 def as_html(text: str) -> str:
-    """A text of a lesson as it is shown, without links, which lead to files beside it; empty where it stands as it is."""
+    """A text of a lesson as it is shown, without links, which lead to files beside it."""
     if not markdown:
-        return ""
+        return set_simply(text)
     return re.sub(r"</?a\b[^>]*>|<img\b[^>]*>", "", str(markdown(text, extensions=["fenced_code", "tables"])))
 
 

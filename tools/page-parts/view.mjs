@@ -944,14 +944,6 @@ function revert() {
   drawNumbers("schedule", 0);
 }
 
-/** Shows a text of a lesson, set where the page has it so.
- * @param {string} id @param {string} text @param {string} html */
-function tellLesson(id, text, html) {
-  if (html) $(id).innerHTML = html;
-  else $(id).textContent = text;
-  $(id).classList.toggle("plain", !html);
-}
-
 /** The list: paths, lessons and questions. What is opened is an address behind that of the server. */
 function drawList() {
   const option = (/** @type {string} */ value, /** @type {string} */ title) => `<option value="${value}">${escaped(title)}</option>`;
@@ -1020,9 +1012,9 @@ function serve() {
   $("lessons").hidden = $("edit").hidden = !data.isServed;
   drawQuiz();
   $("about").hidden = !data.about;
-  tellLesson("lesson", data.about, data.set[0]);
+  $("lesson").innerHTML = data.set[0];
   $("answer").hidden = !data.answer;
-  tellLesson("solution", data.answer, data.set[1]);
+  $("solution").innerHTML = data.set[1];
   drawList();
   $("edit").onclick = openEditor;
   $("close").onclick = openEditor;
