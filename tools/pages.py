@@ -42,7 +42,7 @@ def set_words(text: str) -> str:
 def set_simply(text: str) -> str:
     """A text of a lesson without the library: headings, paragraphs, lists and blocks of code are all that it may have."""
     parts = []
-    for number, block in enumerate(re.split(r"^```\w*\n", text, flags=re.M)):
+    for number, block in enumerate(re.split(r"^```\w*(?:\n|\Z)", text, flags=re.M)):
         if number % 2:
             parts.append(f"<pre><code>{html.escape(block, quote=False)}</code></pre>")
             continue

@@ -408,7 +408,7 @@ async function until(browser, expression) {
  * @param {Browser} browser @param {string} address */
 async function edit(browser, address) {
   await browser.go(address);
-  await browser.run(`(() => { const box = document.querySelector("#lessons"); box.value = "first-call"; box.onchange(); })()`);
+  await browser.run(`(() => { const box = document.querySelector("#lessons"); box.value = "lesson/first-call"; box.onchange(); })()`);
   const isOpen = (/** @type {string} */ name) => `location.pathname === "/lesson/${name}" && document.readyState === "complete"`;
   await until(browser, isOpen("first-call"));
   await browser.click("#next");
@@ -445,6 +445,8 @@ async function predict(browser, address) {
   await browser.shot("predict");
   await browser.press("1");
   expect(await browser.run(numbers) === "1", "a guess is no step");
+  const ends = await browser.run(`Math.max(...[...document.querySelectorAll("#rows svg > g:first-child line")].map(it => Number(it.getAttribute("y2"))))`);
+  expect(ends <= 22, `the lines of the tasks go ${ends} pixels down, behind the first event, and tell who is killed when`);
   expect((await browser.run(`document.querySelector("#ask").textContent`)).startsWith("Right: t1 client."), "a right guess is not told so");
   await browser.press("4");
   const told = await browser.run(`document.querySelector("#ask").textContent`);

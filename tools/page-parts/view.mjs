@@ -200,7 +200,7 @@ function lifelines(from, to, first, last) {
     let top = 0, end = to - from;
     for (let place = first; place < last; place++) {
       if (shown[place] < born) top = tops[place + 1] - from;
-      if (shown[place] === died) end = tops[place] + ROW - 4 - from;
+      if (shown[place] === died) end = Math.min(end, tops[place] + ROW - 4 - from);
     }
     if (first < last && shown[first] > died) end = top;
     return end > top ? `<line x1="${x(task)}" x2="${x(task)}" y1="${top}" y2="${end}" stroke="var(--life)"/>` : "";
@@ -1082,7 +1082,10 @@ function showPane(pane) {
  * @param {MouseEvent} click */
 function onAnswer(click) {
   const left = view.run.length - view.at, summary = /** @type {HTMLElement} */ (click.currentTarget);
-  if ($("answer").open || !view.isHidden || !left || summary.dataset.asked) return;
+  if ($("answer").open || !view.isHidden || !left || summary.dataset.asked) {
+    summary.textContent = "the answer";
+    return;
+  }
   click.preventDefault();
   summary.dataset.asked = "1";
   summary.textContent = `the answer: ${left} events are still to come; a second click opens it`;
