@@ -547,7 +547,8 @@ async function askQuiz(browser, address) {
     await browser.go(`${address}quiz/${name}`);
     for (const [i, letter] of [..."abcd"].entries()) {
       const events = eventsOf(textOf(`quiz/${name}/${letter}`));
-      expect(await browser.run(`document.querySelectorAll(".four pre")[${i}].textContent`) === events.join("\n").replace(/\n/g, ""), `${name}: trace ${letter} is another one`);
+      const asked = await browser.run(`[document.querySelector("#same pre"), document.querySelectorAll(".four pre")[${i}]].map(it => it ? it.textContent : "").join("")`);
+      expect(asked === events.join("").replace(/\n/g, ""), `${name}: trace ${letter} is shown as ${asked}`);
       await browser.click(`[data-choose="${i + 1}"]`);
       await until(browser, `/^(?:Yes|No): trace ${letter} can/.test(document.querySelector("#chosen").textContent)`);
       const told = await browser.run(`document.querySelector("#chosen").textContent`), shown = await browser.run(LINES);
@@ -694,7 +695,7 @@ async function main() {
     await tryHostileTexts(browser);
     tell(`${LESSONS.length} lessons step by step, and ${await tryAllLessons(browser)} from end to end`);
     if (isBuilt()) {
-      if (!process.env.HIPC_SHORT) tell(await tryLongRun(browser));
+      tell(await tryLongRun(browser));
       await tryServer(browser);
       tell("editing, predicting, driving by hand, links and files, a path and the quiz, windows of three sizes, the dark and paper, by tools/serve");
     } else tell("the long run and editing were NOT tried, since no fresh program is built");

@@ -984,9 +984,12 @@ function drawQuiz() {
   $("quiz").hidden = !quiz;
   if (!quiz) return;
   const buttons = quiz.traces.map((_, i) => `<button data-choose="${i + 1}">${"abcd"[i]} can happen</button>`);
-  const traces = quiz.traces.map((trace, i) => `<div><h2>${"abcd"[i]}</h2><pre>${listed(trace.trimEnd().split("\n"))}</pre></div>`);
+  const [first, ...others] = quiz.traces.map(eventsOf), differs = first.findIndex((event, i) => others.some(it => it[i] !== event));
+  const shown = (/** @type {string[]} */ events) => `<pre>${listed(events.flatMap(event => event.split("\n")))}</pre>`;
+  const same = differs ? `<h2>all four begin so</h2>${shown(first.slice(0, differs))}` : "";
+  const traces = [first, ...others].map((events, i) => `<div><h2>${"abcd"[i]}, from event ${differs + 1} on</h2>${shown(events.slice(differs))}</div>`);
   $("quiz").innerHTML = `<p>${escaped(quiz.text.replace(/\s+/g, " "))} Which of these four traces can happen?</p><div>${buttons.join(" ")}</div>`
-    + `<p id="chosen" aria-live="polite"></p><details open><summary>the four traces</summary><div class="four">${traces.join("")}</div></details>`;
+    + `<p id="chosen" aria-live="polite"></p><details open><summary>the four traces</summary><div id="same">${same}</div><div class="four">${traces.join("")}</div></details>`;
 }
 
 /** Runs the schedule of a trace, says whether the program prints that trace, and opens what it prints.
