@@ -458,6 +458,10 @@ async function predict(browser, address) {
   expect(await browser.run(isOpen), "the answer does not open by a second click");
   await browser.press("h");
   expect((await browser.run(numbers)).split(",").length > 2, "the key h shows nothing");
+  await browser.go(`${address}lesson/kill#at=15`);
+  expect(!await browser.run(isOpen), "the answer is open before the last event");
+  await browser.press("ArrowRight");
+  expect(await browser.run(isOpen), "the answer does not open behind the last event");
   await browser.press("?");
   const keys = await browser.run(`document.querySelector("#help[open]") ? document.querySelector("#help").innerText : ""`);
   for (const key of ["right arrow", "Home", "Enter", "Tab, then Enter", "c, then a number", "n, p", "1 to 9"]) expect(keys.includes(key), `the key ? does not tell of ${key}`);
@@ -574,8 +578,12 @@ async function saved(browser) {
   };
   const lines = await browser.run(LINES), at = await browser.run(`document.querySelector("#number").value`), file = path.join(FOLDER, "saved.html");
   expect(await take("schedule") === "step a\nkill b\nstep a\n", "another schedule is saved");
+  expect(await take("script") === textOf("examples/first-call/script"), "another script is saved");
+  expect((await take("trace")).endsWith(`${lines}\n`), "another trace is saved");
   const chart = await take("chart.svg");
   expect(chart.startsWith("<svg") && chart.includes(">kill t2 b</text>") && !chart.includes("var("), `the chart is saved as ${chart.slice(0, 200)}`);
+  const names = await browser.run(`(() => { const read = new DOMParser().parseFromString(window.last, "image/svg+xml"); return [read.documentElement.localName, read.querySelector("parsererror") ? "fault" : "whole"].join(); })()`);
+  expect(names === "svg,whole", `the saved chart is read as ${names}`);
   fs.writeFileSync(file, await take("page.html"));
   await browser.go(`file://${file}#at=${at}`);
   expect(await browser.run(LINES) === lines, `the saved page shows ${await browser.run(LINES)}`);
