@@ -952,7 +952,7 @@ function drawList() {
     + group("paths", data.paths.map(([title, names], i) => option(`lesson/${names[0]}#path=${i + 1}`, title)))
     + group("lessons", data.lessons.map(([name, title]) => option(`lesson/${name}`, title)))
     + group("which of these four can happen?", data.questions.map(([name, title], i) => option(`quiz/${name}`, `${i + 1}. ${title}`)));
-  $("lessons").value = location.pathname.slice(1);
+  $("lessons").value = location.pathname.slice(1) || `lesson/${data.name}`;
   $("lessons").onchange = () => location.assign(`/${$("lessons").value}`);
 }
 
@@ -972,7 +972,7 @@ function drawNext() {
 /** The schedule whose events have the heads of those of a trace.
  * @param {string} trace */
 function scheduleOf(trace) {
-  const names = new Run(data.script, "", "").names;
+  const {names} = new Run(view.base.script, "", "");
   return eventsOf(trace).map(event => {
     const [, kill, number] = event.match(/^(kill )?t(\d+)/) || [];
     return `${kill ? "kill" : "step"} ${names[Number(number)]}\n`;
@@ -995,16 +995,17 @@ function drawQuiz() {
 /** Runs the schedule of a trace, says whether the program prints that trace, and opens what it prints.
  * @param {number} number of the trace, from 1 */
 async function choose(number) {
-  const quiz = /** @type {Quiz} */ (data.quiz), trace = quiz.traces[number - 1], letter = "abcd"[number - 1], schedule = scheduleOf(trace);
+  const quiz = /** @type {Quiz} */ (data.quiz), trace = quiz.traces[number - 1], letter = "abcd"[number - 1];
+  const {script} = view.base, schedule = scheduleOf(trace);
   $("chosen").textContent = "asks the program ..";
-  const told = await answerTo(data.script, schedule);
+  const told = await answerTo(script, schedule);
   if (told.text) {
     $("chosen").textContent = told.text;
     return;
   }
   const due = eventsOf(told.trace), differs = eventsOf(trace).findIndex((event, i) => event !== due[i]) + 1;
   view.against = {name: `trace ${letter}`, trace};
-  openRun({...data, name: quiz.name, schedule, trace: told.trace, isChanged: true}, true);
+  openRun({...data, name: quiz.name, script, schedule, trace: told.trace, isChanged: true}, true);
   $("quiz").querySelector("details").open = false;
   $("chosen").textContent = differs ? `No: trace ${letter} cannot happen. By the same turns event ${differs} is another one: both stand side by side here.`
     : `Yes: trace ${letter} can happen. The program prints it, and this is its run. ${quiz.why.replace(/\s+/g, " ")}`;
@@ -1049,7 +1050,10 @@ for (let digit = 1; digit <= 9; digit++) KEYS[digit] = () => guess(digit);
 function onKey(press) {
   const target = press.target instanceof Element ? press.target : document.body;
   const isArrow = press.key === "ArrowLeft" || press.key === "ArrowRight", isEnter = press.key === "Enter" && !press.ctrlKey;
-  if (isEnter && target.matches("[data-call]")) return pick(Number(target.getAttribute("data-call")));
+  if ((isEnter || press.key === " ") && target.matches("[data-call]")) {
+    press.preventDefault();
+    return pick(Number(target.getAttribute("data-call")));
+  }
   if (isEnter && !target.closest("a, button, input, select, textarea, summary, dialog")) return pickHere();
   const isTyping = target.matches("textarea, select, dialog, dialog *, input:not([type=checkbox]):not([type=range])") && !(isArrow && target.matches("input[type=number]"));
   const isOwn = press.key === " " && target.matches("button, input, summary");
