@@ -563,10 +563,9 @@ function emptyOf(task) {
 /** Draws the lines of a text with their numbers: all, or those round one of them where they are many.
  * @param {string} name @param {string[]} lines @param {number} focus @returns {Listing} */
 function listing(name, lines, focus) {
-  const kept = view.listings[name], edge = MOST_LINES / 10;
-  const isNear = kept && (kept.from === 0 || focus > kept.from + edge) && (kept.to === kept.lines.length || focus < kept.to - edge);
+  const kept = view.listings[name], edge = MOST_LINES / 10, count = lines[lines.length - 1] ? lines.length : lines.length - 1;
+  const isNear = kept && (kept.from === 0 || focus > kept.from + edge) && (kept.to === count || focus < kept.to - edge);
   if (kept && kept.lines === lines && isNear) return kept;
-  const count = lines[lines.length - 1] ? lines.length : lines.length - 1;
   const from = Math.max(0, Math.min(Math.floor(focus - MOST_LINES / 2), count - MOST_LINES)), to = Math.min(count, from + MOST_LINES);
   const more = (/** @type {number} */ many, /** @type {string} */ where) =>
     many > 0 ? `<span class="line quiet"><i></i>${many} lines ${where}</span>` : "";
