@@ -62,7 +62,15 @@ const view = {
   drawn: {key: "", events: /** @type {string[]} */ ([]), numbers: /** @type {string[]} */ ([])},
   scroll: {top: 0, left: 0, height: 0, width: 0}, // of the chart, kept so that drawing it need not wait for a layout
   listings: /** @type {Record<string, Listing>} */ ({}),
+  kept: /** @type {Record<string, string>} */ ({}), // what stands in elements that are drawn anew only where it is another
 };
+
+/** Puts HTML into an element where it is another than before: what has the focus there, or is open, stays as it is.
+ * @param {string} id @param {string} html */
+function put(id, html) {
+  if (view.kept[id] !== html) $(id).innerHTML = html;
+  view.kept[id] = html;
+}
 
 /** The name of a task beside its number.
  * @param {number} task */
@@ -818,8 +826,8 @@ function drawVersus() {
   const cells = [];
   for (let i = first; i < end; i++) cells.push(cell(old, i), cell(now, i));
   const isOpen = !$("versus").firstChild || $("versus").firstChild.open;
-  $("versus").innerHTML = `<details${isOpen ? " open" : ""}><summary>two runs side by side: from event ${first + 1} on they differ</summary>`
-    + `<div><h2>${escaped((view.against || view.base).name)}</h2><h2>${escaped(view.against ? "what the program prints" : data.name)}</h2>${cells.join("")}</div></details>`;
+  put("versus", `<details${isOpen ? " open" : ""}><summary>two runs side by side: from event ${first + 1} on they differ</summary>`
+    + `<div><h2>${escaped((view.against || view.base).name)}</h2><h2>${escaped(view.against ? "what the program prints" : data.name)}</h2>${cells.join("")}</div></details>`);
 }
 
 // A run that is driven by hand
@@ -846,9 +854,9 @@ function drawDrive() {
   const free = (/** @type {string} */ name) => { let n = 1; while (view.run.names.includes(name + n)) n += 1; return name + n; };
   const spawns = [...templates.keys()].map(name => `spawn ${name} ${free(name)}`);
   const lines = [...names.map((/** @type {string} */ it) => `step ${it}`), ...names.map((/** @type {string} */ it) => `kill ${it}`)];
-  $("drive").innerHTML = `<b>go on by hand from here</b>${lines.map(button).join("")}`
+  put("drive", `<b>go on by hand from here</b>${lines.map(button).join("")}`
     + (hangups.length + spawns.length ? `<details><summary>hang up, spawn</summary>${[...hangups, ...spawns].map(button).join("")}</details>` : "")
-    + (view.undone.length ? `<button data-undo="1">undo (u)</button>` : "");
+    + (view.undone.length ? `<button data-undo="1">undo (u)</button>` : ""));
 }
 
 /** Cuts the schedule at the present event, goes on with a line, and steps to what comes of it.
