@@ -13,6 +13,7 @@ TOP = os.path.dirname(os.path.dirname(os.path.realpath(__file__)))
 USE = re.compile(r"^\s*(?:pub )?(?:ghost )?use Rattle\.([\w.]+?)(?:\.\{([^}]*)\}| as (\w+))?;?\s*$", re.M)
 RUST_USE = re.compile(r"^use (\w+)((?:::\w+)*)(?:::\{([^}]*)\})?;", re.M)
 DEFINITION = re.compile(r"^(?:(?:pub|abbrev|unfoldable|private|opaque|record|data) +)+([^\s:({]+)")
+PART = re.compile(r"^ +(?:pub )?([\w'-]+) :")
 RUST_TYPE = re.compile(r"^(?:pub(?:\(\w+\))? )?(?:struct|enum|trait|type) (\w+)", re.M)
 WORD = re.compile(r"[A-Za-z_][\w'-]*(?:\.[A-Za-z_][\w'-]*)?|[^\sA-Za-z_\d(){},.:;]+")
 
@@ -35,6 +36,19 @@ def files() -> list[str]:
     return sorted(found)
 
 
+def without_comments(file: str, text: str) -> str:
+    """A file of definitions or of code without its comments, which may stand in each other; its lines stay in their places."""
+    begin, end, rest = ("{-", "-}", "--") if file.endswith(".antt") else ("/*", "*/", "//")
+    depth, is_comment, kept = 0, False, []
+    for piece in re.split("(" + "|".join(map(re.escape, (begin, end, rest, "\n"))) + ")", text):
+        is_line_end, is_inside = piece == "\n", is_comment or depth > 0
+        is_comment = not is_line_end and (is_comment or piece == rest and not depth)
+        if not is_comment:
+            depth = max(0, depth + (piece == begin) - (piece == end))
+        kept += [piece] * (is_line_end or not is_inside and piece not in (begin, rest))
+    return "".join(kept)
+
+
 class Name(NamedTuple):
     """A definition or a type, by its file and its name."""
     file: str
@@ -49,16 +63,18 @@ class Source:
         with open(os.path.join(TOP, "crates", file), encoding="utf-8") as opened:
             self.text = opened.read()
         self.blocks: dict[str, str] = {}
+        self.parts: set[str] = set()  # fields and constructors
+        self.bare = without_comments(file, self.text)
         self.imports: dict[str, tuple[str, str]] = {}
         self.aliases: dict[str, str] = {}
         self.read_uses()
         if file.endswith(".antt"):
-            self.read_definitions(re.sub(r"--.*", "", self.text))
+            self.read_definitions(self.bare)
         else:
-            self.read_types(re.sub(r"//.*", "", self.text))
+            self.read_types(self.bare)
 
     def read_uses(self) -> None:
-        for module, names, alias in USE.findall(self.text):
+        for module, names, alias in USE.findall(self.bare):
             if alias:
                 self.aliases[alias] = module
             for word in [it.strip() for it in names.split(",") if it.strip()]:
@@ -73,6 +89,8 @@ class Source:
             name = found[1].replace("◌", "") if found else name
             if name:
                 self.blocks[name] = self.blocks.get(name, "") + line + "\n"
+                part = PART.match(line)
+                self.parts |= {part[1]} if part else set()
 
     def read_types(self, text: str) -> None:
         for found in RUST_TYPE.finditer(text):
@@ -80,10 +98,15 @@ class Source:
             end = re.search(r"\A[^\n]*;$|^\}", rest, re.M)
             self.blocks[found[1]] = rest[:end.end()] if end else rest
 
+    def defines(self, name: str) -> bool:
+        """Whether a definition, a type, a part of one, or a function with a contract of this name stands in the file."""
+        return name in self.blocks or name in self.parts or bool(self.contract_of(name))
+
     def length_of(self, names: set[str]) -> int:
-        """The lines that are to be read: all of a file of definitions, and of one of code those of what is reached."""
+        """The lines that are to be read: all of a file of definitions, and of one of code those of what is reached; none
+        where the file defines nothing of it."""
         if self.file.endswith(".antt"):
-            return self.text.count("\n")
+            return self.text.count("\n") if any(map(self.defines, names)) else 0
         return sum(len((self.blocks.get(name) or self.contract_of(name)).splitlines()) for name in names)
 
     def words_at_top(self) -> str:
@@ -93,12 +116,12 @@ class Source:
         return " ".join(line.strip() for line in lines).split(". ")[0].rstrip(".")
 
     def contract_of(self, function: str) -> str:
-        found = re.search(rf"^pub fn {function}\b.*?^\{{", re.sub(r"//.*", "", self.text), re.M | re.S)
+        found = re.search(rf"^pub fn {re.escape(function)}\b.*?^\{{", self.bare, re.M | re.S)
         return found[0] if found else ""
 
     def rust_crate_of(self, name: str) -> Optional[str]:
         """The crate from which the code of this file has a type of this name."""
-        for crate, path, names in RUST_USE.findall(self.text):
+        for crate, path, names in RUST_USE.findall(self.bare):
             if name in re.findall(r"\w+", names) or path.endswith(f"::{name}"):
                 return self.file.split("/")[0] if crate == "crate" else str(crate)
         return self.file.split("/")[0]
@@ -186,9 +209,8 @@ def owner_at(text: str, start: int) -> str:
 
 def clauses_in(source: Source) -> Iterator[Clause]:
     """What the public functions of a file of code promise."""
-    bare = re.sub(r"//[^/!\n].*", "", source.text)
-    for found in FUNCTION.finditer(bare):
-        owner = owner_at(bare, found.start())
+    for found in FUNCTION.finditer(source.bare):
+        owner = owner_at(source.bare, found.start())
         function = f"{owner}::{found['name']}" if owner else found["name"]
         is_law = bool(WITHOUT_PARAMETERS.match(found["head"])) and found[0].endswith("{}")
         parts = list(CLAUSE.finditer(found["head"]))

@@ -1,4 +1,4 @@
-"""Tells the version, for the tools beside it."""
+"""Tells the version and the name of a tool, for the tools beside it."""
 from __future__ import annotations
 
 import os
@@ -13,3 +13,9 @@ def tell_version() -> None:
         with open(os.path.join(TOP, "VERSION"), encoding="utf-8") as file:
             print(os.path.basename(sys.argv[0]), file.readline().strip())
         sys.exit()
+
+
+def called(tool: str) -> str:
+    """What a tool is called: its place in the repository, or its name in the path, as a package has it there."""
+    name = os.path.basename(sys.argv[0])
+    return name if name == f"hipc-{os.path.basename(tool)}" else tool

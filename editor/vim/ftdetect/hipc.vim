@@ -5,6 +5,12 @@ autocmd BufRead,BufNewFile schedule,*.schedule set filetype=hipcschedule
 autocmd BufRead,BufNewFile trace,*.trace set filetype=hipctrace
 autocmd BufRead * if &filetype ==# '' | call s:ByFirstLine() | endif
 
+let s:name = '\s\+[a-z][a-z0-9_]*'
+let s:number = '\s\+\d[0-9A-Fa-fx]*'
+let s:forms = ['step' . s:name, 'step' . s:name . '\s\+x' . s:number, 'kill' . s:name, 'hangup' . s:name . s:number,
+      \ 'spawn' . s:name . s:name]
+let s:schedule = '^\s*\(' . join(s:forms, '\|') . '\)\s*\(#.*\)\?$'
+
 function! s:ByFirstLine() abort
   let l:number = nextnonblank(1)
   while l:number > 0 && getline(l:number) =~# '^\s*#'
@@ -13,7 +19,7 @@ function! s:ByFirstLine() abort
   let l:line = getline(l:number)
   if l:line =~# '^\s*\(ns\s*\|\(task\|template\)\s\+[a-z][a-z0-9_]*\s\+\(raw\|async\|block\)\>.*\)$'
     set filetype=hipcscript
-  elseif l:line =~# '^\s*\(step\|kill\)\s\+[a-z][a-z0-9_]*\(\s\+x\s\+\d\+\)\?\s*\(#.*\)\?$' && l:line !~# '^kill t\d\+$'
+  elseif l:line =~# s:schedule && l:line !~# '^kill t\d\+$'
     set filetype=hipcschedule
   elseif l:line =~# '^\(t\d\+ \(call\|receive\|answer\|forward\|hangup\|area\|unarea\|poke\|peek\|nothing\|ended\)\>\|\(kill\|spawn\) t\d\+$\)'
     set filetype=hipctrace

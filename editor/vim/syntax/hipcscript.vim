@@ -1,4 +1,4 @@
-" A script of hipc: tasks, wires and operations.
+" A script of hipc: tasks, wires and operations; and the lines that give names, which tools/asm reads.
 if exists('b:current_syntax')
   finish
 endif
@@ -9,6 +9,7 @@ syntax match hipcBadByte /[^\x20-\x7e\t]/
 syntax match hipcUnknown /^\s*\zs[^ \t#]\+/
 syntax match hipcStructure /^\s*\zs\(ns\|task\|template\|fibril\|connection\|wire\)\>/
 syntax match hipcOperation /^\s*\zs\(call\|receive\|answer\|forward\|hangup\|area\|unarea\|poke\|peek\|set\|jump\|jumpeq\|jumpne\|wait\|next\|yield\|open\|send\|begin\|end\|close\)\>/
+syntax match hipcNamed /^\s*\zs\([a-z][a-z0-9_]*:\ze\s*\(#\|$\)\|let\>\)/
 syntax keyword hipcKind raw async block plain route atomic serialize parallel
 syntax match hipcRegister /\<r\([12]\?[0-9]\|3[01]\)\>/
 syntax match hipcNumber /\<\([0-9]\{1,20\}\|0x[0-9A-Fa-f]\{1,16\}\)\>/
@@ -22,6 +23,7 @@ highlight default link hipcBadByte Error
 highlight default link hipcUnknown Error
 highlight default link hipcStructure Structure
 highlight default link hipcOperation Statement
+highlight default link hipcNamed Label
 highlight default link hipcKind Type
 highlight default link hipcRegister Identifier
 highlight default link hipcNumber Number
