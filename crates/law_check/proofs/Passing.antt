@@ -1,7 +1,6 @@
 -- One more entry keeps what is known of the laws.
 use Rattle.std.proofs.Common.{ℕ, suc, ◌≡◌, ◌↔◌, ◌<◌, ◌+◌, Bool, true, false, List, [], ◌∷◌, length, get_or, drop, refl, sym, ap, ◌∙◌, arith, add-one, drop-cons}
 use Rattle.std.specs.Prelude.{Result, Ok, Err, IfOk, OnOk}
-use Rattle.std.specs.BTreeMap.{BTreeMap}
 use Rattle.ipc_ids.specs.declared.entry.Entry.{Entry}
 use Rattle.ipc_ids.specs.declared.entry.Entry.TheVariants as entry
 use Rattle.ipc_ids.specs.Tales.{Tale, Head, On, Other, tale, tales}
@@ -10,9 +9,9 @@ use Rattle.ipc_ids.specs.Lawful.{Follows, IsRound}
 use Rattle.ipc_ids.specs.Laws.{IsAllowed, LivesAreLawful, KillEndsHeldCalls}
 use Rattle.law_check.specs.declared.kills.Kills.{Kills}
 use Rattle.law_check.specs.Allowed.{WasAllowed}
-use Rattle.law_check.specs.Lives.{Knows, life_at}
+use Rattle.law_check.specs.Lives.{Knows, life_at, kill_at}
 use Rattle.law_check.specs.Kills.{KillsFoundLate}
-use Rattle.law_check.specs.KillState.{KnowsKills, TakesKill, kill_at, kill_by_end, number_at, is_late}
+use Rattle.law_check.specs.KillState.{KnowsKills, TakesKill, number_at, is_late}
 use Rattle.law_check.specs.AreaSteps.{MayCome}
 use Rattle.law_check.specs.Verdict.{accepted}
 use Rattle.law_check.specs.Passing.{in_order, LivesLeft, KillsLeft, NoKillsLeft, AreasLeft, NoAreasLeft, KillsStand}
@@ -111,9 +110,9 @@ pub all_live : (p : List Entry) → LivesLeft p → IsRound (tales p) ↔ LivesA
 all_live p left = left []
 
 pub all_killed :
-    (p : List Entry) (s : Kills) (k : BTreeMap ℕ ℕ) → LivesAreLawful (in_order p []) → KnowsKills (tales p) s → KillsLeft p →
-    ((t : ℕ) → kill_at k t ≡ kill_by_end s t) →
-    ((n : ℕ) → is_late (life_at s.lives.calls.items n) (number_at s.since.items n) (kill_at k) ≡ false)
+    (p : List Entry) (s : Kills) (k : ℕ → ℕ) → LivesAreLawful (in_order p []) → KnowsKills (tales p) s → KillsLeft p →
+    ((t : ℕ) → k t ≡ kill_at s.lives.tasks t) →
+    ((n : ℕ) → is_late (life_at s.lives.calls.items n) (number_at s.since.items n) k ≡ false)
     ↔ KillEndsHeldCalls (in_order p [])
 all_killed p s k l knows left ended =
     let none = none_late (tales p) s k knows ended in

@@ -11,7 +11,7 @@ use Rattle.law_check.specs.Passing.{in_order, LivesLeft, KillsStand, AreasStand}
 
 -- so many events were counted
 abbrev pub events_of : Laws → ℕ
-events_of s = s.kills.events
+events_of s = s.kills.lives.events
 
 -- after a past that was allowed, what is kept of the laws
 pub record Stands (p : List Entry) (s : Laws) : Type 0 where

@@ -1,33 +1,16 @@
 -- What is kept of a past to tell whether kills are lawful.
-use Rattle.std.specs.Prelude.{ℕ, ◌≡◌, ◌-◌, ◌==◌, Bool, true, false, not, nat_lt, ◌&&◌, ◌++◌, slice_set, unwrap_or, if◌then◌else◌, List, [], ◌∷◌, length}
-use Rattle.std.specs.Ordering.{nat_cmp}
-use Rattle.std.specs.BTreeMap.{BTreeMap, get}
-use Rattle.ipc_ids.specs.Tales.{Accepted, Forgotten, Tale, Head, On, Other}
+use Rattle.std.specs.Prelude.{ℕ, ◌≡◌, ◌-◌, Bool, true, false, not, nat_lt, ◌&&◌, ◌++◌, slice_set, unwrap_or, if◌then◌else◌, List, [], ◌∷◌, length}
+use Rattle.ipc_ids.specs.Tales.{Accepted, Forgotten, Tale, On}
 use Rattle.ipc_ids.specs.Life.{Life, Incoming, Dispatched, Answers, last_number}
-use Rattle.law_check.specs.declared.lives.PresentEvent.{PresentEvent}
-use Rattle.law_check.specs.declared.lives.PresentEvent.TheVariants as now
 use Rattle.law_check.specs.declared.kills.Kind.{Kind}
 use Rattle.law_check.specs.declared.kills.Kind.TheVariants as of
 use Rattle.law_check.specs.declared.kills.Kills.{Kills}
 use Rattle.law_check.specs.Lives.{Knows, kept_at}
-use Rattle.law_check.specs.Kills.{heads, earlier_kill_of, since, MayPlace, IsLate}
-
--- the number of the last event that killed task t, as it is kept; 0 where none did
-abbrev pub kill_at : BTreeMap ℕ ℕ → ℕ → ℕ
-kill_at killed t = unwrap_or (get nat_cmp killed t) 0
+use Rattle.law_check.specs.Kills.{since, MayPlace, IsLate}
 
 -- the number that is kept for call n; 0 where none is
 abbrev pub number_at : List ℕ → ℕ → ℕ
 number_at numbers n = unwrap_or (kept_at numbers n) 0
-
--- the present event kills task t
-abbrev pub is_kill : ℕ → PresentEvent → Bool
-is_kill t (now.Kill u) = u == t
-is_kill t _ = false
-
--- the number of the last kill of task t, with the present event at its end
-abbrev pub kill_by_end : Kills → ℕ → ℕ
-kill_by_end s t = if is_kill t s.lives.event then s.events else kill_at s.killed t
 
 -- a kill after it came there should have taken the call from its place
 abbrev pub is_late : Life → ℕ → (ℕ → ℕ) → Bool
@@ -43,11 +26,10 @@ is_dead (Dispatched u t) kill = nat_lt 0 (kill t)
 is_dead (Answers u) kill = nat_lt 0 (kill u)
 is_dead _ kill = false
 
--- what an entry is: a head, one on a call, or another
+-- what an entry is: one on a call, or another
 abbrev pub kind : Tale → Kind
-kind (Head e) = of.Head
 kind (On n w) = of.On n
-kind Other = of.Other
+kind _ = of.Other
 
 -- since when each call is at its place, after an entry on this call in the event with this number
 abbrev pub since_put : Tale → ℕ → ℕ → List ℕ → List ℕ
@@ -59,10 +41,8 @@ since_put e call now since =
 -- what is kept is what the past says
 pub record KnowsKills (p : List Tale) (s : Kills) : Type 0 where
   pub lives : Knows p s.lives
-  pub events : s.events ≡ heads p
   pub count : length s.since.items ≡ last_number p
   pub since_when : (n : ℕ) → since n p ≡ number_at s.since.items n
-  pub killed : (t : ℕ) → earlier_kill_of t p ≡ kill_at s.killed t
 
 -- the entry was taken, or it breaks the law
 abbrev pub TakesKill : List Tale → Tale → Kills → Bool → Type 0

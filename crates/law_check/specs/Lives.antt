@@ -1,5 +1,5 @@
 -- What is kept of a past to tell the life of each call.
-use Rattle.std.specs.Prelude.{ℕ, ◌≡◌, ◌-◌, ◌<◌, ◌≤◌, ◌==◌, ◌++◌, Bool, true, false, if◌then◌else◌, Option, Some, None, List, [], ◌∷◌, length, slice_get, slice_set, is_some, unwrap_or, ◌||◌, Result, OnOk}
+use Rattle.std.specs.Prelude.{ℕ, ◌≡◌, ◌-◌, ◌<◌, ◌≤◌, ◌==◌, ◌++◌, Bool, true, false, if◌then◌else◌, Option, Some, None, List, [], ◌∷◌, length, slice_get, slice_set, is_some, unwrap_or, nat_lt, ◌&&◌, Result, OnOk}
 use Rattle.std.specs.Ordering.{nat_cmp}
 use Rattle.std.specs.BTreeMap.{BTreeMap, get}
 use Rattle.ipc_ids.specs.Tales.{Receive, Answer, Forward, Other_request, Event, Step, Kill, Gone, Spawn, Way, To, At_once, Note, Accepted, Tale, On}
@@ -7,6 +7,7 @@ use Rattle.ipc_ids.specs.Life as life
 use Rattle.ipc_ids.specs.Life.{Life, Nowhere, event, is_killed, has_head, last_number}
 use Rattle.ipc_ids.specs.Laws.{IsAllowed}
 use Rattle.ipc_ids.specs.Lawful.{Follows}
+use Rattle.law_check.specs.Kills.{heads, kill_of, earlier_kill_of}
 use Rattle.law_check.specs.declared.lives.Place.{Place}
 use Rattle.law_check.specs.declared.lives.Place.TheVariants as place
 use Rattle.law_check.specs.declared.lives.KnownCall.{KnownCall}
@@ -66,22 +67,38 @@ is_nothing None = true
 is_nothing (Some e) = false
 
 -- a head names task u
-abbrev pub is_named_in : BTreeMap ℕ Bool → ℕ → Bool
+abbrev pub is_named_in : BTreeMap ℕ ℕ → ℕ → Bool
 is_named_in tasks u = is_some (get nat_cmp tasks u)
 
--- a head kills task u
-abbrev pub is_killed_in : BTreeMap ℕ Bool → ℕ → Bool
-is_killed_in tasks u = unwrap_or (get nat_cmp tasks u) false
+-- the number of the last event that killed task u, as it is kept; 0 where none did
+abbrev pub kill_at : BTreeMap ℕ ℕ → ℕ → ℕ
+kill_at tasks u = unwrap_or (get nat_cmp tasks u) 0
+
+-- an event killed task u
+abbrev pub is_killed_in : BTreeMap ℕ ℕ → ℕ → Bool
+is_killed_in tasks u = nat_lt 0 (kill_at tasks u)
 
 -- the event kills a task
 abbrev pub kills : PresentEvent → Bool
 kills (now.Kill t) = true
 kills _ = false
 
+-- the event kills task u
+abbrev pub is_kill : ℕ → PresentEvent → Bool
+is_kill u (now.Kill t) = t == u
+is_kill u _ = false
+
+-- the number of the last event before the present one that killed task u
+abbrev pub earlier_kill_at : Lives → ℕ → ℕ
+earlier_kill_at s u = if is_kill u s.event then s.earlier else kill_at s.tasks u
+
 -- what is kept is what the past says
 pub record Knows (p : List Tale) (s : Lives) : Type 0 where
   pub count : length s.calls.items ≡ last_number p
   pub lives : (n : ℕ) → life.life n p ≡ life_at s.calls.items n
+  pub events : s.events ≡ heads p
+  pub last_kill : (u : ℕ) → kill_of u p ≡ kill_at s.tasks u
+  pub earlier_kill : (u : ℕ) → earlier_kill_of u p ≡ earlier_kill_at s u
   pub killed : (u : ℕ) → is_killed u p ≡ is_killed_in s.tasks u
   pub named : (u : ℕ) → has_head u p ≡ is_named_in s.tasks u
   pub event : event p ≡ event_of s.event
@@ -97,6 +114,8 @@ pub record Puts (n : ℕ) (k : KnownCall) (old new : Lives) : Type 0 where
   pub calls : new.calls.items ≡ slice_set old.calls.items (n - 1) k
   pub tasks : new.tasks ≡ old.tasks
   pub event : new.event ≡ old.event
+  pub events : new.events ≡ old.events
+  pub earlier : new.earlier ≡ old.earlier
   pub back : new.back ≡ false
 
 -- a note on a call that is accepted brings it from its life to this place
@@ -116,16 +135,16 @@ pub record Pushes (k : KnownCall) (goes : Bool) (old new : Lives) : Type 0 where
   pub calls : new.calls.items ≡ old.calls.items ++ k ∷ []
   pub tasks : new.tasks ≡ old.tasks
   pub event : new.event ≡ old.event
+  pub events : new.events ≡ old.events
+  pub earlier : new.earlier ≡ old.earlier
   pub back : new.back ≡ goes
 
--- a head named task t, and killed it or not; else nothing has changed
+-- one more head named task t, and killed it or not
 pub record Names (t : ℕ) (kill : Bool) (old new : Lives) : Type 0 where
   pub named : (u : ℕ) → is_named_in new.tasks u ≡ (if t == u then true else is_named_in old.tasks u)
-  pub killed :
-      (u : ℕ) → is_killed_in new.tasks u ≡ (if t == u then kill || is_killed_in old.tasks u else is_killed_in old.tasks u)
+  pub last_kill : (u : ℕ) → kill_at new.tasks u ≡ (if (t == u) && kill then new.events else kill_at old.tasks u)
+  pub earlier : kill ≡ true → new.earlier ≡ kill_at old.tasks t
   pub calls : new.calls ≡ old.calls
-  pub event : new.event ≡ old.event
-  pub back : new.back ≡ old.back
 
 -- what was known before an entry that is allowed is known after it, unless memory ran out
 abbrev pub KnowsNext : {X E : Type 0} → Lives → Tale → Result X E → Lives → Type 0

@@ -4,28 +4,24 @@ ghost use Rattle.ipc_ids.specs.Tales.{Tale, tale, tales};
 ghost use Rattle.ipc_ids.specs.Laws.{IsAllowed, LivesAreLawful, KillEndsHeldCalls};
 ghost use Rattle.ipc_ids.specs.declared.entry.Entry.{Entry};
 ghost use Rattle.ipc_ids.specs.Lawful.{Follows};
-ghost use Rattle.law_check.specs.Lives.{KnowsNext, life_at};
+ghost use Rattle.law_check.specs.Lives.{KnowsNext, life_at, earlier_kill_at};
 ghost use Rattle.law_check.specs.Passing.{KillsStand, in_order};
-ghost use Rattle.law_check.specs.KillState.{KnowsKills, TakesKill, kill_at, kill_by_end, number_at, is_late, is_dead, kind, since_put};
+ghost use Rattle.law_check.specs.KillState.{KnowsKills, TakesKill, number_at, is_late, is_dead, kind, since_put};
 
-use crate::lives::{KnownCall, Lives, Place, PresentEvent};
+use crate::lives::{KnownCall, Lives, Place};
 use ipc_ids::{Entry, NoMemory};
 use std::alloc::Global;
-use std::collections::BTreeMap;
 
-/// What the entries so far say of kills: since which event call `n` is at its place, at `n - 1`;
-/// how many events there were; and the last earlier event that killed a task.
+/// What the entries so far say of kills: what they say of calls and tasks, and since which event
+/// call `n` is at its place, at `n - 1`.
 #[derive(Drop)]
 pub struct Kills {
     pub lives: Lives,
     since: Vec<u64>,
-    events: u64,
-    killed: BTreeMap<u64, u64>,
 }
 
-/// What an entry is: the head of an event, one on this call, or another.
+/// What an entry is: one on this call, or another.
 pub enum Kind {
-    Head,
     On(u64),
     Other,
 }
@@ -34,10 +30,6 @@ fn kind_of(entry: &Entry) -> Kind
     ensures { result ≡ kind (tale entry.now) }
 {
     match entry {
-        Entry::Head(_, _) => Kind::Head,
-        Entry::Kill(_) => Kind::Head,
-        Entry::Gone(_) => Kind::Head,
-        Entry::Spawn(_) => Kind::Head,
         Entry::Accepted { call, .. } => Kind::On(call.0),
         Entry::Received { call, .. } => Kind::On(call.0),
         Entry::Forwarded { call, .. } => Kind::On(call.0),
@@ -53,20 +45,12 @@ fn kind_of(entry: &Entry) -> Kind
 impl Kills {
     pub fn new(alloc: Global) -> Kills
         ensures knows { KnowsKills [] result }
-        ensures events { result.events ≡ 0 }
+        ensures events { result.lives.events ≡ 0 }
     {
         Kills {
             lives: Lives::new(alloc),
             since: Vec::new(alloc),
-            events: 0,
-            killed: BTreeMap::new(alloc),
         }
-    }
-
-    fn kill_at(&self, task: u64) -> u64
-        ensures { result ≡ kill_at self.now.killed task }
-    {
-        self.killed.get(&task).copied().unwrap_or(0)
     }
 
     fn since_at(&self, call: u64) -> u64
@@ -81,7 +65,7 @@ impl Kills {
     /// An earlier kill should have taken the call from its place.
     fn is_late(&self, call: u64) -> bool
         ensures { result ≡ is_late (life_at self.now.lives.calls.items call)
-            (number_at self.now.since.items call) (kill_at self.now.killed) }
+            (number_at self.now.since.items call) (earlier_kill_at self.now.lives) }
     {
         match self.lives.known(call) {
             Some(
@@ -89,19 +73,19 @@ impl Kills {
                     place: Place::Incoming(holder),
                     ..
                 },
-            ) => self.since_at(call) <= self.kill_at(holder),
+            ) => self.since_at(call) <= self.lives.earlier_kill_at(holder),
             Some(
                 KnownCall {
                     place: Place::Dispatched(holder),
                     ..
                 },
-            ) => self.since_at(call) <= self.kill_at(holder),
+            ) => self.since_at(call) <= self.lives.earlier_kill_at(holder),
             Some(
                 KnownCall {
                     place: Place::Answers,
                     caller,
                 },
-            ) => self.since_at(call) < self.kill_at(caller),
+            ) => self.since_at(call) < self.lives.earlier_kill_at(caller),
             _ => false,
         }
     }
@@ -109,7 +93,7 @@ impl Kills {
     /// The call stands at a task that was killed in an earlier event.
     fn is_dead(&self, call: u64) -> bool
         ensures { result ≡ is_dead (life_at self.now.lives.calls.items call)
-            (kill_at self.now.killed) }
+            (earlier_kill_at self.now.lives) }
     {
         match self.lives.known(call) {
             Some(
@@ -117,42 +101,28 @@ impl Kills {
                     place: Place::Incoming(holder),
                     ..
                 },
-            ) => 0 < self.kill_at(holder),
+            ) => 0 < self.lives.earlier_kill_at(holder),
             Some(
                 KnownCall {
                     place: Place::Dispatched(holder),
                     ..
                 },
-            ) => 0 < self.kill_at(holder),
+            ) => 0 < self.lives.earlier_kill_at(holder),
             Some(
                 KnownCall {
                     place: Place::Answers,
                     caller,
                 },
-            ) => 0 < self.kill_at(caller),
+            ) => 0 < self.lives.earlier_kill_at(caller),
             _ => false,
         }
-    }
-
-    /// The present event is over.
-    fn end(&mut self) -> Result<(), NoMemory>
-        ensures killed { OnOk result ((t : ℕ)
-            → kill_at self.new.killed t ≡ kill_by_end self.old t) }
-        ensures lives { self.new.lives ≡ self.old.lives }
-        ensures since { self.new.since ≡ self.old.since }
-        ensures events { self.new.events ≡ self.old.events }
-    {
-        if let PresentEvent::Kill(task) = self.lives.event {
-            self.killed.insert(task, self.events)?;
-        }
-        Ok(())
     }
 
     /// No call is late.
     fn none_is_late(&self) -> bool
         ensures { IsTrue result ↔ ((n : ℕ)
             → is_late (life_at self.now.lives.calls.items n) (number_at self.now.since.items n)
-            (kill_at self.now.killed) ≡ false) }
+            (earlier_kill_at self.now.lives) ≡ false) }
     {
         for i in 0..self.lives.calls.len() {
             if self.is_late(i as u64 + 1) {
@@ -165,17 +135,15 @@ impl Kills {
     /// The call comes to a place in this event, if the entry moves it.
     fn come(&mut self, call: u64, entry: &Entry) -> Result<(), NoMemory>
         ensures since { OnOk result (self.new.since.items
-            ≡ since_put (tale entry.now) call self.old.events self.old.since.items) }
+            ≡ since_put (tale entry.now) call self.old.lives.events self.old.since.items) }
         ensures lives { self.new.lives ≡ self.old.lives }
-        ensures killed { self.new.killed ≡ self.old.killed }
-        ensures events { self.new.events ≡ self.old.events }
     {
         match entry {
-            Entry::Accepted { .. } => self.since.push(self.events)?,
+            Entry::Accepted { .. } => self.since.push(self.lives.events)?,
             Entry::Forgotten(_) => (),
             _ => {
                 if 0 < call && call <= self.since.len() as u64 {
-                    self.since[call as usize - 1] = self.events;
+                    self.since[call as usize - 1] = self.lives.events;
                 }
             }
         }
@@ -184,11 +152,11 @@ impl Kills {
 
     /// Takes a lawful entry on a call.
     fn note(&mut self, call: u64, entry: &Entry) -> Result<(), NoMemory>
+        requires { self.old.lives.events < 2 ^ 63 }
         ensures knows { (p : List Tale) → KnowsKills p self.old → Follows p (tale entry.now)
             → IsAllowed p (tale entry.now) → kind (tale entry.now) ≡ Kind.On call
             → OnOk result (KnowsKills (tale entry.now ∷ p) self.new) }
-        ensures killed { self.new.killed ≡ self.old.killed }
-        ensures events { self.new.events ≡ self.old.events }
+        ensures events { self.new.lives.events ≤ self.old.lives.events + 1 }
         ensures lives { KnowsNext self.old.lives (tale entry.now) result self.new.lives }
     {
         self.come(call, entry)?;
@@ -196,27 +164,13 @@ impl Kills {
         Ok(())
     }
 
-    /// Takes a head.
-    fn begin(&mut self, entry: &Entry) -> Result<(), NoMemory>
-        requires { self.old.events < 2 ^ 63 }
-        ensures knows { (p : List Tale) → KnowsKills p self.old → Follows p (tale entry.now)
-            → IsAllowed p (tale entry.now) → kind (tale entry.now) ≡ Kind.Head
-            → OnOk result (KnowsKills (tale entry.now ∷ p) self.new) }
-        ensures events { self.new.events ≤ self.old.events + 1 }
-        ensures lives { KnowsNext self.old.lives (tale entry.now) result self.new.lives }
-    {
-        self.end()?;
-        self.events += 1;
-        self.lives.note(entry)?;
-        Ok(())
-    }
-
     /// Takes a lawful entry of another kind.
     fn pass(&mut self, entry: &Entry) -> Result<(), NoMemory>
+        requires { self.old.lives.events < 2 ^ 63 }
         ensures knows { (p : List Tale) → KnowsKills p self.old → Follows p (tale entry.now)
             → IsAllowed p (tale entry.now) → kind (tale entry.now) ≡ Kind.Other
             → OnOk result (KnowsKills (tale entry.now ∷ p) self.new) }
-        ensures events { self.new.events ≡ self.old.events }
+        ensures events { self.new.lives.events ≤ self.old.lives.events + 1 }
         ensures lives { KnowsNext self.old.lives (tale entry.now) result self.new.lives }
     {
         self.lives.note(entry)?;
@@ -225,18 +179,14 @@ impl Kills {
 
     /// Takes the next entry, unless the law is broken.
     fn take(&mut self, entry: &Entry) -> Result<bool, NoMemory>
-        requires { self.old.events < 2 ^ 63 }
+        requires { self.old.lives.events < 2 ^ 63 }
         ensures takes { (p : List Tale) → KnowsKills p self.old → Follows p (tale entry.now)
             → IsAllowed p (tale entry.now)
             → IfOk result (λ yes. TakesKill p (tale entry.now) self.new yes) }
-        ensures events { self.new.events ≤ self.old.events + 1 }
+        ensures events { self.new.lives.events ≤ self.old.lives.events + 1 }
         ensures lives { KnowsNext self.old.lives (tale entry.now) result self.new.lives }
     {
         match kind_of(entry) {
-            Kind::Head => {
-                self.begin(entry)?;
-                Ok(true)
-            }
             Kind::On(call) => {
                 let late = self.is_late(call);
                 self.note(call, entry)?;
@@ -254,11 +204,11 @@ impl Kills {
 
     /// Takes a lawful entry, and tells whether the law still holds, as it did before or not.
     pub fn go_on(&mut self, holds: bool, entry: &Entry) -> Result<bool, NoMemory>
-        requires { self.old.events < 2 ^ 63 }
+        requires { self.old.lives.events < 2 ^ 63 }
         ensures stand { (p : List Entry) → KillsStand p holds self.old
             → Follows (tales p) (tale entry.now) → IsAllowed (tales p) (tale entry.now)
             → IfOk result (λ yes. KillsStand (entry.now ∷ p) yes self.new) }
-        ensures events { self.new.events ≤ self.old.events + 1 }
+        ensures events { self.new.lives.events ≤ self.old.lives.events + 1 }
     {
         if holds {
             return self.take(entry);
@@ -268,16 +218,16 @@ impl Kills {
     }
 
     /// The entries that were taken satisfy the law of a kill, which held so far or not.
-    pub fn hold(&mut self, holds: bool) -> Result<bool, NoMemory>
+    pub fn hold(&mut self, holds: bool) -> bool
         ensures lawful { (p : List Entry) → KillsStand p holds self.old
             → LivesAreLawful (in_order p [])
-            → IfOk result (λ yes. IsTrue yes ↔ KillEndsHeldCalls (in_order p [])) }
-        ensures lives { self.new.lives ≡ self.old.lives }
+            → (IsTrue result ↔ KillEndsHeldCalls (in_order p [])) }
+        ensures calls { self.new.lives.calls ≡ self.old.lives.calls }
     {
         if !holds {
-            return Ok(false);
+            return false;
         }
-        self.end()?;
-        Ok(self.none_is_late())
+        self.lives.end();
+        self.none_is_late()
     }
 }

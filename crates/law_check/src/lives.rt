@@ -1,12 +1,12 @@
 //! The law of a call's life, as entries come.
-ghost use Rattle.std.specs.Prelude.{◌≡◌, ◌↔◌, ℕ, suc, length, List, [], ◌∷◌, Some, OnOk, IsSome, IsTrue};
+ghost use Rattle.std.specs.Prelude.{◌≡◌, ◌↔◌, ◌<◌, ◌≤◌, ◌+◌, ◌^◌, ℕ, suc, length, List, [], ◌∷◌, Some, OnOk, IsSome, IsTrue};
 ghost use Rattle.std.specs.Ordering.{nat_cmp};
 ghost use Rattle.std.specs.BTreeMap.{get};
 ghost use Rattle.ipc_ids.specs.Tales.{Event, Step, Tale, Head, On, Note, Way, Accepted, Received, Forwarded, Answered, Vanished, Forgotten, Delivered, Dropped, Kernel, Task, ask, author, way, tale};
 ghost use Rattle.ipc_ids.specs.Life.{Allowed, IsOf, event, after, life, last_number, task_of};
 ghost use Rattle.ipc_ids.specs.Laws.{IsAllowed};
 ghost use Rattle.ipc_ids.specs.Lawful.{Follows, IsRound};
-ghost use Rattle.law_check.specs.Lives.{Knows, life_at, at, known, IsOfTask, event_of, IsLive, Puts, Pushes, BringsTo, Names, KnowsNext, kills, is_killed_in, is_named_in};
+ghost use Rattle.law_check.specs.Lives.{Knows, life_at, at, known, IsOfTask, event_of, IsLive, Puts, Pushes, BringsTo, Names, KnowsNext, kills, is_kill, kill_at, earlier_kill_at, is_killed_in, is_named_in};
 
 use ipc_ids::{Code, Entry, NoMemory, Request, TaskNo};
 use std::alloc::Global;
@@ -46,9 +46,14 @@ pub enum PresentEvent {
 #[derive(Drop)]
 pub struct Lives {
     pub calls: Vec<KnownCall>,
-    /// The tasks that the heads so far name, and whether one of these kills the task.
-    tasks: BTreeMap<u64, bool>,
+    /// How many events there were.
+    pub events: u64,
+    /// The tasks that the heads so far name, each with the number of the last event that killed it;
+    /// 0 where none did.
+    tasks: BTreeMap<u64, u64>,
     pub event: PresentEvent,
+    /// Where the present event kills a task: the number of the last event before that killed it.
+    earlier: u64,
     /// The last entry says that the last call goes back.
     back: bool,
 }
@@ -59,6 +64,16 @@ impl PresentEvent {
         ensures { result ≡ kills self }
     {
         matches!(self, PresentEvent::Kill(_))
+    }
+
+    /// The event kills this task.
+    fn is_kill_of(self, task: u64) -> bool
+        ensures { result ≡ is_kill task self }
+    {
+        match self {
+            PresentEvent::Kill(killed) => killed == task,
+            _ => false,
+        }
     }
 
     /// The event is one of this task.
@@ -80,12 +95,15 @@ impl PresentEvent {
 
 impl Lives {
     pub fn new(alloc: Global) -> Lives
-        ensures { Knows [] result }
+        ensures knows { Knows [] result }
+        ensures events { result.events ≡ 0 }
     {
         Lives {
             calls: Vec::new(alloc),
+            events: 0,
             tasks: BTreeMap::new(alloc),
             event: PresentEvent::Nothing,
+            earlier: 0,
             back: false,
         }
     }
@@ -100,10 +118,28 @@ impl Lives {
         self.calls.get(call as usize - 1).copied()
     }
 
+    /// The number of the last event that killed the task; 0 where none did.
+    fn kill_at(&self, task: u64) -> u64
+        ensures { result ≡ kill_at self.now.tasks task }
+    {
+        self.tasks.get(&task).copied().unwrap_or(0)
+    }
+
+    /// Likewise of the last one before the present event.
+    pub fn earlier_kill_at(&self, task: u64) -> u64
+        ensures { result ≡ earlier_kill_at self.now task }
+    {
+        if self.event.is_kill_of(task) {
+            self.earlier
+        } else {
+            self.kill_at(task)
+        }
+    }
+
     fn is_killed(&self, task: u64) -> bool
         ensures { result ≡ is_killed_in self.now.tasks task }
     {
-        self.tasks.get(&task).copied().unwrap_or(false)
+        0 < self.kill_at(task)
     }
 
     /// A head of the task stands there.
@@ -377,8 +413,9 @@ impl Lives {
 
     /// The call, which is accepted, is at this place.
     fn place(&mut self, call: u64, place: Place) -> Result<(), NoMemory>
-        ensures { (p : List Tale) (w : Note) → Knows p self.old → BringsTo w place (life call p)
-            → OnOk result (Knows (On call w ∷ p) self.new) }
+        ensures knows { (p : List Tale) (w : Note) → Knows p self.old
+            → BringsTo w place (life call p) → OnOk result (Knows (On call w ∷ p) self.new) }
+        ensures events { self.new.events ≡ self.old.events }
     {
         match self.known(call) {
             Some(known) => self.put(call, KnownCall { place, ..known }),
@@ -389,8 +426,9 @@ impl Lives {
 
     /// One more call is known.
     fn push(&mut self, caller: u64, place: Place, back: bool) -> Result<(), NoMemory>
-        ensures { OnOk result
+        ensures pushes { OnOk result
             (Pushes (record { caller = caller; place = place }) back self.old self.new) }
+        ensures events { self.new.events ≡ self.old.events }
     {
         self.calls.push(KnownCall { caller, place })?;
         self.back = back;
@@ -399,9 +437,10 @@ impl Lives {
 
     /// The next call is accepted, from this task.
     fn accept(&mut self, caller: u64, to: Option<TaskNo>) -> Result<(), NoMemory>
-        ensures { (p : List Tale) (n phone method : ℕ) → Knows p self.old
+        ensures knows { (p : List Tale) (n phone method : ℕ) → Knows p self.old
             → n ≡ suc (last_number p) → IsOf caller (event p)
             → OnOk result (Knows (On n (Accepted caller phone method (way to)) ∷ p) self.new) }
+        ensures events { self.new.events ≡ self.old.events }
     {
         match to {
             Some(to) => self.push(caller, Place::Incoming(to.0), false),
@@ -411,19 +450,27 @@ impl Lives {
 
     /// A head names the task, and kills it or not.
     fn name(&mut self, task: u64, kills: bool) -> Result<(), NoMemory>
-        ensures { OnOk result (Names task kills self.old self.new) }
+        requires { self.old.events < 2 ^ 63 }
+        ensures names { OnOk result (Names task kills self.old self.new) }
+        ensures events { self.new.events ≡ self.old.events + 1 }
     {
-        let was = self.tasks.insert(task, kills)?.unwrap_or(false);
-        if was {
-            self.tasks.insert(task, true)?;
+        self.events += 1;
+        if kills {
+            self.earlier = self.tasks.insert(task, self.events)?.unwrap_or(0);
+            return Ok(());
+        }
+        if !self.is_named(task) {
+            self.tasks.insert(task, 0)?;
         }
         Ok(())
     }
 
     /// An event of the task begins.
     fn begin(&mut self, task: u64, event: PresentEvent) -> Result<(), NoMemory>
-        ensures { (p : List Tale) (e : Event) → Knows p self.old → event_of event ≡ Some e
+        requires { self.old.events < 2 ^ 63 }
+        ensures knows { (p : List Tale) (e : Event) → Knows p self.old → event_of event ≡ Some e
             → task_of e ≡ task → OnOk result (Knows (Head e ∷ p) self.new) }
+        ensures events { self.new.events ≡ self.old.events + 1 }
     {
         self.name(task, event.is_kill())?;
         self.event = event;
@@ -431,9 +478,19 @@ impl Lives {
         Ok(())
     }
 
+    /// The present event is over, and none has begun.
+    pub fn end(&mut self)
+        ensures kills { (t : ℕ) → earlier_kill_at self.new t ≡ kill_at self.old.tasks t }
+        ensures calls { self.new.calls ≡ self.old.calls }
+    {
+        self.event = PresentEvent::Nothing;
+    }
+
     /// Takes an entry that is allowed.
     pub fn note(&mut self, entry: &Entry) -> Result<(), NoMemory>
-        ensures { KnowsNext self.old (tale entry.now) result self.new }
+        requires { self.old.events < 2 ^ 63 }
+        ensures knows { KnowsNext self.old (tale entry.now) result self.new }
+        ensures events { self.new.events ≤ self.old.events + 1 }
     {
         match entry {
             Entry::Head(task, request) => self.begin(task.0, now_of(*task, request)),

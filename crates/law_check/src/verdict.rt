@@ -89,27 +89,22 @@ impl Laws {
         self.lives_hold && self.kills.lives.is_round()
     }
 
-    /// The verdict on the entries that were taken. None may be taken after it.
-    ///
-    /// # Errors
-    ///
-    /// `NoMemory` where memory ran out.
-    pub fn verdict(&mut self) -> Result<Verdict, NoMemory>
-        ensures { (p : List Entry) → Judges p self.old
-            → IfOk result (λ verdict. IsVerdict (in_order p []) verdict) }
+    /// The verdict on the entries that were taken. None may be taken after it. It takes no memory.
+    pub fn verdict(&mut self) -> Verdict
+        ensures { (p : List Entry) → Judges p self.old → IsVerdict (in_order p []) result }
     {
         if !self.lives_are_lawful() {
-            return Ok(Verdict::Breaks(1));
+            return Verdict::Breaks(1);
         }
-        if !self.kills.hold(self.kills_hold)? {
-            return Ok(Verdict::Breaks(3));
+        if !self.kills.hold(self.kills_hold) {
+            return Verdict::Breaks(3);
         }
         if !self.areas.hold(self.areas_hold) {
-            return Ok(Verdict::Breaks(4));
+            return Verdict::Breaks(4);
         }
-        Ok(Verdict::Lawful {
+        Verdict::Lawful {
             calls: self.kills.lives.count(),
-        })
+        }
     }
 }
 
@@ -132,5 +127,5 @@ pub fn check_laws(alloc: Global, entries: &[Entry]) -> Result<Verdict, NoMemory>
         }
         last = Some(entry);
     }
-    laws.verdict()
+    Ok(laws.verdict())
 }

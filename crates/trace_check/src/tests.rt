@@ -1,14 +1,25 @@
-//! What is found of short traces. `examples/laws` has one for each sentence of the laws.
+//! What is found of short traces. `laws/` has one for each sentence of the laws.
 
 use crate::{check_trace, finding_text};
+use law_check::{Verdict, check_laws};
 use std::alloc::Global;
 use std::test::Fail;
+use trace_reader::read_trace;
 
 /// The line of what is found in the text is this one.
 fn is_found(alloc: Global, trace: &str, line: &str) -> Result<bool, Fail> {
     let finding = check_trace(alloc, trace.as_bytes())?;
     let text = finding_text(alloc, finding)?;
     Ok(text.as_slice() == line.as_bytes())
+}
+
+/// The text is read as so many entries, and this is the verdict on them.
+fn is_judged(alloc: Global, text: &str, count: usize, verdict: Verdict) -> Result<bool, Fail> {
+    let Ok(trace) = read_trace(alloc, text.as_bytes()) else {
+        return Ok(false);
+    };
+    let found = check_laws(alloc, trace.entries())?;
+    Ok(trace.entries().len() == count && found == verdict)
 }
 
 const CALL: &str = "t1 call 0 512 7 0 0 0 0\n  \
@@ -56,5 +67,13 @@ fn each_finding_has_its_line(rt: HostRuntime) -> Result<(), Fail> {
             "trace line 2: unreadable\n"
         )?
     );
+    Ok(())
+}
+
+#[test]
+fn entries_are_read_and_judged(rt: HostRuntime) -> Result<(), Fail> {
+    assert!(rt; is_judged(rt.alloc(), CALL, 7, Verdict::Lawful { calls: 1 })?);
+    assert!(rt; is_judged(rt.alloc(), TWICE, 5, Verdict::Breaks(1))?);
+    assert!(rt; is_judged(rt.alloc(), KILL, 3, Verdict::Breaks(3))?);
     Ok(())
 }

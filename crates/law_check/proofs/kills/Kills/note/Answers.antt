@@ -6,6 +6,5 @@ pub returns-clause-knows : goal.returns-clause-knows
 returns-clause-knows c =
     λ p knows follows allowed is.
     knows_after_note p c.args.call (tale c.args.entry.now) c.args.self.now _ knows is allowed
-    (c.in_ok-note.ensures p (rw (c.come.ensures.lives) knows.lives) follows allowed)
+    (c.in_ok-note.ensures.knows p (rw (c.come.ensures.lives) knows.lives) follows allowed)
     c.in_ok-come.ensures.since
-    c.come.ensures.events c.come.ensures.killed
