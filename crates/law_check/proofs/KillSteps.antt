@@ -216,6 +216,7 @@ none_late p s k knows ended = (
   where
     ends_so : (t : ℕ) → kill_of t p ≡ k t
     ends_so t = knows.lives.last_kill t ∙ sym (ended t)
+
     not_true : (b : Bool) → (b ≡ true → ⊥) → b ≡ false
     not_true true h = absurd (h refl)
     not_true false h = refl
