@@ -1,0 +1,10 @@
+pub mod Apart
+pub mod Constants
+pub mod RawRows
+pub mod FibrilTask
+pub mod FibrilRequests
+pub mod FibrilSteps
+pub mod SessionSteps
+pub mod ManagerSteps
+pub mod NamingRows
+pub mod BlockRows
