@@ -8,3 +8,7 @@ pub mod SessionSteps
 pub mod ManagerSteps
 pub mod NamingRows
 pub mod BlockRows
+pub mod FaultRows
+pub mod BlockLaws
+pub mod NamingLaws
+pub mod FibrilLaws

@@ -22,6 +22,9 @@ returns-clause-waits c = record {
   wait_sent = refl;
   wait_for_none = refl;
   next = refl;
+  next_where_it_is_closed = refl;
+  next_where_none_has_come = refl;
+  next_without_a_connection = refl;
   yield = refl;
 }
 
