@@ -13,7 +13,7 @@ use Rattle.ipc_ids.specs.Labels.{same_label}
 use Rattle.block_server.specs.declared.received.ReceivedCall.{ReceivedCall}
 use Rattle.block_server.specs.Blocks.{BlockState, has_label, slot_of, free_slot, is_offset, is_window, label_given}
 use Rattle.program_examples.specs.Apart.{five, message, reply}
-use Rattle.program_examples.specs.BlockLaws.{Has, HasNone, IsAtRest, Comes, Asks, IsPlace, IsWithin, RefusesTransfers, ReadsGoToTheOwnWindow, WritesComeFromTheOwnWindow, PlacesAreWithin, SharesAreTaken, IsClient, IsFirstFree, HasNoFree, Enters, ClientsConnect}
+use Rattle.program_examples.specs.BlockLaws.{Has, HasNone, IsAtRest, Comes, Asks, IsPlace, IsWithin, RefusesTransfers, ReadsGoToTheOwnWindow, WritesComeFromTheOwnWindow, PlacesAreWithin, SharesAreTaken, IsClient, IsFirstFree, HasNoFree, Enters, ClientsConnect, TransfersAreAnswered, OwedWorkStays}
 
 -- ---- searches
 
@@ -25,12 +25,15 @@ none_at zero x at = absurd (cc at)
 none_at (suc i) x at = absurd (cc at)
 
 -- the first place of a list, and the places behind it
-position_step : {A : Type 0} (test : A → Bool) (x : A) (xs : List A) → position test (x ∷ xs) ≡ (if test x then Some 0 else option_map suc (position test xs))
+position_step : {A : Type 0} (test : A → Bool) (x : A) (xs : List A)
+    → position test (x ∷ xs) ≡ (if test x then Some 0 else option_map suc (position test xs))
 position_step test x xs = by_test (test x) refl where
   k : ℕ
   k = position_or_len test xs
 
-  by_place : (b : Bool) → nat_lt k (length xs) ≡ b → cond (nat_lt (1 + k) (length (x ∷ xs))) (Some (1 + k)) None ≡ option_map suc (cond (nat_lt k (length xs)) (Some k) None)
+  by_place : (b : Bool) → nat_lt k (length xs) ≡ b
+      → cond (nat_lt (1 + k) (length (x ∷ xs))) (Some (1 + k)) None ≡ option_map suc
+      (cond (nat_lt k (length xs)) (Some k) None)
   by_place b is = grind (arith, is)
 
   by_test : (b : Bool) → test x ≡ b → position test (x ∷ xs) ≡ (if b then Some 0 else option_map suc (position test xs))
@@ -44,11 +47,14 @@ first_at test [] i x at is before = absurd (none_at i x at)
 first_at test (y ∷ ys) zero x at is before = position_step test y ys ∙ rw (some_is y x at, is) refl
 first_at test (y ∷ ys) (suc i) x at is before =
     position_step test y ys
-    ∙ rw (before 0 y (omega arith) refl,
-    first_at test ys i x at is (λ j z less there. before (suc j) z (omega (arith, less)) there)) refl
+    ∙ rw (
+      before 0 y (omega arith) refl,
+      first_at test ys i x at is (λ j z less there. before (suc j) z (omega (arith, less)) there),
+    ) refl
 
 -- where nothing passes there is none
-none_at_all : {A : Type 0} (test : A → Bool) (xs : List A) → ((j : ℕ) (y : A) → slice_get xs j ≡ Some y → test y ≡ false) → position test xs ≡ None
+pub none_at_all : {A : Type 0} (test : A → Bool) (xs : List A)
+    → ((j : ℕ) (y : A) → slice_get xs j ≡ Some y → test y ≡ false) → position test xs ≡ None
 none_at_all test [] none = refl
 none_at_all test (y ∷ ys) none =
     position_step test y ys
@@ -64,7 +70,8 @@ pub label_same : (a : Label) → same_label a a ≡ true
 label_same a = grind (arith, eq-eqb)
 
 -- a slot that has not this label
-other_label : (s : BlockState) (client : Label) (j : ℕ) (held : Option Label) → (Has s j client → ⊥) → slice_get s.slots j ≡ Some held → has_label client held ≡ false
+other_label : (s : BlockState) (client : Label) (j : ℕ) (held : Option Label) → (Has s j client → ⊥)
+    → slice_get s.slots j ≡ Some held → has_label client held ≡ false
 other_label s client j None not at = refl
 other_label s client j (Some l) not at = by_test (same_label l client) refl where
   by_test : (b : Bool) → same_label l client ≡ b → b ≡ false
@@ -74,9 +81,10 @@ other_label s client j (Some l) not at = by_test (same_label l client) refl wher
 known : (s : BlockState) (k : ℕ) (client : Label) → IsAtRest s → Has s k client → slot_of s.slots client ≡ Some k
 known s k client rest has =
     first_at (has_label client) s.slots k (Some client) has (label_same client)
-    (λ j y less at. other_label s client j y (λ there. absurd (less_not j less (rest.apart j k client there has))) at) where
-  less_not : (j : ℕ) → j < k → j ≡ k → ⊥
-  less_not j less same = omega (arith, less, same)
+    (λ j y less at. other_label s client j y
+    (λ there. absurd (less_not j less (rest.apart j k client there has))) at) where
+      less_not : (j : ℕ) → j < k → j ≡ k → ⊥
+      less_not j less same = omega (arith, less, same)
 
 unknown : (s : BlockState) (client : Label) → HasNone s client → slot_of s.slots client ≡ None
 unknown s client none = none_at_all (has_label client) s.slots (λ j y at. other_label s client j y (none j) at)
@@ -97,7 +105,8 @@ place_is_offset offset p = rw (even, behind_all 4032 offset (omega (arith, p.who
 
 offset_is_place : (offset : ℕ) → is_offset offset ≡ true → IsPlace offset
 offset_is_place offset is = by_parts (offset % 64 == 0) refl (nat_lt 4032 offset) refl is where
-  by_parts : (c : Bool) → (offset % 64 == 0) ≡ c → (d : Bool) → nat_lt 4032 offset ≡ d → (c && not d) ≡ true → IsPlace offset
+  by_parts : (c : Bool) → (offset % 64 == 0) ≡ c → (d : Bool) → nat_lt 4032 offset ≡ d → (c && not d) ≡ true
+      → IsPlace offset
   by_parts true even false small both = record {
     number = offset / 64;
     there = omega (arith, eqb-true _ _ even, div-add-mod offset 64);
@@ -114,16 +123,46 @@ no_offset offset none = by_test (is_offset offset) refl where
 
 pub read_refusals : RefusesTransfers 512
 read_refusals = record {
-  nobody = λ s now c none. rw (c.made, c.rest.idle, unknown s c.client none) (record { asked = refl; blocks = refl; slots = refl });
-  no_block = λ s now c k has h. rw (c.made, c.rest.idle, known s k c.client c.rest has, behind_all c.first (length s.blocks) h) (record { asked = refl; blocks = refl; slots = refl });
-  no_place = λ s now c k has h none. rw (c.made, c.rest.idle, known s k c.client c.rest has, before_all c.first (length s.blocks) h, no_offset c.second none) (record { asked = refl; blocks = refl; slots = refl });
+  nobody = λ s now c none. rw (
+    c.made,
+    c.rest.idle,
+    unknown s c.client none,
+  ) (record { asked = refl; blocks = refl; slots = refl });
+  no_block = λ s now c k has h. rw (
+    c.made,
+    c.rest.idle,
+    known s k c.client c.rest has,
+    behind_all c.first (length s.blocks) h,
+  ) (record { asked = refl; blocks = refl; slots = refl });
+  no_place = λ s now c k has h none. rw (
+    c.made,
+    c.rest.idle,
+    known s k c.client c.rest has,
+    before_all c.first (length s.blocks) h,
+    no_offset c.second none,
+  ) (record { asked = refl; blocks = refl; slots = refl });
 }
 
 pub write_refusals : RefusesTransfers 513
 write_refusals = record {
-  nobody = λ s now c none. rw (c.made, c.rest.idle, unknown s c.client none) (record { asked = refl; blocks = refl; slots = refl });
-  no_block = λ s now c k has h. rw (c.made, c.rest.idle, known s k c.client c.rest has, behind_all c.first (length s.blocks) h) (record { asked = refl; blocks = refl; slots = refl });
-  no_place = λ s now c k has h none. rw (c.made, c.rest.idle, known s k c.client c.rest has, before_all c.first (length s.blocks) h, no_offset c.second none) (record { asked = refl; blocks = refl; slots = refl });
+  nobody = λ s now c none. rw (
+    c.made,
+    c.rest.idle,
+    unknown s c.client none,
+  ) (record { asked = refl; blocks = refl; slots = refl });
+  no_block = λ s now c k has h. rw (
+    c.made,
+    c.rest.idle,
+    known s k c.client c.rest has,
+    behind_all c.first (length s.blocks) h,
+  ) (record { asked = refl; blocks = refl; slots = refl });
+  no_place = λ s now c k has h none. rw (
+    c.made,
+    c.rest.idle,
+    known s k c.client c.rest has,
+    before_all c.first (length s.blocks) h,
+    no_offset c.second none,
+  ) (record { asked = refl; blocks = refl; slots = refl });
 }
 
 pub within_list : {A : Type 0} (xs : List A) (i : ℕ) (x : A) → slice_get xs i ≡ Some x → i < length xs
@@ -133,12 +172,24 @@ within_list (y ∷ ys) (suc i) x at = let h : i < length ys = within_list ys i x
 
 pub reads : ReadsGoToTheOwnWindow
 reads s now c k bytes has at place =
-    rw (c.made, c.rest.idle, known s k c.client c.rest has, before_all c.first (length s.blocks) (within_list s.blocks c.first bytes at), place_is_offset c.second place)
+    rw (
+      c.made,
+      c.rest.idle,
+      known s k c.client c.rest has,
+      before_all c.first (length s.blocks) (within_list s.blocks c.first bytes at),
+      place_is_offset c.second place,
+    )
     (record { asked = rw (get_or_from_slice_get s.blocks c.first bytes _ at) refl; blocks = refl; slots = refl })
 
 pub writes : WritesComeFromTheOwnWindow
 writes s now c k has h place =
-    rw (c.made, c.rest.idle, known s k c.client c.rest has, before_all c.first (length s.blocks) h, place_is_offset c.second place)
+    rw (
+      c.made,
+      c.rest.idle,
+      known s k c.client c.rest has,
+      before_all c.first (length s.blocks) h,
+      place_is_offset c.second place,
+    )
     (record { asked = refl; blocks = refl; slots = refl })
 
 pub places : PlacesAreWithin
@@ -158,15 +209,30 @@ no_page_to_share a b none = by_parts (a == 1) refl (b == 3) refl where
 
 pub shares : SharesAreTaken
 shares = record {
-  nobody = λ s now c none. rw (c.made, c.rest.idle, unknown s c.client none) (record { asked = refl; blocks = refl; slots = refl });
-  taken = λ s now c k has one three. rw (c.made, c.rest.idle, known s k c.client c.rest has, page_to_share c.second c.third one three) (record { asked = refl; blocks = refl; slots = refl });
-  other = λ s now c k has none. rw (c.made, c.rest.idle, known s k c.client c.rest has, no_page_to_share c.second c.third none) (record { asked = refl; blocks = refl; slots = refl });
+  nobody = λ s now c none. rw (
+    c.made,
+    c.rest.idle,
+    unknown s c.client none,
+  ) (record { asked = refl; blocks = refl; slots = refl });
+  taken = λ s now c k has one three. rw (
+    c.made,
+    c.rest.idle,
+    known s k c.client c.rest has,
+    page_to_share c.second c.third one three,
+  ) (record { asked = refl; blocks = refl; slots = refl });
+  other = λ s now c k has none. rw (
+    c.made,
+    c.rest.idle,
+    known s k c.client c.rest has,
+    no_page_to_share c.second c.third none,
+  ) (record { asked = refl; blocks = refl; slots = refl });
 }
 
 -- ---- clients that connect
 
 -- the parts of a phone's number
-given : (client : Label) (n : ℕ) → IsClient client n → record { task = record { 0 = n / 64 }; phone = record { 0 = n % 64 } } ≡ client
+given : (client : Label) (n : ℕ) → IsClient client n
+    → record { task = record { 0 = n / 64 }; phone = record { 0 = n % 64 } } ≡ client
 given client n is = rw (task, phone) refl where
   task : n / 64 ≡ client.task.0
   task = omega (arith, is.number, is.small)
@@ -186,7 +252,8 @@ none_free s none = none_at_all is_none s.slots taken where
   taken j None at = absurd (none j at)
   taken j (Some l) at = refl
 
-pub set_here : {A : Type 0} (xs : List A) (i : ℕ) (x y : A) → slice_get xs i ≡ Some x → slice_get (slice_set xs i y) i ≡ Some y
+pub set_here : {A : Type 0} (xs : List A) (i : ℕ) (x y : A) → slice_get xs i ≡ Some x
+    → slice_get (slice_set xs i y) i ≡ Some y
 set_here [] i x y at = absurd (none_at i x at)
 set_here (z ∷ zs) zero x y at = refl
 set_here (z ∷ zs) (suc i) x y at = set_here zs i x y at
@@ -200,14 +267,56 @@ set_there (z ∷ zs) (suc i) (suc j) y apart = set_there zs i j y (λ same. apar
 
 pub connects : ClientsConnect
 connects = record {
-  again = λ s now c client k is has. rw (c.made, c.rest.idle, given client c.fifth is, known s k client c.rest has) (record { asked = refl; blocks = refl; slots = refl });
-  answered = λ s now c client k o is has. rw (c.made, c.rest.idle, given client c.fifth is, known s k client c.rest has) (record { asked = refl; blocks = refl; slots = refl });
-  enters = λ s now c client k is none free. rw (c.made, c.rest.idle, given client c.fifth is, unknown s client none, first_free s k free)
-  (record {
-    has = set_here s.slots k None (Some client) free.free;
-    others = λ j apart. set_there s.slots k j (Some client) apart;
-    blocks = refl;
-  });
-  welcomed = λ s now c client k is none free. rw (c.made, c.rest.idle, given client c.fifth is, unknown s client none, first_free s k free) refl;
-  full = λ s now c client is none free. rw (c.made, c.rest.idle, given client c.fifth is, unknown s client none, none_free s free) (record { asked = refl; blocks = refl; slots = refl });
+  again = λ s now c client k is has. rw (
+    c.made,
+    c.rest.idle,
+    given client c.fifth is,
+    known s k client c.rest has,
+  ) (record { asked = refl; blocks = refl; slots = refl });
+  answered = λ s now c client k o is has. rw (
+    c.made,
+    c.rest.idle,
+    given client c.fifth is,
+    known s k client c.rest has,
+  ) (record { asked = refl; blocks = refl; slots = refl });
+  enters = λ s now c client k is none free.
+      let gave : Label = record { task = record { 0 = c.fifth / 64 }; phone = record { 0 = c.fifth % 64 } } in
+      rw (c.made, c.rest.idle, given client c.fifth is, unknown s client none, first_free s k free)
+      (record {
+        has = set_here s.slots k None (Some gave) free.free
+            ∙ ap (λ (l : Label). Some (Some l)) (given client c.fifth is);
+        others = λ j apart. set_there s.slots k j (Some gave) apart;
+        blocks = refl;
+      });
+  welcomed = λ s now c client k is none free. rw (
+    c.made,
+    c.rest.idle,
+    given client c.fifth is,
+    unknown s client none,
+    first_free s k free,
+  ) refl;
+  full = λ s now c client is none free. rw (
+    c.made,
+    c.rest.idle,
+    given client c.fifth is,
+    unknown s client none,
+    none_free s free,
+  ) (record { asked = refl; blocks = refl; slots = refl });
+}
+
+-- ---- what is owed
+
+pub answered_transfers : TransfersAreAnswered
+answered_transfers = record {
+  shown = λ s call address block rest is. rw is refl;
+  not_shown = λ s call address block n rest is. rw is refl;
+  fetched = λ s call address block rest bytes is. rw is refl;
+  not_fetched = λ s call address block n rest is. rw is refl;
+}
+
+pub owed : OwedWorkStays
+owed = record {
+  offered = λ s service rest o is. rw is refl;
+  dropped = λ s base rest o is. rw is refl;
+  answered = λ s call said rest o is. rw is refl;
 }

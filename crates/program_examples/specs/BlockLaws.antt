@@ -1,6 +1,6 @@
 -- What a block server asks after a call has come, in the words of clients, windows and places; numbers are numbers.
 -- Window k begins at 4,096 times k + 1 and has 4,096 bytes.
-use Rattle.std.specs.Prelude.{◌≡◌, ℕ, ◌+◌, ◌*◌, ◌<◌, ◌≤◌, List, [], ◌∷◌, Option, None, Some, length, slice_get}
+use Rattle.std.specs.Prelude.{◌≡◌, ℕ, ◌+◌, ◌*◌, ◌<◌, ◌≤◌, List, [], ◌∷◌, Option, None, Some, length, slice_get, slice_set}
 use Rattle.ipc_ids.specs.declared.numbers.CallNo.{CallNo}
 use Rattle.ipc_ids.specs.declared.numbers.Label.{Label}
 use Rattle.ipc_ids.specs.declared.message.Reply.{Reply}
@@ -8,8 +8,10 @@ use Rattle.ipc_ids.specs.declared.message.Request.{Request}
 use Rattle.ipc_ids.specs.declared.message.Request.TheVariants as ask
 use Rattle.ipc_ids.specs.declared.message.Outcome.{Outcome}
 use Rattle.ipc_ids.specs.declared.message.Outcome.TheVariants as got
+use Rattle.block_server.specs.declared.received.Work.{Work}
+use Rattle.block_server.specs.declared.received.Work.TheVariants.{Offer, Drop, Answer, Show, Fetch}
 use Rattle.block_server.specs.Blocks.{BlockState, wanted, after}
-use Rattle.program_examples.specs.Apart.{five, message, reply}
+use Rattle.program_examples.specs.Apart.{five, code, message, reply}
 
 -- window k is that of this client
 abbrev pub Has : BlockState → ℕ → Label → Type 0
@@ -132,3 +134,38 @@ pub record ClientsConnect : Type 0 where
       HasNone s client → IsFirstFree s k → wanted now ≡ ask.Answer c.call.0 (reply 0 (five 0 0 0 0 0))
   pub full : (s now : BlockState) (c : Comes 2 s now) (client : Label) → IsClient client c.fifth →
       HasNone s client → HasNoFree s → Refuses c.call 5 s now
+
+-- ---- what a server owes
+
+-- a transfer that is owed is answered next, with what came of it, and all that is owed behind it stays; a read changes
+-- no block, a write the one that it names, and a write that is refused none
+pub record TransfersAreAnswered : Type 0 where
+  pub shown : (s : BlockState) (call : CallNo) (address block : ℕ) (rest : List Work) →
+      s.work ≡ Show call address block ∷ rest →
+      after s got.Done
+      ≡ record s { work = Answer call (reply 0 (five 0 0 0 0 0)) ∷ rest; taken = s.taken + 1 }
+  pub not_shown : (s : BlockState) (call : CallNo) (address block n : ℕ) (rest : List Work) →
+      s.work ≡ Show call address block ∷ rest →
+      after s (got.Refused (code n))
+      ≡ record s { work = Answer call (reply n (five 0 0 0 0 0)) ∷ rest; taken = s.taken + 1 }
+  pub fetched : (s : BlockState) (call : CallNo) (address block : ℕ) (rest : List Work) (bytes : List ℕ) →
+      s.work ≡ Fetch call address block ∷ rest →
+      after s (got.Bytes bytes)
+      ≡ record s {
+        blocks = slice_set s.blocks block bytes;
+        work = Answer call (reply 0 (five 0 0 0 0 0)) ∷ rest;
+        taken = s.taken + 1;
+      }
+  pub not_fetched : (s : BlockState) (call : CallNo) (address block n : ℕ) (rest : List Work) →
+      s.work ≡ Fetch call address block ∷ rest →
+      after s (got.Refused (code n))
+      ≡ record s { work = Answer call (reply n (five 0 0 0 0 0)) ∷ rest; taken = s.taken + 1 }
+
+-- any other work that is owed is done, whatever comes of it, and what is owed behind it stays
+pub record OwedWorkStays : Type 0 where
+  pub offered : (s : BlockState) (service : ℕ) (rest : List Work) (o : Outcome) → s.work ≡ Offer service ∷ rest →
+      after s o ≡ record s { work = rest; taken = s.taken + 1 }
+  pub dropped : (s : BlockState) (base : ℕ) (rest : List Work) (o : Outcome) → s.work ≡ Drop base ∷ rest →
+      after s o ≡ record s { work = rest; taken = s.taken + 1 }
+  pub answered : (s : BlockState) (call : CallNo) (said : Reply) (rest : List Work) (o : Outcome) →
+      s.work ≡ Answer call said ∷ rest → after s o ≡ record s { work = rest; taken = s.taken + 1 }

@@ -5,6 +5,8 @@ use Rattle.std.specs.List.{find}
 use Rattle.ipc_ids.specs.declared.numbers.CallNo.{CallNo}
 use Rattle.ipc_ids.specs.declared.numbers.FibrilNo.{FibrilNo}
 use Rattle.ipc_ids.specs.declared.numbers.ExchangeNo.{ExchangeNo}
+use Rattle.ipc_ids.specs.declared.numbers.Code.{Code}
+use Rattle.ipc_ids.specs.declared.message.ExchangeMode.{ExchangeMode}
 use Rattle.ipc_ids.specs.declared.message.Mode.{Mode}
 use Rattle.ipc_ids.specs.declared.message.Msg.{Msg}
 use Rattle.ipc_ids.specs.declared.message.Reply.{Reply}
@@ -17,6 +19,7 @@ use Rattle.ipc_ids.specs.declared.op.Value.{Value}
 use Rattle.ipc_ids.specs.declared.op.Value.TheVariants.{Number, Register}
 use Rattle.ipc_ids.specs.declared.op.Op.{Op}
 use Rattle.ipc_ids.specs.declared.op.Op.TheVariants as op
+use Rattle.fibril_core.specs.declared.conn.Conn.{Conn}
 use Rattle.fibril_core.specs.Fibrils.{why_of}
 use Rattle.async_sessions.specs.declared.sessions.Session.{Session}
 use Rattle.async_sessions.specs.declared.sessions.Held.TheVariants.{By}
@@ -34,7 +37,7 @@ use Rattle.async_task.specs.Wanted.{wanted}
 use Rattle.async_task.specs.Steps.{step}
 use Rattle.raw_program.specs.Raw as raw
 use Rattle.raw_program.specs.Raw.{RawState}
-use Rattle.program_examples.specs.Apart.{code}
+use Rattle.program_examples.specs.Apart.{five, code}
 
 -- ---- values
 
@@ -180,6 +183,34 @@ pub record BeginsAreRefused : Type 0 where
       session_at a.pool s ≡ None → IsRefused 1 f t a
   pub busy : (a : AsyncState) (f : FibrilNo) (t : Context) (x s phone : ℕ) (u : Session) →
       Does f t (op.Begin x s) a → session_at a.pool s ≡ Some u → HasBegun f t x phone a → IsRefused 8 f t a
+
+-- no connection is that of fibril f
+abbrev pub ServesNone : FibrilNo → AsyncState → Type 0
+ServesNone f a = (i : ℕ) (c : Conn) → slice_get a.conns i ≡ Some c → c.fibril.0 ≡ f.0 → ⊥
+
+-- to make a session is refused with EBUSY where its number is in use; ENOENT is told of a wait where the slot holds no
+-- call, of `next` where the fibril has no connection, and of an end where it has begun none under the handle
+pub record OthersAreRefused : Type 0 where
+  pub open_session : (a : AsyncState) (f : FibrilNo) (t : Context) (s : ℕ) (phone : Value) (mode : ExchangeMode)
+      (u : Session) → Does f t (op.OpenSession s phone mode) a → session_at a.pool s ≡ Some u → IsRefused 8 f t a
+  pub wait : (a : AsyncState) (f : FibrilNo) (t : Context) (k : ℕ) → Does f t (op.Wait k) a → IsFree t k →
+      IsRefused 1 f t a
+  pub next : (a : AsyncState) (f : FibrilNo) (t : Context) → Does f t op.Next a → ServesNone f a →
+      IsRefused 1 f t a
+  pub end_exchange : (a : AsyncState) (f : FibrilNo) (t : Context) (x : ℕ) → Does f t (op.End x) a →
+      HasNotBegun f t x a → IsRefused 1 f t a
+
+-- ---- what a task owes
+
+-- the first answer that is owed is made before all else, the others stay in their order, and nothing is told
+pub record OwedAnswersComeFirst (a : AsyncState) (n : CallNo) (c : Code) (rest : List (CallNo × Code)) : Type 0 where
+  pub asked : wanted a ≡ ask.Answer n.0 (record { code = c; args = five 0 0 0 0 0 })
+  pub stays : (o : Outcome) → step a o ≡ record { state = record a { work = rest }; entries = [] }
+
+abbrev pub TasksAnswerWhatTheyOwe : Type 0
+TasksAnswerWhatTheyOwe =
+    (a : AsyncState) (n : CallNo) (c : Code) (rest : List (CallNo × Code)) → a.work ≡ (n, c) ∷ rest →
+    OwedAnswersComeFirst a n c rest
 
 -- the answer of call n is awaited for the begin of fibril f
 pub record AwaitsForItsBegin (f : FibrilNo) (t : Context) (n : CallNo) (a : AsyncState) : Type 0 where

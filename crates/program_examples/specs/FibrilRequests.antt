@@ -30,8 +30,8 @@ pub record FibrilCalls : Type 0 where
   pub send_over_that_of_another_fibril : Asks (op.Send 5 4 (Register 22) five_values) ask.Nothing
   pub send_over_none : Asks (op.Send 5 6 (Register 22) five_values) ask.Nothing
 
--- a begin asks for a connect call, or for the hangup of the exchange that has been idle longest in the task; a close for
--- the hangup of the one that has been idle longest in the session, or of the session's phone
+-- a begin asks for a connect call, or for the hangup of the exchange that has been idle longest in the task; a close
+-- for the hangup of the one that has been idle longest in the session, or of the session's phone
 pub record FibrilSessions : Type 0 where
   pub open_session : Asks (op.OpenSession 8 (Register 21) Serialize) ask.Nothing
   pub begin_atomic : Asks (op.Begin 6 3) ask.Nothing

@@ -84,7 +84,8 @@ pub record WaitSteps : Type 0 where
       (entry.Blocks task_number (fibril 2) (why.Answer (call_number 72)) ∷ [])
   pub wait_for_none : IsRefused (op.Wait 5) 1
   pub next : Makes op.Next got.Done
-      (record (keeping (gone_on (0 ∷ 201 ∷ 81 ∷ 601 ∷ five 91 92 93 94 95 ++ from 209 7 ++ 7 ∷ 8 ∷ from 218 14)) op.Next) {
+      (record (keeping (gone_on (0 ∷ 201 ∷ 81 ∷ 601 ∷ five 91 92 93 94 95 ++ from 209 7 ++ 7 ∷ 8 ∷ from 218 14))
+      op.Next) {
         conns = connection (queued 82 602 ∷ []) ∷ [];
       })
       []

@@ -1,6 +1,7 @@
 -- What the manager of an async task makes of what it receives, of answers that are owed, and of the end of a fibril, a
 -- row for each, with all values apart.
 use Rattle.std.specs.Prelude.{◌≡◌, ℕ, true, false, List, [], ◌∷◌, ◌++◌, Option, None, Some}
+use Rattle.ipc_ids.specs.declared.numbers.ExchangeNo.{ExchangeNo}
 use Rattle.ipc_ids.specs.declared.message.ExchangeMode.TheVariants.{Parallel}
 use Rattle.ipc_ids.specs.declared.message.Outcome.{Outcome}
 use Rattle.ipc_ids.specs.declared.message.Outcome.TheVariants as got
@@ -11,17 +12,20 @@ use Rattle.ipc_ids.specs.declared.entry.Entry.TheVariants as entry
 use Rattle.ipc_ids.specs.declared.op.Op.{Op}
 use Rattle.ipc_ids.specs.declared.op.Op.TheVariants as op
 use Rattle.fibril_core.specs.declared.conn.Conn.{Conn}
+use Rattle.fibril_core.specs.declared.conn.Queued.{Queued}
 use Rattle.fibril_core.specs.declared.fibrils.Status.{Status}
 use Rattle.fibril_core.specs.declared.fibrils.Status.TheVariants as status
 use Rattle.fibril_core.specs.declared.fibrils.Fibril.{Fibril}
 use Rattle.fibril_core.specs.Fibrils.{FibrilOrder}
 use Rattle.async_sessions.specs.declared.sessions.Held.TheVariants.{By}
+use Rattle.async_task.specs.declared.context.Slot.{Slot}
 use Rattle.async_task.specs.declared.context.Slot.TheVariants as slot
 use Rattle.async_task.specs.declared.context.Context.{Context}
 use Rattle.async_task.specs.AsyncState.{AsyncState}
 use Rattle.async_task.specs.Steps.{step}
+use Rattle.async_task.specs.Program.{started}
 use Rattle.program_examples.specs.Apart.{from, five, call_number, code, message, reply, label}
-use Rattle.program_examples.specs.FibrilTask.{task, task_number, fibril, exchange, fibril_as, first, fourth, fifth, sixth, seventh, own, gone_on, kept, all_keep, handles, slots, sent, answered, connection, queued, awaited, awaits, exchange_as, exchanges, pool}
+use Rattle.program_examples.specs.FibrilTask.{task, task_number, fibril, exchange, fibril_as, first, fourth, fifth, sixth, seventh, own, gone_on, kept, all_keep, handles, slots, sent, answered, connection, queued, awaited, awaits, exchange_as, exchanges, pool, body, bodies}
 
 -- no fibril is ready: the second is blocked on this, since stamp 5, and the third on a message
 abbrev pub asleep : Fibril → ℕ → FibrilOrder
@@ -112,24 +116,38 @@ called method t p before =
 abbrev pub conns_of : AsyncState → List Conn → AsyncState
 conns_of a conns = record a { conns = conns }
 
--- the registers of a fibril that starts with such a call
-abbrev pub started_with : Option Context
-started_with =
+abbrev pub all_closed : List Slot
+all_closed =
+    slot.Closed ∷ slot.Closed ∷ slot.Closed ∷ slot.Closed ∷ slot.Closed ∷ slot.Closed ∷ slot.Closed ∷ slot.Closed
+    ∷ []
+
+abbrev pub all_unnamed : List (Option ExchangeNo)
+all_unnamed = None ∷ None ∷ None ∷ None ∷ None ∷ None ∷ None ∷ None ∷ []
+
+-- a fibril of the third body that starts with a connect call, from phone 22 of task 21
+abbrev pub started_with : ℕ → Option Context
+started_with fifth =
     Some (record {
       body = 2;
       place = 0;
       registers =
-          0 ∷ 0 ∷ 83 ∷ 2 ∷ five 91 92 93 94 457 ++ 0 ∷ 0 ∷ 0 ∷ 0 ∷ 0 ∷ 0 ∷ 0 ∷ 21 ∷ 22
+          0 ∷ 0 ∷ 83 ∷ 2 ∷ five 91 92 93 94 fifth ++ 0 ∷ 0 ∷ 0 ∷ 0 ∷ 0 ∷ 0 ∷ 0 ∷ 21 ∷ 22
           ∷ 0 ∷ 0 ∷ 0 ∷ 0 ∷ 0 ∷ 0 ∷ 0 ∷ 0 ∷ 0 ∷ 0 ∷ 0 ∷ 0 ∷ 0 ∷ 0 ∷ [];
-      slots =
-          slot.Closed ∷ slot.Closed ∷ slot.Closed ∷ slot.Closed ∷ slot.Closed ∷ slot.Closed ∷ slot.Closed
-          ∷ slot.Closed ∷ [];
-      handles = None ∷ None ∷ None ∷ None ∷ None ∷ None ∷ None ∷ None ∷ [];
+      slots = all_closed;
+      handles = all_unnamed;
       short = false;
     })
 
+-- what the second fibril keeps after a closing
+abbrev pub hung_up : Context
+hung_up = gone_on (0 ∷ 201 ∷ 0 ∷ 0 ∷ five 0 0 0 0 0 ++ from 209 7 ++ 7 ∷ 8 ∷ from 218 14)
+
 abbrev pub new_connection : (task phone : ℕ) → Conn
 new_connection t p = record (connection []) { fibril = fibril 8; label = label t p }
+
+-- a connection that this call has closed
+abbrev pub closed_by : ℕ → List Queued → Conn
+closed_by n queue = record (connection queue) { closed = true; close_call = Some (call_number n) }
 
 -- a call goes to the connection of its label, or starts one: 457 is 64 times 7 and 9, so its label is phone 9 of task 7
 pub record CallsCome : Type 0 where
@@ -164,9 +182,38 @@ pub record CallsCome : Type 0 where
                   ++ fibril_as 8 status.Ready 9 ∷ [];
               next_stamp = 10;
             };
-        contexts = kept own ++ started_with ∷ [];
+        contexts = kept own ++ started_with 457 ∷ [];
       })
       (entry.Starts task_number (fibril 8) (label 7 9) ∷ [])
+  -- an older connection of the label, whose fibril waits, loses it and is closed; 456 is 64 times 7 and 8
+  pub starts_again : Receives (conns_of (waiting why.Message op.Next) (connection [] ∷ []))
+      (got.Received (call_number 83) (message 2 (five 91 92 93 94 456)) (label 21 22))
+      (record (waiting why.Message op.Next) {
+        conns = record (connection []) { routes = false; closed = true } ∷ new_connection 7 8 ∷ [];
+        order =
+            record { fibrils = woken.fibrils ++ fibril_as 8 status.Ready 10 ∷ []; next_stamp = 11 };
+        contexts = kept hung_up ++ started_with 456 ∷ [];
+      })
+      (entry.Starts task_number (fibril 8) (label 7 8) ∷ [])
+  pub closes_who_waits : Receives (conns_of (waiting why.Message op.Next) (connection [] ∷ [])) (call 0 7 8)
+      (record (waiting why.Message op.Next) {
+        conns = record (connection []) { closed = true; close_call = Some (call_number 83) } ∷ [];
+        order = woken;
+        contexts = kept hung_up;
+      })
+      []
+  pub closes_again : Receives (conns_of (waiting (why.Answer (call_number 72)) (op.Wait 3)) (closed_by 84 [] ∷ []))
+      (call 0 7 8)
+      (conns_of (waiting (why.Answer (call_number 72)) (op.Wait 3))
+      (closed_by 84 (record { call = call_number 83; msg = message 0 (five 91 92 93 94 457) } ∷ []) ∷ []))
+      []
+  pub connects_without_a_body : Receives (record (waiting why.Message op.Next) { bodies = body (op.Next ∷ []) ∷ [] })
+      (call 2 21 22)
+      (record (waiting why.Message op.Next) {
+        bodies = body (op.Next ∷ []) ∷ [];
+        work = (call_number 83, code 6) ∷ [];
+      })
+      []
   pub nothing : Receives (waiting why.Message op.Next) got.Empty (waiting why.Message op.Next) []
 
 -- an answer that is owed is made, and the others stay; the second fibril ends, its connection owes EHANGUP for each
@@ -179,13 +226,13 @@ pub record EndsAndWork : Type 0 where
         entries = [];
       }
   pub fibril_ends : step (record (task op.Yield) {
-        contexts = kept (record own { place = 3 });
-        conns =
-            record (connection (queued 81 601 ∷ queued 82 602 ∷ [])) {
-              closed = true;
-              close_call = Some (call_number 84);
-            } ∷ [];
-      }) got.Done
+    contexts = kept (record own { place = 3 });
+    conns =
+        record (connection (queued 81 601 ∷ queued 82 602 ∷ [])) {
+          closed = true;
+          close_call = Some (call_number 84);
+        } ∷ [];
+  }) got.Done
       ≡ record {
         state =
             record (task op.Yield) {
@@ -203,3 +250,45 @@ pub record EndsAndWork : Type 0 where
             };
         entries = entry.Ends task_number (fibril 2) ∷ [];
       }
+
+-- what a fibril keeps before the first operation of its body
+abbrev pub new : ℕ → Option Context
+new number =
+    Some (record {
+      body = number;
+      place = 0;
+      registers =
+          0 ∷ 0 ∷ 0 ∷ 0 ∷ 0 ∷ 0 ∷ 0 ∷ 0 ∷ 0 ∷ 0 ∷ 0 ∷ 0 ∷ 0 ∷ 0 ∷ 0 ∷ 0
+          ∷ 0 ∷ 0 ∷ 0 ∷ 0 ∷ 0 ∷ 0 ∷ 0 ∷ 0 ∷ 0 ∷ 0 ∷ 0 ∷ 0 ∷ 0 ∷ 0 ∷ 0 ∷ 0 ∷ [];
+      slots = all_closed;
+      handles = all_unnamed;
+      short = false;
+    })
+
+-- at the start a fibril stands before each body, but for that of connections, and they are ready in this order
+abbrev pub TaskStart : Type 0
+TaskStart = started task_number (bodies op.Yield)
+    ≡ record {
+      me = task_number;
+      bodies = bodies op.Yield;
+      order =
+          record {
+            fibrils =
+                fibril_as 1 status.Ready 1 ∷ fibril_as 2 status.Ready 2 ∷ fibril_as 3 status.Ready 3
+                ∷ fibril_as 4 status.Ready 4 ∷ [];
+            next_stamp = 5;
+          };
+      contexts = new 0 ∷ new 1 ∷ new 3 ∷ new 4 ∷ [];
+      conns = [];
+      pool =
+          record {
+            sessions =
+                None ∷ None ∷ None ∷ None ∷ None ∷ None ∷ None ∷ None ∷ None ∷ None ∷ None ∷ None ∷ None ∷ None
+                ∷ None ∷ None ∷ [];
+            exchanges = [];
+            next_number = 1;
+            next_stamp = 1;
+          };
+      awaited = [];
+      work = [];
+    }

@@ -12,6 +12,7 @@ use Rattle.ipc_ids.specs.declared.message.Outcome.{Outcome}
 use Rattle.ipc_ids.specs.declared.message.Outcome.TheVariants as got
 use Rattle.task_ends.specs.declared.introduced.End.{End}
 use Rattle.task_ends.specs.declared.introduced.Introduced.{Introduced}
+use Rattle.naming_service.specs.declared.received.ReceivedCall.{ReceivedCall}
 use Rattle.naming_service.specs.declared.received.Work.{Work}
 use Rattle.naming_service.specs.declared.received.Work.TheVariants.{Answer, Forward}
 use Rattle.naming_service.specs.Naming.{NamingState, wanted, after}
@@ -113,6 +114,32 @@ pub record WaitsAreForTheKnown : Type 0 where
       x.label.task.0 ≡ c.first → x.ended ≡ true → x.end.has ≡ false →
       Answers c.call (reply 0 (five 0 0 0 0 0)) s now
   pub unknown : (s now : NamingState) (c : Comes 514 s now) → IsUnknown s c.first → Refuses c.call 1 s now
+
+-- ---- calls for a service
+
+-- no phone leads to this service
+abbrev pub IsNotThere : NamingState → ℕ → Type 0
+IsNotThere s service = (i phone : ℕ) → slice_get s.registry i ≡ Some (service, phone) → ⊥
+
+-- nothing is asked but the next call, and the call is pending, behind all others
+pub record IsPendingLast (received : ReceivedCall) (s now : NamingState) : Type 0 where
+  pub asked : wanted now ≡ ask.Receive
+  pub pending : now.pending ≡ s.pending ++ received ∷ []
+  pub registry : now.registry ≡ s.registry
+  pub ends : now.ends ≡ s.ends
+
+-- a call for a service that is not there waits where its fourth argument is 1, behind all others; else it is told
+-- ENOENT
+pub record CallsWaitForServices : Type 0 where
+  pub waits : (s now : NamingState) (c : Comes 2 s now) → IsNotThere s c.first → c.fourth ≡ 1 →
+      IsPendingLast
+      (record {
+        number = c.call;
+        msg = message 2 (five c.first c.second c.third c.fourth c.fifth);
+        label = c.sender;
+      }) s now
+  pub refused : (s now : NamingState) (c : Comes 2 s now) → IsNotThere s c.first → (c.fourth ≡ 1 → ⊥) →
+      Refuses c.call 1 s now
 
 -- ---- what is owed
 

@@ -5,7 +5,7 @@ ghost use Rattle.program_examples.specs.FibrilSteps.{CallSteps, WaitSteps, RawSt
 ghost use Rattle.program_examples.specs.SessionSteps.{OpenSteps, BeginSteps, ConnectSteps};
 ghost use Rattle.program_examples.specs.SessionSteps.{EndSteps, CloseSteps};
 ghost use Rattle.program_examples.specs.ManagerSteps.{AnswersCome, ConnectsAreAnswered};
-ghost use Rattle.program_examples.specs.ManagerSteps.{CallsCome, EndsAndWork};
+ghost use Rattle.program_examples.specs.ManagerSteps.{CallsCome, EndsAndWork, TaskStart};
 
 /// Each operation of a fibril asks its request, each argument in its place and over its own phone,
 /// or nothing; and it is asked in its turn.
@@ -38,10 +38,12 @@ pub fn operations_on_sessions_do_by_their_rows()
 {}
 
 /// What the manager receives goes where its row says: an answer to the fibril and slot that sent
-/// the call, or to its begin, and a call to the connection of its label, or to a new one.
+/// the call, or to its begin, and a call to the connection of its label, or to a new one. At the
+/// start a fibril stands before each body, but for that of connections.
 pub fn the_manager_does_by_its_rows()
     ensures answers { AnswersCome }
     ensures connects { ConnectsAreAnswered }
     ensures calls { CallsCome }
     ensures ends { EndsAndWork }
+    ensures start { TaskStart }
 {}

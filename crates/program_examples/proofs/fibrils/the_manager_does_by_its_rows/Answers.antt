@@ -23,6 +23,10 @@ returns-clause-calls c = record {
   closes = refl;
   stray = refl;
   starts = refl;
+  starts_again = refl;
+  closes_who_waits = refl;
+  closes_again = refl;
+  connects_without_a_body = refl;
   nothing = refl;
 }
 
@@ -31,3 +35,6 @@ returns-clause-ends c = record {
   owed = refl;
   fibril_ends = refl;
 }
+
+pub returns-clause-start : goal.returns-clause-start
+returns-clause-start c = refl
