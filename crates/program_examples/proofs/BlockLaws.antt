@@ -1,19 +1,14 @@
 -- The laws of block servers, over the definitions.
-use Rattle.std.proofs.Common.{◌≡◌, ◌+◌, ◌*◌, ◌/◌, ◌%◌, ◌<◌, ◌≤◌, ℕ, zero, suc, ◌==◌, Bool, true, false, List, [], ◌∷◌, length, Option, Some, None, refl, sym, ap, ◌∙◌, subst, arith}
-use Rattle.std.specs.Prelude.{◌&&◌, not, nat_lt, is_none, get_or, option_map, slice_get, slice_set, position, cond, if◌then◌else◌}
+use Rattle.std.proofs.Common.{◌≡◌, ◌+◌, ◌/◌, ◌%◌, ◌<◌, ◌≤◌, ℕ, zero, suc, ◌==◌, Bool, true, false, List, [], ◌∷◌, length, Option, Some, None, refl, ap, ◌∙◌, arith}
+use Rattle.std.specs.Prelude.{◌&&◌, not, nat_lt, is_none, option_map, slice_get, slice_set, position, cond, if◌then◌else◌}
 use Rattle.std.specs.List.{position_or_len}
 use Rattle.std.proofs.Math.Nat.{div-add-mod}
-use Rattle.std.proofs.lemmas.Bool.{eq-eqb, ne_eqb, eqb-true, eqb-false}
+use Rattle.std.proofs.lemmas.Bool.{eq-eqb, eqb-true}
 use Rattle.std.proofs.lemmas.Option.{get_or_from_slice_get}
-use Rattle.ipc_ids.specs.declared.numbers.CallNo.{CallNo}
 use Rattle.ipc_ids.specs.declared.numbers.Label.{Label}
-use Rattle.ipc_ids.specs.declared.message.Outcome.{Outcome}
-use Rattle.ipc_ids.specs.declared.message.Outcome.TheVariants as got
 use Rattle.ipc_ids.specs.Labels.{same_label}
-use Rattle.block_server.specs.declared.received.ReceivedCall.{ReceivedCall}
-use Rattle.block_server.specs.Blocks.{BlockState, has_label, slot_of, free_slot, is_offset, is_window, label_given}
-use Rattle.program_examples.specs.Apart.{five, message, reply}
-use Rattle.program_examples.specs.BlockLaws.{Has, HasNone, IsAtRest, Comes, Asks, IsPlace, IsWithin, RefusesTransfers, ReadsGoToTheOwnWindow, WritesComeFromTheOwnWindow, PlacesAreWithin, SharesAreTaken, IsClient, IsFirstFree, HasNoFree, Enters, ClientsConnect, TransfersAreAnswered, OwedWorkStays}
+use Rattle.block_server.specs.Blocks.{BlockState, has_label, slot_of, free_slot, is_offset}
+use Rattle.program_examples.specs.BlockLaws.{Has, HasNone, IsAtRest, IsPlace, RefusesTransfers, ReadsGoToTheOwnWindow, WritesComeFromTheOwnWindow, PlacesAreWithin, SharesAreTaken, IsClient, IsFirstFree, HasNoFree, ClientsConnect, TransfersAreAnswered, OwedWorkStays}
 
 -- ---- searches
 

@@ -1,31 +1,13 @@
 -- The laws of what fibrils and raw programs ask, over the definitions.
-use Rattle.std.proofs.Common.{◌≡◌, ◌⊎◌, inl, inr, ◌+◌, ◌-◌, ◌^◌, ◌<◌, ◌≤◌, ℕ, zero, suc, ◌==◌, Bool, true, false, List, [], ◌∷◌, map, length, Option, Some, None, refl, sym, ap, ◌∙◌, subst, arith}
-use Rattle.std.specs.Prelude.{◌&&◌, ◌||◌, not, nat_lt, is_some, get_or, slice_get, slice_set, slice_index, if◌then◌else◌}
-use Rattle.std.specs.List.{find}
-use Rattle.std.proofs.lemmas.Bool.{eq-eqb, eqb-true}
+use Rattle.std.proofs.Common.{◌≡◌, ℕ, List, [], ◌∷◌, map, refl}
 use Rattle.std.proofs.lemmas.Option.{get_or_from_slice_get}
-use Rattle.ipc_ids.specs.declared.numbers.CallNo.{CallNo}
-use Rattle.ipc_ids.specs.declared.numbers.Code.{Code}
-use Rattle.ipc_ids.specs.declared.numbers.FibrilNo.{FibrilNo}
-use Rattle.ipc_ids.specs.declared.numbers.ExchangeNo.{ExchangeNo}
-use Rattle.ipc_ids.specs.declared.message.ExchangeMode.{ExchangeMode}
-use Rattle.ipc_ids.specs.declared.message.ExchangeMode.TheVariants as mode
 use Rattle.ipc_ids.specs.declared.message.Msg.{Msg}
 use Rattle.ipc_ids.specs.declared.message.Reply.{Reply}
-use Rattle.ipc_ids.specs.declared.message.Why.{Why}
-use Rattle.ipc_ids.specs.declared.message.Outcome.{Outcome}
-use Rattle.ipc_ids.specs.declared.message.Outcome.TheVariants as got
 use Rattle.ipc_ids.specs.declared.op.Value.{Value}
 use Rattle.ipc_ids.specs.declared.op.Value.TheVariants.{Number, Register}
-use Rattle.ipc_ids.specs.declared.op.Op.{Op}
-use Rattle.ipc_ids.specs.declared.op.Op.TheVariants as op
-use Rattle.fibril_core.specs.Fibrils.{current, why_of}
 use Rattle.async_task.specs.declared.context.Context.{Context}
-use Rattle.async_task.specs.Turns as turn
-use Rattle.async_task.specs.Turns.{Turn, turn_now, work_turn, fibril_turn, turn_of}
-use Rattle.async_task.specs.AsyncState.{AsyncState, context_at, present_op, with_context}
 use Rattle.async_task.specs.Contexts.{value_in, msg_of, reply_of}
-use Rattle.program_examples.specs.FibrilLaws.{Is, Are, IsMessage, IsReply, Does, FibrilsAskAsGiven, RawDoes, RawProgramsAskAsGiven}
+use Rattle.program_examples.specs.FibrilLaws.{Is, Are, IsMessage, IsReply, FibrilsAskAsGiven}
 
 -- ---- values
 

@@ -1,6 +1,6 @@
 -- The laws of what fibrils are refused, and of begins that met the limit, over the definitions.
-use Rattle.std.proofs.Common.{◌≡◌, ◌⊎◌, inl, inr, ◌+◌, ◌-◌, ◌^◌, ◌<◌, ◌≤◌, ℕ, zero, suc, ◌==◌, Bool, true, false, List, [], ◌∷◌, length, Option, Some, None, refl, sym, ap, ◌∙◌, subst, arith}
-use Rattle.std.specs.Prelude.{◌&&◌, ◌||◌, nat_lt, is_some, slice_get, slice_set, slice_index, position, if◌then◌else◌}
+use Rattle.std.proofs.Common.{◌≡◌, inl, inr, ◌-◌, ◌^◌, ◌<◌, ◌≤◌, ℕ, zero, suc, ◌==◌, Bool, true, false, List, [], ◌∷◌, length, Option, Some, None, refl, sym, ap, ◌∙◌, subst, arith}
+use Rattle.std.specs.Prelude.{◌&&◌, ◌||◌, slice_get, slice_index, position, if◌then◌else◌}
 use Rattle.std.proofs.lemmas.Bool.{eq-eqb, ne_eqb, eqb-true, eqb-false}
 use Rattle.ipc_ids.specs.declared.numbers.CallNo.{CallNo}
 use Rattle.ipc_ids.specs.declared.numbers.Code.{Code}
@@ -24,10 +24,9 @@ use Rattle.async_sessions.specs.declared.sessions.Held.{Held}
 use Rattle.async_sessions.specs.declared.sessions.Held.TheVariants.{By, Idle}
 use Rattle.async_sessions.specs.declared.sessions.Session.{Session}
 use Rattle.async_sessions.specs.declared.sessions.Exchange.{Exchange}
-use Rattle.async_sessions.specs.Sessions.{Open, session_at, mode_answer, exchange_at, same_held, held_in, held_by, phone_answer, first_idle, any_begun, begun_after, added, serial_of, idle_of, unless_idle, short_of, begin_in, close_idle}
+use Rattle.async_sessions.specs.Sessions.{Open, session_at, mode_answer, exchange_at, same_held, held_in, held_by, phone_answer, first_idle, any_begun, begun_after, added, serial_of, idle_of, unless_idle, short_of, begin_in}
 use Rattle.async_sessions.specs.SessionLaws.{HasOneBegun, HasNoneBegun}
 use Rattle.async_sessions.proofs.Searches.{none_begun, one_begun}
-use Rattle.async_task.specs.declared.context.Slot.TheVariants as slot
 use Rattle.async_task.specs.declared.context.Context.{Context}
 use Rattle.async_task.specs.Turns as turn
 use Rattle.async_task.specs.Turns.{turn_now, work_turn, fibril_turn, turn_of}
@@ -35,13 +34,13 @@ use Rattle.async_task.specs.Contexts.{handle_in, handle_at, after_refused, after
 use Rattle.async_task.specs.AsyncState.{AsyncState, Transition, context_at, present_op, with_context}
 use Rattle.async_task.specs.Kept.{kept_in, kept_at}
 use Rattle.async_task.specs.Calls.{refuse_op}
-use Rattle.async_task.specs.Exchanges.{with_pool, begin_exchange, connect_refused_by, connect_refused, connect_outcome, begin_op}
+use Rattle.async_task.specs.Exchanges.{with_pool, begin_exchange, connect_refused_by, connect_outcome, begin_op}
 use Rattle.async_task.specs.Answers.{is_for, wake_if, forget_call, connect, answer_begin_by}
 use Rattle.async_task.specs.Wanted.{wanted, phone_by, unless_held, plan_begin, is_begin_of, begins_in, is_blocked, waits_for, any_waits}
 use Rattle.async_task.specs.Steps.{step}
 use Rattle.program_examples.specs.Apart.{code}
-use Rattle.program_examples.specs.FibrilLaws.{Does, IsRefused, IsInUse, HasBegun, HasNotBegun, CallsGoAsGiven, SendsGoOverTheExchange, WaitsInABegin, ClosesMindWhoWaits, BeginsAreRefused, OthersAreRefused, TasksAnswerWhatTheyOwe, AwaitsForItsBegin, ShortEndsWithItsBegin}
-use Rattle.program_examples.proofs.BlockLaws.{some_is, none_at, set_here, within_list, before_all, none_at_all}
+use Rattle.program_examples.specs.FibrilLaws.{Does, IsRefused, HasBegun, HasNotBegun, CallsGoAsGiven, SendsGoOverTheExchange, WaitsInABegin, ClosesMindWhoWaits, BeginsAreRefused, OthersAreRefused, TasksAnswerWhatTheyOwe, ShortEndsWithItsBegin}
+use Rattle.program_examples.proofs.BlockLaws.{some_is, set_here, within_list, before_all, none_at_all}
 use Rattle.program_examples.proofs.FibrilLaws.{value_is, message_is}
 
 -- ---- whose turn it is, and what it keeps

@@ -1,14 +1,13 @@
 -- The laws of the naming service, over the definitions.
-use Rattle.std.proofs.Common.{◌≡◌, ◌+◌, ◌<◌, ℕ, zero, suc, ◌==◌, Bool, true, false, List, [], ◌∷◌, map, Option, Some, None, refl, sym, ap, ◌∙◌, subst, arith}
+use Rattle.std.proofs.Common.{◌≡◌, ℕ, zero, suc, ◌==◌, Bool, true, false, List, [], ◌∷◌, Some, None, refl, sym, ap, ◌∙◌, arith}
 use Rattle.std.specs.Prelude.{◌&&◌, not, is_some, slice_get, if◌then◌else◌}
-use Rattle.std.proofs.lemmas.Bool.{eq-eqb, ne_eqb, eqb-true, eqb-false}
+use Rattle.std.proofs.lemmas.Bool.{eq-eqb, ne_eqb, eqb-true}
 use Rattle.ipc_ids.specs.declared.numbers.Label.{Label}
 use Rattle.ipc_ids.specs.Labels.{same_label}
-use Rattle.task_ends.specs.declared.introduced.End.{End}
 use Rattle.task_ends.specs.declared.introduced.Introduced.{Introduced}
-use Rattle.task_ends.specs.Ends.{is_task, is_open, entry_of, is_known, open_entry, leaving, leave}
+use Rattle.task_ends.specs.Ends.{is_open, entry_of, open_entry, leaving, leave}
 use Rattle.naming_service.specs.Naming.{NamingState, phone_of}
-use Rattle.program_examples.specs.NamingLaws.{Stands, IsUnknown, IsAtRest, Comes, IsNobodys, TasksIntroduceThemselvesOnce, TasksLeaveTheirValue, WaitsAreForTheKnown, CallsWaitForServices, OwedWorkStays}
+use Rattle.program_examples.specs.NamingLaws.{Stands, IsAtRest, TasksIntroduceThemselvesOnce, TasksLeaveTheirValue, WaitsAreForTheKnown, CallsWaitForServices, OwedWorkStays}
 use Rattle.program_examples.proofs.BlockLaws.{some_is, none_at, same_is, label_same}
 
 -- ---- entries

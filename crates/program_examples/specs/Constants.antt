@@ -1,5 +1,5 @@
 -- The numbers behind the words of the services: laws and definitions share the words, and here stand the numbers.
-use Rattle.std.specs.Prelude.{◌≡◌, ℕ, ◌+◌, ◌*◌, List, [], ◌∷◌, true, false}
+use Rattle.std.specs.Prelude.{◌≡◌, ℕ, ◌+◌, ◌*◌, [], ◌∷◌, true, false}
 use Rattle.ipc_ids.specs.declared.message.Outcome.TheVariants as got
 use Rattle.ipc_ids.specs.Codes.{eok, enoent, eperm, eexist, einval, elimit, ehangup, eforward, ebusy, enomem}
 use Rattle.ipc_ids.specs.Methods as methods

@@ -1,5 +1,5 @@
 -- The reason that is told of a line at fault, a row for each reason; where two hold, the one that stands first.
-use Rattle.std.specs.Prelude.{◌≡◌, ℕ, true, false, List, [], ◌∷◌, ◌++◌, Option, None, Result, Ok, Err, replicate, codes}
+use Rattle.std.specs.Prelude.{◌≡◌, ℕ, List, [], ◌∷◌, ◌++◌, None, Err, replicate, codes}
 use Rattle.ipc_ids.specs.declared.message.Event.{Event}
 use Rattle.script_lines.specs.declared.fault.Reason.{Reason}
 use Rattle.script_lines.specs.declared.fault.Reason.TheVariants as reason
@@ -10,7 +10,7 @@ use Rattle.script_lines.specs.Text.{text_of_reason}
 use Rattle.script_lines.specs.ScriptParts.{ScriptParts, no_parts}
 use Rattle.script_lines.specs.Line.{after_line}
 use Rattle.script_reader.specs.Reading.{script_of, schedule_of}
-use Rattle.script_reader.specs.EventLine.{EventsAndNames, after_event_line}
+use Rattle.script_reader.specs.EventLine.{after_event_line}
 
 -- the first line of this script that is at fault has this number and this reason
 abbrev pub IsAtFault : List ℕ → ℕ → Reason → Type 0

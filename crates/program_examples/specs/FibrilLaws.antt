@@ -1,6 +1,6 @@
 -- What a fibril asks, what it is refused, and how long a begin keeps in mind that it met the limit, in the words of its
 -- operation, its registers and its exchanges; codes are numbers.
-use Rattle.std.specs.Prelude.{◌≡◌, ℕ, ◌+◌, ◌-◌, ◌^◌, ◌<◌, ◌≤◌, ◌⊎◌, ⊤, false, List, [], ◌∷◌, Option, None, Some, slice_get, slice_set}
+use Rattle.std.specs.Prelude.{◌≡◌, ℕ, ◌+◌, ◌-◌, ◌^◌, ◌<◌, ◌≤◌, ◌⊎◌, ⊤, false, List, [], ◌∷◌, None, Some, slice_get, slice_set}
 use Rattle.std.specs.List.{find}
 use Rattle.ipc_ids.specs.declared.numbers.CallNo.{CallNo}
 use Rattle.ipc_ids.specs.declared.numbers.FibrilNo.{FibrilNo}
@@ -26,7 +26,6 @@ use Rattle.async_sessions.specs.declared.sessions.Held.TheVariants.{By}
 use Rattle.async_sessions.specs.declared.sessions.Exchange.{Exchange}
 use Rattle.async_sessions.specs.Sessions.{session_at, exchange_at}
 use Rattle.async_sessions.specs.SessionLaws.{HasOneBegun, HasNoneBegun}
-use Rattle.async_task.specs.declared.awaited.Awaited.{Awaited}
 use Rattle.async_task.specs.declared.context.Slot.TheVariants as slot
 use Rattle.async_task.specs.declared.context.Context.{Context}
 use Rattle.async_task.specs.Turns as turn

@@ -1,5 +1,5 @@
 -- What a fibril asks, a row for each operation, with all values apart.
-use Rattle.std.specs.Prelude.{◌≡◌, ℕ, List, [], ◌∷◌, None, Some}
+use Rattle.std.specs.Prelude.{◌≡◌, [], ◌∷◌, None, Some}
 use Rattle.ipc_ids.specs.declared.message.Mode.TheVariants.{Plain, Route}
 use Rattle.ipc_ids.specs.declared.message.ExchangeMode.TheVariants.{Serialize}
 use Rattle.ipc_ids.specs.declared.message.Request.{Request}

@@ -13,7 +13,6 @@ use Rattle.ipc_ids.specs.declared.op.Op.{Op}
 use Rattle.ipc_ids.specs.declared.op.Op.TheVariants as op
 use Rattle.fibril_core.specs.declared.conn.Conn.{Conn}
 use Rattle.fibril_core.specs.declared.conn.Queued.{Queued}
-use Rattle.fibril_core.specs.declared.fibrils.Status.{Status}
 use Rattle.fibril_core.specs.declared.fibrils.Status.TheVariants as status
 use Rattle.fibril_core.specs.declared.fibrils.Fibril.{Fibril}
 use Rattle.fibril_core.specs.Fibrils.{FibrilOrder}
@@ -25,7 +24,7 @@ use Rattle.async_task.specs.AsyncState.{AsyncState}
 use Rattle.async_task.specs.Steps.{step}
 use Rattle.async_task.specs.Program.{started}
 use Rattle.program_examples.specs.Apart.{from, five, call_number, code, message, reply, label}
-use Rattle.program_examples.specs.FibrilTask.{task, task_number, fibril, exchange, fibril_as, first, fourth, fifth, sixth, seventh, own, gone_on, kept, all_keep, handles, slots, sent, answered, connection, queued, awaited, awaits, exchange_as, exchanges, pool, body, bodies}
+use Rattle.program_examples.specs.FibrilTask.{task, task_number, fibril, exchange, fibril_as, first, fourth, fifth, sixth, seventh, own, gone_on, kept, all_keep, handles, slots, answered, connection, queued, awaits, exchange_as, exchanges, pool, body, bodies}
 
 -- no fibril is ready: the second is blocked on this, since stamp 5, and the third on a message
 abbrev pub asleep : Fibril → ℕ → FibrilOrder

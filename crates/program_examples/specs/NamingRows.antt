@@ -7,7 +7,6 @@ use Rattle.ipc_ids.specs.declared.message.Outcome.TheVariants as got
 use Rattle.task_ends.specs.declared.introduced.End.{End}
 use Rattle.task_ends.specs.declared.introduced.Introduced.{Introduced}
 use Rattle.task_ends.specs.declared.introduced.Wait.{Wait}
-use Rattle.task_ends.specs.Ends.{EndsState}
 use Rattle.naming_service.specs.declared.received.ReceivedCall.{ReceivedCall}
 use Rattle.naming_service.specs.declared.received.Work.{Work}
 use Rattle.naming_service.specs.declared.received.Work.TheVariants.{Answer, Forward}

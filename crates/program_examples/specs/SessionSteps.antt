@@ -1,10 +1,9 @@
 -- What outcomes make of a fibril's sessions and exchanges, a row for each, with all values apart.
-use Rattle.std.specs.Prelude.{◌≡◌, ℕ, true, false, List, [], ◌∷◌, ◌++◌, None, Some}
+use Rattle.std.specs.Prelude.{◌≡◌, ℕ, List, [], ◌∷◌, ◌++◌, None, Some}
 use Rattle.ipc_ids.specs.declared.message.ExchangeMode.{ExchangeMode}
 use Rattle.ipc_ids.specs.declared.message.ExchangeMode.TheVariants.{Atomic, Serialize, Parallel}
 use Rattle.ipc_ids.specs.declared.message.Outcome.{Outcome}
 use Rattle.ipc_ids.specs.declared.message.Outcome.TheVariants as got
-use Rattle.ipc_ids.specs.declared.message.Why.{Why}
 use Rattle.ipc_ids.specs.declared.message.Why.TheVariants as why
 use Rattle.ipc_ids.specs.declared.entry.Entry.{Entry}
 use Rattle.ipc_ids.specs.declared.entry.Entry.TheVariants as entry
@@ -13,13 +12,12 @@ use Rattle.ipc_ids.specs.declared.op.Op.{Op}
 use Rattle.ipc_ids.specs.declared.op.Op.TheVariants as op
 use Rattle.fibril_core.specs.declared.fibrils.Status.TheVariants as status
 use Rattle.async_sessions.specs.declared.sessions.Held.TheVariants.{By, Idle}
-use Rattle.async_sessions.specs.declared.sessions.Exchange.{Exchange}
 use Rattle.async_sessions.specs.Sessions.{Open}
 use Rattle.async_task.specs.declared.context.Context.{Context}
 use Rattle.async_task.specs.AsyncState.{AsyncState}
 use Rattle.async_task.specs.Steps.{step}
 use Rattle.program_examples.specs.Apart.{from, call_number, code}
-use Rattle.program_examples.specs.FibrilTask.{task, short_task, task_number, fibril, exchange, fibrils, fibril_as, first, second, fourth, fifth, sixth, seventh, own, gone_on, kept, handles, order_with, awaited, awaits, session, sessions, exchange_as, begun_31, begun_34, begun_36, begun_37, idle_32, idle_33, idle_35, exchanges, pool, busy_pool}
+use Rattle.program_examples.specs.FibrilTask.{task, short_task, task_number, fibril, exchange, fibrils, fibril_as, first, second, fourth, fifth, sixth, seventh, gone_on, handles, order_with, awaited, awaits, session, sessions, exchange_as, begun_31, begun_34, begun_36, begun_37, idle_32, idle_33, idle_35, exchanges, pool, busy_pool}
 use Rattle.program_examples.specs.FibrilSteps.{Makes, keeping, IsRefused}
 
 -- where a begin of this session keeps that it met the limit
