@@ -21,12 +21,15 @@ five a b c d e = a ∷ b ∷ c ∷ d ∷ e ∷ []
 abbrev pub five_values : List Value
 five_values = Register 11 ∷ Number 52 ∷ Register 13 ∷ Number 54 ∷ Register 15 ∷ []
 
+-- call n
 abbrev pub call_number : ℕ → CallNo
 call_number n = record { 0 = n }
 
+-- the code with this number
 abbrev pub code : ℕ → Code
 code n = record { 0 = n }
 
+-- a message, and a reply
 abbrev pub message : ℕ → List ℕ → Msg
 message method args = record { method = method; args = args }
 

@@ -28,6 +28,7 @@ before = record { blocks = blocks; slots = slots (Some (label 7 8)) None; work =
 abbrev pub received : ℕ → List ℕ → (task phone : ℕ) → Outcome
 received method args t p = got.Received (call_number 99) (message method args) (label t p)
 
+-- call 99 is to be answered with this code alone
 abbrev pub answers : ℕ → Work
 answers c = Answer (call_number 99) (reply c (five 0 0 0 0 0))
 

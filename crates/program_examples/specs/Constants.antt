@@ -9,6 +9,7 @@ use Rattle.naming_service.specs.Naming.{no_phone}
 use Rattle.block_server.specs.Blocks.{read_block, write_block, no_bytes, window, code_of}
 use Rattle.program_examples.specs.Apart.{five, call_number, code, message, reply, label, block_of}
 
+-- each code by its name
 pub record CodesAreNumbers : Type 0 where
   pub eok_is : eok ≡ code 0
   pub enoent_is : enoent ≡ code 1
@@ -21,6 +22,7 @@ pub record CodesAreNumbers : Type 0 where
   pub ebusy_is : ebusy ≡ code 8
   pub enomem_is : enomem ≡ code 9
 
+-- each method by its name
 pub record MethodsAreNumbers : Type 0 where
   pub phone_hungup : methods.phone_hungup ≡ 0
   pub connect_to_me : methods.connect_to_me ≡ 1

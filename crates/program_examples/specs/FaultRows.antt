@@ -20,6 +20,7 @@ IsAtFault text line reason = script_of text ≡ Err (line, reason)
 abbrev pub bad : List ℕ
 bad = 13 ∷ []
 
+-- a raw task of this name, without a body
 abbrev pub task_named : List ℕ → TaskPlan
 task_named name =
     record { name = name; kind = Raw; limit = 64; bodies = []; blocks = 0; service = None }

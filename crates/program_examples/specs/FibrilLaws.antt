@@ -70,6 +70,7 @@ Does f t o a = turn_now a ≡ turn.Run f t (Some o)
 
 -- ---- requests on held calls and on memory
 
+-- a fibril asks the request of its operation, with what its values are
 pub record FibrilsAskAsGiven : Type 0 where
   pub answer : (a : AsyncState) (f : FibrilNo) (t : Context) (call coded : Value) (args : List Value) (n : ℕ)
       (said : Reply) → Does f t (op.Answer call coded args) a → Is t.registers call n →
@@ -206,6 +207,7 @@ pub record OwedAnswersComeFirst (a : AsyncState) (n : CallNo) (c : Code) (rest :
   pub asked : wanted a ≡ ask.Answer n.0 (record { code = c; args = five 0 0 0 0 0 })
   pub stays : (o : Outcome) → step a o ≡ record { state = record a { work = rest }; entries = [] }
 
+-- so it is in each state in which an answer is owed
 abbrev pub TasksAnswerWhatTheyOwe : Type 0
 TasksAnswerWhatTheyOwe =
     (a : AsyncState) (n : CallNo) (c : Code) (rest : List (CallNo × Code)) → a.work ≡ (n, c) ∷ rest →
@@ -234,6 +236,7 @@ pub record ShortEndsWithItsBegin : Type 0 where
 abbrev pub RawDoes : Op → RawState → Type 0
 RawDoes o r = slice_get r.ops r.place ≡ Some o
 
+-- a raw program asks the request of its operation, with what its values are
 pub record RawProgramsAskAsGiven : Type 0 where
   pub call : (r : RawState) (phone method : Value) (args : List Value) (p : ℕ) (msg : Msg) →
       RawDoes (op.Call phone method args) r → Is r.registers phone p → IsMessage r.registers method args msg →

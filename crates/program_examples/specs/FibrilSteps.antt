@@ -40,6 +40,7 @@ IsTold o = Makes o (got.Refused (code 98)) (keeping (gone_on (98 ∷ from 201 31
 abbrev pub IsDone : Op → Type 0
 IsDone o = Makes o got.Done (keeping (gone_on (0 ∷ from 201 31)) o) []
 
+-- a call from this slot, and a send from it under this handle
 abbrev pub call_op : ℕ → Op
 call_op k = op.CallSlot k (Register 21) (Register 22) five_values
 
@@ -50,6 +51,7 @@ send_op k x = op.Send k x (Register 22) five_values
 abbrev pub calling : Context
 calling = record (gone_on (0 ∷ 99 ∷ from 202 30)) { slots = slots sent answered (slot.Sent (call_number 99)) }
 
+-- its answer is awaited
 abbrev pub with_call : Op → AsyncState
 with_call o = record (keeping calling o) { awaited = awaited ++ awaits 99 2 (Some 5) ∷ [] }
 

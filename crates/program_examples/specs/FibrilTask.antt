@@ -29,6 +29,7 @@ use Rattle.async_task.specs.declared.context.Context.{Context}
 use Rattle.async_task.specs.AsyncState.{AsyncState}
 use Rattle.program_examples.specs.Apart.{from, five, call_number, message, reply, label}
 
+-- the numbers of the task, of a fibril and of an exchange
 abbrev pub task_number : TaskNo
 task_number = record { 0 = 40 }
 
@@ -38,6 +39,7 @@ fibril n = record { 0 = n }
 abbrev pub exchange : ℕ → ExchangeNo
 exchange n = record { 0 = n }
 
+-- a body that is not that of connections
 abbrev pub body : List Op → Body
 body ops = record { connection = false; ops = ops }
 
@@ -51,6 +53,7 @@ bodies o =
     ∷ body (op.Begin 0 9 ∷ [])
     ∷ []
 
+-- a fibril, and since when it is so
 abbrev pub fibril_as : ℕ → Status → ℕ → Fibril
 fibril_as n state stamp = record { number = fibril n; status = state; stamp = stamp }
 
@@ -59,12 +62,15 @@ abbrev pub fibrils : (first second fourth fifth sixth seventh : Fibril) → List
 fibrils first second fourth fifth sixth seventh =
     first ∷ second ∷ fibril_as 3 status.Ready 8 ∷ fourth ∷ fifth ∷ sixth ∷ seventh ∷ []
 
+-- the first waits for the answer of call 71
 abbrev pub first : Fibril
 first = fibril_as 1 (status.Blocked (why.Answer (call_number 71))) 3
 
+-- the second is ready, and has been longer than the third
 abbrev pub second : Fibril
 second = fibril_as 2 status.Ready 5
 
+-- two wait for the mutex of session 4, and two for a phone
 abbrev pub fourth : Fibril
 fourth = fibril_as 4 (status.Blocked (why.Mutex 4)) 6
 
@@ -77,6 +83,7 @@ sixth = fibril_as 6 (status.Blocked (why.Mutex 4)) 4
 abbrev pub seventh : Fibril
 seventh = fibril_as 7 (status.Blocked why.Phone) 2
 
+-- all of them
 abbrev pub order : FibrilOrder
 order = record { fibrils = fibrils first second fourth fifth sixth seventh; next_stamp = 9 }
 
@@ -90,6 +97,7 @@ abbrev pub slots : (third fourth fifth : Slot) → List Slot
 slots third fourth fifth =
     slot.Closed ∷ slot.Closed ∷ slot.Closed ∷ third ∷ fourth ∷ fifth ∷ slot.Closed ∷ slot.Closed ∷ []
 
+-- a call whose answer has not come, and one whose answer has
 abbrev pub sent : Slot
 sent = slot.Sent (call_number 72)
 
@@ -149,9 +157,11 @@ connection queue =
       close_call = None;
     }
 
+-- a call that waits there
 abbrev pub queued : ℕ → ℕ → Queued
 queued n method = record { call = call_number n; msg = message method (five 91 92 93 94 95) }
 
+-- a session over this phone
 abbrev pub session : ℕ → ExchangeMode → Option Session
 session phone mode = Some (record { phone = phone; mode = mode })
 
@@ -161,6 +171,7 @@ sessions seventh eighth =
     None ∷ None ∷ None ∷ session 53 Atomic ∷ session 54 Serialize ∷ session 55 Parallel ∷ session 56 Parallel
     ∷ seventh ∷ eighth ∷ session 59 Parallel ∷ None ∷ None ∷ None ∷ None ∷ None ∷ None ∷ []
 
+-- an exchange
 abbrev pub exchange_as : ℕ → ℕ → ℕ → ExchangeMode → Held → ℕ → Exchange
 exchange_as n s phone mode held stamp =
     record { number = exchange n; session = s; phone = phone; mode = mode; held = held; stamp = stamp }
@@ -188,9 +199,11 @@ idle_33 = exchange_as 33 5 63 Parallel Idle 11
 abbrev pub idle_35 : Exchange
 idle_35 = exchange_as 35 6 64 Parallel Idle 10
 
+-- all of them
 abbrev pub exchanges : List Exchange
 exchanges = begun_31 ∷ idle_32 ∷ idle_33 ∷ begun_34 ∷ idle_35 ∷ begun_36 ∷ begun_37 ∷ []
 
+-- the sessions and the exchanges
 abbrev pub pool : Open
 pool =
     record {
@@ -204,9 +217,11 @@ pool =
 abbrev pub busy_pool : Open
 busy_pool = record pool { exchanges = begun_31 ∷ begun_34 ∷ begun_36 ∷ begun_37 ∷ [] }
 
+-- call n is awaited by a fibril, in a slot or for its begin
 abbrev pub awaits : ℕ → ℕ → Option ℕ → Awaited
 awaits n f place = record { call = call_number n; fibril = fibril f; slot = place }
 
+-- two answers are awaited
 abbrev pub awaited : List Awaited
 awaited = awaits 71 1 (Some 6) ∷ awaits 72 2 (Some 3) ∷ []
 

@@ -34,6 +34,7 @@ asleep second next =
       next_stamp = next;
     }
 
+-- the task, whose second fibril waits for this
 abbrev pub waiting : Why → Op → AsyncState
 waiting w o = record (task o) { order = asleep (fibril_as 2 (status.Blocked w) 5) 9 }
 
@@ -41,6 +42,7 @@ waiting w o = record (task o) { order = asleep (fibril_as 2 (status.Blocked w) 5
 abbrev pub woken : FibrilOrder
 woken = asleep (fibril_as 2 status.Ready 9) 10
 
+-- what the task receives makes this of it, and tells that
 abbrev pub Receives : AsyncState → Outcome → AsyncState → List Entry → Type 0
 Receives before outcome after told = step before outcome ≡ record { state = after; entries = told }
 
@@ -82,6 +84,7 @@ connecting s =
 abbrev pub connected : ℕ → Context → AsyncState
 connected s t = record (connecting s) { order = woken; awaited = awaits 71 1 (Some 6) ∷ []; contexts = kept t }
 
+-- the entry that tells of the answer
 abbrev pub gets : ℕ → Entry
 gets c = entry.Gets task_number (fibril 2) (call_number 72) None (reply c (five 75 76 77 78 79))
 
@@ -108,13 +111,16 @@ pub record ConnectsAreAnswered : Type 0 where
 abbrev pub call : ℕ → ℕ → ℕ → Outcome
 call method t p = got.Received (call_number 83) (message method (five 91 92 93 94 457)) (label t p)
 
+-- the registers with which a fibril takes the call
 abbrev pub called : ℕ → ℕ → ℕ → Context → Context
 called method t p before =
     record before { registers = 0 ∷ 201 ∷ 83 ∷ method ∷ five 91 92 93 94 457 ++ from 209 7 ++ t ∷ p ∷ from 218 14 }
 
+-- with these connections
 abbrev pub conns_of : AsyncState → List Conn → AsyncState
 conns_of a conns = record a { conns = conns }
 
+-- slots without calls, and handles that name nothing
 abbrev pub all_closed : List Slot
 all_closed =
     slot.Closed ∷ slot.Closed ∷ slot.Closed ∷ slot.Closed ∷ slot.Closed ∷ slot.Closed ∷ slot.Closed ∷ slot.Closed
@@ -141,6 +147,7 @@ started_with fifth =
 abbrev pub hung_up : Context
 hung_up = gone_on (0 ∷ 201 ∷ 0 ∷ 0 ∷ five 0 0 0 0 0 ++ from 209 7 ++ 7 ∷ 8 ∷ from 218 14)
 
+-- a connection that the eighth fibril serves
 abbrev pub new_connection : (task phone : ℕ) → Conn
 new_connection t p = record (connection []) { fibril = fibril 8; label = label t p }
 

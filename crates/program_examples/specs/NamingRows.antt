@@ -17,9 +17,11 @@ use Rattle.program_examples.specs.Apart.{five, call_number, code, message, reply
 abbrev pub no_value : End
 no_value = record { has = false; value = 0 }
 
+-- this value
 abbrev pub value : ℕ → End
 value n = record { has = true; value = n }
 
+-- one that has not ended, and one that has
 abbrev pub introduced_as : (task phone : ℕ) → End → Introduced
 introduced_as t p end = record { label = label t p; end = end; ended = false }
 
@@ -36,6 +38,7 @@ tasks =
     introduced_as 21 31 (value 41) ∷ introduced_as 22 32 no_value ∷ ended_as 23 33 (value 43)
     ∷ ended_as 24 34 no_value ∷ []
 
+-- who waits for their ends
 abbrev pub waits : List Wait
 waits = wait_of 51 21 ∷ wait_of 52 22 ∷ wait_of 53 21 ∷ []
 
@@ -48,6 +51,7 @@ pending_call n service second third =
       label = label (n + 200) (n + 300);
     }
 
+-- the calls that are pending
 abbrev pub pending : List ReceivedCall
 pending = pending_call 61 11 62 63 ∷ pending_call 64 12 65 66 ∷ pending_call 67 11 68 69 ∷ []
 
@@ -70,6 +74,7 @@ received method args t p = got.Received (call_number 99) (message method args) (
 abbrev pub Makes : Outcome → NamingState → Type 0
 Makes outcome state = after before outcome ≡ record state { taken = 91 }
 
+-- call n is to be answered with this code alone
 abbrev pub answers : ℕ → ℕ → Work
 answers n c = Answer (call_number n) (reply c (five 0 0 0 0 0))
 
@@ -77,6 +82,7 @@ answers n c = Answer (call_number n) (reply c (five 0 0 0 0 0))
 abbrev pub Answers : Outcome → ℕ → Type 0
 Answers outcome c = Makes outcome (record before { work = answers 99 c ∷ [] })
 
+-- call n is to go on over this phone
 abbrev pub forwards : ℕ → ℕ → (second third : ℕ) → Work
 forwards n phone second third = Forward (call_number n) phone (message 2 (five second third 0 0 0))
 

@@ -52,9 +52,11 @@ with_33 =
 abbrev pub without_35 : Open
 without_35 = record pool { exchanges = begun_31 ∷ idle_32 ∷ idle_33 ∷ begun_34 ∷ begun_36 ∷ begun_37 ∷ [] }
 
+-- the entry of a begin
 abbrev pub begins : ℕ → ExchangeMode → ℕ → ℕ → List Entry
 begins e mode s phone = entry.Begins task_number (fibril 2) (exchange e) mode s phone ∷ []
 
+-- a session is made where its number is not in use, else EBUSY
 pub record OpenSteps : Type 0 where
   pub made : Makes (op.OpenSession 8 (Register 21) Serialize) got.Done
       (record (keeping (gone_on (0 ∷ from 201 31)) (op.OpenSession 8 (Register 21) Serialize)) {
