@@ -1,0 +1,5 @@
+pub mod BlockLaws
+pub mod NamingLaws
+pub mod FibrilLaws
+pub mod RawLaws
+pub mod FibrilRefusals

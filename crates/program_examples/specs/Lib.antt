@@ -1,0 +1,14 @@
+pub mod Apart
+pub mod Constants
+pub mod RawRows
+pub mod FibrilTask
+pub mod FibrilRequests
+pub mod FibrilSteps
+pub mod SessionSteps
+pub mod ManagerSteps
+pub mod NamingRows
+pub mod BlockRows
+pub mod FaultRows
+pub mod BlockLaws
+pub mod NamingLaws
+pub mod FibrilLaws
