@@ -1,0 +1,2 @@
+pub mod PhoneCauses
+pub mod ScheduleLines
