@@ -57,7 +57,7 @@ abbrev pub CausesKept : Beginning → List Entry → KernelState → Type 0
 CausesKept b h k = WholeFit b (newest_first h) k.tasks.phones k.calls
 
 -- the tales of entries, both the newest first
-tales_are : (es p : List Entry) → onto (tales es) (tales p) ≡ tales (on_top es p)
+pub tales_are : (es p : List Entry) → onto (tales es) (tales p) ≡ tales (on_top es p)
 tales_are [] p = refl
 tales_are (e ∷ es) p = tales_are es (e ∷ p)
 
@@ -72,7 +72,7 @@ made_so h k fits n c is = let it = fits.areas.calls n c is in (it.asked, it.made
 -- ---- a request
 
 -- effects come within the present event
-effects_now : (es q : List Entry) → AreEffects es → present (on_top es q) ≡ present q
+pub effects_now : (es q : List Entry) → AreEffects es → present (on_top es q) ≡ present q
 effects_now [] q effects = refl
 effects_now (e ∷ es) q effects = effects_now es (e ∷ q) effects.1 ∙ one e effects.0 where
   one : (e : Entry) → is_effect e ≡ true → present (e ∷ q) ≡ present q
@@ -156,9 +156,9 @@ other_request (outcome.Accepted n) fits = absurd (cc fits)
 other_request _ fits = tt
 
 -- the call with number n has just been made so
-just_made : (n : ℕ) (head : Option Entry) (caller method : ℕ) (before : Option Making) → (method ≡ phone_hungup → ⊥)
-    → IsJustMade head (if n == n then Some (record { caller = caller; method = method; asked = head }) else before)
-just_made n head caller method before callable = rw (eq-eqb n n refl) (refl, callable)
+just_made : (n : ℕ) (t : TaskNo) (asked : Request) (method : ℕ) (before : Option Making) → (method ≡ phone_hungup → ⊥)
+    → IsJustMade (Some (entry.Head t asked)) (if n == n then Some (record { caller = t.0; method = method; asked = Some (entry.Head t asked) }) else before)
+just_made n t asked method before callable = rw (eq-eqb n n refl) (refl, refl, callable)
 
 module _ (t : TaskNo) (q : List Entry) (k : KernelState) (p : ℕ) (msg : Msg) where
   abbrev r : List Entry
@@ -169,7 +169,7 @@ module _ (t : TaskNo) (q : List Entry) (k : KernelState) (p : ℕ) (msg : Msg) w
 
   module _ (callable : msg.method ≡ phone_hungup → ⊥) where
     made_tells : IsJustMade (Some (entry.Head t (request.Call p msg))) (making k.calls.next_number (entry.Accepted (record { 0 = k.calls.next_number }) (label_of t p) msg.method None ∷ r))
-    made_tells = just_made k.calls.next_number (Some (entry.Head t (request.Call p msg))) t.0 msg.method (making k.calls.next_number r) callable
+    made_tells = just_made k.calls.next_number t (request.Call p msg) msg.method (making k.calls.next_number r) callable
 
     keeping_tells : (u : TaskNo) (o : Option Label) → Tells (sent_to u k (new_call k t p msg (Incoming u)) (keeping_to_send k (new_call k t p msg (Incoming u)) o))
     keeping_tells u None = made_tells
@@ -297,7 +297,7 @@ causes_spawn b h k limit some fits f =
 
 -- ---- the law
 
-had_before : (b : Beginning) (es p : List Entry) → HadCause b (on_top es p) → HadCause b p
+pub had_before : (b : Beginning) (es p : List Entry) → HadCause b (on_top es p) → HadCause b p
 had_before b [] p l = l
 had_before b (e ∷ es) p l = let m : HadCause b (e ∷ p) = had_before b es (e ∷ p) l in m.0
 

@@ -136,7 +136,7 @@ asked =
     (record { changes = tt; hung_up = tt; done = tt; way = tt; code = tt; told = tt; dropped = tt },
     (record { changes = tt; hung_up = tt; done = tt; way = refl; code = tt; told = tt; dropped = tt },
     (record { changes = (refl, refl); hung_up = λ e. absurd (apart 2 0 e refl); done = tt; way = tt; code = tt; told = tt; dropped = tt },
-    (record { changes = tt; hung_up = tt; done = tt; way = tt; code = tt; told = (refl, λ e. apart 2 0 e refl); dropped = tt },
+    (record { changes = tt; hung_up = tt; done = tt; way = tt; code = tt; told = (refl, refl, λ e. apart 2 0 e refl); dropped = tt },
     tt))))
 
 received : AllHaveCause began after_asking (receives 1)
@@ -173,7 +173,7 @@ gone_back =
     (record { changes = tt; hung_up = tt; done = tt; way = tt; code = tt; told = tt; dropped = tt },
     (record { changes = tt; hung_up = tt; done = tt; way = tt; code = tt; told = tt; dropped = tt },
     (record { changes = tt; hung_up = λ e. absurd (apart 512 0 e refl); done = tt; way = tt; code = refl; told = tt; dropped = tt },
-    (record { changes = tt; hung_up = tt; done = tt; way = tt; code = tt; told = (refl, λ e. apart 512 0 e refl); dropped = tt },
+    (record { changes = tt; hung_up = tt; done = tt; way = tt; code = tt; told = (refl, refl, λ e. apart 512 0 e refl); dropped = tt },
     tt))))
 
 joined : (es fs q : List Entry) → AllHaveCause began q es → AllHaveCause began (on_top es q) fs → AllHaveCause began q (es ++ fs)

@@ -61,7 +61,7 @@ entries_plain (any.Async p) o = all_plain p.state.me.0 (step p.state o).entries 
 none_made : (o : Option Making) (m : Making) → o ≡ None → o ≡ Some m → ⊥
 none_made o m a b = cc
 
-start_caused : (plan : Plan) → RunFits (beginning plan) [] (start plan) → CausesKept (beginning plan) [] (start plan).kernel
+pub start_caused : (plan : Plan) → RunFits (beginning plan) [] (start plan) → CausesKept (beginning plan) [] (start plan).kernel
 start_caused plan told = record {
   fit = record {
     had = tt;
@@ -109,7 +109,7 @@ module _ (b : Beginning) (h : List Entry) (now : RunState) (told : RunFits b h n
       subst (λ (o : Option TaskNo). CausesKept b (h ++ (spawn_event now.kernel template.limit o).entries) (spawn_event now.kernel template.limit o).state) (sym told.names)
       (causes_spawn b h now.kernel template.limit (sound_template now.templates place template told.templates at).some_phones told.kernel f)
 
-  turn_kept : (e : Event) → KeptAfter b h (turn now e)
+  pub turn_kept : (e : Event) → KeptAfter b h (turn now e)
   turn_kept (Step t) = stepped t (is_alive now.kernel t) (slice_get now.programs (t.0 - 1))
   turn_kept (Kill t) = ended t (is_alive now.kernel t) refl
   turn_kept (Hangup t phone) = hung_up t phone (is_alive now.kernel t)

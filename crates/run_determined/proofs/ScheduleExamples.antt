@@ -101,7 +101,7 @@ abbrev with_service : RunState
 with_service = record { kernel = kernel.with_task kernel.start 1; programs = []; templates = receiver ∷ []; names = Some (record { 0 = 1 }) }
 
 leads_nowhere : IsMadeFrom receiver (Some (record { 0 = 1 })) with_service (spawned with_service receiver (spawn_event with_service.kernel 1 None)) → ⊥
-leads_nowhere made = never (made.kernel.makes.leads (record { 0 = 1 }) refl refl) where
+leads_nowhere made = never (record { 0 = 1 }) (made.kernel.makes.leads (record { 0 = 1 }) refl refl) where
   never : (u : TaskNo) → ◌≡◌ {A = Option PhoneState} (Some Free) (Some (Connected u)) → ⊥
   never u e = cc
 

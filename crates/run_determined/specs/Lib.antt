@@ -1,2 +1,4 @@
+pub mod LiveWaits
 pub mod PhoneCauses
 pub mod ScheduleLines
+pub mod TasksInTurn

@@ -176,8 +176,9 @@ GoesBackWithCode b q _ = ⊤
 
 -- a task that is told of a call as accepted has just made it, and with no method of a hangup
 abbrev pub IsJustMade : Option Entry → Option Making → Type 0
-IsJustMade asked None = ⊥
-IsJustMade asked (Some made) = (made.asked ≡ asked) × (made.method ≡ phone_hungup → ⊥)
+IsJustMade (Some (entry.Head t asked)) (Some made) =
+    (made.asked ≡ Some (entry.Head t asked)) × (made.caller ≡ t.0) × (made.method ≡ phone_hungup → ⊥)
+IsJustMade _ _ = ⊥
 
 abbrev pub TellsItsCall : List Entry → Entry → Type 0
 TellsItsCall q (entry.Outcome (outcome.Accepted n)) = IsJustMade (present q) (making n.0 q)

@@ -6,4 +6,7 @@
 
 mod laws;
 
-pub use laws::{hangup_lines_hang_up_their_phone, phones_change_for_cause, spawns_make_their_template};
+pub use laws::{
+    hangup_lines_hang_up_their_phone, phones_change_for_cause, spawns_make_their_template,
+    tasks_come_in_turn, waits_are_for_live_calls,
+};
