@@ -72,33 +72,34 @@ sent_in t n d (e ∷ es) p h = elim (sent_in t n d es (fact.fact t e ∷ p) h) [
 
 both_sent : (t n : ℕ) (es fs : List Entry) → SentIn t n (es ++ fs) → SentIn t n es ⊎ SentIn t n fs
 both_sent t n [] fs h = inr h
-both_sent t n (e ∷ es) fs h = by_entry e h where
+both_sent t n (e ∷ es) fs h = by_entry e h (both_sent t n es fs) where
   later : (e : Entry) → SentIn t n es ⊎ SentIn t n fs → SentIn t n (e ∷ es) ⊎ SentIn t n fs
   later e (inl g) = inl (sent_later t n e es g)
   later e (inr g) = inr g
 
-  by_entry : (e : Entry) → SentIn t n (e ∷ (es ++ fs)) → SentIn t n (e ∷ es) ⊎ SentIn t n fs
-  by_entry (entry.Sent u f m slot) (inl g) = inl (inl g)
-  by_entry (entry.Sent u f m slot) (inr g) = later (entry.Sent u f m slot) (both_sent t n es fs g)
-  by_entry _ g = later _ (both_sent t n es fs g)
+  by_entry : (e : Entry) → SentIn t n (e ∷ (es ++ fs)) → (SentIn t n (es ++ fs) → SentIn t n es ⊎ SentIn t n fs) → SentIn t n (e ∷ es) ⊎ SentIn t n fs
+  by_entry (entry.Sent u f m slot) (inl g) rest = inl (inl g)
+  by_entry (entry.Sent u f m slot) (inr g) rest = later (entry.Sent u f m slot) (rest g)
+  by_entry x g rest = later x (rest g)
 
 effects_send_none : (t n : ℕ) (es : List Entry) → AreEffects es → SentIn t n es → ⊥
 effects_send_none t n [] effects h = h
-effects_send_none t n (e ∷ es) effects h = by_entry e effects.0 h where
-  by_entry : (e : Entry) → is_effect e ≡ true → SentIn t n (e ∷ es) → ⊥
-  by_entry (entry.Sent u f m slot) is g = cc is
-  by_entry _ is g = effects_send_none t n es effects.1 g
+effects_send_none t n (e ∷ es) effects h = by_entry e effects.0 h (effects_send_none t n es effects.1) where
+  by_entry : (e : Entry) → is_effect e ≡ true → SentIn t n (e ∷ es) → (SentIn t n es → ⊥) → ⊥
+  by_entry (entry.Sent u f m slot) is g rest = cc is
+  by_entry _ is g rest = rest g
 
 own_sends : (u t n : ℕ) (o : Outcome) (es : List Entry) → AreOwn u es → AreSentAs o es → SentIn t n es → (u ≡ t) × (o ≡ outcome.Accepted (record { 0 = n }))
 own_sends u t n o [] own told h = absurd h
-own_sends u t n o (e ∷ es) own told h = by_entry e own.0 told.0 h where
+own_sends u t n o (e ∷ es) own told h = by_entry e own.0 told.0 h (own_sends u t n o es own.1 told.1) where
   call_is : (m : CallNo) → m.0 ≡ n → outcome.Accepted m ≡ outcome.Accepted (record { 0 = n })
   call_is m same = ap (λ (x : ℕ). let c : CallNo = record { 0 = x } in outcome.Accepted c) same
 
-  by_entry : (e : Entry) → is_own u e ≡ true → IsSentAs o e → SentIn t n (e ∷ es) → (u ≡ t) × (o ≡ outcome.Accepted (record { 0 = n }))
-  by_entry (entry.Sent v f m slot) mine is (inl g) = (sym (eqb-true v.0 u mine) ∙ g.0, is ∙ call_is m g.1)
-  by_entry (entry.Sent v f m slot) mine is (inr g) = own_sends u t n o es own.1 told.1 g
-  by_entry _ mine is g = own_sends u t n o es own.1 told.1 g
+  by_entry : (e : Entry) → is_own u e ≡ true → IsSentAs o e → SentIn t n (e ∷ es)
+      → (SentIn t n es → (u ≡ t) × (o ≡ outcome.Accepted (record { 0 = n }))) → (u ≡ t) × (o ≡ outcome.Accepted (record { 0 = n }))
+  by_entry (entry.Sent v f m slot) mine is (inl g) rest = (sym (eqb-true v.0 u mine) ∙ g.0, is ∙ call_is m g.1)
+  by_entry (entry.Sent v f m slot) mine is (inr g) rest = rest g
+  by_entry _ mine is g rest = rest g
 
 -- ---- answers that are given
 
@@ -241,7 +242,7 @@ module _ (b : Beginning) (t : ℕ) (h : List Entry) (kept : KeepsSends t h) wher
     facts_in_parts = facts_append t h whole [] ∙ facts_append t es (entry.Outcome o ∷ own) (fact.Head (u.0 == t) ∷ facts t h)
 
     step_sends_kept : Lawful (tales (on_top whole q)) → HadCause b (on_top whole q) → (n : ℕ) (d : Waiter) → sent n (facts t (h ++ whole)) ≡ Some d → IsMadeBy t n (making n (on_top whole q))
-    step_sends_kept l had n d g = elim (sent_in t n d whole (facts t h) (sym (facts_append t h whole []) ∙ g)) [
+    step_sends_kept l had n d g = elim (sent_in t n d whole (facts t h) (subst (λ (y : List Fact). sent n y ≡ Some d) (facts_append t h whole []) g)) [
       | inl old ↦ still_made t n whole q l (kept.sends n d old)
       | inr new ↦ elim (both_sent t n es (entry.Outcome o ∷ own) new) [
         | inl x ↦ absurd (effects_send_none t n es honest.effects x)
@@ -284,7 +285,7 @@ module _ (b : Beginning) (t : ℕ) (h : List Entry) (kept : KeepsSends t h) wher
   quiet_kept e x es head same delivered sends other effects l =
       let lawful : Lawful (tales (on_top (e ∷ es) q)) = subst (λ (y : List Entry). Lawful (tales y)) (newest_first-append h (e ∷ es)) l in
       record {
-        sends = λ n d g. elim (sent_in t n d (e ∷ es) (facts t h) (sym (facts_append t h (e ∷ es) []) ∙ g)) [
+        sends = λ n d g. elim (sent_in t n d (e ∷ es) (facts t h) (subst (λ (y : List Fact). sent n y ≡ Some d) (facts_append t h (e ∷ es) []) g)) [
           | inl old ↦ subst (λ (y : List Entry). IsMadeBy t n (making n y)) (sym (newest_first-append h (e ∷ es))) (still_made t n (e ∷ es) q lawful (kept.sends n d old))
           | inr new ↦ absurd (effects_send_none t n es effects (sends n new))
         ];

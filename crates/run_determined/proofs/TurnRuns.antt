@@ -76,8 +76,8 @@ program_no_spawn (any.Block p) o = tt
 program_no_spawn (any.Async p) o = own_no_spawn p.state.me.0 (step p.state o).entries (own_entries p.state o)
 
 same_count : (n : ℕ) (e : Entry) (q : List Entry) → IsNoSpawn e → count_after n (e ∷ q) ≡ count_after n q
-same_count n (entry.Spawn t) q no = absurd no
-same_count n _ q no = refl
+same_count n (entry.Spawn t) q plain = absurd plain
+same_count n _ q plain = refl
 
 -- ---- each event
 
@@ -87,16 +87,16 @@ record InTurn (n : ℕ) (q : List Entry) (count : ℕ) : Type 0 where
 
 -- entries that make no task come in turn
 each_in_turn : (b : Beginning) (n : ℕ) → BeginAt n b.wires → (es q : List Entry) (count : ℕ) → InTurn n q count → AreNoSpawn es → Lawful (tales (on_top es q)) → HadCause b (on_top es q) → AreOfTasks count es → InTurn n (on_top es q) count
-each_in_turn b n begins [] q count it no l had known = it
-each_in_turn b n begins (e ∷ es) q count it no l had known =
+each_in_turn b n begins [] q count it plain l had known = it
+each_in_turn b n begins (e ∷ es) q count it plain l had known =
     let m : Lawful (tales (e ∷ q)) = lawful_before es (e ∷ q) l in
     let c : HadCause b (e ∷ q) = had_before b es (e ∷ q) had in
     each_in_turn b n begins es (e ∷ q) count
     (record {
-      came = (it.came, in_turn b n begins q e it.came no.0 m c.1 (rw it.counted known.0));
-      counted = same_count n e q no.0 ∙ it.counted;
+      came = (it.came, in_turn b n begins q e it.came plain.0 m c.1 (rw it.counted known.0));
+      counted = same_count n e q plain.0 ∙ it.counted;
     })
-    no.1 l had known.1
+    plain.1 l had known.1
 
 -- of a longer list the last entries
 last_known : (n : ℕ) (h es : List Entry) → AreOfTasks n (h ++ es) → AreOfTasks n es
@@ -120,13 +120,13 @@ module _ (b : Beginning) (n : ℕ) (begins : BeginAt n b.wires) (h : List Entry)
 
   -- an event that makes no task
   no_task : (next : RunTransition) → length next.state.programs ≡ length now.programs → AreNoSpawn next.entries → After next
-  no_task next same no comes =
+  no_task next same plain comes =
       let count : length next.state.kernel.tasks.alive ≡ length now.kernel.tasks.alive = sym comes.told.paired ∙ same ∙ it.told.paired in
       let l : Lawful (tales (newest_first (h ++ next.entries))) = subst Lawful (tales_are (h ++ next.entries) []) comes.told.kernel.told.lawful in
       rw (newest_first-append h next.entries)
       (each_in_turn b n begins next.entries (newest_first h) (length next.state.kernel.tasks.alive)
       (record { came = it.turns.came; counted = it.turns.counted ∙ sym count })
-      no
+      plain
       (subst (λ (q : List Entry). Lawful (tales q)) (newest_first-append h next.entries) l)
       (subst (HadCause b) (newest_first-append h next.entries) comes.causes.fit.had)
       (last_known (length next.state.kernel.tasks.alive) h next.entries comes.told.kernel.known))
@@ -162,13 +162,13 @@ module _ (b : Beginning) (n : ℕ) (begins : BeginAt n b.wires) (h : List Entry)
   made_turn : (es : List Entry) → AreNoSpawn es → AreOfTasks (length now.kernel.tasks.alive + 1) es
       → Lawful (tales (newest_first (h ++ entry.Spawn (next_task now.kernel) ∷ es))) → HadCause b (newest_first (h ++ entry.Spawn (next_task now.kernel) ∷ es))
       → InTurn n (newest_first (h ++ entry.Spawn (next_task now.kernel) ∷ es)) (length now.kernel.tasks.alive + 1)
-  made_turn es no known l had =
+  made_turn es plain known l had =
       let whole : List Entry = entry.Spawn (next_task now.kernel) ∷ es in
       let count : count_after n (newest_first h) ≡ length now.kernel.tasks.alive = it.turns.counted in
       rw (newest_first-append h whole)
       (each_in_turn b n begins es (entry.Spawn (next_task now.kernel) ∷ newest_first h) (length now.kernel.tasks.alive + 1)
       (record { came = (it.turns.came, omega (arith, count)); counted = omega (arith, count) })
-      no
+      plain
       (subst (λ (q : List Entry). Lawful (tales q)) (newest_first-append h whole) l)
       (subst (HadCause b) (newest_first-append h whole) had)
       known)

@@ -206,14 +206,10 @@ module _ (b : Beginning) (n : ℕ) (begins : BeginAt n b.wires) (q : List Entry)
   named : (t : ℕ) → Names t (tales q) → IsOneOf (count_after n q) t
   named t it = subst (IsOneOf (count_after n q)) it.2 (event_in_turn n q it.0 came it.1)
 
-  -- the task of a phone that changes for its cause
-
-  task_of_phone : (t : TaskNo) (l : Label) → t ≡ l.task → IsOneOf (count_after n q) t.0 → IsOneOf (count_after n q) l.task.0
-  task_of_phone t l same it = subst (λ (u : TaskNo). IsOneOf (count_after n q) u.0) same it
-
--- the newest entry came in turn
-newest_in_turn : (n : ℕ) (e : Entry) (q : List Entry) → CameInTurn n (e ∷ q) → IsInTurn n q e
-newest_in_turn n e q came = came.1
+-- an entry that makes no task
+abbrev pub IsNoSpawn : Entry → Type 0
+IsNoSpawn (entry.Spawn t) = ⊥
+IsNoSpawn _ = ⊤
 
 module _ (b : Beginning) (n : ℕ) (begins : BeginAt n b.wires) where
   kept_phone_in_turn : (l : Label) (q : List Entry) → CameInTurn n q → IsKept l q → IsOneOf (count_after n q) l.task.0
@@ -266,32 +262,27 @@ module _ (b : Beginning) (n : ℕ) (begins : BeginAt n b.wires) where
   caused_in_turn l q came HungUp new is h = not_free l q HungUp came is (λ e. cc e)
   caused_in_turn l q came Slammed new is h = not_free l q Slammed came is (λ e. cc e)
 
-  -- an entry that makes no task
-  abbrev pub IsNoSpawn : Entry → Type 0
-  IsNoSpawn (entry.Spawn t) = ⊥
-  IsNoSpawn _ = ⊤
-
   pub in_turn : (q : List Entry) (e : Entry) → CameInTurn n q → IsNoSpawn e → Lawful (tales (e ∷ q)) → HasItsCause b q e → history.IsOneOf (count_after n q) (actor e) → IsInTurn n q e
-  in_turn q (entry.Spawn t) came no l had known = absurd no
-  in_turn q (entry.Accepted k from method to) came no l had known = λ t it.
+  in_turn q (entry.Spawn t) came plain l had known = absurd plain
+  in_turn q (entry.Accepted k from method to) came plain l had known = λ t it.
       subst (IsOneOf (count_after n q)) it (named b n begins q came from.task.0 (accepted_by (tales q) k.0 from.task.0 from.phone.0 method (way to) (life k.0 (tales q)) l.2.0))
-  in_turn q (entry.Received k u) came no l had known = λ t it. subst (IsOneOf (count_after n q)) it (named b n begins q came u.0 (received_by (tales q) k.0 u.0 (life k.0 (tales q)) l.2.0))
-  in_turn q (entry.Forwarded k u to label) came no l had known = λ t it. subst (IsOneOf (count_after n q)) it (named b n begins q came u.0 (forwarded_by (tales q) k.0 u.0 to.0 (life k.0 (tales q)) l.2.0))
-  in_turn q (entry.Answered k reply None) came no l had known = λ t it. absurd it
-  in_turn q (entry.Answered k reply (Some u)) came no l had known = λ t it. subst (IsOneOf (count_after n q)) it (named b n begins q came u.0 (answered_by (tales q) k.0 reply.code.0 u.0 (life k.0 (tales q)) l.2.0))
-  in_turn q (entry.Delivered k u) came no l had known = λ t it. subst (IsOneOf (count_after n q)) it (named b n begins q came u.0 (delivered_by (tales q) k.0 u.0 (life k.0 (tales q)) l.2.0))
-  in_turn q (entry.Dropped k u) came no l had known = λ t it. subst (IsOneOf (count_after n q)) it (named b n begins q came u.0 (dropped_by (tales q) k.0 u.0 (life k.0 (tales q)) l.2.0))
-  in_turn q (entry.PhoneIs l s) came no lawful had known = λ t it. subst (IsOneOf (count_after n q)) it (caused_in_turn l q came (phone_in b.wires l.task.0 l.phone.0 q) s refl had.changes)
-  in_turn q (entry.Head u asked) came no l had known = λ t it. subst (IsOneOf (count_after n q)) it known
-  in_turn q (entry.Kill u) came no l had known = λ t it. subst (IsOneOf (count_after n q)) it known
-  in_turn q (entry.Gone u) came no l had known = λ t it. subst (IsOneOf (count_after n q)) it known
-  in_turn q (entry.Sent u f m slot) came no l had known = λ t it. subst (IsOneOf (count_after n q)) it known
-  in_turn q (entry.Gets u f m slot reply) came no l had known = λ t it. subst (IsOneOf (count_after n q)) it known
-  in_turn q (entry.Blocks u f why) came no l had known = λ t it. subst (IsOneOf (count_after n q)) it known
-  in_turn q (entry.Starts u f label) came no l had known = λ t it. subst (IsOneOf (count_after n q)) it known
-  in_turn q (entry.Ends u f) came no l had known = λ t it. subst (IsOneOf (count_after n q)) it known
-  in_turn q (entry.Begins u f e mode session phone) came no l had known = λ t it. subst (IsOneOf (count_after n q)) it known
-  in_turn q (entry.ExchangeEnds u f e) came no l had known = λ t it. subst (IsOneOf (count_after n q)) it known
-  in_turn q (entry.Drops u f e) came no l had known = λ t it. subst (IsOneOf (count_after n q)) it known
-  in_turn q (entry.RefusedOp u f code) came no l had known = λ t it. subst (IsOneOf (count_after n q)) it known
-  in_turn q _ came no l had known = λ t it. absurd it
+  in_turn q (entry.Received k u) came plain l had known = λ t it. subst (IsOneOf (count_after n q)) it (named b n begins q came u.0 (received_by (tales q) k.0 u.0 (life k.0 (tales q)) l.2.0))
+  in_turn q (entry.Forwarded k u to label) came plain l had known = λ t it. subst (IsOneOf (count_after n q)) it (named b n begins q came u.0 (forwarded_by (tales q) k.0 u.0 to.0 (life k.0 (tales q)) l.2.0))
+  in_turn q (entry.Answered k reply None) came plain l had known = λ t it. absurd it
+  in_turn q (entry.Answered k reply (Some u)) came plain l had known = λ t it. subst (IsOneOf (count_after n q)) it (named b n begins q came u.0 (answered_by (tales q) k.0 reply.code.0 u.0 (life k.0 (tales q)) l.2.0))
+  in_turn q (entry.Delivered k u) came plain l had known = λ t it. subst (IsOneOf (count_after n q)) it (named b n begins q came u.0 (delivered_by (tales q) k.0 u.0 (life k.0 (tales q)) l.2.0))
+  in_turn q (entry.Dropped k u) came plain l had known = λ t it. subst (IsOneOf (count_after n q)) it (named b n begins q came u.0 (dropped_by (tales q) k.0 u.0 (life k.0 (tales q)) l.2.0))
+  in_turn q (entry.PhoneIs l s) came plain lawful had known = λ t it. subst (IsOneOf (count_after n q)) it (caused_in_turn l q came (phone_in b.wires l.task.0 l.phone.0 q) s refl had.changes)
+  in_turn q (entry.Head u asked) came plain l had known = λ t it. subst (IsOneOf (count_after n q)) it known
+  in_turn q (entry.Kill u) came plain l had known = λ t it. subst (IsOneOf (count_after n q)) it known
+  in_turn q (entry.Gone u) came plain l had known = λ t it. subst (IsOneOf (count_after n q)) it known
+  in_turn q (entry.Sent u f m slot) came plain l had known = λ t it. subst (IsOneOf (count_after n q)) it known
+  in_turn q (entry.Gets u f m slot reply) came plain l had known = λ t it. subst (IsOneOf (count_after n q)) it known
+  in_turn q (entry.Blocks u f why) came plain l had known = λ t it. subst (IsOneOf (count_after n q)) it known
+  in_turn q (entry.Starts u f label) came plain l had known = λ t it. subst (IsOneOf (count_after n q)) it known
+  in_turn q (entry.Ends u f) came plain l had known = λ t it. subst (IsOneOf (count_after n q)) it known
+  in_turn q (entry.Begins u f e mode session phone) came plain l had known = λ t it. subst (IsOneOf (count_after n q)) it known
+  in_turn q (entry.ExchangeEnds u f e) came plain l had known = λ t it. subst (IsOneOf (count_after n q)) it known
+  in_turn q (entry.Drops u f e) came plain l had known = λ t it. subst (IsOneOf (count_after n q)) it known
+  in_turn q (entry.RefusedOp u f code) came plain l had known = λ t it. subst (IsOneOf (count_after n q)) it known
+  in_turn q _ came plain l had known = λ t it. absurd it
