@@ -1,8 +1,8 @@
 -- The steps that a request and a kill share keep the causes: a hangup, a call that is settled, and one that is over.
-use Rattle.std.proofs.Common.{◌≡◌, ℕ, Bool, true, false, List, [], ◌∷◌, Option, None, Some, refl, ap, sym, subst, ◌∙◌, inl, inr}
-use Rattle.std.specs.Prelude.{◌==◌, ◌⊎◌, if◌then◌else◌}
+use Rattle.std.proofs.Common.{◌≡◌, ℕ, Bool, true, false, List, ◌∷◌, Option, None, Some, refl, sym, subst, inl, inr}
+use Rattle.std.specs.Prelude.{◌⊎◌}
 use Rattle.std.specs.Option.{option_to_list}
-use Rattle.std.proofs.lemmas.Bool.{eq-eqb, ne_eqb, false≢true}
+use Rattle.std.proofs.lemmas.Bool.{ne_eqb}
 use Rattle.ipc_ids.specs.declared.numbers.TaskNo.{TaskNo}
 use Rattle.ipc_ids.specs.declared.numbers.Label.{Label}
 use Rattle.ipc_ids.specs.declared.numbers.Code.{Code}
@@ -15,16 +15,15 @@ use Rattle.ipc_ids.specs.declared.message.PhoneState.TheVariants.{Free, Connecti
 use Rattle.ipc_ids.specs.declared.entry.Entry.{Entry}
 use Rattle.ipc_ids.specs.declared.entry.Entry.TheVariants as entry
 use Rattle.ipc_ids.specs.Codes.{eok}
-use Rattle.ipc_ids.specs.Methods.{kind_of}
 use Rattle.ipc_ids.specs.Holdings.{on_top, present}
 use Rattle.call_slab.specs.declared.call.Call.{Call}
 use Rattle.call_slab.specs.declared.call.Place.{Place}
-use Rattle.call_slab.specs.declared.call.Place.TheVariants.{Incoming, Dispatched, Answers}
-use Rattle.answerbox.specs.Calls.{CallTable, call_at, enqueue, put_at, without_call}
+use Rattle.call_slab.specs.declared.call.Place.TheVariants.{Incoming, Answers}
+use Rattle.answerbox.specs.Calls.{CallTable, enqueue, put_at, without_call}
 use Rattle.phone_table.specs.Phones.{state_at}
 use Rattle.cleanup.specs.State.{KernelState, Transition, phone_at, label_of, with_calls}
 use Rattle.cleanup.specs.Sound.{HaveKeepers}
-use Rattle.cleanup.specs.Kept.{AreKept, WaitsIn, accepts, keeper_of, kept_of, kept_phone, lent_of, lent_phone, unless_freed, with_kept, kept_note}
+use Rattle.cleanup.specs.Kept.{AreKept, WaitsIn, keeper_of, kept_of, kept_phone, lent_of, lent_phone, unless_freed, with_kept, kept_note}
 use Rattle.cleanup.specs.Board.{IsPendingAt}
 use Rattle.cleanup.specs.Serving.{Served}
 use Rattle.cleanup.specs.Joins.{declined_call, settle_for, drop_answer, passed_call, passage, hang_up, hangup_call}
@@ -35,7 +34,7 @@ use Rattle.route_laws.specs.Leads.{Beginning, phone_in}
 use Rattle.route_laws.specs.PhoneLaw.{HangsUp}
 use Rattle.route_laws.proofs.PhoneSteps.{is_some, state_told}
 use Rattle.run_determined.specs.PhoneCauses.{asked_for, lent_for, IsCause, IsWay, DropsUnawaited}
-use Rattle.run_determined.proofs.CauseSteps.{IsKeptAs, kind_by, still_kept, same_told, CausesFit, WholeFit, whole_next, whole_code, IsPlain, plain_told, phone_told, less_told, gone_keeps, put_kept, new_kept, kept_before, freed_told}
+use Rattle.run_determined.proofs.CauseSteps.{IsKeptAs, kind_by, still_kept, same_told, CausesFit, WholeFit, whole_next, whole_code, plain_told, phone_told, less_told, gone_keeps, put_kept, new_kept, kept_before, freed_told}
 
 -- after these entries more, in that state
 abbrev pub After : Beginning → List Entry → List Entry → KernelState → Type 0

@@ -1,5 +1,5 @@
 -- Each event of the kernel keeps the causes.
-use Rattle.std.proofs.Common.{◌≡◌, ℕ, ◌+◌, ◌≤◌, Bool, true, false, not, List, [], ◌∷◌, ◌++◌, Option, None, Some, Result, Ok, Err, nat_le, refl, ap, sym, subst, ◌∙◌}
+use Rattle.std.proofs.Common.{◌≡◌, ℕ, ◌≤◌, Bool, true, false, not, List, [], ◌∷◌, ◌++◌, Option, None, Some, Result, Ok, Err, nat_le, refl, sym, subst, ◌∙◌}
 use Rattle.std.specs.Prelude.{⊤, ◌==◌, if◌then◌else◌}
 use Rattle.std.proofs.lemmas.Bool.{eq-eqb}
 use Rattle.ipc_ids.specs.declared.numbers.Code.{Code}
@@ -33,8 +33,7 @@ use Rattle.ipc_ids.specs.Tales.{tales, onto, past}
 use Rattle.ipc_ids.specs.Life.{life}
 use Rattle.ipc_ids.specs.Holdings.{on_top, newest_first, present, Making, making}
 use Rattle.ipc_ids.proofs.LawfulAreas.{on_top-append, newest_first-append}
-use Rattle.call_slab.specs.declared.call.Call.{Call}
-use Rattle.answerbox.specs.Calls.{CallTable, call_at, used, active_calls}
+use Rattle.answerbox.specs.Calls.{CallTable, used, active_calls}
 use Rattle.cleanup.specs.State.{KernelState, phone_at, label_of, is_alive, with_task}
 use Rattle.cleanup.specs.Serving.{Served}
 use Rattle.kernel_core.specs.Effects.{is_effect, AreEffects}
@@ -44,7 +43,7 @@ use Rattle.kernel_core.specs.Kernel.{serve, kill_event, next_task, named, spawni
 use Rattle.kernel_core.specs.History.{life_at, TellsOf, IsTold, HistoryFits, served_entries, killed_entries, gone_entries}
 use Rattle.kernel_core.proofs.HonestEvents.{serve_is_honest}
 use Rattle.kernel_core.proofs.SpawnedHistories.{new_free}
-use Rattle.route_laws.specs.Leads.{Beginning, phone_in}
+use Rattle.route_laws.specs.Leads.{Beginning}
 use Rattle.route_laws.proofs.PhoneSteps.{is_some, state_told}
 use Rattle.route_laws.proofs.PhoneEvents.{free_more}
 use Rattle.run_determined.specs.PhoneCauses.{IsCause, HasHungUp, IsDoneAsTold, IsJustMade, TellsItsCall, HadCause, AllHaveCause, PhonesChangeForCause, IsWhole}

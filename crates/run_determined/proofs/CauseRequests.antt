@@ -72,7 +72,7 @@ use Rattle.route_laws.specs.Leads.{Beginning, phone_in}
 use Rattle.route_laws.specs.PhoneHistory.{TellPhones}
 use Rattle.route_laws.proofs.PhoneSteps.{is_some, state_told, written}
 use Rattle.run_determined.specs.PhoneCauses.{asked_for, lent_for, IsMadeWith, IsConnectedFor, IsConnected, IsKept, IsCause, IsHungUpAtOnce, MayFail, IsWay, IsCodeBack, HadCause}
-use Rattle.run_determined.proofs.CauseSteps.{IsKeptAs, kind_by, TellKept, same_told, CausesFit, WholeFit, whole_next, whole_code, ArePlain, plain_told, plains_told, phone_told, less_told, gone_keeps, put_kept, new_kept}
+use Rattle.run_determined.proofs.CauseSteps.{IsKeptAs, kind_by, TellKept, same_told, CausesFit, WholeFit, whole_next, ArePlain, plain_told, plains_told, phone_told, less_told, gone_keeps, put_kept, new_kept}
 use Rattle.run_determined.proofs.CauseCalls.{After, AfterStep, AfterServed, Fit, accepted_told, hung_up, vanished, delivered, dropped, answered_told, settled, passed}
 
 -- ---- entries that tell of memory alone

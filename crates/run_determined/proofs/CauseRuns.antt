@@ -1,10 +1,9 @@
 -- The run of a sound script keeps the causes, under every schedule.
-use Rattle.std.proofs.Common.{◌≡◌, ℕ, Bool, true, false, List, [], ◌∷◌, ◌++◌, length, Option, None, Some, refl, ap, sym, subst, ◌∙◌, append_assoc}
+use Rattle.std.proofs.Common.{◌≡◌, ℕ, Bool, true, false, List, [], ◌∷◌, ◌++◌, length, Option, None, Some, refl, sym, subst, append_assoc}
 use Rattle.std.specs.Prelude.{if◌then◌else◌, slice_get, All, ◌-◌}
 use Rattle.std.proofs.lemmas.List.{append-nil}
 use Rattle.std.proofs.lemmas.Option.{get_or_from_slice_get, slice_get_within}
 use Rattle.ipc_ids.specs.declared.numbers.TaskNo.{TaskNo}
-use Rattle.ipc_ids.specs.declared.message.Request.{Request}
 use Rattle.ipc_ids.specs.declared.message.Request.TheVariants as request
 use Rattle.ipc_ids.specs.declared.message.Outcome.{Outcome}
 use Rattle.ipc_ids.specs.declared.message.Event.{Event}
@@ -16,7 +15,7 @@ use Rattle.script_lines.specs.declared.plan.TaskPlan.{TaskPlan}
 use Rattle.script_lines.specs.Plan.{Plan}
 use Rattle.script_lines.specs.Sound.{IsSound, IsSoundTask}
 use Rattle.script_reader.specs.Schedule.{MayAllCome}
-use Rattle.cleanup.specs.State.{KernelState, is_alive}
+use Rattle.cleanup.specs.State.{is_alive}
 use Rattle.cleanup.specs.Serving.{Served}
 use Rattle.kernel_core.specs.Kernel.{serve, kill_event, spawn_event}
 use Rattle.kernel_core.specs.History.{served_entries}
@@ -26,7 +25,7 @@ use Rattle.async_laws.proofs.OwnEntries.{own_entries}
 use Rattle.task_system.specs.declared.any.AnyProgram.{AnyProgram}
 use Rattle.task_system.specs.declared.any.AnyProgram.TheVariants as any
 use Rattle.task_system.specs.Any.{wanted, entries}
-use Rattle.task_system.specs.Run.{RunState, RunTransition, start, run, run_from, state_after, turn, step_by, step_served, request_served, killed, gone, spawned, spawn_by, MayHappen, MayAllHappen}
+use Rattle.task_system.specs.Run.{RunState, RunTransition, start, run, run_from, state_after, turn, step_by, step_served, request_served, killed, gone, spawn_by, MayAllHappen}
 use Rattle.route_laws.specs.Leads.{Beginning}
 use Rattle.schedule_replay.specs.RunHistory.{beginning, RunFits}
 use Rattle.schedule_replay.proofs.RunHistories.{turn_fits, start_told, later_may, may_from}

@@ -1,9 +1,7 @@
 -- What each kind of entry, and each change of a phone or a call, keeps of the causes.
-use Rattle.std.proofs.Common.{◌≡◌, ℕ, Bool, true, false, ◌⊎◌, inl, inr, List, [], ◌∷◌, Option, None, Some, refl, ap, sym, subst, ◌∙◌}
-use Rattle.std.specs.Prelude.{⊤, ◌==◌, if◌then◌else◌, IsSome, unwrap_or}
+use Rattle.std.proofs.Common.{◌≡◌, ℕ, inl, inr, List, [], ◌∷◌, Option, None, Some, refl, ap, sym, subst, ◌∙◌}
+use Rattle.std.specs.Prelude.{⊤, IsSome}
 use Rattle.std.specs.Option.{option_to_list}
-use Rattle.std.proofs.lemmas.Bool.{cases_eq, eq-eqb, ne_eqb}
-use Rattle.ipc_ids.specs.declared.numbers.TaskNo.{TaskNo}
 use Rattle.ipc_ids.specs.declared.numbers.CallNo.{CallNo}
 use Rattle.ipc_ids.specs.declared.numbers.Code.{Code}
 use Rattle.ipc_ids.specs.declared.numbers.Label.{Label}
@@ -14,7 +12,7 @@ use Rattle.ipc_ids.specs.declared.message.PhoneState.{PhoneState}
 use Rattle.ipc_ids.specs.declared.message.PhoneState.TheVariants.{Free, Connecting, Connected, HungUp, Slammed}
 use Rattle.ipc_ids.specs.declared.entry.Entry.{Entry}
 use Rattle.ipc_ids.specs.declared.entry.Entry.TheVariants as entry
-use Rattle.ipc_ids.specs.Methods.{kind_of, phone_hungup}
+use Rattle.ipc_ids.specs.Methods.{kind_of}
 use Rattle.ipc_ids.specs.Holdings.{on_top}
 use Rattle.call_slab.specs.declared.call.Call.{Call}
 use Rattle.call_slab.specs.declared.call.Place.{Place}
@@ -27,7 +25,7 @@ use Rattle.cleanup.proofs.Lookups.{at_insert, at_remove, chosen, same_call}
 use Rattle.route_laws.specs.Leads.{Beginning, phone_in}
 use Rattle.route_laws.specs.PhoneHistory.{TellPhones}
 use Rattle.route_laws.proofs.PhoneSteps.{IsLiveIn, is_some, state_told, written}
-use Rattle.run_determined.specs.PhoneCauses.{asked_for, lent_for, IsCause, ChangesForCause, IsHungUpAtOnce, TellsBack, GoesItsWay, GoesBackWithCode, IsDoneAsTold, HasItsCause, IsWhole, HadCause}
+use Rattle.run_determined.specs.PhoneCauses.{asked_for, lent_for, IsCause, IsHungUpAtOnce, TellsBack, HasItsCause, IsWhole, HadCause}
 
 -- ---- what the entries tell of the phones that calls keep
 

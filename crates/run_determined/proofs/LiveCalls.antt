@@ -2,16 +2,13 @@
 -- keep the laws of lives and of causes.
 use Rattle.std.proofs.Common.{◌≡◌, ℕ, Bool, true, false, ◌⊎◌, inl, inr, List, [], ◌∷◌, Option, None, Some, refl, ap, sym, subst, ◌∙◌}
 use Rattle.std.specs.Prelude.{⊤, ◌==◌, ◌&&◌, if◌then◌else◌}
-use Rattle.std.proofs.lemmas.Bool.{cases_eq, eq-eqb, ne_eqb, eqb-true, false≢true}
+use Rattle.std.proofs.lemmas.Bool.{cases_eq, eq-eqb, ne_eqb, false≢true}
 use Rattle.ipc_ids.specs.declared.numbers.TaskNo.{TaskNo}
-use Rattle.ipc_ids.specs.declared.numbers.CallNo.{CallNo}
-use Rattle.ipc_ids.specs.declared.numbers.Label.{Label}
-use Rattle.ipc_ids.specs.declared.message.Request.{Request}
 use Rattle.ipc_ids.specs.declared.entry.Entry.{Entry}
 use Rattle.ipc_ids.specs.declared.entry.Entry.TheVariants as entry
 use Rattle.ipc_ids.specs.Methods.{phone_hungup}
-use Rattle.ipc_ids.specs.Tales.{Event, Step, Kill, Way, To, At_once, way, author, Kernel, Task, Note, Accepted, Received, Forwarded, Answered, Vanished, Forgotten, Delivered, Dropped, Tale, Head, On, Other, tale, tales}
-use Rattle.ipc_ids.specs.Life.{Life, Nowhere, Back, Incoming, Dispatched, Answers, Over, caller_of, after, life, event, is_kill_of, is_killed, Allowed}
+use Rattle.ipc_ids.specs.Tales.{Way, To, At_once, way, author, Kernel, Task, Note, Accepted, Received, Forwarded, Answered, Vanished, Forgotten, Delivered, Dropped, Tale, Head, On, Other, tale, tales}
+use Rattle.ipc_ids.specs.Life.{Life, Nowhere, Back, Incoming, Dispatched, Answers, Over, caller_of, after, life, is_kill_of, is_killed, Allowed}
 use Rattle.ipc_ids.specs.Lawful.{Lawful}
 use Rattle.ipc_ids.specs.Holdings.{on_top, present, Making, making}
 use Rattle.route_laws.specs.Leads.{Beginning}

@@ -1,17 +1,15 @@
 -- Each event keeps that a call which a fibril sent was made by its task, and that a delivered answer was given to it.
 use Rattle.std.proofs.Common.{◌≡◌, ℕ, Bool, true, false, ◌⊎◌, inl, inr, List, [], ◌∷◌, ◌++◌, Option, None, Some, refl, ap, sym, subst, ◌∙◌}
-use Rattle.std.specs.Prelude.{⊤, ◌==◌, ◌&&◌, ◌||◌, if◌then◌else◌}
-use Rattle.std.specs.List.{list_any}
+use Rattle.std.specs.Prelude.{◌==◌, ◌&&◌, ◌||◌, if◌then◌else◌}
 use Rattle.std.proofs.lemmas.Bool.{cases_eq, eq-eqb, ne_eqb, eqb-true, false≢true}
 use Rattle.ipc_ids.specs.declared.numbers.TaskNo.{TaskNo}
 use Rattle.ipc_ids.specs.declared.numbers.CallNo.{CallNo}
-use Rattle.ipc_ids.specs.declared.message.Reply.{Reply}
 use Rattle.ipc_ids.specs.declared.message.Request.{Request}
 use Rattle.ipc_ids.specs.declared.message.Outcome.{Outcome}
 use Rattle.ipc_ids.specs.declared.message.Outcome.TheVariants as outcome
 use Rattle.ipc_ids.specs.declared.entry.Entry.{Entry}
 use Rattle.ipc_ids.specs.declared.entry.Entry.TheVariants as entry
-use Rattle.ipc_ids.specs.Tales.{Event, Step, Kill, Gone, Spawn, Receive, Note, Delivered, Tale, Head, On, Other, ask, tale, tales}
+use Rattle.ipc_ids.specs.Tales.{Event, Step, Receive, Delivered, Tale, Head, ask, tale, tales}
 use Rattle.ipc_ids.specs.Life.{Life, Nowhere, Back, Incoming, Dispatched, Answers, Over, life, event, Allowed}
 use Rattle.ipc_ids.specs.Lawful.{Lawful}
 use Rattle.ipc_ids.specs.Facts as fact

@@ -1,17 +1,13 @@
 -- In the run of a sound script a fibril that waits for an answer waits for a call that is still to be answered.
-use Rattle.std.proofs.Common.{◌≡◌, ℕ, zero, suc, ◌-◌, Bool, true, false, ◌⊎◌, inl, inr, List, [], ◌∷◌, ◌++◌, length, Option, None, Some, refl, ap, sym, subst, ◌∙◌, append_assoc, arith}
+use Rattle.std.proofs.Common.{◌≡◌, ℕ, zero, suc, ◌-◌, Bool, true, false, inl, inr, List, [], ◌∷◌, ◌++◌, length, Option, None, Some, refl, ap, sym, subst, ◌∙◌, append_assoc, arith}
 use Rattle.std.specs.Prelude.{◌==◌, not, if◌then◌else◌, slice_get, unwrap_or}
 use Rattle.std.specs.Option.{option_map_or}
 use Rattle.std.proofs.lemmas.Bool.{false≢true}
 use Rattle.std.proofs.lemmas.List.{append-nil}
 use Rattle.ipc_ids.specs.declared.numbers.TaskNo.{TaskNo}
-use Rattle.ipc_ids.specs.declared.numbers.CallNo.{CallNo}
-use Rattle.ipc_ids.specs.declared.numbers.FibrilNo.{FibrilNo}
-use Rattle.ipc_ids.specs.declared.message.Request.{Request}
 use Rattle.ipc_ids.specs.declared.message.Request.TheVariants as request
 use Rattle.ipc_ids.specs.declared.message.Outcome.{Outcome}
 use Rattle.ipc_ids.specs.declared.message.Why.TheVariants as why
-use Rattle.ipc_ids.specs.declared.message.PhoneState.TheVariants.{Connected}
 use Rattle.ipc_ids.specs.declared.message.Event.{Event}
 use Rattle.ipc_ids.specs.declared.message.Event.TheVariants.{Step, Kill, Hangup, Spawn}
 use Rattle.ipc_ids.specs.declared.entry.Entry.{Entry}
@@ -20,7 +16,6 @@ use Rattle.ipc_ids.specs.Tales as tale
 use Rattle.ipc_ids.specs.Tales.{Tale, tales, past}
 use Rattle.ipc_ids.specs.Life.{Life, Nowhere, Back, Incoming, Dispatched, Answers, Over, life, is_killed}
 use Rattle.ipc_ids.specs.Lawful.{Lawful}
-use Rattle.ipc_ids.specs.Facts.{facts}
 use Rattle.ipc_ids.specs.Replies.{Waiter}
 use Rattle.ipc_ids.specs.Holdings.{newest_first, making}
 use Rattle.script_lines.specs.declared.plan.TaskPlan.{TaskPlan}
@@ -31,21 +26,19 @@ use Rattle.call_slab.specs.declared.call.Call.{Call}
 use Rattle.call_slab.specs.declared.call.Place.{Place}
 use Rattle.call_slab.specs.declared.call.Place.TheVariants as place
 use Rattle.answerbox.specs.Calls.{call_at}
-use Rattle.cleanup.specs.State.{KernelState, alive_in, is_alive}
+use Rattle.cleanup.specs.State.{alive_in, is_alive}
 use Rattle.cleanup.specs.Serving.{Served}
-use Rattle.kernel_core.specs.Kernel.{serve, kill_event, spawn_event, next_task, named, spawning}
-use Rattle.kernel_core.specs.History.{life_at, IsGone, IsTold, TellsOf, is_ended, HistoryFits, served_entries}
-use Rattle.kernel_core.specs.Effects.{AreEffects}
+use Rattle.kernel_core.specs.Kernel.{serve, kill_event, next_task, named, spawning}
+use Rattle.kernel_core.specs.History.{life_at, IsGone, TellsOf, is_ended, served_entries}
 use Rattle.kernel_core.proofs.HonestEvents.{serve_is_honest, kill_is_honest}
 use Rattle.async_task.specs.Program.{AsyncTask}
 use Rattle.async_task.specs.Steps.{step}
 use Rattle.async_laws.specs.Links.{AreOwn}
-use Rattle.async_laws.specs.KeptAnswers.{given, waiting}
 use Rattle.async_laws.proofs.OwnEntries.{own_entries}
 use Rattle.task_system.specs.declared.any.AnyProgram.{AnyProgram}
 use Rattle.task_system.specs.declared.any.AnyProgram.TheVariants as any
 use Rattle.task_system.specs.Any.{wanted, entries}
-use Rattle.task_system.specs.Run.{RunState, RunTransition, start, run, run_from, state_after, turn, step_by, step_served, request_served, killed, gone, spawned, spawn_by, MayHappen, MayAllHappen}
+use Rattle.task_system.specs.Run.{RunState, RunTransition, start, run, run_from, state_after, turn, step_by, step_served, request_served, killed, gone, spawn_by, MayHappen, MayAllHappen}
 use Rattle.route_laws.specs.Leads.{Beginning}
 use Rattle.schedule_replay.specs.RunHistory.{beginning, ProgramFits, RunFits}
 use Rattle.schedule_replay.proofs.RunHistories.{turn_fits, start_told, later_may, may_from}
@@ -54,7 +47,7 @@ use Rattle.run_determined.specs.LiveWaits.{IsStillToBeAnswered, WaitsForLiveCall
 use Rattle.run_determined.proofs.AsyncSends.{AreSentAs, step_sends}
 use Rattle.run_determined.proofs.CauseEvents.{CausesKept, tales_are}
 use Rattle.run_determined.proofs.CauseRuns.{start_caused, turn_kept}
-use Rattle.run_determined.proofs.LiveCalls.{IsOnItsWay, is_delivered, IsMadeBy, own_call}
+use Rattle.run_determined.proofs.LiveCalls.{IsOnItsWay, IsMadeBy, own_call}
 use Rattle.run_determined.proofs.LiveEvents.{KeepsSends, start_sends, step_kept, quiet_kept}
 
 -- ---- programs

@@ -1,7 +1,7 @@
 -- Wrong machines at the lines of a schedule, on two small states: each breaks the law. In one state there is no task, and
 -- there are two templates, of which the second is another in kind, in operations and in its limit; in the other there is
 -- one task with two phones, both of which are slammed.
-use Rattle.std.proofs.Common.{ℕ, ◌≡◌, Bool, true, false, Option, None, Some, List, [], ◌∷◌, ◌++◌, refl, ap, sym, ◌∙◌, arith}
+use Rattle.std.proofs.Common.{ℕ, ◌≡◌, true, false, Option, None, Some, List, [], ◌∷◌, refl, ap, sym, ◌∙◌, arith}
 use Rattle.std.specs.Prelude.{◌==◌, slice_get}
 use Rattle.std.proofs.lemmas.Bool.{eq-eqb, false≢true}
 use Rattle.ipc_ids.specs.declared.numbers.TaskNo.{TaskNo}

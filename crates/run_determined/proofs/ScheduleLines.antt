@@ -1,6 +1,6 @@
 -- The lines of a schedule that make a task, and that hang up a phone, do what they name.
-use Rattle.std.proofs.Common.{◌≡◌, ℕ, zero, suc, ◌+◌, ◌-◌, ◌<◌, ◌≤◌, Bool, true, false, List, [], ◌∷◌, ◌++◌, length, Option, None, Some, refl, ap, sym, subst, ◌∙◌, arith}
-use Rattle.std.specs.Prelude.{if◌then◌else◌, slice_get, slice_index_or, All, map}
+use Rattle.std.proofs.Common.{◌≡◌, ℕ, zero, suc, ◌<◌, ◌≤◌, Bool, true, false, List, [], ◌∷◌, ◌++◌, length, Option, None, Some, refl, ap, sym, subst, ◌∙◌, arith}
+use Rattle.std.specs.Prelude.{if◌then◌else◌, slice_get, All, map}
 use Rattle.std.proofs.lemmas.Option.{get_or_from_slice_get, slice_get_within}
 use Rattle.ipc_ids.specs.declared.numbers.TaskNo.{TaskNo}
 use Rattle.ipc_ids.specs.declared.message.Request.TheVariants as request
@@ -20,13 +20,12 @@ use Rattle.kernel_determined.specs.SpawnLaw.{IsSpawn}
 use Rattle.kernel_determined.proofs.SpawnDetermined.{spawn_is_so}
 use Rattle.kernel_determined.proofs.HangupDetermined.{hangup_is_so}
 use Rattle.async_task.specs.AsyncState.{AsyncState}
-use Rattle.async_task.specs.Program.{started}
 use Rattle.async_task.specs.Steps.{bare_task, start_in, start_at, start_bodies}
 use Rattle.task_system.specs.declared.any.AnyProgram.{AnyProgram}
 use Rattle.task_system.specs.Run.{RunState, RunTransition, start, run, state_after, turn, step_by, spawn_by, spawned, request_served, gone, program_by, ops_of, service_of}
 use Rattle.schedule_replay.specs.RunHistory.{beginning, RunFits}
 use Rattle.schedule_replay.proofs.RunHistories.{part_told}
-use Rattle.run_determined.specs.ScheduleLines.{AreFirstOps, IsNewProgram, IsMadeFrom, SpawnsMakeTheirTemplate, IsHungUpFor, IsGone, IsHangupLine, HangupLinesHangUpTheirPhone}
+use Rattle.run_determined.specs.ScheduleLines.{AreFirstOps, IsNewProgram, IsMadeFrom, SpawnsMakeTheirTemplate, IsHungUpFor, IsHangupLine, HangupLinesHangUpTheirPhone}
 
 -- ---- the templates stay
 

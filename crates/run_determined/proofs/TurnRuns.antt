@@ -1,12 +1,10 @@
 -- In the run of a sound script tasks come in turn, under every schedule.
 use Rattle.std.proofs.Common.{◌≡◌, ℕ, zero, suc, ◌+◌, ◌-◌, ◌<◌, ◌≤◌, Bool, true, false, List, [], ◌∷◌, ◌++◌, length, length-append, map, Option, None, Some, refl, ap, sym, subst, ◌∙◌, append_assoc, arith}
-use Rattle.std.specs.Prelude.{⊤, if◌then◌else◌, slice_get, slice_set, All}
+use Rattle.std.specs.Prelude.{⊤, if◌then◌else◌, slice_get, All}
 use Rattle.std.proofs.lemmas.List.{append-nil, length-set}
 use Rattle.ipc_ids.specs.declared.numbers.TaskNo.{TaskNo}
-use Rattle.ipc_ids.specs.declared.message.Request.{Request}
 use Rattle.ipc_ids.specs.declared.message.Request.TheVariants as request
 use Rattle.ipc_ids.specs.declared.message.Outcome.{Outcome}
-use Rattle.ipc_ids.specs.declared.message.PhoneState.TheVariants.{Connected}
 use Rattle.ipc_ids.specs.declared.message.Event.{Event}
 use Rattle.ipc_ids.specs.declared.message.Event.TheVariants.{Step, Kill, Hangup, Spawn}
 use Rattle.ipc_ids.specs.declared.entry.Entry.{Entry}
@@ -33,13 +31,13 @@ use Rattle.async_laws.proofs.OwnEntries.{own_entries}
 use Rattle.task_system.specs.declared.any.AnyProgram.{AnyProgram}
 use Rattle.task_system.specs.declared.any.AnyProgram.TheVariants as any
 use Rattle.task_system.specs.Any.{wanted, after, entries}
-use Rattle.task_system.specs.Run.{RunState, RunTransition, programs_from, start, run, run_from, state_after, turn, step_by, step_served, request_served, killed, gone, spawned, spawn_by, MayHappen, MayAllHappen}
+use Rattle.task_system.specs.Run.{RunState, RunTransition, programs_from, start, run, run_from, state_after, turn, step_by, step_served, request_served, killed, gone, spawn_by, MayHappen, MayAllHappen}
 use Rattle.task_system.specs.Wiring.{service_wires, wires_to_service}
 use Rattle.route_laws.specs.Leads.{Lead, Beginning}
 use Rattle.schedule_replay.specs.RunHistory.{lead_of, beginning, RunFits}
 use Rattle.schedule_replay.proofs.RunHistories.{turn_fits, start_told, later_may, may_from}
 use Rattle.run_determined.specs.PhoneCauses.{HadCause}
-use Rattle.run_determined.specs.TasksInTurn.{IsOf, count_after, IsOneOf, IsInTurn, AllInTurn, TasksComeInTurn, NoneIsOf, NothingComesBeforeItsSpawn, CameInTurn}
+use Rattle.run_determined.specs.TasksInTurn.{count_after, IsInTurn, AllInTurn, TasksComeInTurn, NoneIsOf, NothingComesBeforeItsSpawn, CameInTurn}
 use Rattle.run_determined.proofs.CauseEvents.{CausesKept, tales_are, had_before}
 use Rattle.run_determined.proofs.CauseRuns.{start_caused, turn_kept}
 use Rattle.run_determined.proofs.LiveCalls.{lawful_before}

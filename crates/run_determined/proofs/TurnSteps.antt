@@ -1,27 +1,25 @@
 -- An entry comes in turn: the laws of lives and of causes lead from it back to the head of its event, or to an earlier
 -- entry on its phone, which came in turn.
-use Rattle.std.proofs.Common.{◌≡◌, ℕ, suc, ◌≤◌, Bool, true, false, ◌⊎◌, inl, inr, List, [], ◌∷◌, ◌++◌, Option, None, Some, refl, ap, sym, subst, ◌∙◌, arith}
-use Rattle.std.specs.Prelude.{⊤, ◌==◌, ◌&&◌, if◌then◌else◌, All}
-use Rattle.std.proofs.lemmas.Bool.{eqb-true, false≢true}
+use Rattle.std.proofs.Common.{◌≡◌, ℕ, suc, Bool, true, false, ◌⊎◌, inl, inr, List, [], ◌∷◌, Option, None, Some, refl, ap, sym, subst, ◌∙◌, arith}
+use Rattle.std.specs.Prelude.{⊤, ◌==◌, ◌&&◌, if◌then◌else◌}
+use Rattle.std.proofs.lemmas.Bool.{eqb-true}
 use Rattle.ipc_ids.specs.declared.numbers.TaskNo.{TaskNo}
 use Rattle.ipc_ids.specs.declared.numbers.Label.{Label}
-use Rattle.ipc_ids.specs.declared.message.Reply.{Reply}
 use Rattle.ipc_ids.specs.declared.message.Request.TheVariants as request
 use Rattle.ipc_ids.specs.declared.message.PhoneState.{PhoneState}
 use Rattle.ipc_ids.specs.declared.message.PhoneState.TheVariants.{Free, Connecting, Connected, HungUp, Slammed}
 use Rattle.ipc_ids.specs.declared.entry.Entry.{Entry}
 use Rattle.ipc_ids.specs.declared.entry.Entry.TheVariants as entry
-use Rattle.ipc_ids.specs.Tales.{Event, Step, Kill, Receive, Answer, Forward, Note, Way, way, author, Kernel, Task, Accepted, Received, Forwarded, Answered, Delivered, Dropped, Tale, Head, On, Other, tale, tales}
+use Rattle.ipc_ids.specs.Tales.{Event, Step, Kill, Receive, Answer, Forward, Way, way, Task, Accepted, Received, Forwarded, Answered, Delivered, Dropped, Tale, tales}
 use Rattle.ipc_ids.specs.Life.{Life, Nowhere, Back, Incoming, Dispatched, Answers, Over, life, event, task_of, Allowed}
 use Rattle.ipc_ids.specs.Life as lives
 use Rattle.ipc_ids.specs.Lawful.{Lawful}
-use Rattle.ipc_ids.specs.Holdings.{on_top, present}
+use Rattle.ipc_ids.specs.Holdings.{present}
 use Rattle.kernel_core.specs.History as history
 use Rattle.kernel_core.specs.History.{actor, AreOfTasks}
 use Rattle.route_laws.specs.Leads.{Lead, Beginning, is_phone, wired, phone_in}
-use Rattle.route_laws.specs.PhoneLaw.{HangsUp, Kills}
-use Rattle.run_determined.specs.PhoneCauses.{is_sent, is_received, asked_for, lent_for, IsKept, IsConnectedFor, AnswersFor, IsConnected, IsMadeLeading, IsLetGo, IsHungUp, IsCause, HasItsCause, HadCause}
-use Rattle.run_determined.specs.TasksInTurn.{IsTask, IsOf, count_after, IsOneOf, IsInTurn, CameInTurn}
+use Rattle.run_determined.specs.PhoneCauses.{is_sent, is_received, asked_for, lent_for, IsKept, AnswersFor, IsConnected, IsMadeLeading, IsLetGo, IsCause, HasItsCause}
+use Rattle.run_determined.specs.TasksInTurn.{IsOf, count_after, IsOneOf, IsInTurn, CameInTurn}
 
 -- ---- what earlier entries say
 

@@ -1,7 +1,6 @@
 -- No wake-up is lost: a fibril that waits for an answer waits for a call that is still to be answered to its task, by
 -- the entries of the run so far.
 use Rattle.std.specs.Prelude.{ℕ, suc, ◌≡◌, true, List, ◌++◌, Some, slice_get}
-use Rattle.ipc_ids.specs.declared.numbers.TaskNo.{TaskNo}
 use Rattle.ipc_ids.specs.declared.numbers.CallNo.{CallNo}
 use Rattle.ipc_ids.specs.declared.numbers.FibrilNo.{FibrilNo}
 use Rattle.ipc_ids.specs.declared.message.Why.TheVariants as why
@@ -14,7 +13,7 @@ use Rattle.fibril_core.specs.Fibrils.{why_of}
 use Rattle.async_task.specs.AsyncState.{AsyncState}
 use Rattle.async_task.specs.Program.{AsyncTask}
 use Rattle.task_system.specs.declared.any.AnyProgram.TheVariants as any
-use Rattle.task_system.specs.Run.{RunState, start, run, state_after}
+use Rattle.task_system.specs.Run.{start, run, state_after}
 
 -- the call is one of task t, and waits at a task, or is held by one, or its answer waits for t
 abbrev pub IsStillToBeAnswered : ℕ → Life → Type 0

@@ -6,7 +6,6 @@ use Rattle.ipc_ids.specs.declared.numbers.Label.{Label}
 use Rattle.ipc_ids.specs.declared.numbers.Code.{Code}
 use Rattle.ipc_ids.specs.declared.message.PhoneState.{PhoneState}
 use Rattle.ipc_ids.specs.declared.message.PhoneState.TheVariants.{Free, Connecting, Connected, HungUp, Slammed}
-use Rattle.ipc_ids.specs.declared.message.Reply.{Reply}
 use Rattle.ipc_ids.specs.declared.message.Request.TheVariants as request
 use Rattle.ipc_ids.specs.declared.message.Outcome.TheVariants as outcome
 use Rattle.ipc_ids.specs.declared.entry.Entry.{Entry}
@@ -16,7 +15,7 @@ use Rattle.ipc_ids.specs.Methods.{phone_hungup, connect_to_me, connect_me_to, da
 use Rattle.ipc_ids.specs.Tales.{tales}
 use Rattle.ipc_ids.specs.Life.{Dispatched, life}
 use Rattle.ipc_ids.specs.Holdings.{present, Making, making}
-use Rattle.route_laws.specs.Leads.{Lead, Beginning, phone_in}
+use Rattle.route_laws.specs.Leads.{Beginning, phone_in}
 use Rattle.route_laws.specs.PhoneLaw.{phone_of, HangsUp, Kills}
 
 -- ---- the phone that is kept for a call

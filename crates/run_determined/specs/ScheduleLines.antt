@@ -1,6 +1,6 @@
 -- What the lines of a schedule do that name no step of a task: one that makes a task from a template, and one that hangs
 -- up a phone. They are said of any state of a run, and of what such a line makes of it.
-use Rattle.std.specs.Prelude.{ℕ, ◌≡◌, true, false, List, [], ◌∷◌, ◌++◌, Option, None, Some, slice_get, slice_index_or, replicate}
+use Rattle.std.specs.Prelude.{ℕ, ◌≡◌, true, false, List, [], ◌∷◌, ◌++◌, Option, Some, slice_get, replicate}
 use Rattle.ipc_ids.specs.declared.numbers.TaskNo.{TaskNo}
 use Rattle.ipc_ids.specs.declared.message.Request.TheVariants as request
 use Rattle.ipc_ids.specs.declared.message.Event.{Event}
