@@ -91,7 +91,8 @@ effects_now (e ∷ es) q effects = effects_now es (e ∷ q) effects.1 ∙ one e 
 
 -- what is told of a hangup is so
 hangup_done : (t : TaskNo) (p : ℕ) (q : List Entry) (k : KernelState) (o : Option PhoneState)
-    → IsDoneAsTold (on_top (hangup_over k t p o).entries (entry.Head t (request.Hangup p) ∷ q)) (entry.Outcome (hangup_over k t p o).outcome)
+    → IsDoneAsTold (on_top (hangup_over k t p o).entries (entry.Head t (request.Hangup p) ∷ q))
+    (entry.Outcome (hangup_over k t p o).outcome)
 hangup_done t p q k None = tt
 hangup_done t p q k (Some Free) = tt
 hangup_done t p q k (Some Connecting) = tt
@@ -100,20 +101,25 @@ hangup_done t p q k (Some Slammed) = refl
 hangup_done t p q k (Some (Connected u)) = refl
 
 -- of another request it says nothing
-told_other : (r : List Entry) (o : Outcome) (head : Option Entry) → present r ≡ head → HasHungUp r head → IsDoneAsTold r (entry.Outcome o)
+told_other : (r : List Entry) (o : Outcome) (head : Option Entry) → present r ≡ head → HasHungUp r head
+    → IsDoneAsTold r (entry.Outcome o)
 told_other r outcome.Done head now h = subst (HasHungUp r) (sym now) h
 told_other r _ head now h = tt
 
 module _ (t : TaskNo) (q : List Entry) (k : KernelState) where
-  now : (asked : Request) → present (on_top (serve_request k t asked).entries (entry.Head t asked ∷ q)) ≡ Some (entry.Head t asked)
-  now asked = effects_now (serve_request k t asked).entries (entry.Head t asked ∷ q) (serve_is_honest k t asked).effects
+  now : (asked : Request)
+      → present (on_top (serve_request k t asked).entries (entry.Head t asked ∷ q)) ≡ Some (entry.Head t asked)
+  now asked =
+      effects_now (serve_request k t asked).entries (entry.Head t asked ∷ q) (serve_is_honest k t asked).effects
 
   -- the entries after the effects of a request
   abbrev then_on : Request → List Entry
   then_on asked = on_top (serve_request k t asked).entries (entry.Head t asked ∷ q)
 
-  other_done : (asked : Request) → HasHungUp (then_on asked) (Some (entry.Head t asked)) → IsDoneAsTold (then_on asked) (entry.Outcome (serve_request k t asked).outcome)
-  other_done asked h = told_other (then_on asked) (serve_request k t asked).outcome (Some (entry.Head t asked)) (now asked) h
+  other_done : (asked : Request) → HasHungUp (then_on asked) (Some (entry.Head t asked))
+      → IsDoneAsTold (then_on asked) (entry.Outcome (serve_request k t asked).outcome)
+  other_done asked h =
+      told_other (then_on asked) (serve_request k t asked).outcome (Some (entry.Head t asked)) (now asked) h
 
   done_told : (asked : Request) → IsDoneAsTold (then_on asked) (entry.Outcome (serve_request k t asked).outcome)
   done_told (request.Hangup p) = hangup_done t p q k (phone_at k t p)
@@ -156,7 +162,9 @@ other_request _ fits = tt
 
 -- the call with number n has just been made so
 just_made : (n : ℕ) (t : TaskNo) (asked : Request) (method : ℕ) (before : Option Making) → (method ≡ phone_hungup → ⊥)
-    → IsJustMade (Some (entry.Head t asked)) (if n == n then Some (record { caller = t.0; method = method; asked = Some (entry.Head t asked) }) else before)
+    → IsJustMade (Some (entry.Head t asked))
+    (if n == n then Some
+    (record { caller = t.0; method = method; asked = Some (entry.Head t asked) }) else before)
 just_made n t asked method before callable = rw (eq-eqb n n refl) (refl, refl, callable)
 
 module _ (t : TaskNo) (q : List Entry) (k : KernelState) (p : ℕ) (msg : Msg) where
@@ -167,26 +175,36 @@ module _ (t : TaskNo) (q : List Entry) (k : KernelState) (p : ℕ) (msg : Msg) w
   Tells s = TellsItsCall (on_top s.entries r) (entry.Outcome s.outcome)
 
   module _ (callable : msg.method ≡ phone_hungup → ⊥) where
-    made_tells : IsJustMade (Some (entry.Head t (request.Call p msg))) (making k.calls.next_number (entry.Accepted (record { 0 = k.calls.next_number }) (label_of t p) msg.method None ∷ r))
-    made_tells = just_made k.calls.next_number t (request.Call p msg) msg.method (making k.calls.next_number r) callable
+    made_tells : IsJustMade (Some (entry.Head t (request.Call p msg)))
+        (making k.calls.next_number
+        (entry.Accepted (record { 0 = k.calls.next_number }) (label_of t p) msg.method None ∷ r))
+    made_tells =
+        just_made k.calls.next_number t (request.Call p msg) msg.method (making k.calls.next_number r) callable
 
-    keeping_tells : (u : TaskNo) (o : Option Label) → Tells (sent_to u k (new_call k t p msg (Incoming u)) (keeping_to_send k (new_call k t p msg (Incoming u)) o))
+    keeping_tells : (u : TaskNo) (o : Option Label)
+        → Tells (sent_to u k (new_call k t p msg (Incoming u))
+        (keeping_to_send k (new_call k t p msg (Incoming u)) o))
     keeping_tells u None = made_tells
     keeping_tells u (Some l) = made_tells
 
-    carrying_tells : (u : TaskNo) (told : Result (List ℕ) Code) → Tells (sent_to u k (new_call k t p msg (Incoming u)) (carrying k (new_call k t p msg (Incoming u)) told))
+    carrying_tells : (u : TaskNo) (told : Result (List ℕ) Code)
+        → Tells (sent_to u k (new_call k t p msg (Incoming u)) (carrying k (new_call k t p msg (Incoming u)) told))
     carrying_tells u (Ok bytes) = made_tells
     carrying_tells u (Err code) = made_tells
 
-    bringing_tells : (u : TaskNo) (told : Result ℕ Code) → Tells (sent_to u k (new_call k t p msg (Incoming u)) (bringing k (new_call k t p msg (Incoming u)) told))
+    bringing_tells : (u : TaskNo) (told : Result ℕ Code)
+        → Tells (sent_to u k (new_call k t p msg (Incoming u)) (bringing k (new_call k t p msg (Incoming u)) told))
     bringing_tells u (Ok count) = made_tells
     bringing_tells u (Err code) = made_tells
 
-    asking_tells : (u : TaskNo) (told : Result Unit Code) → Tells (sent_to u k (new_call k t p msg (Incoming u)) (asking k (new_call k t p msg (Incoming u)) told))
+    asking_tells : (u : TaskNo) (told : Result Unit Code)
+        → Tells (sent_to u k (new_call k t p msg (Incoming u)) (asking k (new_call k t p msg (Incoming u)) told))
     asking_tells u (Ok done) = made_tells
     asking_tells u (Err code) = made_tells
 
-    sending_tells : (u : TaskNo) (kind : MethodKind) → Tells (sent_to u k (new_call k t p msg (Incoming u)) (before_send_of kind k (new_call k t p msg (Incoming u))))
+    sending_tells : (u : TaskNo) (kind : MethodKind)
+        → Tells (sent_to u k (new_call k t p msg (Incoming u))
+        (before_send_of kind k (new_call k t p msg (Incoming u))))
     sending_tells u ConnectMeTo = keeping_tells u (first_usable_of k t)
     sending_tells u DataWrite = carrying_tells u (write_before_send k.memory t msg.args (used k.calls))
     sending_tells u DataRead = bringing_tells u (read_before_send msg.args)
@@ -204,7 +222,8 @@ module _ (t : TaskNo) (q : List Entry) (k : KernelState) (p : ℕ) (msg : Msg) w
   tested_tells : (s : PhoneState) → Tells (call_tested k t p msg s)
   tested_tells s =
       by_test Tells (not (is_callable (kind_of msg.method))) _ _ (λ _. tt)
-      (λ may. by_test Tells (nat_le most_active (active_calls k.calls (label_of t p))) _ _ (λ _. tt) (λ _. through_tells (no_hangup msg.method may) s))
+      (λ may. by_test Tells (nat_le most_active (active_calls k.calls (label_of t p))) _ _ (λ _. tt)
+      (λ _. through_tells (no_hangup msg.method may) s))
 
   called_tells : (o : Option PhoneState) → Tells (call_over k t p msg o)
   called_tells None = tt
@@ -214,25 +233,67 @@ module _ (t : TaskNo) (q : List Entry) (k : KernelState) (p : ℕ) (msg : Msg) w
   called_tells (Some HungUp) = tested_tells HungUp
   called_tells (Some Slammed) = tested_tells Slammed
 
-by_outcome : (t : TaskNo) (q : List Entry) (k : KernelState) (asked : Request) → IsNoCall (serve_request k t asked).outcome → TellsItsCall (on_top (serve_request k t asked).entries (entry.Head t asked ∷ q)) (entry.Outcome (serve_request k t asked).outcome)
-by_outcome t q k asked no_call = no_call_told (on_top (serve_request k t asked).entries (entry.Head t asked ∷ q)) (serve_request k t asked).outcome no_call
+by_outcome : (t : TaskNo) (q : List Entry) (k : KernelState) (asked : Request)
+    → IsNoCall (serve_request k t asked).outcome
+    → TellsItsCall (on_top (serve_request k t asked).entries (entry.Head t asked ∷ q))
+    (entry.Outcome (serve_request k t asked).outcome)
+by_outcome t q k asked no_call =
+    no_call_told (on_top (serve_request k t asked).entries (entry.Head t asked ∷ q))
+    (serve_request k t asked).outcome no_call
 
-call_told : (t : TaskNo) (q : List Entry) (k : KernelState) → IsSound k → (asked : Request) → TellsItsCall (on_top (serve_request k t asked).entries (entry.Head t asked ∷ q)) (entry.Outcome (serve_request k t asked).outcome)
+call_told : (t : TaskNo) (q : List Entry) (k : KernelState) → IsSound k → (asked : Request)
+    → TellsItsCall (on_top (serve_request k t asked).entries (entry.Head t asked ∷ q))
+    (entry.Outcome (serve_request k t asked).outcome)
 call_told t q k sound (request.Call p msg) = called_tells t q k p msg (phone_at k t p)
-call_told t q k sound request.Receive = by_outcome t q k request.Receive (other_receive (serve_request k t request.Receive).outcome (outcome_fits k t request.Receive sound))
-call_told t q k sound (request.Answer n reply) = by_outcome t q k (request.Answer n reply) (other_request (serve_request k t (request.Answer n reply)).outcome (outcome_fits k t (request.Answer n reply) sound))
-call_told t q k sound (request.Forward n p mode change) = by_outcome t q k (request.Forward n p mode change) (other_request (serve_request k t (request.Forward n p mode change)).outcome (outcome_fits k t (request.Forward n p mode change) sound))
-call_told t q k sound (request.Hangup p) = by_outcome t q k (request.Hangup p) (other_request (serve_request k t (request.Hangup p)).outcome (outcome_fits k t (request.Hangup p) sound))
-call_told t q k sound (request.AreaMake base pages rights) = by_outcome t q k (request.AreaMake base pages rights) (other_request (serve_request k t (request.AreaMake base pages rights)).outcome (outcome_fits k t (request.AreaMake base pages rights) sound))
-call_told t q k sound (request.AreaDrop base) = by_outcome t q k (request.AreaDrop base) (other_request (serve_request k t (request.AreaDrop base)).outcome (outcome_fits k t (request.AreaDrop base) sound))
-call_told t q k sound (request.Poke at bytes) = by_outcome t q k (request.Poke at bytes) (other_request (serve_request k t (request.Poke at bytes)).outcome (outcome_fits k t (request.Poke at bytes) sound))
-call_told t q k sound (request.Peek at count) = by_outcome t q k (request.Peek at count) (other_peek count (serve_request k t (request.Peek at count)).outcome (outcome_fits k t (request.Peek at count) sound))
+call_told t q k sound request.Receive =
+    by_outcome t q k request.Receive
+    (other_receive (serve_request k t request.Receive).outcome (outcome_fits k t request.Receive sound))
+call_told t q k sound (request.Answer n reply) =
+    by_outcome t q k (request.Answer n reply)
+    (other_request (serve_request k t (request.Answer n reply)).outcome
+    (outcome_fits k t (request.Answer n reply) sound))
+call_told t q k sound (request.Forward n p mode change) =
+    by_outcome t q k (request.Forward n p mode change)
+    (other_request (serve_request k t (request.Forward n p mode change)).outcome
+    (outcome_fits k t (request.Forward n p mode change) sound))
+call_told t q k sound (request.Hangup p) =
+    by_outcome t q k (request.Hangup p)
+    (other_request (serve_request k t (request.Hangup p)).outcome (outcome_fits k t (request.Hangup p) sound))
+call_told t q k sound (request.AreaMake base pages rights) =
+    by_outcome t q k (request.AreaMake base pages rights)
+    (other_request (serve_request k t (request.AreaMake base pages rights)).outcome
+    (outcome_fits k t (request.AreaMake base pages rights) sound))
+call_told t q k sound (request.AreaDrop base) =
+    by_outcome t q k (request.AreaDrop base)
+    (other_request (serve_request k t (request.AreaDrop base)).outcome
+    (outcome_fits k t (request.AreaDrop base) sound))
+call_told t q k sound (request.Poke at bytes) =
+    by_outcome t q k (request.Poke at bytes)
+    (other_request (serve_request k t (request.Poke at bytes)).outcome
+    (outcome_fits k t (request.Poke at bytes) sound))
+call_told t q k sound (request.Peek at count) =
+    by_outcome t q k (request.Peek at count)
+    (other_peek count (serve_request k t (request.Peek at count)).outcome
+    (outcome_fits k t (request.Peek at count) sound))
 call_told t q k sound request.Nothing = tt
 
-outcome_told : (b : Beginning) (rows : List (List PhoneState)) (calls : CallTable) (q : List Entry) (o : Outcome) → IsDoneAsTold q (entry.Outcome o) → TellsItsCall q (entry.Outcome o) → WholeFit b q rows calls → WholeFit b (entry.Outcome o ∷ q) rows calls
+outcome_told : (b : Beginning) (rows : List (List PhoneState)) (calls : CallTable) (q : List Entry) (o : Outcome)
+    → IsDoneAsTold q (entry.Outcome o) → TellsItsCall q (entry.Outcome o) → WholeFit b q rows calls
+    → WholeFit b (entry.Outcome o ∷ q) rows calls
 outcome_told b rows calls q o done told f = record {
   fit = record {
-    had = (f.fit.had, record { changes = tt; hung_up = whole_next q _ f.whole; done = done; way = tt; code = tt; told = told; dropped = tt });
+    had = (
+      f.fit.had,
+      record {
+        changes = tt;
+        hung_up = whole_next q _ f.whole;
+        done = done;
+        way = tt;
+        code = tt;
+        told = told;
+        dropped = tt;
+      },
+    );
     phones = f.fit.phones;
     kept = same_told q (entry.Outcome o ∷ q) calls (λ n. (refl, refl)) f.fit.kept;
   };
@@ -240,47 +301,69 @@ outcome_told b rows calls q o done told f = record {
 }
 
 module _ (b : Beginning) (h : List Entry) (k : KernelState) (fits : HistoryFits h k) (f : CausesKept b h k) where
-  pub causes_serve : (t : TaskNo) (asked : Request) → CausesKept b (h ++ served_entries t asked (serve k t asked)) (serve k t asked).state
+  pub causes_serve : (t : TaskNo) (asked : Request)
+      → CausesKept b (h ++ served_entries t asked (serve k t asked)) (serve k t asked).state
   causes_serve t asked =
       let s : Served = serve_request k t asked in
       let q : List Entry = entry.Head t asked ∷ newest_first h in
-      rw (newest_first-append h (served_entries t asked (serve k t asked)), on_top-append s.entries (entry.Outcome s.outcome ∷ []) q)
-      (outcome_told b s.state.tasks.phones s.state.calls (on_top s.entries q) s.outcome (done_told t (newest_first h) k asked) (call_told t (newest_first h) k fits.sound asked)
-      (served b t asked (newest_first h) k fits.sound (made_so h k fits) (placed_so h k fits) (plain_told b k.tasks.phones k.calls (newest_first h) (entry.Head t asked) tt f)))
+      rw (
+        newest_first-append h (served_entries t asked (serve k t asked)),
+        on_top-append s.entries (entry.Outcome s.outcome ∷ []) q,
+      )
+      (outcome_told b s.state.tasks.phones s.state.calls (on_top s.entries q) s.outcome
+      (done_told t (newest_first h) k asked) (call_told t (newest_first h) k fits.sound asked)
+      (served b t asked (newest_first h) k fits.sound (made_so h k fits) (placed_so h k fits)
+      (plain_told b k.tasks.phones k.calls (newest_first h) (entry.Head t asked) tt f)))
 
-  pub causes_kill : (t : TaskNo) → is_alive k t ≡ true → CausesKept b (h ++ killed_entries t (kill_event k t)) (kill_event k t).state
+  pub causes_kill : (t : TaskNo) → is_alive k t ≡ true
+      → CausesKept b (h ++ killed_entries t (kill_event k t)) (kill_event k t).state
   causes_kill t alive =
       rw (newest_first-append h (killed_entries t (kill_event k t)))
-      (kill_kept b t (entry.Kill t ∷ newest_first h) k fits.sound alive refl (plain_told b k.tasks.phones k.calls (newest_first h) (entry.Kill t) tt f))
+      (kill_kept b t (entry.Kill t ∷ newest_first h) k fits.sound alive refl
+      (plain_told b k.tasks.phones k.calls (newest_first h) (entry.Kill t) tt f))
 
   pub causes_gone : (t : TaskNo) → CausesKept b (h ++ gone_entries t) k
-  causes_gone t = rw (newest_first-append h (gone_entries t)) (plain_told b k.tasks.phones k.calls (newest_first h) (entry.Gone t) tt f)
+  causes_gone t =
+      rw (newest_first-append h (gone_entries t))
+      (plain_told b k.tasks.phones k.calls (newest_first h) (entry.Gone t) tt f)
 
 -- entries that tell neither of phones nor of calls come behind an event
-pub causes_plain : (b : Beginning) (h es : List Entry) (k : KernelState) → ArePlain es → CausesKept b h k → CausesKept b (h ++ es) k
-causes_plain b h es k plain f = rw (newest_first-append h es) (plains_told b k.tasks.phones k.calls es (newest_first h) plain f)
+pub causes_plain : (b : Beginning) (h es : List Entry) (k : KernelState) → ArePlain es → CausesKept b h k
+    → CausesKept b (h ++ es) k
+causes_plain b h es k plain f =
+    rw (newest_first-append h es) (plains_told b k.tasks.phones k.calls es (newest_first h) plain f)
 
 -- ---- a task that is made
 
-module _ (b : Beginning) (h : List Entry) (k : KernelState) (limit : ℕ) (some : 1 ≤ limit) (fits : HistoryFits h k) (f : CausesKept b h k) where
+module _ (b : Beginning) (h : List Entry) (k : KernelState) (limit : ℕ) (some : 1 ≤ limit) (fits : HistoryFits h k)
+    (f : CausesKept b h k) where
   -- the head, over the phones of one task more
   begun : WholeFit b (entry.Spawn (next_task k) ∷ newest_first h) (with_task k limit).tasks.phones k.calls
   begun =
       let g = plain_told b k.tasks.phones k.calls (newest_first h) (entry.Spawn (next_task k)) tt f in
       record {
-        fit = record { had = g.fit.had; phones = λ t p. g.fit.phones t p ∙ sym (free_more k.tasks.phones limit t p); kept = g.fit.kept };
+        fit = record {
+          had = g.fit.had;
+          phones = λ t p. g.fit.phones t p ∙ sym (free_more k.tasks.phones limit t p);
+          kept = g.fit.kept;
+        };
         whole = tt;
       }
 
-  made : (o : Option TaskNo) → ((u : TaskNo) → o ≡ Some u → b.names ≡ Some u) → WholeFit b (on_top (spawning k (next_task k) limit o).entries (newest_first h)) (spawning k (next_task k) limit o).state.tasks.phones (spawning k (next_task k) limit o).state.calls
+  made : (o : Option TaskNo) → ((u : TaskNo) → o ≡ Some u → b.names ≡ Some u)
+      → WholeFit b (on_top (spawning k (next_task k) limit o).entries (newest_first h))
+      (spawning k (next_task k) limit o).state.tasks.phones (spawning k (next_task k) limit o).state.calls
   made None names = begun
   made (Some u) names =
       let t : TaskNo = next_task k in
       let rows : List (List PhoneState) = (with_task k limit).tasks.phones in
       let q : List Entry = entry.Spawn t ∷ newest_first h in
-      let free : phone_at (with_task k limit) t 0 ≡ Some Free = new_free k (with_task k limit) limit t refl refl fits.sound.tasks.paired some in
-      phone_told b rows k.calls q (label_of t 0) (Connected u) (λ e. cc e) (is_some (phone_at (with_task k limit) t 0) Free free)
-      (subst (λ (s : PhoneState). IsCause b.names (label_of t 0) q s (Connected u)) (sym (state_told b.wires q rows begun.fit.phones t.0 0 Free free)) (refl, refl, names u refl))
+      let free : phone_at (with_task k limit) t 0 ≡ Some Free =
+      new_free k (with_task k limit) limit t refl refl fits.sound.tasks.paired some in
+      phone_told b rows k.calls q (label_of t 0) (Connected u) (λ e. cc e)
+      (is_some (phone_at (with_task k limit) t 0) Free free)
+      (subst (λ (s : PhoneState). IsCause b.names (label_of t 0) q s (Connected u))
+      (sym (state_told b.wires q rows begun.fit.phones t.0 0 Free free)) (refl, refl, names u refl))
       tt begun.fit
 
 named_is : (k : KernelState) (names : Option TaskNo) (u : TaskNo) → named k names ≡ Some u → names ≡ Some u
@@ -290,9 +373,11 @@ named_is k (Some v) u is = by_mark (is_alive k v) is where
   by_mark true g = g
   by_mark false g = absurd (cc g)
 
-pub causes_spawn : (b : Beginning) (h : List Entry) (k : KernelState) (limit : ℕ) → 1 ≤ limit → HistoryFits h k → CausesKept b h k → CausesKept b (h ++ (spawn_event k limit b.names).entries) (spawn_event k limit b.names).state
+pub causes_spawn : (b : Beginning) (h : List Entry) (k : KernelState) (limit : ℕ) → 1 ≤ limit → HistoryFits h k
+    → CausesKept b h k → CausesKept b (h ++ (spawn_event k limit b.names).entries) (spawn_event k limit b.names).state
 causes_spawn b h k limit some fits f =
-    rw (newest_first-append h (spawn_event k limit b.names).entries) (made b h k limit some fits f (named k b.names) (named_is k b.names))
+    rw (newest_first-append h (spawn_event k limit b.names).entries)
+    (made b h k limit some fits f (named k b.names) (named_is k b.names))
 
 -- ---- the law
 
@@ -302,7 +387,8 @@ had_before b (e ∷ es) p l = let m : HadCause b (e ∷ p) = had_before b es (e 
 
 all_had : (b : Beginning) (es p : List Entry) → HadCause b (on_top es p) → IsWhole (on_top es p) → AllHaveCause b p es
 all_had b [] p l whole = whole
-all_had b (e ∷ es) p l whole = let m : HadCause b (e ∷ p) = had_before b es (e ∷ p) l in (m.1, all_had b es (e ∷ p) l whole)
+all_had b (e ∷ es) p l whole = let m : HadCause b (e ∷ p) =
+    had_before b es (e ∷ p) l in (m.1, all_had b es (e ∷ p) l whole)
 
 pub kept_are_caused : (b : Beginning) (h : List Entry) (k : KernelState) → CausesKept b h k → PhonesChangeForCause b h
 kept_are_caused b h k f = all_had b h [] f.fit.had f.whole

@@ -1,5 +1,5 @@
--- The law of causes at work on short lists: one that keeps it, and the lists of wrong machines, each of which breaks it.
--- Phone 0 of the client leads to the server.
+-- The law of causes at work on short lists: one that keeps it, and the lists of wrong machines, each of which breaks
+-- it. Phone 0 of the client leads to the server.
 use Rattle.std.proofs.Common.{ℕ, ◌≡◌, false, ◌++◌, Option, None, Some, List, [], ◌∷◌, refl, ap, sym, ◌∙◌, inl, inr}
 use Rattle.std.specs.Prelude.{◌==◌}
 use Rattle.std.proofs.lemmas.Bool.{eq-eqb, false≢true}
@@ -111,7 +111,12 @@ method_of (Some (entry.Head t (request.Call p m))) = m.method
 method_of _ = 0
 
 abbrev how_made : Making
-how_made = record { caller = 1; method = connect_me_to; asked = Some (entry.Head client (request.Call 0 (msg connect_me_to))) }
+how_made =
+    record {
+      caller = 1;
+      method = connect_me_to;
+      asked = Some (entry.Head client (request.Call 0 (msg connect_me_to)));
+    }
 
 -- the events of a whole run, and that each change in them has its cause
 
@@ -131,51 +136,143 @@ abbrev after_end : List Entry
 after_end = on_top ends after_hangup
 
 asked : AllHaveCause began [] (asks 1 1)
-asked =
-    (record { changes = tt; hung_up = tt; done = tt; way = tt; code = tt; told = tt; dropped = tt },
-    (record { changes = tt; hung_up = tt; done = tt; way = refl; code = tt; told = tt; dropped = tt },
-    (record { changes = (refl, refl); hung_up = λ e. absurd (apart 2 0 e refl); done = tt; way = tt; code = tt; told = tt; dropped = tt },
-    (record { changes = tt; hung_up = tt; done = tt; way = tt; code = tt; told = (refl, refl, λ e. apart 2 0 e refl); dropped = tt },
-    tt))))
+asked = (
+  record { changes = tt; hung_up = tt; done = tt; way = tt; code = tt; told = tt; dropped = tt },
+  (
+    record { changes = tt; hung_up = tt; done = tt; way = refl; code = tt; told = tt; dropped = tt },
+    (
+      record {
+        changes = (refl, refl);
+        hung_up = λ e. absurd (apart 2 0 e refl);
+        done = tt;
+        way = tt;
+        code = tt;
+        told = tt;
+        dropped = tt;
+      },
+      (
+        record {
+          changes = tt;
+          hung_up = tt;
+          done = tt;
+          way = tt;
+          code = tt;
+          told = (refl, refl, λ e. apart 2 0 e refl);
+          dropped = tt;
+        },
+        tt,
+      ),
+    ),
+  ),
+)
 
 received : AllHaveCause began after_asking (receives 1)
-received =
-    (record { changes = tt; hung_up = tt; done = tt; way = tt; code = tt; told = tt; dropped = tt },
-    (record { changes = tt; hung_up = tt; done = tt; way = tt; code = tt; told = tt; dropped = tt },
-    (record { changes = tt; hung_up = tt; done = tt; way = tt; code = tt; told = tt; dropped = tt },
-    tt)))
+received = (
+  record { changes = tt; hung_up = tt; done = tt; way = tt; code = tt; told = tt; dropped = tt },
+  (
+    record { changes = tt; hung_up = tt; done = tt; way = tt; code = tt; told = tt; dropped = tt },
+    (
+      record { changes = tt; hung_up = tt; done = tt; way = tt; code = tt; told = tt; dropped = tt },
+      tt,
+    ),
+  ),
+)
 
 connected : AllHaveCause began after_receipt (connects 1 1)
-connected =
-    (record { changes = tt; hung_up = tt; done = tt; way = tt; code = tt; told = tt; dropped = tt },
-    (record { changes = tt; hung_up = tt; done = tt; way = tt; code = tt; told = tt; dropped = tt },
-    (record { changes = (refl, refl, refl, refl, record { made = how_made; how = refl; held = refl; phone = inl (refl, refl, refl) }); hung_up = tt; done = tt; way = tt; code = tt; told = tt; dropped = tt },
-    (record { changes = tt; hung_up = tt; done = tt; way = tt; code = tt; told = tt; dropped = tt },
-    tt))))
+connected = (
+  record { changes = tt; hung_up = tt; done = tt; way = tt; code = tt; told = tt; dropped = tt },
+  (
+    record { changes = tt; hung_up = tt; done = tt; way = tt; code = tt; told = tt; dropped = tt },
+    (
+      record {
+        changes
+            = (
+              refl,
+              refl,
+              refl,
+              refl,
+              record { made = how_made; how = refl; held = refl; phone = inl (refl, refl, refl) },
+            );
+        hung_up = tt;
+        done = tt;
+        way = tt;
+        code = tt;
+        told = tt;
+        dropped = tt;
+      },
+      (
+        record { changes = tt; hung_up = tt; done = tt; way = tt; code = tt; told = tt; dropped = tt },
+        tt,
+      ),
+    ),
+  ),
+)
 
 hung_up : AllHaveCause began after_connection (hangs_up 2)
-hung_up =
-    (record { changes = tt; hung_up = tt; done = tt; way = tt; code = tt; told = tt; dropped = tt },
-    (record { changes = tt; hung_up = tt; done = tt; way = refl; code = tt; told = tt; dropped = tt },
-    (record { changes = (refl, refl, refl, (refl, refl)); hung_up = λ e. refl; done = tt; way = tt; code = tt; told = tt; dropped = tt },
-    (record { changes = tt; hung_up = tt; done = refl; way = tt; code = tt; told = tt; dropped = tt },
-    tt))))
+hung_up = (
+  record { changes = tt; hung_up = tt; done = tt; way = tt; code = tt; told = tt; dropped = tt },
+  (
+    record { changes = tt; hung_up = tt; done = tt; way = refl; code = tt; told = tt; dropped = tt },
+    (
+      record {
+        changes = (refl, refl, refl, (refl, refl));
+        hung_up = λ e. refl;
+        done = tt;
+        way = tt;
+        code = tt;
+        told = tt;
+        dropped = tt;
+      },
+      (
+        record { changes = tt; hung_up = tt; done = refl; way = tt; code = tt; told = tt; dropped = tt },
+        tt,
+      ),
+    ),
+  ),
+)
 
 ended : AllHaveCause began after_hangup (ends)
-ended =
-    (record { changes = tt; hung_up = tt; done = tt; way = tt; code = tt; told = tt; dropped = tt },
-    (record { changes = refl; hung_up = tt; done = tt; way = tt; code = tt; told = tt; dropped = tt },
-    tt))
+ended = (
+  record { changes = tt; hung_up = tt; done = tt; way = tt; code = tt; told = tt; dropped = tt },
+  (
+    record { changes = refl; hung_up = tt; done = tt; way = tt; code = tt; told = tt; dropped = tt },
+    tt,
+  ),
+)
 
 gone_back : AllHaveCause began after_end (goes_back 3 enoent)
-gone_back =
-    (record { changes = tt; hung_up = tt; done = tt; way = tt; code = tt; told = tt; dropped = tt },
-    (record { changes = tt; hung_up = tt; done = tt; way = tt; code = tt; told = tt; dropped = tt },
-    (record { changes = tt; hung_up = λ e. absurd (apart 512 0 e refl); done = tt; way = tt; code = refl; told = tt; dropped = tt },
-    (record { changes = tt; hung_up = tt; done = tt; way = tt; code = tt; told = (refl, refl, λ e. apart 512 0 e refl); dropped = tt },
-    tt))))
+gone_back = (
+  record { changes = tt; hung_up = tt; done = tt; way = tt; code = tt; told = tt; dropped = tt },
+  (
+    record { changes = tt; hung_up = tt; done = tt; way = tt; code = tt; told = tt; dropped = tt },
+    (
+      record {
+        changes = tt;
+        hung_up = λ e. absurd (apart 512 0 e refl);
+        done = tt;
+        way = tt;
+        code = refl;
+        told = tt;
+        dropped = tt;
+      },
+      (
+        record {
+          changes = tt;
+          hung_up = tt;
+          done = tt;
+          way = tt;
+          code = tt;
+          told = (refl, refl, λ e. apart 512 0 e refl);
+          dropped = tt;
+        },
+        tt,
+      ),
+    ),
+  ),
+)
 
-joined : (es fs q : List Entry) → AllHaveCause began q es → AllHaveCause began (on_top es q) fs → AllHaveCause began q (es ++ fs)
+joined : (es fs q : List Entry) → AllHaveCause began q es → AllHaveCause began (on_top es q) fs
+    → AllHaveCause began q (es ++ fs)
 joined [] fs q first later = later
 joined (e ∷ es) fs q first later = (first.0, joined es fs (e ∷ q) first.1 later)
 
@@ -205,12 +302,14 @@ whole_keeps_the_law =
 
 -- a phone is connected by the answer to a call that the task has not received
 connected_before_it_is_received : PhonesChangeForCause began (asks 1 1 ++ connects 1 1) → ⊥
-connected_before_it_is_received l = never 1 2 l.1.1.1.1.1.1.0.changes.4.made.caller l.1.1.1.1.1.1.0.changes.4.held where
-  never : (a b c : ℕ) → Incoming a b ≡ Dispatched c b → ⊥
-  never a b c e = cc
+connected_before_it_is_received l =
+    never 1 2 l.1.1.1.1.1.1.0.changes.4.made.caller l.1.1.1.1.1.1.0.changes.4.held where
+      never : (a b c : ℕ) → Incoming a b ≡ Dispatched c b → ⊥
+      never a b c e = cc
 
 -- of two calls that are held the first is answered, and the phone of the other is connected
-connected_for_another_call : PhonesChangeForCause began (asks 1 1 ++ (asks 2 2 ++ (receives 1 ++ (receives 2 ++ connects 1 2)))) → ⊥
+connected_for_another_call : PhonesChangeForCause began
+    (asks 1 1 ++ (asks 2 2 ++ (receives 1 ++ (receives 2 ++ connects 1 2)))) → ⊥
 connected_for_another_call l =
     let c = l.1.1.1.1.1.1.1.1.1.1.1.1.1.1.1.1.0.changes.4 in
     elim c.phone [
@@ -221,25 +320,29 @@ connected_for_another_call l =
 -- it is connected in an answer to another call than the one that the head names
 answered_another_call : PhonesChangeForCause began
     (asks 1 1 ++ (receives 1 ++
-    (entry.Head server (request.Answer 2 (with_code eok)) ∷ entry.Answered (call_no 1) (with_code eok) (Some server) ∷ entry.PhoneIs (phone client 1) (Connected server) ∷ []))) → ⊥
+    (entry.Head server (request.Answer 2 (with_code eok)) ∷ entry.Answered (call_no 1) (with_code eok)
+    (Some server) ∷ entry.PhoneIs (phone client 1) (Connected server) ∷ []))) → ⊥
 answered_another_call l = apart 2 1 l.1.1.1.1.1.1.1.1.1.0.changes.1 refl
 
 -- it is connected though the answer declines
 connected_though_declined : PhonesChangeForCause began
     (asks 1 1 ++ (receives 1 ++
-    (entry.Head server (request.Answer 1 (with_code elimit)) ∷ entry.Answered (call_no 1) (with_code elimit) (Some server) ∷ entry.PhoneIs (phone client 1) (Connected server) ∷ []))) → ⊥
+    (entry.Head server (request.Answer 1 (with_code elimit)) ∷ entry.Answered (call_no 1) (with_code elimit)
+    (Some server) ∷ entry.PhoneIs (phone client 1) (Connected server) ∷ []))) → ⊥
 connected_though_declined l = apart 5 0 (ap (λ (code : Code). code.0) l.1.1.1.1.1.1.1.1.1.0.changes.2) refl
 
 -- a hangup without the entry of its phone
 hung_up_without_its_entry : PhonesChangeForCause began
-    (entry.Head client (request.Hangup 0) ∷ entry.Accepted (call_no 1) (phone client 0) 0 (Some server) ∷ entry.Outcome outcome.Done ∷ []) → ⊥
+    (entry.Head client (request.Hangup 0) ∷ entry.Accepted (call_no 1) (phone client 0) 0
+    (Some server) ∷ entry.Outcome outcome.Done ∷ []) → ⊥
 hung_up_without_its_entry l = never (l.1.1.0.hung_up refl) where
   never : entry.Outcome outcome.Done ≡ entry.PhoneIs (phone client 0) HungUp → ⊥
   never e = cc
 
 -- the hangup names one phone, and another is hung up
 hung_up_another_phone : PhonesChangeForCause began
-    (entry.Head client (request.Hangup 1) ∷ entry.Accepted (call_no 1) (phone client 0) 0 (Some server) ∷ entry.PhoneIs (phone client 0) HungUp ∷ []) → ⊥
+    (entry.Head client (request.Hangup 1) ∷ entry.Accepted (call_no 1) (phone client 0) 0
+    (Some server) ∷ entry.PhoneIs (phone client 0) HungUp ∷ []) → ⊥
 hung_up_another_phone l = apart 1 0 l.1.1.0.changes.3.1 refl
 
 -- a call over a phone that leads is accepted, and goes back
@@ -260,25 +363,33 @@ goes_back_with_another_code l = apart 6 1 (ap (λ (code : Code). code.0) l.1.1.1
 free_phone_hung_up : PhonesChangeForCause began (entry.Kill other ∷ entry.PhoneIs (phone client 1) HungUp ∷ []) → ⊥
 free_phone_hung_up l = l.1.0.changes
 
-slammed_phone_freed : PhonesChangeForCause began (ends ++ (entry.Kill other ∷ entry.PhoneIs (phone client 0) Free ∷ [])) → ⊥
+slammed_phone_freed : PhonesChangeForCause began
+    (ends ++ (entry.Kill other ∷ entry.PhoneIs (phone client 0) Free ∷ [])) → ⊥
 slammed_phone_freed l = l.1.1.1.0.changes
 
 -- a receive of a call with a user's method keeps a phone
 kept_for_a_plain_call : PhonesChangeForCause began
-    (entry.Head client (request.Call 0 (msg first_user_method)) ∷ entry.Accepted (call_no 1) (phone client 0) first_user_method (Some server)
-    ∷ entry.Head server request.Receive ∷ entry.Received (call_no 1) server ∷ entry.PhoneIs (phone server 0) Connecting ∷ []) → ⊥
+    (entry.Head client (request.Call 0 (msg first_user_method)) ∷ entry.Accepted (call_no 1)
+    (phone client 0) first_user_method (Some server)
+    ∷ entry.Head server request.Receive ∷ entry.Received (call_no 1) server ∷ entry.PhoneIs
+    (phone server 0) Connecting ∷ []) → ⊥
 kept_for_a_plain_call l = apart 512 1 l.1.1.1.1.0.changes.1 refl
 
 -- a phone that waits is let go while its call waits on
 let_go_while_it_waits : PhonesChangeForCause began
-    (asks 1 1 ++ (receives 1 ++ (entry.Head other request.Receive ∷ entry.Delivered (call_no 2) other ∷ entry.PhoneIs (phone client 1) Free ∷ []))) → ⊥
+    (asks 1 1 ++
+    (receives 1 ++
+    (entry.Head other request.Receive ∷ entry.Delivered (call_no 2) other ∷ entry.PhoneIs (phone client 1) Free ∷
+    []))) → ⊥
 let_go_while_it_waits l = never (phone client 1) l.1.1.1.1.1.1.1.1.1.0.changes where
   never : (x : Label) → None ≡ Some x → ⊥
   never x e = cc
 
 -- a receive drops the answer of a call that was no hangup
 dropped_though_awaited : PhonesChangeForCause began
-    (asks 1 1 ++ (receives 1 ++ (connects 1 1 ++ (entry.Head client request.Receive ∷ entry.Dropped (call_no 1) client ∷ [])))) → ⊥
+    (asks 1 1 ++
+    (receives 1 ++
+    (connects 1 1 ++ (entry.Head client request.Receive ∷ entry.Dropped (call_no 1) client ∷ [])))) → ⊥
 dropped_though_awaited l = elim l.1.1.1.1.1.1.1.1.1.1.1.1.0.dropped [
   | inl h ↦ apart 2 0 h refl
   | inr h ↦ never h
@@ -287,7 +398,11 @@ dropped_though_awaited l = elim l.1.1.1.1.1.1.1.1.1.1.1.1.0.dropped [
   never e = cc
 
 -- a task is told of a call as accepted that another event made
-told_of_an_older_call : PhonesChangeForCause began (asks 1 1 ++ (entry.Head client (request.Call 0 (msg first_user_method)) ∷ entry.Outcome (outcome.Accepted (call_no 1)) ∷ [])) → ⊥
+told_of_an_older_call : PhonesChangeForCause began
+    (asks 1 1 ++
+    (entry.Head client (request.Call 0 (msg first_user_method)) ∷ entry.Outcome (outcome.Accepted (call_no 1)) ∷ []))
+    → ⊥
 told_of_an_older_call l = never l.1.1.1.1.1.0.told.0 where
-  never : ◌≡◌ {A = Option Entry} (Some (entry.Head client (request.Call 0 (msg connect_me_to)))) (Some (entry.Head client (request.Call 0 (msg first_user_method)))) → ⊥
+  never : ◌≡◌ {A = Option Entry} (Some (entry.Head client (request.Call 0 (msg connect_me_to))))
+      (Some (entry.Head client (request.Call 0 (msg first_user_method)))) → ⊥
   never e = apart 2 512 (ap method_of e) refl

@@ -60,7 +60,8 @@ entries_plain (any.Async p) o = all_plain p.state.me.0 (step p.state o).entries 
 none_made : (o : Option Making) (m : Making) → o ≡ None → o ≡ Some m → ⊥
 none_made o m a b = cc
 
-pub start_caused : (plan : Plan) → RunFits (beginning plan) [] (start plan) → CausesKept (beginning plan) [] (start plan).kernel
+pub start_caused : (plan : Plan) → RunFits (beginning plan) [] (start plan)
+    → CausesKept (beginning plan) [] (start plan).kernel
 start_caused plan told = record {
   fit = record {
     had = tt;
@@ -75,10 +76,14 @@ start_caused plan told = record {
 abbrev KeptAfter : Beginning → List Entry → RunTransition → Type 0
 KeptAfter b h next = CausesKept b (h ++ next.entries) next.state.kernel
 
-sound_template : (templates : List TaskPlan) (place : ℕ) (template : TaskPlan) → All IsSoundTask templates → slice_get templates place ≡ Some template → IsSoundTask template
-sound_template templates place template sound at = subst IsSoundTask (get_or_from_slice_get templates place template template at) (sound place template (slice_get_within templates place template at))
+sound_template : (templates : List TaskPlan) (place : ℕ) (template : TaskPlan) → All IsSoundTask templates
+    → slice_get templates place ≡ Some template → IsSoundTask template
+sound_template templates place template sound at =
+    subst IsSoundTask (get_or_from_slice_get templates place template template at)
+    (sound place template (slice_get_within templates place template at))
 
-module _ (b : Beginning) (h : List Entry) (now : RunState) (told : RunFits b h now) (f : CausesKept b h now.kernel) where
+module _ (b : Beginning) (h : List Entry) (now : RunState) (told : RunFits b h now)
+    (f : CausesKept b h now.kernel) where
   gone_kept : (t : TaskNo) → KeptAfter b h (gone now t)
   gone_kept t = causes_gone b h now.kernel told.kernel f t
 
@@ -87,26 +92,33 @@ module _ (b : Beginning) (h : List Entry) (now : RunState) (told : RunFits b h n
       let s : Served = serve now.kernel t (wanted p) in
       let own : List Entry = entries p s.outcome in
       subst (λ (es : List Entry). CausesKept b es s.state) (append_assoc h (served_entries t (wanted p) s) own)
-      (causes_plain b (h ++ served_entries t (wanted p) s) own s.state (entries_plain p s.outcome) (causes_serve b h now.kernel told.kernel f t (wanted p)))
+      (causes_plain b (h ++ served_entries t (wanted p) s) own s.state (entries_plain p s.outcome)
+      (causes_serve b h now.kernel told.kernel f t (wanted p)))
 
   stepped : (t : TaskNo) (x : Bool) (o : Option AnyProgram) → KeptAfter b h (step_by now t (if x then o else None))
   stepped t true None = gone_kept t
   stepped t true (Some p) = served_kept t p
   stepped t false o = gone_kept t
 
-  ended : (t : TaskNo) (x : Bool) → is_alive now.kernel t ≡ x → KeptAfter b h (if x then killed now t (kill_event now.kernel t) else gone now t)
+  ended : (t : TaskNo) (x : Bool) → is_alive now.kernel t ≡ x
+      → KeptAfter b h (if x then killed now t (kill_event now.kernel t) else gone now t)
   ended t true alive = causes_kill b h now.kernel told.kernel f t alive
   ended t false alive = gone_kept t
 
-  hung_up : (t : TaskNo) (phone : ℕ) (x : Bool) → KeptAfter b h (if x then request_served now t (request.Hangup phone) (serve now.kernel t (request.Hangup phone)) else gone now t)
+  hung_up : (t : TaskNo) (phone : ℕ) (x : Bool)
+      → KeptAfter b h
+      (if x then request_served now t (request.Hangup phone)
+      (serve now.kernel t (request.Hangup phone)) else gone now t)
   hung_up t phone true = causes_serve b h now.kernel told.kernel f t (request.Hangup phone)
   hung_up t phone false = gone_kept t
 
   made : (place : ℕ) (o : Option TaskPlan) → slice_get now.templates place ≡ o → KeptAfter b h (spawn_by now o)
   made place None at = rw (append-nil h) f
   made place (Some template) at =
-      subst (λ (o : Option TaskNo). CausesKept b (h ++ (spawn_event now.kernel template.limit o).entries) (spawn_event now.kernel template.limit o).state) (sym told.names)
-      (causes_spawn b h now.kernel template.limit (sound_template now.templates place template told.templates at).some_phones told.kernel f)
+      subst (λ (o : Option TaskNo). CausesKept b (h ++ (spawn_event now.kernel template.limit o).entries)
+      (spawn_event now.kernel template.limit o).state) (sym told.names)
+      (causes_spawn b h now.kernel template.limit
+      (sound_template now.templates place template told.templates at).some_phones told.kernel f)
 
   pub turn_kept : (e : Event) → KeptAfter b h (turn now e)
   turn_kept (Step t) = stepped t (is_alive now.kernel t) (slice_get now.programs (t.0 - 1))
@@ -115,15 +127,22 @@ module _ (b : Beginning) (h : List Entry) (now : RunState) (told : RunFits b h n
   turn_kept (Spawn place) = made place (slice_get now.templates place) refl
 
 -- all events
-events_kept : (b : Beginning) (h : List Entry) (now : RunState) → RunFits b h now → CausesKept b h now.kernel → (events : List Event) → MayAllHappen now events → CausesKept b (h ++ run_from now events) (state_after now events).kernel
+events_kept : (b : Beginning) (h : List Entry) (now : RunState) → RunFits b h now → CausesKept b h now.kernel
+    → (events : List Event) → MayAllHappen now events
+    → CausesKept b (h ++ run_from now events) (state_after now events).kernel
 events_kept b h now told f [] may = rw (append-nil h) f
 events_kept b h now told f (e ∷ events) may =
     let next : RunTransition = turn now e in
-    subst (λ (es : List Entry). CausesKept b es (state_after next.state events).kernel) (append_assoc h next.entries (run_from next.state events))
-    (events_kept b (h ++ next.entries) next.state (turn_fits b h now told e may.0) (turn_kept b h now told f e) events (later_may now e events may))
+    subst (λ (es : List Entry). CausesKept b es (state_after next.state events).kernel)
+    (append_assoc h next.entries (run_from next.state events))
+    (events_kept b (h ++ next.entries) next.state (turn_fits b h now told e may.0)
+    (turn_kept b h now told f e) events (later_may now e events may))
 
-pub run_is_caused : (plan : Plan) (events : List Event) → IsSound plan → MayAllCome (length plan.tasks) (length plan.templates) events → PhonesChangeForCause (beginning plan) (run plan events)
+pub run_is_caused : (plan : Plan) (events : List Event) → IsSound plan
+    → MayAllCome (length plan.tasks) (length plan.templates) events
+    → PhonesChangeForCause (beginning plan) (run plan events)
 run_is_caused plan events sound may =
     let told : RunFits (beginning plan) [] (start plan) = start_told plan sound in
     kept_are_caused (beginning plan) (run plan events) (state_after (start plan) events).kernel
-    (events_kept (beginning plan) [] (start plan) told (start_caused plan told) events (may_from plan events (start plan) refl may))
+    (events_kept (beginning plan) [] (start plan) told (start_caused plan told) events
+    (may_from plan events (start plan) refl may))

@@ -1,5 +1,5 @@
--- A call that a task was told of as accepted is on its way, or its answer was delivered to the task, by any entries that
--- keep the laws of lives and of causes.
+-- A call that a task was told of as accepted is on its way, or its answer was delivered to the task, by any entries
+-- that keep the laws of lives and of causes.
 use Rattle.std.proofs.Common.{◌≡◌, ℕ, Bool, true, false, ◌⊎◌, inl, inr, List, [], ◌∷◌, Option, None, Some, refl, ap, sym, subst, ◌∙◌}
 use Rattle.std.specs.Prelude.{⊤, ◌==◌, ◌&&◌, if◌then◌else◌}
 use Rattle.std.proofs.lemmas.Bool.{cases_eq, eq-eqb, ne_eqb, false≢true}
@@ -48,7 +48,8 @@ killed_caller : (t u : ℕ) (p : List Tale) → u ≡ t → is_killed u p ≡ tr
 killed_caller t u p same killed alive = false≢true (sym alive ∙ sym (ap (λ (x : ℕ). is_killed x p) same) ∙ killed)
 
 -- after a note that its life allows the call is still on its way, or the note ends it
-on_its_way : (t : ℕ) (p : List Tale) (n : ℕ) (w : Note) (l : Life) → Allowed p n w l → is_killed t p ≡ false → IsOnItsWay t l
+on_its_way : (t : ℕ) (p : List Tale) (n : ℕ) (w : Note) (l : Life) → Allowed p n w l → is_killed t p ≡ false
+    → IsOnItsWay t l
     → IsOnItsWay t (after w l) ⊎ ((w ≡ Delivered t) ⊎ (w ≡ Dropped t))
 on_its_way t p n (Accepted u phone method way) Nowhere a alive h = absurd h
 on_its_way t p n (Accepted u phone method way) (Back v) a alive h = absurd a
@@ -125,13 +126,16 @@ killed_now t (entry.Spawn u ∷ q) h = absurd (cc h)
 killed_now t (_ ∷ q) h = killed_now t q h
 
 -- a later entry on a call that is over, or one on another, changes nothing of it
-still_over : (t n : ℕ) (q : List Entry) (e : Entry) → IsAllowed (tales q) (tale e) → life n (tales q) ≡ Over → life n (tales (e ∷ q)) ≡ Over
+still_over : (t n : ℕ) (q : List Entry) (e : Entry) → IsAllowed (tales q) (tale e) → life n (tales q) ≡ Over
+    → life n (tales (e ∷ q)) ≡ Over
 still_over t n q e a over = by_tale (tale e) a where
   by_tale : (x : Tale) → IsAllowed (tales q) x → life n (x ∷ tales q) ≡ Over
   by_tale (Head e) a = over
   by_tale Other a = over
   by_tale (On m w) a = elim (cases_eq m n) [
-    | inl same ↦ absurd (none_over (tales q) m w (subst (λ (l : Life). Allowed (tales q) m w l) (ap (λ (x : ℕ). life x (tales q)) same ∙ over) a))
+    | inl same ↦
+        absurd (none_over (tales q) m w
+        (subst (λ (l : Life). Allowed (tales q) m w l) (ap (λ (x : ℕ). life x (tales q)) same ∙ over) a))
     | inr other ↦ rw (ne_eqb m n other) over
   ]
 
@@ -147,7 +151,8 @@ one_note : (m n : ℕ) (v w : Note) → On m v ≡ On n w → v ≡ w
 one_note m n v w e = cc
 
 -- an entry that says that an answer is dropped
-drop_of : (t m : ℕ) (q : List Entry) (e : Entry) → tale e ≡ On m (Dropped t) → DropsUnawaited q e → is_killed t (tales q) ≡ false → IsMadeWith phone_hungup (making m q)
+drop_of : (t m : ℕ) (q : List Entry) (e : Entry) → tale e ≡ On m (Dropped t) → DropsUnawaited q e
+    → is_killed t (tales q) ≡ false → IsMadeWith phone_hungup (making m q)
 drop_of t m q (entry.Dropped k u) is drops alive =
     let parts : On k.0 (Dropped u.0) ≡ On m (Dropped t) = is in
     let number : k.0 ≡ m = cc in
@@ -190,7 +195,8 @@ delivery_of t m q (entry.Forgotten k) is = absurd (cc is)
 delivery_of t m q _ is = absurd (cc is)
 
 -- a call of task t, which is no hangup, after one entry more
-own_next : (t n : ℕ) (q : List Entry) (e : Entry) → IsAllowed (tales q) (tale e) → DropsUnawaited q e → is_killed t (tales q) ≡ false → (IsMadeWith phone_hungup (making n q) → ⊥)
+own_next : (t n : ℕ) (q : List Entry) (e : Entry) → IsAllowed (tales q) (tale e) → DropsUnawaited q e
+    → is_killed t (tales q) ≡ false → (IsMadeWith phone_hungup (making n q) → ⊥)
     → IsOwnCall t n q → IsOwnCall t n (e ∷ q)
 own_next t n q e a drops alive plain (inr h) = inr (still_over t n q e a h.0, still_delivered t n q e h.1)
 own_next t n q e a drops alive plain (inl h) = by_tale (tale e) refl a where
@@ -202,12 +208,17 @@ own_next t n q e a drops alive plain (inl h) = by_tale (tale e) refl a where
     | inl same ↦
         let on : IsOnItsWay t (life m (tales q)) = subst (λ (x : ℕ). IsOnItsWay t (life x (tales q))) (sym same) h in
         elim (on_its_way t (tales q) m w (life m (tales q)) a alive on) [
-          | inl goes_on ↦ inl (rw (is, eq-eqb m n same) (subst (λ (x : ℕ). IsOnItsWay t (after w (life x (tales q)))) same goes_on))
+          | inl goes_on ↦
+              inl (rw (is, eq-eqb m n same)
+              (subst (λ (x : ℕ). IsOnItsWay t (after w (life x (tales q)))) same goes_on))
           | inr (inl ends) ↦ inr (
             rw (is, eq-eqb m n same) (ap (λ (v : Note). after v (life n (tales q))) ends),
             subst (λ (x : ℕ). is_delivered x t (e ∷ q) ≡ true) same (delivery_of t m q e (is ∙ ap (On m) ends)),
           )
-          | inr (inr ends) ↦ absurd (plain (subst (λ (x : ℕ). IsMadeWith phone_hungup (making x q)) same (drop_of t m q e (is ∙ ap (On m) ends) drops alive)))
+          | inr (inr ends) ↦
+              absurd (plain
+              (subst (λ (x : ℕ). IsMadeWith phone_hungup (making x q)) same
+              (drop_of t m q e (is ∙ ap (On m) ends) drops alive)))
         ]
   ]
 
@@ -242,16 +253,21 @@ note_life (Dropped v) l there e = cc
 made_life : (n : ℕ) (q : List Entry) (m : Making) → making n q ≡ Some m → life n (tales q) ≡ Nowhere → ⊥
 made_life n [] m how e = cc how
 made_life n (x ∷ q) m how e = by_entry x how e (made_life n q m) where
-  later : (k : ℕ) (w : Note) → (making n q ≡ Some m → life n (tales q) ≡ Nowhere → ⊥) → making n q ≡ Some m → (if k == n then after w (life n (tales q)) else life n (tales q)) ≡ Nowhere → ⊥
+  later : (k : ℕ) (w : Note) → (making n q ≡ Some m → life n (tales q) ≡ Nowhere → ⊥) → making n q ≡ Some m
+      → (if k == n then after w (life n (tales q)) else life n (tales q)) ≡ Nowhere → ⊥
   later k w before how = by_test (k == n) where
     by_test : (b : Bool) → (if b then after w (life n (tales q)) else life n (tales q)) ≡ Nowhere → ⊥
     by_test true g = note_life w (life n (tales q)) (before how) g
     by_test false g = before how g
 
-  by_entry : (x : Entry) → making n (x ∷ q) ≡ Some m → life n (tales (x ∷ q)) ≡ Nowhere → (making n q ≡ Some m → life n (tales q) ≡ Nowhere → ⊥) → ⊥
+  by_entry : (x : Entry) → making n (x ∷ q) ≡ Some m → life n (tales (x ∷ q)) ≡ Nowhere
+      → (making n q ≡ Some m → life n (tales q) ≡ Nowhere → ⊥) → ⊥
   by_entry (entry.Accepted k from method to) how e before = by_test (k.0 == n) how e where
-    by_test : (b : Bool) → (if b then Some (record { caller = from.task.0; method = method; asked = present q }) else making n q) ≡ Some m
-        → (if b then after (Accepted from.task.0 from.phone.0 method (way to)) (life n (tales q)) else life n (tales q)) ≡ Nowhere → ⊥
+    by_test : (b : Bool)
+        → (if b then Some (record { caller = from.task.0; method = method; asked = present q }) else making n q) ≡
+        Some m
+        → (if b then after (Accepted from.task.0 from.phone.0 method (way to)) (life n (tales q)) else life n
+        (tales q)) ≡ Nowhere → ⊥
     by_test true how e = accepted_life from.task.0 from.phone.0 method (way to) (life n (tales q)) e
     by_test false how e = before how e
   by_entry (entry.Received k t) how e before = later k.0 (Received t.0) before how e
@@ -264,10 +280,15 @@ made_life n (x ∷ q) m how e = by_entry x how e (made_life n q m) where
   by_entry _ how e before = before how e
 
 -- so it is not made again
-made_next : (n : ℕ) (q : List Entry) (e : Entry) (m : Making) → IsAllowed (tales q) (tale e) → making n q ≡ Some m → making n (e ∷ q) ≡ Some m
+made_next : (n : ℕ) (q : List Entry) (e : Entry) (m : Making) → IsAllowed (tales q) (tale e) → making n q ≡ Some m
+    → making n (e ∷ q) ≡ Some m
 made_next n q (entry.Accepted k from method to) m a how = elim (cases_eq k.0 n) [
   | inr other ↦ rw (ne_eqb k.0 n other) how
-  | inl same ↦ absurd (made_life n q m how (only (life n (tales q)) (subst (λ (x : ℕ). Allowed (tales q) k.0 (Accepted from.task.0 from.phone.0 method (way to)) (life x (tales q))) same a)))
+  | inl same ↦
+      absurd (made_life n q m how
+      (only (life n (tales q))
+      (subst (λ (x : ℕ). Allowed (tales q) k.0 (Accepted from.task.0 from.phone.0 method (way to))
+      (life x (tales q))) same a)))
 ] where
   only : (l : Life) → Allowed (tales q) k.0 (Accepted from.task.0 from.phone.0 method (way to)) l → l ≡ Nowhere
   only Nowhere a = refl
@@ -284,34 +305,46 @@ pub lawful_before : (es q : List Entry) → Lawful (tales (on_top es q)) → Law
 lawful_before [] q l = l
 lawful_before (e ∷ es) q l = let m : Lawful (tales (e ∷ q)) = lawful_before es (e ∷ q) l in m.0
 
-pub made_stays : (n : ℕ) (es q : List Entry) (m : Making) → Lawful (tales (on_top es q)) → making n q ≡ Some m → making n (on_top es q) ≡ Some m
+pub made_stays : (n : ℕ) (es q : List Entry) (m : Making) → Lawful (tales (on_top es q)) → making n q ≡ Some m
+    → making n (on_top es q) ≡ Some m
 made_stays n [] q m l how = how
-made_stays n (e ∷ es) q m l how = made_stays n es (e ∷ q) m l (made_next n q e m (allowed (tales q) (tale e) (lawful_before es (e ∷ q) l)) how)
+made_stays n (e ∷ es) q m l how =
+    made_stays n es (e ∷ q) m l (made_next n q e m (allowed (tales q) (tale e) (lawful_before es (e ∷ q) l)) how)
 
 abbrev caller_in : Option Making → ℕ
 caller_in None = 0
 caller_in (Some m) = m.caller
 
 -- a call that task t made, and which is no hangup, is on its way, or was delivered to the task
-pub own_call : (b : Beginning) (t n : ℕ) (q : List Entry) → Lawful (tales q) → HadCause b q → is_killed t (tales q) ≡ false → IsMadeBy t n (making n q) → IsOwnCall t n q
+pub own_call : (b : Beginning) (t n : ℕ) (q : List Entry) → Lawful (tales q) → HadCause b q
+    → is_killed t (tales q) ≡ false → IsMadeBy t n (making n q) → IsOwnCall t n q
 own_call b t n [] l had alive it = absurd (let e : None ≡ Some it.made = it.how in cc e)
-own_call b t n (e ∷ q) l had alive it = by_entry e l had.1.dropped (alive_before t (tales q) (tale e) alive) it (own_call b t n q l.0 had.0 (alive_before t (tales q) (tale e) alive)) where
-  later : (e : Entry) → Lawful (tales (e ∷ q)) → DropsUnawaited q e → is_killed t (tales q) ≡ false → IsMadeBy t n (making n q) → (IsMadeBy t n (making n q) → IsOwnCall t n q) → IsOwnCall t n (e ∷ q)
-  later e l drops before it own = own_next t n q e (allowed (tales q) (tale e) l) drops before (no_hangup_made t n (making n q) it) (own it)
+own_call b t n (e ∷ q) l had alive it =
+    by_entry e l had.1.dropped (alive_before t (tales q) (tale e) alive) it
+    (own_call b t n q l.0 had.0 (alive_before t (tales q) (tale e) alive)) where
+      later : (e : Entry) → Lawful (tales (e ∷ q)) → DropsUnawaited q e → is_killed t (tales q) ≡ false
+          → IsMadeBy t n (making n q) → (IsMadeBy t n (making n q) → IsOwnCall t n q) → IsOwnCall t n (e ∷ q)
+      later e l drops before it own =
+          own_next t n q e (allowed (tales q) (tale e) l) drops before (no_hangup_made t n (making n q) it) (own it)
 
-  new : (u phone method : ℕ) (w : Way) (l : Life) → u ≡ t → IsOnItsWay t (after (Accepted u phone method w) l)
-  new u phone method (To v) l same = same
-  new u phone method At_once l same = same
+      new : (u phone method : ℕ) (w : Way) (l : Life) → u ≡ t → IsOnItsWay t (after (Accepted u phone method w) l)
+      new u phone method (To v) l same = same
+      new u phone method At_once l same = same
 
-  by_entry : (e : Entry) → Lawful (tales (e ∷ q)) → DropsUnawaited q e → is_killed t (tales q) ≡ false → IsMadeBy t n (making n (e ∷ q)) → (IsMadeBy t n (making n q) → IsOwnCall t n q) → IsOwnCall t n (e ∷ q)
-  by_entry (entry.Accepted k from method to) l drops before it own = elim (cases_eq k.0 n) [
-    | inl same ↦
-        let made : Some (record { caller = from.task.0; method = method; asked = present q }) ≡ Some it.made = rw (eq-eqb k.0 n same) at it.how in
-        let caller : from.task.0 ≡ t = ap caller_in made ∙ it.caller in
-        inl (rw (eq-eqb k.0 n same) (new from.task.0 from.phone.0 method (way to) (life n (tales q)) caller))
-    | inr other ↦
-        later (entry.Accepted k from method to) l drops before (subst (IsMadeBy t n) (made_other k.0 other) it) own
-  ] where
-    made_other : (k : ℕ) → (k ≡ n → ⊥) → (if k == n then Some (record { caller = from.task.0; method = method; asked = present q }) else making n q) ≡ making n q
-    made_other k other = rw (ne_eqb k n other) refl
-  by_entry x l drops before it own = later x l drops before it own
+      by_entry : (e : Entry) → Lawful (tales (e ∷ q)) → DropsUnawaited q e → is_killed t (tales q) ≡ false
+          → IsMadeBy t n (making n (e ∷ q)) → (IsMadeBy t n (making n q) → IsOwnCall t n q) → IsOwnCall t n (e ∷ q)
+      by_entry (entry.Accepted k from method to) l drops before it own = elim (cases_eq k.0 n) [
+        | inl same ↦
+            let made : Some (record { caller = from.task.0; method = method; asked = present q }) ≡ Some it.made =
+            rw (eq-eqb k.0 n same) at it.how in
+            let caller : from.task.0 ≡ t = ap caller_in made ∙ it.caller in
+            inl (rw (eq-eqb k.0 n same) (new from.task.0 from.phone.0 method (way to) (life n (tales q)) caller))
+        | inr other ↦
+            later (entry.Accepted k from method to) l drops before (subst (IsMadeBy t n) (made_other k.0 other) it) own
+      ] where
+        made_other : (k : ℕ) → (k ≡ n → ⊥)
+            → (if k == n then Some (record { caller = from.task.0; method = method; asked = present q })
+            else making n q)
+            ≡ making n q
+        made_other k other = rw (ne_eqb k n other) refl
+      by_entry x l drops before it own = later x l drops before it own

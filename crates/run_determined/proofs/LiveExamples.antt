@@ -1,5 +1,5 @@
--- A fibril that waits for an answer, at work on short lists: one in which the call is still to be answered, and those of
--- machines that lose it. In each the task's own list names the call, so that by that list alone it is still to come.
+-- A fibril that waits for an answer, at work on short lists: those in which the call is still to be answered, and those
+-- of machines that lose it. In each the task's own list names the call, so by that list alone it is still to come.
 use Rattle.std.proofs.Common.{ℕ, zero, suc, ◌≡◌, ◌++◌, false, List, [], ◌∷◌, Some, refl, sym, subst, ◌∙◌}
 use Rattle.std.specs.Prelude.{◌==◌}
 use Rattle.std.proofs.lemmas.Bool.{eq-eqb, false≢true}
@@ -40,7 +40,8 @@ reply = record { code = eok; args = 0 ∷ 0 ∷ 0 ∷ 0 ∷ 0 ∷ [] }
 
 -- one fibril, which waits for the answer of call 1
 abbrev order : FibrilOrder
-order = record { fibrils = record { number = fibril; status = Blocked (why.Answer call); stamp = 1 } ∷ []; next_stamp = 2 }
+order = record
+    { fibrils = record { number = fibril; status = Blocked (why.Answer call); stamp = 1 } ∷ []; next_stamp = 2 }
 
 -- it sent the call from its slot 0
 abbrev waiting : AsyncState
@@ -85,23 +86,31 @@ one_waits (suc (suc n)) m h = absurd (cc h)
 
 -- while the server holds the call, and once its answer waits
 waits_while_it_is_held : WaitsForLiveCalls 1 (past (calls client)) waiting
-waits_while_it_is_held f n blocked = subst (λ (m : CallNo). IsStillToBeAnswered 1 (life m.0 (past (calls client)))) (one_waits f.0 n blocked) refl
+waits_while_it_is_held f n blocked =
+    subst (λ (m : CallNo). IsStillToBeAnswered 1 (life m.0 (past (calls client)))) (one_waits f.0 n blocked) refl
 
 waits_for_its_answer : WaitsForLiveCalls 1 (past (calls client ++ answers)) waiting
-waits_for_its_answer f n blocked = subst (λ (m : CallNo). IsStillToBeAnswered 1 (life m.0 (past (calls client ++ answers)))) (one_waits f.0 n blocked) refl
+waits_for_its_answer f n blocked =
+    subst (λ (m : CallNo). IsStillToBeAnswered 1 (life m.0 (past (calls client ++ answers))))
+    (one_waits f.0 n blocked) refl
 
 -- ---- machines that lose the call
 
 -- the kernel drops the answer that is awaited
-answer_is_dropped : WaitsForLiveCalls 1 (past (calls client ++ (answers ++ (entry.Head client request.Receive ∷ entry.Dropped call client ∷ [])))) waiting → ⊥
+answer_is_dropped : WaitsForLiveCalls 1
+    (past (calls client ++ (answers ++ (entry.Head client request.Receive ∷ entry.Dropped call client ∷ []))))
+    waiting → ⊥
 answer_is_dropped law = law fibril call refl
 
 -- it is delivered, and nothing of it comes to the fibril
-answer_is_lost : WaitsForLiveCalls 1 (past (calls client ++ (answers ++ (entry.Head client request.Receive ∷ entry.Delivered call client ∷ [])))) waiting → ⊥
+answer_is_lost : WaitsForLiveCalls 1
+    (past (calls client ++ (answers ++ (entry.Head client request.Receive ∷ entry.Delivered call client ∷ []))))
+    waiting → ⊥
 answer_is_lost law = law fibril call refl
 
 -- the call vanishes though its caller lives
-call_vanishes : WaitsForLiveCalls 1 (past (calls client ++ (entry.Head server (request.Answer 1 reply) ∷ entry.Vanished call ∷ []))) waiting → ⊥
+call_vanishes : WaitsForLiveCalls 1
+    (past (calls client ++ (entry.Head server (request.Answer 1 reply) ∷ entry.Vanished call ∷ []))) waiting → ⊥
 call_vanishes law = law fibril call refl
 
 -- the call was never made

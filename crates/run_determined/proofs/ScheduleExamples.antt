@@ -1,6 +1,6 @@
--- Wrong machines at the lines of a schedule, on two small states: each breaks the law. In one state there is no task, and
--- there are two templates, of which the second is another in kind, in operations and in its limit; in the other there is
--- one task with two phones, both of which are slammed.
+-- Wrong machines at the lines of a schedule, on two small states: each breaks the law. In one state there is no task,
+-- and there are two templates, of which the second is another in kind, in operations or in its limit; in the other
+-- there is one task with two phones, both of which are slammed.
 use Rattle.std.proofs.Common.{ℕ, ◌≡◌, true, false, Option, None, Some, List, [], ◌∷◌, refl, ap, sym, ◌∙◌, arith}
 use Rattle.std.specs.Prelude.{◌==◌, slice_get}
 use Rattle.std.proofs.lemmas.Bool.{eq-eqb, false≢true}
@@ -76,9 +76,10 @@ law_of_ops t (any.Raw p) new = ap (λ (ops : List Op). slice_get ops 0) new.ops
 law_of_ops t _ new = absurd new
 
 other_operations : IsMadeFrom jumper None (before jumper) (from_the_first (before jumper) 1) → ⊥
-other_operations made = never (ap first_of made.programs ∙ law_of_ops (new_number kernel.start) made.program made.has) where
-  never : ◌≡◌ {A = Option Op} (Some op.Receive) (Some (op.Jump 0)) → ⊥
-  never e = cc
+other_operations made =
+    never (ap first_of made.programs ∙ law_of_ops (new_number kernel.start) made.program made.has) where
+      never : ◌≡◌ {A = Option Op} (Some op.Receive) (Some (op.Jump 0)) → ⊥
+      never e = cc
 
 -- it has the kind of the template
 law_of_kind : (t : TaskNo) (p : AnyProgram) → IsNewProgram t with_fibrils.bodies kind.Async p → first_op p ≡ None
@@ -86,9 +87,10 @@ law_of_kind t (any.Async p) new = refl
 law_of_kind t _ new = absurd new
 
 another_kind : IsMadeFrom with_fibrils None (before with_fibrils) (from_the_first (before with_fibrils) 1) → ⊥
-another_kind made = never (ap first_of made.programs ∙ law_of_kind (new_number kernel.start) made.program made.has) where
-  never : ◌≡◌ {A = Option Op} (Some op.Receive) None → ⊥
-  never e = cc
+another_kind made =
+    never (ap first_of made.programs ∙ law_of_kind (new_number kernel.start) made.program made.has) where
+      never : ◌≡◌ {A = Option Op} (Some op.Receive) None → ⊥
+      never e = cc
 
 -- it has as many phones as the template says
 another_limit : IsMadeFrom wide None (before wide) (from_the_first (before wide) 1) → ⊥
@@ -98,9 +100,16 @@ another_limit made = never (made.kernel.makes.free 1 (omega arith) (omega arith)
 
 -- with the naming service there, its phone 0 leads to it: a machine that makes the task without it breaks the law
 abbrev with_service : RunState
-with_service = record { kernel = kernel.with_task kernel.start 1; programs = []; templates = receiver ∷ []; names = Some (record { 0 = 1 }) }
+with_service =
+    record {
+      kernel = kernel.with_task kernel.start 1;
+      programs = [];
+      templates = receiver ∷ [];
+      names = Some (record { 0 = 1 });
+    }
 
-leads_nowhere : IsMadeFrom receiver (Some (record { 0 = 1 })) with_service (spawned with_service receiver (spawn_event with_service.kernel 1 None)) → ⊥
+leads_nowhere : IsMadeFrom receiver (Some (record { 0 = 1 })) with_service
+    (spawned with_service receiver (spawn_event with_service.kernel 1 None)) → ⊥
 leads_nowhere made = never (record { 0 = 1 }) (made.kernel.makes.leads (record { 0 = 1 }) refl refl) where
   never : (u : TaskNo) → ◌≡◌ {A = Option PhoneState} (Some Free) (Some (Connected u)) → ⊥
   never u e = cc
@@ -133,7 +142,8 @@ hangs_up_the_first : IsHangupLine one 1 slammed (served_request slammed one (req
 hangs_up_the_first line = apart 0 1 (ap hung_up_phone (line.living refl).entries) refl
 
 -- a machine that tells of the right phone, and hangs up no phone
-hangs_up_nothing : IsHangupLine one 1 slammed (record { state = slammed; entries = entry.Head one (request.Hangup 1) ∷ entry.Outcome outcome.Done ∷ [] }) → ⊥
+hangs_up_nothing : IsHangupLine one 1 slammed
+    (record { state = slammed; entries = entry.Head one (request.Hangup 1) ∷ entry.Outcome outcome.Done ∷ [] }) → ⊥
 hangs_up_nothing line =
     let it = line.living refl in
     never (ap (λ (k : kernel.KernelState). kernel.phone_at k one 1) it.kernel ∙ it.lawful.hangup.phone.this)

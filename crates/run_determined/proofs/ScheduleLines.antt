@@ -37,7 +37,8 @@ step_keeps : (now : RunState) (t : TaskNo) (o : Option AnyProgram) → (step_by 
 step_keeps now t None = refl
 step_keeps now t (Some p) = refl
 
-choice_keeps : (now : RunState) (b : Bool) (x y : RunTransition) → x.state.templates ≡ now.templates → y.state.templates ≡ now.templates → (if b then x else y).state.templates ≡ now.templates
+choice_keeps : (now : RunState) (b : Bool) (x y : RunTransition) → x.state.templates ≡ now.templates
+    → y.state.templates ≡ now.templates → (if b then x else y).state.templates ≡ now.templates
 choice_keeps now true x y h g = h
 choice_keeps now false x y h g = g
 
@@ -53,11 +54,13 @@ templates_stay now (e ∷ events) = templates_stay (turn now e).state events ∙
 
 -- ---- an event of a schedule may come where it does
 
-may_there : (tasks templates : ℕ) (done later : List Event) (e : Event) → MayAllCome tasks templates (done ++ e ∷ later) → (n : ℕ) × MayCome n templates e
+may_there : (tasks templates : ℕ) (done later : List Event) (e : Event)
+    → MayAllCome tasks templates (done ++ e ∷ later) → (n : ℕ) × MayCome n templates e
 may_there tasks templates [] later e may = (tasks, may.0)
 may_there tasks templates (d ∷ done) later e may = may_there (tasks_after tasks d) templates done later e may.1
 
-there : (templates : List TaskPlan) (place : ℕ) → place < length templates → (template : TaskPlan) × (slice_get templates place ≡ Some template)
+there : (templates : List TaskPlan) (place : ℕ) → place < length templates
+    → (template : TaskPlan) × (slice_get templates place ≡ Some template)
 there [] place lt = absurd (omega (arith, lt))
 there (template ∷ templates) zero lt = (template, refl)
 there (template ∷ templates) (suc place) lt = there templates place (omega (arith, lt))
@@ -88,68 +91,87 @@ bodies_still (suc n) a =
     let after = at_still n (slice_get a.bodies n) (start_bodies n a) in
     record { me = after.me ∙ before.me; bodies = after.bodies ∙ before.bodies }
 
-is_new : (t : TaskNo) (template : TaskPlan) (k : Kind) → IsRawOrAsync k → IsNewProgram t template.bodies k (program_by t template k)
-is_new t template kind.Raw may = record { ops = first_ops template.bodies; place = refl; registers = refl; taken = refl }
+is_new : (t : TaskNo) (template : TaskPlan) (k : Kind) → IsRawOrAsync k
+    → IsNewProgram t template.bodies k (program_by t template k)
+is_new t template kind.Raw may =
+    record { ops = first_ops template.bodies; place = refl; registers = refl; taken = refl }
 is_new t template kind.Async may =
     let still = bodies_still (length template.bodies) (bare_task t template.bodies) in
-    record { me = still.me; bodies_are = still.bodies; taken = refl }
+    record { me = still.me; bodies_are = still.bodies; begins = refl; taken = refl }
 is_new t template _ may = absurd may
 
 -- ---- a line that makes a task
 
-made_from : (now : RunState) (template : TaskPlan) (names : Option TaskNo) → now.names ≡ names → kernel.IsSound now.kernel → 1 ≤ template.limit → IsRawOrAsync template.kind
+made_from : (now : RunState) (template : TaskPlan) (names : Option TaskNo) → now.names ≡ names
+    → kernel.IsSound now.kernel → 1 ≤ template.limit → IsRawOrAsync template.kind
     → IsMadeFrom template names now (spawned now template (spawn_event now.kernel template.limit now.names))
 made_from now template names same sound some may = record {
-  kernel = subst (λ (o : Option TaskNo). IsSpawn template.limit o now.kernel (spawn_event now.kernel template.limit now.names)) same (spawn_is_so now.kernel template.limit now.names sound some);
+  kernel = subst
+      (λ (o : Option TaskNo). IsSpawn template.limit o now.kernel (spawn_event now.kernel template.limit now.names))
+      same (spawn_is_so now.kernel template.limit now.names sound some);
   program = program_by (next_task now.kernel) template template.kind;
   has = is_new (next_task now.kernel) template template.kind may;
   programs = refl;
   templates = refl;
 }
 
-sound_template : (templates : List TaskPlan) (place : ℕ) (template : TaskPlan) → All IsSoundTask templates → slice_get templates place ≡ Some template → IsSoundTask template
-sound_template templates place template sound at = subst IsSoundTask (get_or_from_slice_get templates place template template at) (sound place template (slice_get_within templates place template at))
+sound_template : (templates : List TaskPlan) (place : ℕ) (template : TaskPlan) → All IsSoundTask templates
+    → slice_get templates place ≡ Some template → IsSoundTask template
+sound_template templates place template sound at =
+    subst IsSoundTask (get_or_from_slice_get templates place template template at)
+    (sound place template (slice_get_within templates place template at))
 
 abbrev kind_in : Option TaskPlan → Option Kind
 kind_in None = None
 kind_in (Some x) = Some x.kind
 
-kind_at : (templates : List TaskPlan) (place : ℕ) (template : TaskPlan) → slice_get templates place ≡ Some template → slice_get (map (λ (x : TaskPlan). x.kind) templates) place ≡ Some template.kind
+kind_at : (templates : List TaskPlan) (place : ℕ) (template : TaskPlan) → slice_get templates place ≡ Some template
+    → slice_get (map (λ (x : TaskPlan). x.kind) templates) place ≡ Some template.kind
 kind_at [] place template at = absurd (cc at)
 kind_at (x ∷ templates) zero template at = ap kind_in at
 kind_at (x ∷ templates) (suc place) template at = kind_at templates place template at
 
-kind_may : (templates : List TaskPlan) (place : ℕ) (template : TaskPlan) → All IsRawOrAsync (map (λ (x : TaskPlan). x.kind) templates) → slice_get templates place ≡ Some template → IsRawOrAsync template.kind
+kind_may : (templates : List TaskPlan) (place : ℕ) (template : TaskPlan)
+    → All IsRawOrAsync (map (λ (x : TaskPlan). x.kind) templates) → slice_get templates place ≡ Some template
+    → IsRawOrAsync template.kind
 kind_may templates place template may at =
     let kinds : List Kind = map (λ (x : TaskPlan). x.kind) templates in
     let is : slice_get kinds place ≡ Some template.kind = kind_at templates place template at in
-    subst IsRawOrAsync (get_or_from_slice_get kinds place template.kind template.kind is) (may place template.kind (slice_get_within kinds place template.kind is))
+    subst IsRawOrAsync (get_or_from_slice_get kinds place template.kind template.kind is)
+    (may place template.kind (slice_get_within kinds place template.kind is))
 
-module _ (plan : Plan) (events : List Event) (sound : IsSound plan) (may : MayAllCome (length plan.tasks) (length plan.templates) events) where
-  may_split : (done later : List Event) → events ≡ done ++ later → MayAllCome (length plan.tasks) (length plan.templates) (done ++ later)
-  may_split done later is = subst (λ (es : List Event). MayAllCome (length plan.tasks) (length plan.templates) es) is may
+module _ (plan : Plan) (events : List Event) (sound : IsSound plan)
+    (may : MayAllCome (length plan.tasks) (length plan.templates) events) where
+  may_split : (done later : List Event) → events ≡ done ++ later
+      → MayAllCome (length plan.tasks) (length plan.templates) (done ++ later)
+  may_split done later is =
+      subst (λ (es : List Event). MayAllCome (length plan.tasks) (length plan.templates) es) is may
 
-  told : (done later : List Event) → events ≡ done ++ later → RunFits (beginning plan) (run plan done) (state_after (start plan) done)
+  told : (done later : List Event) → events ≡ done ++ later
+      → RunFits (beginning plan) (run plan done) (state_after (start plan) done)
   told done later is = part_told plan done later sound (may_split done later is)
 
   pub spawns_make : SpawnsMakeTheirTemplate plan events
   spawns_make done later place is =
       let now : RunState = state_after (start plan) done in
       let fits : RunFits (beginning plan) (run plan done) now = told done (Spawn place ∷ later) is in
-      let it = may_there (length plan.tasks) (length plan.templates) done later (Spawn place) (may_split done (Spawn place ∷ later) is) in
+      let it = may_there (length plan.tasks) (length plan.templates) done later (Spawn place)
+      (may_split done (Spawn place ∷ later) is) in
       let found = there plan.templates place it.1.0 in
-      let at : slice_get now.templates place ≡ Some found.0 = ap (λ (ts : List TaskPlan). slice_get ts place) (templates_stay (start plan) done) ∙ found.1 in
-      (
+      let at : slice_get now.templates place ≡ Some found.0 =
+      ap (λ (ts : List TaskPlan). slice_get ts place) (templates_stay (start plan) done) ∙ found.1 in (
         found.0,
         found.1,
         subst (λ (o : Option TaskPlan). IsMadeFrom found.0 (service_of plan.tasks) now (spawn_by now o)) (sym at)
-            (made_from now found.0 (service_of plan.tasks) fits.names fits.kernel.sound (sound_template plan.templates place found.0 sound.sound_templates found.1).some_phones
+            (made_from now found.0 (service_of plan.tasks) fits.names fits.kernel.sound
+            (sound_template plan.templates place found.0 sound.sound_templates found.1).some_phones
             (kind_may plan.templates place found.0 sound.raw_or_async found.1)),
       )
 
 -- ---- a line that hangs up a phone
 
-hung_up_for : (now : RunState) (t : TaskNo) (p : ℕ) → IsHungUpFor t p now (request_served now t (request.Hangup p) (serve now.kernel t (request.Hangup p)))
+hung_up_for : (now : RunState) (t : TaskNo) (p : ℕ)
+    → IsHungUpFor t p now (request_served now t (request.Hangup p) (serve now.kernel t (request.Hangup p)))
 hung_up_for now t p = record {
   served = serve now.kernel t (request.Hangup p);
   lawful = hangup_is_so now.kernel t p;
@@ -164,9 +186,19 @@ true_false b x y = cc
 
 hangup_line : (now : RunState) (t : TaskNo) (p : ℕ) → IsHangupLine t p now (turn now (Hangup t p))
 hangup_line now t p = by_mark (is_alive now.kernel t) refl where
-  by_mark : (b : Bool) → is_alive now.kernel t ≡ b → IsHangupLine t p now (if b then request_served now t (request.Hangup p) (serve now.kernel t (request.Hangup p)) else gone now t)
-  by_mark true is = record { living = λ _. hung_up_for now t p; ended = λ ended. absurd (true_false (is_alive now.kernel t) is ended) }
-  by_mark false is = record { living = λ lives. absurd (true_false (is_alive now.kernel t) lives is); ended = λ _. record { nothing = refl; entries = refl } }
+  by_mark : (b : Bool) → is_alive now.kernel t ≡ b
+      → IsHangupLine t p now
+      (if b then request_served now t (request.Hangup p) (serve now.kernel t (request.Hangup p)) else gone now t)
+  by_mark true is =
+      record {
+        living = λ _. hung_up_for now t p;
+        ended = λ ended. absurd (true_false (is_alive now.kernel t) is ended);
+      }
+  by_mark false is =
+      record {
+        living = λ lives. absurd (true_false (is_alive now.kernel t) lives is);
+        ended = λ _. record { nothing = refl; entries = refl };
+      }
 
 pub hangups_hang_up : (plan : Plan) (events : List Event) → HangupLinesHangUpTheirPhone plan events
 hangups_hang_up plan events done later t p is = hangup_line (state_after (start plan) done) t p

@@ -29,14 +29,25 @@ one_of : (n t u : ℕ) → u ≡ t → 1 ≤ u → u ≤ n → IsOneOf n t
 one_of n t u same some few = subst (IsOneOf n) same (some, few)
 
 in_turn : TasksComeInTurn 1 (rests 1 ++ (spawns 2 ++ rests 2))
-in_turn =
-    (λ t is. one_of 1 t 1 is (omega arith) (omega arith),
-    (λ t is. absurd is,
-    (refl,
-    (λ t is. one_of 2 t 2 is (omega arith) (omega arith),
-    (λ t is. one_of 2 t 2 is (omega arith) (omega arith),
-    (λ t is. absurd is,
-    tt))))))
+in_turn = (
+  λ t is. one_of 1 t 1 is (omega arith) (omega arith),
+  (
+    λ t is. absurd is,
+    (
+      refl,
+      (
+        λ t is. one_of 2 t 2 is (omega arith) (omega arith),
+        (
+          λ t is. one_of 2 t 2 is (omega arith) (omega arith),
+          (
+            λ t is. absurd is,
+            tt,
+          ),
+        ),
+      ),
+    ),
+  ),
+)
 
 too_many : (n t : ℕ) → suc n ≤ t → IsOneOf n t → ⊥
 too_many n t more it = let few : t ≤ n = it.1 in omega (arith, more, few)
@@ -50,7 +61,8 @@ a_phone_before : TasksComeInTurn 1 (rests 1 ++ (entry.PhoneIs (phone 2) (Connect
 a_phone_before l = too_many 1 2 (omega arith) (l.1.1.0 2 refl)
 
 -- or what is told of a call
-a_call_before : TasksComeInTurn 1 (entry.Head (task 1) request.Receive ∷ entry.Delivered (record { 0 = 1 }) (task 2) ∷ spawns 2) → ⊥
+a_call_before : TasksComeInTurn 1
+    (entry.Head (task 1) request.Receive ∷ entry.Delivered (record { 0 = 1 }) (task 2) ∷ spawns 2) → ⊥
 a_call_before l = too_many 1 2 (omega arith) (l.1.0 2 refl)
 
 apart : (m n : ℕ) → m ≡ n → (m == n) ≡ false → ⊥

@@ -84,7 +84,9 @@ record InTurn (n : ℕ) (q : List Entry) (count : ℕ) : Type 0 where
   pub counted : count_after n q ≡ count
 
 -- entries that make no task come in turn
-each_in_turn : (b : Beginning) (n : ℕ) → BeginAt n b.wires → (es q : List Entry) (count : ℕ) → InTurn n q count → AreNoSpawn es → Lawful (tales (on_top es q)) → HadCause b (on_top es q) → AreOfTasks count es → InTurn n (on_top es q) count
+each_in_turn : (b : Beginning) (n : ℕ) → BeginAt n b.wires → (es q : List Entry) (count : ℕ) → InTurn n q count
+    → AreNoSpawn es → Lawful (tales (on_top es q)) → HadCause b (on_top es q) → AreOfTasks count es
+    → InTurn n (on_top es q) count
 each_in_turn b n begins [] q count it plain l had known = it
 each_in_turn b n begins (e ∷ es) q count it plain l had known =
     let m : Lawful (tales (e ∷ q)) = lawful_before es (e ∷ q) l in
@@ -112,15 +114,19 @@ record Comes (b : Beginning) (h : List Entry) (next : RunTransition) : Type 0 wh
   pub told : RunFits b (h ++ next.entries) next.state
   pub causes : CausesKept b (h ++ next.entries) next.state.kernel
 
-module _ (b : Beginning) (n : ℕ) (begins : BeginAt n b.wires) (h : List Entry) (now : RunState) (it : Turns b n h now) where
+module _ (b : Beginning) (n : ℕ) (begins : BeginAt n b.wires) (h : List Entry) (now : RunState)
+    (it : Turns b n h now) where
   abbrev After : RunTransition → Type 0
   After next = Comes b h next → InTurn n (newest_first (h ++ next.entries)) (length next.state.kernel.tasks.alive)
 
   -- an event that makes no task
-  no_task : (next : RunTransition) → length next.state.programs ≡ length now.programs → AreNoSpawn next.entries → After next
+  no_task : (next : RunTransition) → length next.state.programs ≡ length now.programs → AreNoSpawn next.entries
+      → After next
   no_task next same plain comes =
-      let count : length next.state.kernel.tasks.alive ≡ length now.kernel.tasks.alive = sym comes.told.paired ∙ same ∙ it.told.paired in
-      let l : Lawful (tales (newest_first (h ++ next.entries))) = subst Lawful (tales_are (h ++ next.entries) []) comes.told.kernel.told.lawful in
+      let count : length next.state.kernel.tasks.alive ≡ length now.kernel.tasks.alive =
+      sym comes.told.paired ∙ same ∙ it.told.paired in
+      let l : Lawful (tales (newest_first (h ++ next.entries))) =
+      subst Lawful (tales_are (h ++ next.entries) []) comes.told.kernel.told.lawful in
       rw (newest_first-append h next.entries)
       (each_in_turn b n begins next.entries (newest_first h) (length next.state.kernel.tasks.alive)
       (record { came = it.turns.came; counted = it.turns.counted ∙ sym count })
@@ -136,8 +142,11 @@ module _ (b : Beginning) (n : ℕ) (begins : BeginAt n b.wires) (h : List Entry)
   served_turn u p =
       let s : Served = serve now.kernel u (wanted p) in
       no_task (step_served now u p s) (length-set now.programs (u.0 - 1) (after p s.outcome))
-      (both_no_spawn (served_entries u (wanted p) s) (entries p s.outcome)
-      (tt, both_no_spawn s.entries (entry.Outcome s.outcome ∷ []) (effects_no_spawn s.entries (serve_is_honest now.kernel u (wanted p)).effects) (tt, tt))
+      (both_no_spawn (served_entries u (wanted p) s) (entries p s.outcome) (
+        tt,
+        both_no_spawn s.entries (entry.Outcome s.outcome ∷ [])
+            (effects_no_spawn s.entries (serve_is_honest now.kernel u (wanted p)).effects) (tt, tt),
+      )
       (program_no_spawn p s.outcome))
 
   stepped : (u : TaskNo) (x : Bool) (o : Option AnyProgram) → After (step_by now u (if x then o else None))
@@ -146,39 +155,61 @@ module _ (b : Beginning) (n : ℕ) (begins : BeginAt n b.wires) (h : List Entry)
   stepped u false o = gone_turn u
 
   ended : (u : TaskNo) (x : Bool) → After (if x then killed now u (kill_event now.kernel u) else gone now u)
-  ended u true = no_task (killed now u (kill_event now.kernel u)) refl (tt, effects_no_spawn (kill_event now.kernel u).entries (kill_is_honest now.kernel u))
+  ended u true =
+      no_task (killed now u (kill_event now.kernel u)) refl
+      (tt, effects_no_spawn (kill_event now.kernel u).entries (kill_is_honest now.kernel u))
   ended u false = gone_turn u
 
-  hung_up : (u : TaskNo) (phone : ℕ) (x : Bool) → After (if x then request_served now u (request.Hangup phone) (serve now.kernel u (request.Hangup phone)) else gone now u)
+  hung_up : (u : TaskNo) (phone : ℕ) (x : Bool)
+      → After (if x then request_served now u (request.Hangup phone)
+      (serve now.kernel u (request.Hangup phone)) else gone now u)
   hung_up u phone true =
       let s : Served = serve now.kernel u (request.Hangup phone) in
-      no_task (request_served now u (request.Hangup phone) s) refl
-      (tt, both_no_spawn s.entries (entry.Outcome s.outcome ∷ []) (effects_no_spawn s.entries (serve_is_honest now.kernel u (request.Hangup phone)).effects) (tt, tt))
+      no_task (request_served now u (request.Hangup phone) s) refl (
+        tt,
+        both_no_spawn s.entries (entry.Outcome s.outcome ∷ [])
+            (effects_no_spawn s.entries (serve_is_honest now.kernel u (request.Hangup phone)).effects) (tt, tt),
+      )
   hung_up u phone false = gone_turn u
 
   -- a task is made, with these entries behind the head
   made_turn : (es : List Entry) → AreNoSpawn es → AreOfTasks (length now.kernel.tasks.alive + 1) es
-      → Lawful (tales (newest_first (h ++ entry.Spawn (next_task now.kernel) ∷ es))) → HadCause b (newest_first (h ++ entry.Spawn (next_task now.kernel) ∷ es))
+      → Lawful (tales (newest_first (h ++ entry.Spawn (next_task now.kernel) ∷ es))) → HadCause b
+      (newest_first (h ++ entry.Spawn (next_task now.kernel) ∷ es))
       → InTurn n (newest_first (h ++ entry.Spawn (next_task now.kernel) ∷ es)) (length now.kernel.tasks.alive + 1)
   made_turn es plain known l had =
       let whole : List Entry = entry.Spawn (next_task now.kernel) ∷ es in
       let count : count_after n (newest_first h) ≡ length now.kernel.tasks.alive = it.turns.counted in
       rw (newest_first-append h whole)
-      (each_in_turn b n begins es (entry.Spawn (next_task now.kernel) ∷ newest_first h) (length now.kernel.tasks.alive + 1)
+      (each_in_turn b n begins es (entry.Spawn (next_task now.kernel) ∷ newest_first h)
+      (length now.kernel.tasks.alive + 1)
       (record { came = (it.turns.came, omega (arith, count)); counted = omega (arith, count) })
       plain
       (subst (λ (q : List Entry). Lawful (tales q)) (newest_first-append h whole) l)
       (subst (HadCause b) (newest_first-append h whole) had)
       known)
 
-  made_by : (o : Option TaskNo) (plan : TaskPlan) → Lawful (tales (newest_first (h ++ (spawning now.kernel (next_task now.kernel) plan.limit o).entries))) → HadCause b (newest_first (h ++ (spawning now.kernel (next_task now.kernel) plan.limit o).entries))
-      → InTurn n (newest_first (h ++ (spawning now.kernel (next_task now.kernel) plan.limit o).entries)) (length (spawning now.kernel (next_task now.kernel) plan.limit o).state.tasks.alive)
-  made_by None plan l had = subst (InTurn n (newest_first (h ++ entry.Spawn (next_task now.kernel) ∷ []))) (sym (length-append now.kernel.tasks.alive (true ∷ []))) (made_turn [] tt tt l had)
-  made_by (Some u) plan l had = subst (InTurn n _) (sym (length-append now.kernel.tasks.alive (true ∷ []))) (made_turn _ (tt, tt) (tt, tt) l had)
+  made_by : (o : Option TaskNo) (plan : TaskPlan)
+      → Lawful (tales (newest_first (h ++ (spawning now.kernel (next_task now.kernel) plan.limit o).entries)))
+      → HadCause b (newest_first (h ++ (spawning now.kernel (next_task now.kernel) plan.limit o).entries))
+      → InTurn n (newest_first (h ++ (spawning now.kernel (next_task now.kernel) plan.limit o).entries))
+      (length (spawning now.kernel (next_task now.kernel) plan.limit o).state.tasks.alive)
+  made_by None plan l had =
+      subst (InTurn n (newest_first (h ++ entry.Spawn (next_task now.kernel) ∷ [])))
+      (sym (length-append now.kernel.tasks.alive (true ∷ []))) (made_turn [] tt tt l had)
+  made_by (Some u) plan l had =
+      subst (InTurn n _) (sym (length-append now.kernel.tasks.alive (true ∷ [])))
+      (made_turn _ (tt, tt) (tt, tt) l had)
 
   made : (o : Option TaskPlan) → After (spawn_by now o)
-  made None comes = subst (λ (es : List Entry). InTurn n (newest_first es) (length now.kernel.tasks.alive)) (sym (append-nil h)) it.turns
-  made (Some plan) comes = made_by (named now.kernel now.names) plan (subst Lawful (tales_are (h ++ (spawning now.kernel (next_task now.kernel) plan.limit (named now.kernel now.names)).entries) []) comes.told.kernel.told.lawful) comes.causes.fit.had
+  made None comes =
+      subst (λ (es : List Entry). InTurn n (newest_first es) (length now.kernel.tasks.alive))
+      (sym (append-nil h)) it.turns
+  made (Some plan) comes =
+      made_by (named now.kernel now.names) plan
+      (subst Lawful
+      (tales_are (h ++ (spawning now.kernel (next_task now.kernel) plan.limit (named now.kernel now.names)).entries)
+      []) comes.told.kernel.told.lawful) comes.causes.fit.had
 
   turn_turns : (e : Event) → After (turn now e)
   turn_turns (Step u) = stepped u (is_alive now.kernel u) (slice_get now.programs (u.0 - 1))
@@ -188,19 +219,27 @@ module _ (b : Beginning) (n : ℕ) (begins : BeginAt n b.wires) (h : List Entry)
 
 -- ---- the run
 
-turns_next : (b : Beginning) (n : ℕ) → BeginAt n b.wires → (h : List Entry) (now : RunState) → Turns b n h now → (e : Event) → MayHappen now e → Turns b n (h ++ (turn now e).entries) (turn now e).state
+turns_next : (b : Beginning) (n : ℕ) → BeginAt n b.wires → (h : List Entry) (now : RunState) → Turns b n h now
+    → (e : Event) → MayHappen now e → Turns b n (h ++ (turn now e).entries) (turn now e).state
 turns_next b n begins h now it e may =
     let next : RunTransition = turn now e in
     let told : RunFits b (h ++ next.entries) next.state = turn_fits b h now it.told e may in
     let causes : CausesKept b (h ++ next.entries) next.state.kernel = turn_kept b h now it.told it.causes e in
-    record { told = told; causes = causes; turns = turn_turns b n begins h now it e (record { told = told; causes = causes }) }
+    record {
+      told = told;
+      causes = causes;
+      turns = turn_turns b n begins h now it e (record { told = told; causes = causes });
+    }
 
-turns_after : (b : Beginning) (n : ℕ) → BeginAt n b.wires → (h : List Entry) (now : RunState) → Turns b n h now → (events : List Event) → MayAllHappen now events → Turns b n (h ++ run_from now events) (state_after now events)
+turns_after : (b : Beginning) (n : ℕ) → BeginAt n b.wires → (h : List Entry) (now : RunState) → Turns b n h now
+    → (events : List Event) → MayAllHappen now events → Turns b n (h ++ run_from now events) (state_after now events)
 turns_after b n begins h now it [] may = subst (λ (es : List Entry). Turns b n es now) (sym (append-nil h)) it
 turns_after b n begins h now it (e ∷ events) may =
     let next : RunTransition = turn now e in
-    subst (λ (es : List Entry). Turns b n es (state_after next.state events)) (append_assoc h next.entries (run_from next.state events))
-    (turns_after b n begins (h ++ next.entries) next.state (turns_next b n begins h now it e may.0) events (later_may now e events may))
+    subst (λ (es : List Entry). Turns b n es (state_after next.state events))
+    (append_assoc h next.entries (run_from next.state events))
+    (turns_after b n begins (h ++ next.entries) next.state (turns_next b n begins h now it e may.0) events
+    (later_may now e events may))
 
 -- ---- the start
 
@@ -214,21 +253,27 @@ both_begin n (w ∷ first) later a b = (a.0, both_begin n first later a.1 b)
 
 service_begins : (n m t : ℕ) → 1 ≤ t → t + m ≤ n + 1 → BeginAt n (map lead_of (service_wires m t))
 service_begins n zero t some few = tt
-service_begins n (suc m) t some few = ((some, omega (arith, few)), service_begins n m (t + 1) (omega (arith, some)) (omega (arith, few)))
+service_begins n (suc m) t some few =
+    ((some, omega (arith, few)), service_begins n m (t + 1) (omega (arith, some)) (omega (arith, few)))
 
 to_service_begin : (tasks : List TaskPlan) → BeginAt (length tasks) (map lead_of (wires_to_service tasks))
 to_service_begin [] = tt
 to_service_begin (task ∷ tasks) = by_test (has_service (task ∷ tasks)) where
-  by_test : (x : Bool) → BeginAt (length (task ∷ tasks)) (map lead_of (if x then service_wires (length (task ∷ tasks) - 1) 2 else []))
+  by_test : (x : Bool)
+      → BeginAt (length (task ∷ tasks)) (map lead_of (if x then service_wires (length (task ∷ tasks) - 1) 2 else []))
   by_test true = service_begins (length (task ∷ tasks)) (length (task ∷ tasks) - 1) 2 (omega arith) (omega arith)
   by_test false = tt
 
-script_begins : (tasks : List TaskPlan) (wires : List Wire) → All (script.Leads tasks) wires → BeginAt (length tasks) (map lead_of wires)
+script_begins : (tasks : List TaskPlan) (wires : List Wire) → All (script.Leads tasks) wires
+    → BeginAt (length tasks) (map lead_of wires)
 script_begins tasks [] lead = tt
-script_begins tasks (w ∷ wires) lead = ((lead 0 w (omega arith)).from_task, script_begins tasks wires (λ i d lt. lead (suc i) d (omega (arith, lt))))
+script_begins tasks (w ∷ wires) lead =
+    ((lead 0 w (omega arith)).from_task, script_begins tasks wires (λ i d lt. lead (suc i) d (omega (arith, lt))))
 
 beginning_begins : (plan : Plan) → script.IsSound plan → BeginAt (length plan.tasks) (beginning plan).wires
-beginning_begins plan sound = both_begin (length plan.tasks) (map lead_of (wires_to_service plan.tasks)) (map lead_of plan.wires) (to_service_begin plan.tasks) (script_begins plan.tasks plan.wires sound.wires_lead)
+beginning_begins plan sound =
+    both_begin (length plan.tasks) (map lead_of (wires_to_service plan.tasks)) (map lead_of plan.wires)
+    (to_service_begin plan.tasks) (script_begins plan.tasks plan.wires sound.wires_lead)
 
 -- ---- the law
 
@@ -240,21 +285,29 @@ all_came : (n : ℕ) (es p : List Entry) → CameInTurn n (on_top es p) → AllI
 all_came n [] p l = tt
 all_came n (e ∷ es) p l = let m : CameInTurn n (e ∷ p) = came_before n es (e ∷ p) l in (m.1, all_came n es (e ∷ p) l)
 
-pub run_is_in_turn : (plan : Plan) (events : List Event) → script.IsSound plan → MayAllCome (length plan.tasks) (length plan.templates) events → TasksComeInTurn (length plan.tasks) (run plan events)
+pub run_is_in_turn : (plan : Plan) (events : List Event) → script.IsSound plan
+    → MayAllCome (length plan.tasks) (length plan.templates) events
+    → TasksComeInTurn (length plan.tasks) (run plan events)
 run_is_in_turn plan events sound may =
     let b : Beginning = beginning plan in
     let told : RunFits b [] (start plan) = start_told plan sound in
     let it : Turns b (length plan.tasks) (run plan events) (state_after (start plan) events) =
     turns_after b (length plan.tasks) (beginning_begins plan sound) [] (start plan)
-    (record { told = told; causes = start_caused plan told; turns = record { came = tt; counted = sym (programs_counted 1 plan.tasks) ∙ told.paired } })
+    (record {
+      told = told;
+      causes = start_caused plan told;
+      turns = record { came = tt; counted = sym (programs_counted 1 plan.tasks) ∙ told.paired };
+    })
     events (may_from plan events (start plan) refl may) in
     all_came (length plan.tasks) (run plan events) [] it.turns.came
 
 -- in such a list no entry of a task stands before the one that makes it
-none_before : (n : ℕ) (before p later : List Entry) (t : TaskNo) → AllInTurn n p (before ++ entry.Spawn t ∷ later) → NoneIsOf t.0 before × (count_after n p < t.0)
+none_before : (n : ℕ) (before p later : List Entry) (t : TaskNo) → AllInTurn n p (before ++ entry.Spawn t ∷ later)
+    → NoneIsOf t.0 before × (count_after n p < t.0)
 none_before n [] p later t l = (tt, let next : t.0 ≡ suc (count_after n p) = l.0 in omega (arith, next))
 none_before n (e ∷ before) p later t l = by_entry e l.0 (none_before n before (e ∷ p) later t l.1) where
-  by_entry : (e : Entry) → IsInTurn n p e → NoneIsOf t.0 before × (count_after n (e ∷ p) < t.0) → NoneIsOf t.0 (e ∷ before) × (count_after n p < t.0)
+  by_entry : (e : Entry) → IsInTurn n p e → NoneIsOf t.0 before × (count_after n (e ∷ p) < t.0)
+      → NoneIsOf t.0 (e ∷ before) × (count_after n p < t.0)
   by_entry (entry.Spawn u) turn rest =
       let next : u.0 ≡ suc (count_after n p) = turn in
       let few : suc (count_after n p) < t.0 = rest.1 in
@@ -263,6 +316,8 @@ none_before n (e ∷ before) p later t l = by_entry e l.0 (none_before n before 
       let few : count_after n p < t.0 = rest.1 in
       ((λ of. let most : t.0 ≤ count_after n p = (turn t.0 of).1 in omega (arith, few, most), rest.0), few)
 
-pub nothing_before_its_spawn : (plan : Plan) (events : List Event) → script.IsSound plan → MayAllCome (length plan.tasks) (length plan.templates) events → NothingComesBeforeItsSpawn (run plan events)
+pub nothing_before_its_spawn : (plan : Plan) (events : List Event) → script.IsSound plan
+    → MayAllCome (length plan.tasks) (length plan.templates) events → NothingComesBeforeItsSpawn (run plan events)
 nothing_before_its_spawn plan events sound may before later t is =
-    (none_before (length plan.tasks) before [] later t (subst (TasksComeInTurn (length plan.tasks)) is (run_is_in_turn plan events sound may))).0
+    (none_before (length plan.tasks) before [] later t
+    (subst (TasksComeInTurn (length plan.tasks)) is (run_is_in_turn plan events sound may))).0

@@ -140,7 +140,8 @@ IsDoneAsTold q _ = ⊤
 -- a call with this method may be tested before it is sent
 abbrev pub MayFail : ℕ → Type 0
 MayFail method =
-    (method ≡ connect_me_to) ⊎ (method ≡ data_write) ⊎ (method ≡ data_read) ⊎ (method ≡ share_out) ⊎ (method ≡ share_in)
+    (method ≡ connect_me_to) ⊎ (method ≡ data_write) ⊎ (method ≡ data_read) ⊎ (method ≡ share_out)
+    ⊎ (method ≡ share_in)
 
 -- a call goes to the task to which its phone leads, and else back: over a phone that leads nowhere any more, and over
 -- one that leads only where its method may be tested

@@ -1,5 +1,5 @@
--- What the lines of a schedule do that name no step of a task: one that makes a task from a template, and one that hangs
--- up a phone. They are said of any state of a run, and of what such a line makes of it.
+-- What two lines of a schedule do: one that makes a task from a template, and one that hangs up a phone. They are said
+-- of any state of a run, and of what such a line makes of it.
 use Rattle.std.specs.Prelude.{ℕ, ◌≡◌, true, false, List, [], ◌∷◌, ◌++◌, Option, Some, slice_get, replicate}
 use Rattle.ipc_ids.specs.declared.numbers.TaskNo.{TaskNo}
 use Rattle.ipc_ids.specs.declared.message.Request.TheVariants as request
@@ -18,7 +18,7 @@ use Rattle.kernel_laws.specs.SpawnLaws.{new_number}
 use Rattle.kernel_determined.specs.SpawnLaw.{IsSpawn}
 use Rattle.kernel_determined.specs.HangupLaw.{IsHangup}
 use Rattle.raw_program.specs.Raw.{RawState}
-use Rattle.async_task.specs.Program.{AsyncTask}
+use Rattle.async_task.specs.Program.{AsyncTask, started}
 use Rattle.task_system.specs.declared.any.AnyProgram.{AnyProgram}
 use Rattle.task_system.specs.declared.any.AnyProgram.TheVariants as any
 use Rattle.task_system.specs.Run.{RunState, RunTransition, start, state_after, turn, service_of}
@@ -37,10 +37,12 @@ pub record IsNewRaw (bodies : List Body) (p : RawState) : Type 0 where
   pub registers : p.registers ≡ replicate 32 0
   pub taken : p.taken ≡ 0
 
--- a program with fibrils of task t, which has these bodies, and was told nothing yet
+-- a program with fibrils of task t, which has these bodies, begins as a task of the script with these bodies does, and
+-- was told nothing yet
 pub record IsNewAsync (t : TaskNo) (bodies : List Body) (p : AsyncTask) : Type 0 where
   pub me : p.state.me ≡ t
   pub bodies_are : p.state.bodies ≡ bodies
+  pub begins : p.state ≡ started t bodies
   pub taken : p.taken ≡ 0
 
 -- a program of this kind that has the operations of these bodies; templates are of no other kind
@@ -53,7 +55,8 @@ IsNewProgram t bodies _ p = ⊥
 -- phone 0 leads to the naming service, and it gets a program of its kind with its operations
 pub record IsMadeFrom (template : TaskPlan) (names : Option TaskNo) (before : RunState) (done : RunTransition)
     : Type 0 where
-  pub kernel : IsSpawn template.limit names before.kernel (record { state = done.state.kernel; entries = done.entries })
+  pub kernel : IsSpawn template.limit names before.kernel
+      (record { state = done.state.kernel; entries = done.entries })
   pub program : AnyProgram
   pub has : IsNewProgram (new_number before.kernel) template.bodies template.kind program
   -- it comes behind the programs of the other tasks, which stay

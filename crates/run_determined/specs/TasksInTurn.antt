@@ -1,5 +1,5 @@
--- Tasks come in turn, in a list of entries: each entry is of a task of the script or of one that was made before it, and
--- a task that is made has the next number. Each entry is read with those before it, the newest first.
+-- Tasks come in turn, in a list of entries: each entry is of a task of the script or of one that was made before it,
+-- and a task that is made has the next number. Each entry is read with those before it, the newest first.
 use Rattle.std.specs.Prelude.{ℕ, suc, ◌≡◌, ◌≤◌, ◌++◌, Option, None, Some, List, [], ◌∷◌, ⊤}
 use Rattle.ipc_ids.specs.declared.numbers.TaskNo.{TaskNo}
 use Rattle.ipc_ids.specs.declared.entry.Entry.{Entry}
