@@ -1,4 +1,5 @@
 pub mod AsyncSends
+pub mod AsyncStays
 pub mod CauseSteps
 pub mod CauseCalls
 pub mod CauseRequests
@@ -12,6 +13,7 @@ pub mod LiveRuns
 mod LiveExamples
 pub mod ScheduleLines
 mod ScheduleExamples
+pub mod TaskPrograms
 pub mod TurnSteps
 pub mod TurnRuns
 mod TurnExamples

@@ -22,7 +22,9 @@ use Rattle.kernel_core.specs.Kernel.{spawn_event}
 use Rattle.kernel_laws.specs.SpawnLaws.{new_number}
 use Rattle.task_system.specs.declared.any.AnyProgram.{AnyProgram}
 use Rattle.task_system.specs.declared.any.AnyProgram.TheVariants as any
-use Rattle.task_system.specs.Run.{RunState, RunTransition, spawn_by, spawned, request as served_request}
+use Rattle.task_system.specs.Run.{program_of, RunState, RunTransition, spawn_by, spawned, request as served_request}
+use Rattle.ipc_ids.specs.declared.message.Event.TheVariants.{Spawn}
+use Rattle.run_determined.specs.TaskPrograms.{plans_after, RunThePlans}
 use Rattle.run_determined.specs.ScheduleLines.{IsNewProgram, IsMadeFrom, IsHangupLine}
 
 apart : (m n : ℕ) → m ≡ n → (m == n) ≡ false → ⊥
@@ -150,3 +152,22 @@ hangs_up_nothing line =
   where
     never : ◌≡◌ {A = Option PhoneState} (Some Slammed) (Some HungUp) → ⊥
     never e = cc
+
+-- ---- programs
+
+-- a line makes the first task from the second template, and a machine gives it the program of the first one
+another_program : RunThePlans (plans_after (receiver ∷ jumper ∷ []) [] (Spawn 1 ∷ [])) (program_of 1 receiver ∷ [])
+    → ⊥
+another_program runs =
+    never (ap (λ (ops : List Op). slice_get ops 0) (runs.each 0 jumper (program_of 1 receiver) refl refl)) where
+      never : ◌≡◌ {A = Option Op} (Some op.Receive) (Some (op.Jump 0)) → ⊥
+      never e = cc
+
+-- it gives it the program of another kind
+another_kind_of_program : RunThePlans (plans_after (receiver ∷ with_fibrils ∷ []) [] (Spawn 1 ∷ []))
+    (program_of 1 receiver ∷ []) → ⊥
+another_kind_of_program runs = runs.each 0 with_fibrils (program_of 1 receiver) refl refl
+
+-- it makes no program for the task
+no_program : RunThePlans (plans_after (receiver ∷ jumper ∷ []) [] (Spawn 1 ∷ [])) [] → ⊥
+no_program runs = apart 1 0 runs.counted refl

@@ -42,7 +42,7 @@ choice_keeps : (now : RunState) (b : Bool) (x y : RunTransition) → x.state.tem
 choice_keeps now true x y h g = h
 choice_keeps now false x y h g = g
 
-turn_keeps : (now : RunState) (e : Event) → (turn now e).state.templates ≡ now.templates
+pub turn_keeps : (now : RunState) (e : Event) → (turn now e).state.templates ≡ now.templates
 turn_keeps now (Step t) = step_keeps now t _
 turn_keeps now (Kill t) = choice_keeps now (is_alive now.kernel t) _ _ refl refl
 turn_keeps now (Hangup t phone) = choice_keeps now (is_alive now.kernel t) _ _ refl refl
@@ -67,12 +67,12 @@ there (template ∷ templates) (suc place) lt = there templates place (omega (ar
 
 -- ---- a program before its first step
 
-first_ops : (bodies : List Body) → AreFirstOps (ops_of bodies) bodies
+pub first_ops : (bodies : List Body) → AreFirstOps (ops_of bodies) bodies
 first_ops [] = refl
 first_ops (body ∷ bodies) = refl
 
 -- starting fibrils leaves the number and the bodies of a task
-record IsStill (a b : AsyncState) : Type 0 where
+pub record IsStill (a b : AsyncState) : Type 0 where
   pub me : b.me ≡ a.me
   pub bodies : b.bodies ≡ a.bodies
 
@@ -84,7 +84,7 @@ at_still : (n : ℕ) (o : Option Body) (a : AsyncState) → IsStill a (start_at 
 at_still n None a = record { me = refl; bodies = refl }
 at_still n (Some body) a = in_still n body.connection a
 
-bodies_still : (n : ℕ) (a : AsyncState) → IsStill a (start_bodies n a)
+pub bodies_still : (n : ℕ) (a : AsyncState) → IsStill a (start_bodies n a)
 bodies_still zero a = record { me = refl; bodies = refl }
 bodies_still (suc n) a =
     let before = bodies_still n a in

@@ -9,6 +9,7 @@ ghost use Rattle.schedule_replay.specs.RunHistory.{beginning};
 ghost use Rattle.run_determined.specs.LiveWaits.{WaitsAreForLiveCalls};
 ghost use Rattle.run_determined.specs.PhoneCauses.{PhonesChangeForCause};
 ghost use Rattle.run_determined.specs.ScheduleLines.{SpawnsMakeTheirTemplate, HangupLinesHangUpTheirPhone};
+ghost use Rattle.run_determined.specs.TaskPrograms.{TasksRunTheirPlans};
 ghost use Rattle.run_determined.specs.TasksInTurn.{TasksComeInTurn, NothingComesBeforeItsSpawn};
 
 /// Each change of a phone stands right behind the entry that is its cause, and each call goes the
@@ -36,6 +37,15 @@ pub fn spawns_make_their_template()
     ensures { (plan : Plan) (events : List Event) → IsSound plan
         → MayAllCome (length plan.tasks) (length plan.templates) events
         → SpawnsMakeTheirTemplate plan events }
+{}
+
+/// After each event every task runs the program of its plan, in kind and in operations: a task of
+/// the script that which the script gives it, and a task that a line of the schedule made that of
+/// the template which the line names.
+pub fn tasks_run_their_plans()
+    ensures { (plan : Plan) (events : List Event) → IsSound plan
+        → MayAllCome (length plan.tasks) (length plan.templates) events
+        → TasksRunTheirPlans plan events }
 {}
 
 /// A line of the schedule that hangs up a phone hangs up the one that it names.
