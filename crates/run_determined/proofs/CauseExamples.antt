@@ -1,0 +1,408 @@
+-- The law of causes at work on short lists: one that keeps it, and the lists of wrong machines, each of which breaks
+-- it. Phone 0 of the client leads to the server.
+use Rattle.std.proofs.Common.{ℕ, ◌≡◌, false, ◌++◌, Option, None, Some, List, [], ◌∷◌, refl, ap, sym, ◌∙◌, inl, inr}
+use Rattle.std.specs.Prelude.{◌==◌}
+use Rattle.std.proofs.lemmas.Bool.{eq-eqb, false≢true}
+use Rattle.ipc_ids.specs.declared.numbers.TaskNo.{TaskNo}
+use Rattle.ipc_ids.specs.declared.numbers.CallNo.{CallNo}
+use Rattle.ipc_ids.specs.declared.numbers.Code.{Code}
+use Rattle.ipc_ids.specs.declared.numbers.Label.{Label}
+use Rattle.ipc_ids.specs.declared.message.Msg.{Msg}
+use Rattle.ipc_ids.specs.declared.message.Reply.{Reply}
+use Rattle.ipc_ids.specs.declared.message.PhoneState.TheVariants.{Free, Connecting, Connected, HungUp, Slammed}
+use Rattle.ipc_ids.specs.declared.message.Request.TheVariants as request
+use Rattle.ipc_ids.specs.declared.message.Outcome.TheVariants as outcome
+use Rattle.ipc_ids.specs.declared.entry.Entry.{Entry}
+use Rattle.ipc_ids.specs.declared.entry.Entry.TheVariants as entry
+use Rattle.ipc_ids.specs.Codes.{eok, enoent, ehangup, elimit}
+use Rattle.ipc_ids.specs.Methods.{connect_me_to, first_user_method}
+use Rattle.ipc_ids.specs.Life.{Incoming, Dispatched}
+use Rattle.ipc_ids.specs.Holdings.{Making, on_top}
+use Rattle.route_laws.specs.Leads.{Beginning}
+use Rattle.run_determined.specs.PhoneCauses.{AllHaveCause, PhonesChangeForCause}
+
+abbrev client : TaskNo
+client = record { 0 = 1 }
+
+abbrev server : TaskNo
+server = record { 0 = 2 }
+
+abbrev other : TaskNo
+other = record { 0 = 3 }
+
+abbrev call_no : ℕ → CallNo
+call_no n = record { 0 = n }
+
+abbrev phone : TaskNo → ℕ → Label
+phone t p = record { task = t; phone = record { 0 = p } }
+
+abbrev began : Beginning
+began = record { wires = record { phone = phone client 0; to = server } ∷ []; names = None }
+
+abbrev msg : ℕ → Msg
+msg method = record { method = method; args = 0 ∷ 0 ∷ 0 ∷ 0 ∷ 0 ∷ [] }
+
+abbrev with_code : Code → Reply
+with_code code = record { code = code; args = 0 ∷ 0 ∷ 0 ∷ 0 ∷ 0 ∷ [] }
+
+-- the client asks for a connection by call n, and keeps this phone for it
+abbrev asks : ℕ → ℕ → List Entry
+asks n p =
+    entry.Head client (request.Call 0 (msg connect_me_to))
+    ∷ entry.Accepted (call_no n) (phone client 0) connect_me_to (Some server)
+    ∷ entry.PhoneIs (phone client p) Connecting
+    ∷ entry.Outcome (outcome.Accepted (call_no n))
+    ∷ []
+
+-- the server receives call n
+abbrev receives : ℕ → List Entry
+receives n =
+    entry.Head server request.Receive
+    ∷ entry.Received (call_no n) server
+    ∷ entry.Outcome (outcome.Received (call_no n) (msg connect_me_to) (phone client 0))
+    ∷ []
+
+-- the server accepts call n, and this phone of the client leads to the server
+abbrev connects : ℕ → ℕ → List Entry
+connects n p =
+    entry.Head server (request.Answer n (with_code eok))
+    ∷ entry.Answered (call_no n) (with_code eok) (Some server)
+    ∷ entry.PhoneIs (phone client p) (Connected server)
+    ∷ entry.Outcome outcome.Done
+    ∷ []
+
+-- the client hangs up phone 1
+abbrev hangs_up : ℕ → List Entry
+hangs_up n =
+    entry.Head client (request.Hangup 1)
+    ∷ entry.Accepted (call_no n) (phone client 1) 0 (Some server)
+    ∷ entry.PhoneIs (phone client 1) HungUp
+    ∷ entry.Outcome outcome.Done
+    ∷ []
+
+-- the server is killed
+abbrev ends : List Entry
+ends = entry.Kill server ∷ entry.PhoneIs (phone client 0) Slammed ∷ []
+
+-- the client calls over its slammed phone, and the call goes back
+abbrev goes_back : ℕ → Code → List Entry
+goes_back n code =
+    entry.Head client (request.Call 0 (msg first_user_method))
+    ∷ entry.Accepted (call_no n) (phone client 0) first_user_method None
+    ∷ entry.Answered (call_no n) (with_code code) None
+    ∷ entry.Outcome (outcome.Accepted (call_no n))
+    ∷ []
+
+-- numbers apart, and parts of what is told
+
+apart : (m n : ℕ) → m ≡ n → (m == n) ≡ false → ⊥
+apart m n e ne = false≢true (sym ne ∙ eq-eqb m n e)
+
+abbrev method_in : Option Making → ℕ
+method_in None = 0
+method_in (Some made) = made.method
+
+abbrev phone_in_label : Option Label → ℕ
+phone_in_label None = 0
+phone_in_label (Some l) = l.phone.0
+
+abbrev method_of : Option Entry → ℕ
+method_of (Some (entry.Head t (request.Call p m))) = m.method
+method_of _ = 0
+
+abbrev how_made : Making
+how_made =
+    record {
+      caller = 1;
+      method = connect_me_to;
+      asked = Some (entry.Head client (request.Call 0 (msg connect_me_to)));
+    }
+
+-- the events of a whole run, and that each change in them has its cause
+
+abbrev after_asking : List Entry
+after_asking = on_top (asks 1 1) []
+
+abbrev after_receipt : List Entry
+after_receipt = on_top (receives 1) after_asking
+
+abbrev after_connection : List Entry
+after_connection = on_top (connects 1 1) after_receipt
+
+abbrev after_hangup : List Entry
+after_hangup = on_top (hangs_up 2) after_connection
+
+abbrev after_end : List Entry
+after_end = on_top ends after_hangup
+
+asked : AllHaveCause began [] (asks 1 1)
+asked = (
+  record { changes = tt; hung_up = tt; done = tt; way = tt; code = tt; told = tt; dropped = tt },
+  (
+    record { changes = tt; hung_up = tt; done = tt; way = refl; code = tt; told = tt; dropped = tt },
+    (
+      record {
+        changes = (refl, refl);
+        hung_up = λ e. absurd (apart 2 0 e refl);
+        done = tt;
+        way = tt;
+        code = tt;
+        told = tt;
+        dropped = tt;
+      },
+      (
+        record {
+          changes = tt;
+          hung_up = tt;
+          done = tt;
+          way = tt;
+          code = tt;
+          told = (refl, refl, λ e. apart 2 0 e refl);
+          dropped = tt;
+        },
+        tt,
+      ),
+    ),
+  ),
+)
+
+received : AllHaveCause began after_asking (receives 1)
+received = (
+  record { changes = tt; hung_up = tt; done = tt; way = tt; code = tt; told = tt; dropped = tt },
+  (
+    record { changes = tt; hung_up = tt; done = tt; way = tt; code = tt; told = tt; dropped = tt },
+    (
+      record { changes = tt; hung_up = tt; done = tt; way = tt; code = tt; told = tt; dropped = tt },
+      tt,
+    ),
+  ),
+)
+
+connected : AllHaveCause began after_receipt (connects 1 1)
+connected = (
+  record { changes = tt; hung_up = tt; done = tt; way = tt; code = tt; told = tt; dropped = tt },
+  (
+    record { changes = tt; hung_up = tt; done = tt; way = tt; code = tt; told = tt; dropped = tt },
+    (
+      record {
+        changes
+            = (
+              refl,
+              refl,
+              refl,
+              refl,
+              record { made = how_made; how = refl; held = refl; phone = inl (refl, refl, refl) },
+            );
+        hung_up = tt;
+        done = tt;
+        way = tt;
+        code = tt;
+        told = tt;
+        dropped = tt;
+      },
+      (
+        record { changes = tt; hung_up = tt; done = tt; way = tt; code = tt; told = tt; dropped = tt },
+        tt,
+      ),
+    ),
+  ),
+)
+
+hung_up : AllHaveCause began after_connection (hangs_up 2)
+hung_up = (
+  record { changes = tt; hung_up = tt; done = tt; way = tt; code = tt; told = tt; dropped = tt },
+  (
+    record { changes = tt; hung_up = tt; done = tt; way = refl; code = tt; told = tt; dropped = tt },
+    (
+      record {
+        changes = (refl, refl, refl, (refl, refl));
+        hung_up = λ e. refl;
+        done = tt;
+        way = tt;
+        code = tt;
+        told = tt;
+        dropped = tt;
+      },
+      (
+        record { changes = tt; hung_up = tt; done = refl; way = tt; code = tt; told = tt; dropped = tt },
+        tt,
+      ),
+    ),
+  ),
+)
+
+ended : AllHaveCause began after_hangup (ends)
+ended = (
+  record { changes = tt; hung_up = tt; done = tt; way = tt; code = tt; told = tt; dropped = tt },
+  (
+    record { changes = refl; hung_up = tt; done = tt; way = tt; code = tt; told = tt; dropped = tt },
+    tt,
+  ),
+)
+
+gone_back : AllHaveCause began after_end (goes_back 3 enoent)
+gone_back = (
+  record { changes = tt; hung_up = tt; done = tt; way = tt; code = tt; told = tt; dropped = tt },
+  (
+    record { changes = tt; hung_up = tt; done = tt; way = tt; code = tt; told = tt; dropped = tt },
+    (
+      record {
+        changes = tt;
+        hung_up = λ e. absurd (apart 512 0 e refl);
+        done = tt;
+        way = tt;
+        code = refl;
+        told = tt;
+        dropped = tt;
+      },
+      (
+        record {
+          changes = tt;
+          hung_up = tt;
+          done = tt;
+          way = tt;
+          code = tt;
+          told = (refl, refl, λ e. apart 512 0 e refl);
+          dropped = tt;
+        },
+        tt,
+      ),
+    ),
+  ),
+)
+
+joined : (es fs q : List Entry) → AllHaveCause began q es → AllHaveCause began (on_top es q) fs
+    → AllHaveCause began q (es ++ fs)
+joined [] fs q first later = later
+joined (e ∷ es) fs q first later = (first.0, joined es fs (e ∷ q) first.1 later)
+
+-- what comes behind each event
+
+abbrev from_end : List Entry
+from_end = ends ++ goes_back 3 enoent
+
+abbrev from_hangup : List Entry
+from_hangup = hangs_up 2 ++ from_end
+
+abbrev from_connection : List Entry
+from_connection = connects 1 1 ++ from_hangup
+
+abbrev from_receipt : List Entry
+from_receipt = receives 1 ++ from_connection
+
+whole_keeps_the_law : PhonesChangeForCause began (asks 1 1 ++ from_receipt)
+whole_keeps_the_law =
+    joined (asks 1 1) from_receipt [] asked
+    (joined (receives 1) from_connection after_asking received
+    (joined (connects 1 1) from_hangup after_receipt connected
+    (joined (hangs_up 2) from_end after_connection hung_up
+    (joined ends (goes_back 3 enoent) after_hangup ended gone_back))))
+
+-- ---- lists of wrong machines
+
+-- a phone is connected by the answer to a call that the task has not received
+connected_before_it_is_received : PhonesChangeForCause began (asks 1 1 ++ connects 1 1) → ⊥
+connected_before_it_is_received l =
+    never 1 2 l.1.1.1.1.1.1.0.changes.4.made.caller l.1.1.1.1.1.1.0.changes.4.held where
+      never : (a b c : ℕ) → Incoming a b ≡ Dispatched c b → ⊥
+      never a b c e = cc
+
+-- of two calls that are held the first is answered, and the phone of the other is connected
+connected_for_another_call : PhonesChangeForCause began
+    (asks 1 1 ++ (asks 2 2 ++ (receives 1 ++ (receives 2 ++ connects 1 2)))) → ⊥
+connected_for_another_call l =
+    let c = l.1.1.1.1.1.1.1.1.1.1.1.1.1.1.1.1.0.changes.4 in
+    elim c.phone [
+      | inl h ↦ apart 1 2 (ap phone_in_label h.1) refl
+      | inr h ↦ apart 2 1 (ap method_in c.how ∙ h.0) refl
+    ]
+
+-- it is connected in an answer to another call than the one that the head names
+answered_another_call : PhonesChangeForCause began
+    (asks 1 1 ++ (receives 1 ++
+    (entry.Head server (request.Answer 2 (with_code eok)) ∷ entry.Answered (call_no 1) (with_code eok)
+    (Some server) ∷ entry.PhoneIs (phone client 1) (Connected server) ∷ []))) → ⊥
+answered_another_call l = apart 2 1 l.1.1.1.1.1.1.1.1.1.0.changes.1 refl
+
+-- it is connected though the answer declines
+connected_though_declined : PhonesChangeForCause began
+    (asks 1 1 ++ (receives 1 ++
+    (entry.Head server (request.Answer 1 (with_code elimit)) ∷ entry.Answered (call_no 1) (with_code elimit)
+    (Some server) ∷ entry.PhoneIs (phone client 1) (Connected server) ∷ []))) → ⊥
+connected_though_declined l = apart 5 0 (ap (λ (code : Code). code.0) l.1.1.1.1.1.1.1.1.1.0.changes.2) refl
+
+-- a hangup without the entry of its phone
+hung_up_without_its_entry : PhonesChangeForCause began
+    (entry.Head client (request.Hangup 0) ∷ entry.Accepted (call_no 1) (phone client 0) 0
+    (Some server) ∷ entry.Outcome outcome.Done ∷ []) → ⊥
+hung_up_without_its_entry l = never (l.1.1.0.hung_up refl) where
+  never : entry.Outcome outcome.Done ≡ entry.PhoneIs (phone client 0) HungUp → ⊥
+  never e = cc
+
+-- the hangup names one phone, and another is hung up
+hung_up_another_phone : PhonesChangeForCause began
+    (entry.Head client (request.Hangup 1) ∷ entry.Accepted (call_no 1) (phone client 0) 0
+    (Some server) ∷ entry.PhoneIs (phone client 0) HungUp ∷ []) → ⊥
+hung_up_another_phone l = apart 1 0 l.1.1.0.changes.3.1 refl
+
+-- a call over a phone that leads is accepted, and goes back
+goes_back_though_it_leads : PhonesChangeForCause began (goes_back 1 ehangup) → ⊥
+goes_back_though_it_leads l = elim l.1.0.way [
+  | inl h ↦ apart 512 2 h refl
+  | inr (inl h) ↦ apart 512 3 h refl
+  | inr (inr (inl h)) ↦ apart 512 4 h refl
+  | inr (inr (inr (inl h))) ↦ apart 512 5 h refl
+  | inr (inr (inr (inr h))) ↦ apart 512 6 h refl
+]
+
+-- it goes back with the code of another state: the phone was slammed
+goes_back_with_another_code : PhonesChangeForCause began (ends ++ goes_back 1 ehangup) → ⊥
+goes_back_with_another_code l = apart 6 1 (ap (λ (code : Code). code.0) l.1.1.1.1.0.code) refl
+
+-- phones that lead nowhere change without cause: a kill of another task hangs up a free phone, and frees a slammed one
+free_phone_hung_up : PhonesChangeForCause began (entry.Kill other ∷ entry.PhoneIs (phone client 1) HungUp ∷ []) → ⊥
+free_phone_hung_up l = l.1.0.changes
+
+slammed_phone_freed : PhonesChangeForCause began
+    (ends ++ (entry.Kill other ∷ entry.PhoneIs (phone client 0) Free ∷ [])) → ⊥
+slammed_phone_freed l = l.1.1.1.0.changes
+
+-- a receive of a call with a user's method keeps a phone
+kept_for_a_plain_call : PhonesChangeForCause began
+    (entry.Head client (request.Call 0 (msg first_user_method)) ∷ entry.Accepted (call_no 1)
+    (phone client 0) first_user_method (Some server)
+    ∷ entry.Head server request.Receive ∷ entry.Received (call_no 1) server ∷ entry.PhoneIs
+    (phone server 0) Connecting ∷ []) → ⊥
+kept_for_a_plain_call l = apart 512 1 l.1.1.1.1.0.changes.1 refl
+
+-- a phone that waits is let go while its call waits on
+let_go_while_it_waits : PhonesChangeForCause began
+    (asks 1 1 ++
+    (receives 1 ++
+    (entry.Head other request.Receive ∷ entry.Delivered (call_no 2) other ∷ entry.PhoneIs (phone client 1) Free ∷
+    []))) → ⊥
+let_go_while_it_waits l = never (phone client 1) l.1.1.1.1.1.1.1.1.1.0.changes where
+  never : (x : Label) → None ≡ Some x → ⊥
+  never x e = cc
+
+-- a receive drops the answer of a call that was no hangup
+dropped_though_awaited : PhonesChangeForCause began
+    (asks 1 1 ++
+    (receives 1 ++
+    (connects 1 1 ++ (entry.Head client request.Receive ∷ entry.Dropped (call_no 1) client ∷ [])))) → ⊥
+dropped_though_awaited l = elim l.1.1.1.1.1.1.1.1.1.1.1.1.0.dropped [
+  | inl h ↦ apart 2 0 h refl
+  | inr h ↦ never h
+] where
+  never : ◌≡◌ {A = Option Entry} (Some (entry.Head client request.Receive)) (Some (entry.Kill client)) → ⊥
+  never e = cc
+
+-- a task is told of a call as accepted that another event made
+told_of_an_older_call : PhonesChangeForCause began
+    (asks 1 1 ++
+    (entry.Head client (request.Call 0 (msg first_user_method)) ∷ entry.Outcome (outcome.Accepted (call_no 1)) ∷ []))
+    → ⊥
+told_of_an_older_call l = never l.1.1.1.1.1.0.told.0 where
+  never : ◌≡◌ {A = Option Entry} (Some (entry.Head client (request.Call 0 (msg connect_me_to))))
+      (Some (entry.Head client (request.Call 0 (msg first_user_method)))) → ⊥
+  never e = apart 2 512 (ap method_of e) refl

@@ -1,0 +1,19 @@
+pub mod AsyncSends
+pub mod AsyncStays
+pub mod CauseSteps
+pub mod CauseCalls
+pub mod CauseRequests
+pub mod CauseKills
+pub mod CauseEvents
+pub mod CauseRuns
+mod CauseExamples
+pub mod LiveCalls
+pub mod LiveEvents
+pub mod LiveRuns
+mod LiveExamples
+pub mod ScheduleLines
+mod ScheduleExamples
+pub mod TaskPrograms
+pub mod TurnSteps
+pub mod TurnRuns
+mod TurnExamples

@@ -1,0 +1,204 @@
+-- The lines of a schedule that make a task, and that hang up a phone, do what they name.
+use Rattle.std.proofs.Common.{◌≡◌, ℕ, zero, suc, ◌<◌, ◌≤◌, Bool, true, false, List, [], ◌∷◌, ◌++◌, length, Option, None, Some, refl, ap, sym, subst, ◌∙◌, arith}
+use Rattle.std.specs.Prelude.{if◌then◌else◌, slice_get, All, map}
+use Rattle.std.proofs.lemmas.Option.{get_or_from_slice_get, slice_get_within}
+use Rattle.ipc_ids.specs.declared.numbers.TaskNo.{TaskNo}
+use Rattle.ipc_ids.specs.declared.message.Request.TheVariants as request
+use Rattle.ipc_ids.specs.declared.message.Event.{Event}
+use Rattle.ipc_ids.specs.declared.message.Event.TheVariants.{Step, Kill, Hangup, Spawn}
+use Rattle.ipc_ids.specs.declared.op.Body.{Body}
+use Rattle.script_lines.specs.declared.plan.Kind.{Kind}
+use Rattle.script_lines.specs.declared.plan.Kind.TheVariants as kind
+use Rattle.script_lines.specs.declared.plan.TaskPlan.{TaskPlan}
+use Rattle.script_lines.specs.Plan.{Plan}
+use Rattle.script_lines.specs.Sound.{IsSound, IsSoundTask, IsRawOrAsync}
+use Rattle.script_reader.specs.Schedule.{tasks_after, MayCome, MayAllCome}
+use Rattle.cleanup.specs.State.{is_alive}
+use Rattle.cleanup.specs.Sound as kernel
+use Rattle.kernel_core.specs.Kernel.{serve, next_task, spawn_event}
+use Rattle.kernel_determined.specs.SpawnLaw.{IsSpawn}
+use Rattle.kernel_determined.proofs.SpawnDetermined.{spawn_is_so}
+use Rattle.kernel_determined.proofs.HangupDetermined.{hangup_is_so}
+use Rattle.async_task.specs.AsyncState.{AsyncState}
+use Rattle.async_task.specs.Steps.{bare_task, start_in, start_at, start_bodies}
+use Rattle.task_system.specs.declared.any.AnyProgram.{AnyProgram}
+use Rattle.task_system.specs.Run.{RunState, RunTransition, start, run, state_after, turn, step_by, spawn_by, spawned, request_served, gone, program_by, ops_of, service_of}
+use Rattle.schedule_replay.specs.RunHistory.{beginning, RunFits}
+use Rattle.schedule_replay.proofs.RunHistories.{part_told}
+use Rattle.run_determined.specs.ScheduleLines.{AreFirstOps, IsNewProgram, IsMadeFrom, SpawnsMakeTheirTemplate, IsHungUpFor, IsHangupLine, HangupLinesHangUpTheirPhone}
+
+-- ---- the templates stay
+
+spawn_keeps : (now : RunState) (o : Option TaskPlan) → (spawn_by now o).state.templates ≡ now.templates
+spawn_keeps now None = refl
+spawn_keeps now (Some plan) = refl
+
+step_keeps : (now : RunState) (t : TaskNo) (o : Option AnyProgram) → (step_by now t o).state.templates ≡ now.templates
+step_keeps now t None = refl
+step_keeps now t (Some p) = refl
+
+choice_keeps : (now : RunState) (b : Bool) (x y : RunTransition) → x.state.templates ≡ now.templates
+    → y.state.templates ≡ now.templates → (if b then x else y).state.templates ≡ now.templates
+choice_keeps now true x y h g = h
+choice_keeps now false x y h g = g
+
+pub turn_keeps : (now : RunState) (e : Event) → (turn now e).state.templates ≡ now.templates
+turn_keeps now (Step t) = step_keeps now t _
+turn_keeps now (Kill t) = choice_keeps now (is_alive now.kernel t) _ _ refl refl
+turn_keeps now (Hangup t phone) = choice_keeps now (is_alive now.kernel t) _ _ refl refl
+turn_keeps now (Spawn place) = spawn_keeps now (slice_get now.templates place)
+
+templates_stay : (now : RunState) (events : List Event) → (state_after now events).templates ≡ now.templates
+templates_stay now [] = refl
+templates_stay now (e ∷ events) = templates_stay (turn now e).state events ∙ turn_keeps now e
+
+-- ---- an event of a schedule may come where it does
+
+may_there : (tasks templates : ℕ) (done later : List Event) (e : Event)
+    → MayAllCome tasks templates (done ++ e ∷ later) → (n : ℕ) × MayCome n templates e
+may_there tasks templates [] later e may = (tasks, may.0)
+may_there tasks templates (d ∷ done) later e may = may_there (tasks_after tasks d) templates done later e may.1
+
+there : (templates : List TaskPlan) (place : ℕ) → place < length templates
+    → (template : TaskPlan) × (slice_get templates place ≡ Some template)
+there [] place lt = absurd (omega (arith, lt))
+there (template ∷ templates) zero lt = (template, refl)
+there (template ∷ templates) (suc place) lt = there templates place (omega (arith, lt))
+
+-- ---- a program before its first step
+
+pub first_ops : (bodies : List Body) → AreFirstOps (ops_of bodies) bodies
+first_ops [] = refl
+first_ops (body ∷ bodies) = refl
+
+-- starting fibrils leaves the number and the bodies of a task
+pub record IsStill (a b : AsyncState) : Type 0 where
+  pub me : b.me ≡ a.me
+  pub bodies : b.bodies ≡ a.bodies
+
+in_still : (n : ℕ) (connection : Bool) (a : AsyncState) → IsStill a (start_in n connection a)
+in_still n true a = record { me = refl; bodies = refl }
+in_still n false a = record { me = refl; bodies = refl }
+
+at_still : (n : ℕ) (o : Option Body) (a : AsyncState) → IsStill a (start_at n o a)
+at_still n None a = record { me = refl; bodies = refl }
+at_still n (Some body) a = in_still n body.connection a
+
+pub bodies_still : (n : ℕ) (a : AsyncState) → IsStill a (start_bodies n a)
+bodies_still zero a = record { me = refl; bodies = refl }
+bodies_still (suc n) a =
+    let before = bodies_still n a in
+    let after = at_still n (slice_get a.bodies n) (start_bodies n a) in
+    record { me = after.me ∙ before.me; bodies = after.bodies ∙ before.bodies }
+
+is_new : (t : TaskNo) (template : TaskPlan) (k : Kind) → IsRawOrAsync k
+    → IsNewProgram t template.bodies k (program_by t template k)
+is_new t template kind.Raw may =
+    record { ops = first_ops template.bodies; place = refl; registers = refl; taken = refl }
+is_new t template kind.Async may =
+    let still = bodies_still (length template.bodies) (bare_task t template.bodies) in
+    record { me = still.me; bodies_are = still.bodies; begins = refl; taken = refl }
+is_new t template _ may = absurd may
+
+-- ---- a line that makes a task
+
+made_from : (now : RunState) (template : TaskPlan) (names : Option TaskNo) → now.names ≡ names
+    → kernel.IsSound now.kernel → 1 ≤ template.limit → IsRawOrAsync template.kind
+    → IsMadeFrom template names now (spawned now template (spawn_event now.kernel template.limit now.names))
+made_from now template names same sound some may = record {
+  kernel = subst
+      (λ (o : Option TaskNo). IsSpawn template.limit o now.kernel (spawn_event now.kernel template.limit now.names))
+      same (spawn_is_so now.kernel template.limit now.names sound some);
+  program = program_by (next_task now.kernel) template template.kind;
+  has = is_new (next_task now.kernel) template template.kind may;
+  programs = refl;
+  templates = refl;
+}
+
+sound_template : (templates : List TaskPlan) (place : ℕ) (template : TaskPlan) → All IsSoundTask templates
+    → slice_get templates place ≡ Some template → IsSoundTask template
+sound_template templates place template sound at =
+    subst IsSoundTask (get_or_from_slice_get templates place template template at)
+    (sound place template (slice_get_within templates place template at))
+
+abbrev kind_in : Option TaskPlan → Option Kind
+kind_in None = None
+kind_in (Some x) = Some x.kind
+
+kind_at : (templates : List TaskPlan) (place : ℕ) (template : TaskPlan) → slice_get templates place ≡ Some template
+    → slice_get (map (λ (x : TaskPlan). x.kind) templates) place ≡ Some template.kind
+kind_at [] place template at = absurd (cc at)
+kind_at (x ∷ templates) zero template at = ap kind_in at
+kind_at (x ∷ templates) (suc place) template at = kind_at templates place template at
+
+kind_may : (templates : List TaskPlan) (place : ℕ) (template : TaskPlan)
+    → All IsRawOrAsync (map (λ (x : TaskPlan). x.kind) templates) → slice_get templates place ≡ Some template
+    → IsRawOrAsync template.kind
+kind_may templates place template may at =
+    let kinds : List Kind = map (λ (x : TaskPlan). x.kind) templates in
+    let is : slice_get kinds place ≡ Some template.kind = kind_at templates place template at in
+    subst IsRawOrAsync (get_or_from_slice_get kinds place template.kind template.kind is)
+    (may place template.kind (slice_get_within kinds place template.kind is))
+
+module _ (plan : Plan) (events : List Event) (sound : IsSound plan)
+    (may : MayAllCome (length plan.tasks) (length plan.templates) events) where
+  may_split : (done later : List Event) → events ≡ done ++ later
+      → MayAllCome (length plan.tasks) (length plan.templates) (done ++ later)
+  may_split done later is =
+      subst (λ (es : List Event). MayAllCome (length plan.tasks) (length plan.templates) es) is may
+
+  told : (done later : List Event) → events ≡ done ++ later
+      → RunFits (beginning plan) (run plan done) (state_after (start plan) done)
+  told done later is = part_told plan done later sound (may_split done later is)
+
+  pub spawns_make : SpawnsMakeTheirTemplate plan events
+  spawns_make done later place is =
+      let now : RunState = state_after (start plan) done in
+      let fits : RunFits (beginning plan) (run plan done) now = told done (Spawn place ∷ later) is in
+      let it = may_there (length plan.tasks) (length plan.templates) done later (Spawn place)
+      (may_split done (Spawn place ∷ later) is) in
+      let found = there plan.templates place it.1.0 in
+      let at : slice_get now.templates place ≡ Some found.0 =
+      ap (λ (ts : List TaskPlan). slice_get ts place) (templates_stay (start plan) done) ∙ found.1 in (
+        found.0,
+        found.1,
+        subst (λ (o : Option TaskPlan). IsMadeFrom found.0 (service_of plan.tasks) now (spawn_by now o)) (sym at)
+            (made_from now found.0 (service_of plan.tasks) fits.names fits.kernel.sound
+            (sound_template plan.templates place found.0 sound.sound_templates found.1).some_phones
+            (kind_may plan.templates place found.0 sound.raw_or_async found.1)),
+      )
+
+-- ---- a line that hangs up a phone
+
+hung_up_for : (now : RunState) (t : TaskNo) (p : ℕ)
+    → IsHungUpFor t p now (request_served now t (request.Hangup p) (serve now.kernel t (request.Hangup p)))
+hung_up_for now t p = record {
+  served = serve now.kernel t (request.Hangup p);
+  lawful = hangup_is_so now.kernel t p;
+  kernel = refl;
+  programs = refl;
+  templates = refl;
+  entries = refl;
+}
+
+true_false : (b : Bool) → b ≡ true → b ≡ false → ⊥
+true_false b x y = cc
+
+hangup_line : (now : RunState) (t : TaskNo) (p : ℕ) → IsHangupLine t p now (turn now (Hangup t p))
+hangup_line now t p = by_mark (is_alive now.kernel t) refl where
+  by_mark : (b : Bool) → is_alive now.kernel t ≡ b
+      → IsHangupLine t p now
+      (if b then request_served now t (request.Hangup p) (serve now.kernel t (request.Hangup p)) else gone now t)
+  by_mark true is =
+      record {
+        living = λ _. hung_up_for now t p;
+        ended = λ ended. absurd (true_false (is_alive now.kernel t) is ended);
+      }
+  by_mark false is =
+      record {
+        living = λ lives. absurd (true_false (is_alive now.kernel t) lives is);
+        ended = λ _. record { nothing = refl; entries = refl };
+      }
+
+pub hangups_hang_up : (plan : Plan) (events : List Event) → HangupLinesHangUpTheirPhone plan events
+hangups_hang_up plan events done later t p is = hangup_line (state_after (start plan) done) t p

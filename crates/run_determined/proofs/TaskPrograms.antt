@@ -1,0 +1,274 @@
+-- Every task runs the program of its plan, after each event of a run.
+use Rattle.std.proofs.Common.{◌≡◌, ℕ, zero, suc, ◌+◌, ◌-◌, Bool, true, false, ◌⊎◌, inl, inr, List, [], ◌∷◌, ◌++◌, length, length-append, Option, None, Some, refl, ap, sym, subst, ◌∙◌, arith}
+use Rattle.std.specs.Prelude.{◌==◌, if◌then◌else◌, slice_get, slice_set}
+use Rattle.std.specs.Option.{option_to_list}
+use Rattle.std.proofs.lemmas.List.{append-nil, length-set}
+use Rattle.ipc_ids.specs.declared.numbers.TaskNo.{TaskNo}
+use Rattle.ipc_ids.specs.declared.message.Outcome.{Outcome}
+use Rattle.ipc_ids.specs.declared.message.Outcome.TheVariants as got
+use Rattle.ipc_ids.specs.declared.message.Request.TheVariants as request
+use Rattle.ipc_ids.specs.declared.message.Event.{Event}
+use Rattle.ipc_ids.specs.declared.message.Event.TheVariants.{Step, Kill, Hangup, Spawn}
+use Rattle.ipc_ids.specs.declared.op.Op.{Op}
+use Rattle.ipc_ids.specs.declared.op.Op.TheVariants as op
+use Rattle.script_lines.specs.declared.plan.Kind.{Kind}
+use Rattle.script_lines.specs.declared.plan.Kind.TheVariants as kind
+use Rattle.script_lines.specs.declared.plan.TaskPlan.{TaskPlan}
+use Rattle.script_lines.specs.Plan.{Plan}
+use Rattle.script_lines.specs.Sound.{IsSound}
+use Rattle.script_reader.specs.Schedule.{MayAllCome, tasks_after}
+use Rattle.cleanup.specs.State.{is_alive, alive_in}
+use Rattle.kernel_core.specs.Kernel.{serve, kill_event, next_task, spawn_event}
+use Rattle.raw_program.specs.Raw as raw
+use Rattle.raw_program.specs.Raw.{RawState}
+use Rattle.async_task.specs.Steps.{bare_task, start_bodies}
+use Rattle.task_system.specs.declared.any.AnyProgram.{AnyProgram}
+use Rattle.task_system.specs.declared.any.AnyProgram.TheVariants as any
+use Rattle.task_system.specs.Any.{wanted, after}
+use Rattle.task_system.specs.Run.{RunState, RunTransition, program_by, program_of, programs_from, start, state_after, turn, step_by, step_served, request_served, killed, gone, spawned, spawn_by, MayHappen, MayAllHappen}
+use Rattle.schedule_replay.specs.RunHistory.{beginning, RunFits}
+use Rattle.schedule_replay.proofs.RunHistories.{turn_fits, start_told, later_may, may_from}
+use Rattle.route_laws.specs.Leads.{Beginning}
+use Rattle.ipc_ids.specs.declared.entry.Entry.{Entry}
+use Rattle.run_determined.specs.ScheduleLines.{AreFirstOps}
+use Rattle.run_determined.specs.TaskPrograms.{plans_after, IsProgramOf, RunThePlans, TasksRunTheirPlans}
+use Rattle.run_determined.proofs.AsyncStays.{step_still}
+use Rattle.run_determined.proofs.ScheduleLines.{IsStill, bodies_still, first_ops, turn_keeps}
+
+-- ---- a raw program keeps its operations
+
+outcome_ops : (p : RawState) (o : Outcome) → (raw.after_outcome p o).ops ≡ p.ops
+outcome_ops p got.Done = refl
+outcome_ops p (got.Refused code) = refl
+outcome_ops p (got.Accepted call) = refl
+outcome_ops p (got.Received call msg label) = refl
+outcome_ops p (got.Answered call reply) = refl
+outcome_ops p (got.Bytes bytes) = refl
+outcome_ops p got.Empty = refl
+
+choice_ops : (p x y : RawState) (b : Bool) → x.ops ≡ p.ops → y.ops ≡ p.ops → (if b then x else y).ops ≡ p.ops
+choice_ops p x y true h g = h
+choice_ops p x y false h g = g
+
+operation_ops : (p : RawState) (next : Op) (o : Outcome) → (raw.after_operation p next o).ops ≡ p.ops
+operation_ops p (op.Set k value) o = refl
+operation_ops p (op.Jump to) o = refl
+operation_ops p (op.JumpEqual left right to) o =
+    choice_ops p (raw.at_place p to) (raw.at_next p) (raw.value_of p left == raw.value_of p right) refl refl
+operation_ops p (op.JumpDiffer left right to) o =
+    choice_ops p (raw.at_next p) (raw.at_place p to) (raw.value_of p left == raw.value_of p right) refl refl
+operation_ops p _ o = outcome_ops p o
+
+raw_ops : (p : RawState) (o : Outcome) → (raw.after p o).ops ≡ p.ops
+raw_ops p o = by_next (raw.operation p) where
+  by_next : (next : Option Op) → (raw.after_at p o next).ops ≡ p.ops
+  by_next None = refl
+  by_next (Some next) = operation_ops p next o
+
+-- ---- a program stays that of its plan
+
+after_keeps : (t : ℕ) (plan : TaskPlan) (k : Kind) (p : AnyProgram) (o : Outcome) → IsProgramOf t plan k p
+    → IsProgramOf t plan k (after p o)
+after_keeps t plan kind.Raw (any.Raw p) o it =
+    subst (λ (ops : List Op). AreFirstOps ops plan.bodies) (sym (raw_ops p o)) it
+after_keeps t plan kind.Raw (any.Naming p) o it = absurd it
+after_keeps t plan kind.Raw (any.Async p) o it = absurd it
+after_keeps t plan kind.Raw (any.Block p) o it = absurd it
+after_keeps t plan kind.Async (any.Async p) o it =
+    let still = step_still p.state o in
+    (ap (λ (me : TaskNo). me.0) still.0 ∙ it.0, still.1 ∙ it.1)
+after_keeps t plan kind.Async (any.Raw p) o it = absurd it
+after_keeps t plan kind.Async (any.Naming p) o it = absurd it
+after_keeps t plan kind.Async (any.Block p) o it = absurd it
+after_keeps t plan kind.Naming (any.Naming p) o it = tt
+after_keeps t plan kind.Naming (any.Raw p) o it = absurd it
+after_keeps t plan kind.Naming (any.Async p) o it = absurd it
+after_keeps t plan kind.Naming (any.Block p) o it = absurd it
+after_keeps t plan kind.Block (any.Block p) o it = tt
+after_keeps t plan kind.Block (any.Raw p) o it = absurd it
+after_keeps t plan kind.Block (any.Naming p) o it = absurd it
+after_keeps t plan kind.Block (any.Async p) o it = absurd it
+
+-- before its first step it is that
+new_is : (t : ℕ) (plan : TaskPlan) (k : Kind) → IsProgramOf t plan k (program_by (record { 0 = t }) plan k)
+new_is t plan kind.Raw = first_ops plan.bodies
+new_is t plan kind.Async =
+    let still = bodies_still (length plan.bodies) (bare_task (record { 0 = t }) plan.bodies) in
+    (ap (λ (me : TaskNo). me.0) still.me, still.bodies)
+new_is t plan kind.Naming = tt
+new_is t plan kind.Block = tt
+
+-- ---- lists of programs
+
+at_set : (ps : List AnyProgram) (i j : ℕ) (x p : AnyProgram) → slice_get (slice_set ps i x) j ≡ Some p
+    → (j ≡ i) × (p ≡ x) × ((q : AnyProgram) × (slice_get ps j ≡ Some q)) ⊎ (slice_get ps j ≡ Some p)
+at_set [] i zero x p h = absurd (cc h)
+at_set [] i (suc j) x p h = absurd (cc h)
+at_set (q ∷ ps) zero zero x p h = inl (refl, sym (some_is x p h), (q, refl)) where
+  some_is : (a b : AnyProgram) → Some a ≡ Some b → a ≡ b
+  some_is a b e = cc e
+at_set (q ∷ ps) zero (suc j) x p h = inr h
+at_set (q ∷ ps) (suc i) zero x p h = inr h
+at_set (q ∷ ps) (suc i) (suc j) x p h =
+    elim (at_set ps i j x p h) [ inl e ↦ inl (ap suc e.0, e.1, e.2) | inr e ↦ inr e ]
+
+module _ {A : Type 0} where
+  at_last : (xs : List A) (x : A) (j : ℕ) (y : A) → slice_get (xs ++ x ∷ []) j ≡ Some y
+      → (slice_get xs j ≡ Some y) ⊎ ((j ≡ length xs) × (x ≡ y))
+  at_last [] x zero y h = inr (refl, some_is x y h) where
+    some_is : (a b : A) → Some a ≡ Some b → a ≡ b
+    some_is a b e = cc e
+  at_last [] x (suc j) y h = absurd (cc h)
+  at_last (z ∷ xs) x zero y h = inl h
+  at_last (z ∷ xs) x (suc j) y h = elim (at_last xs x j y h) [ inl e ↦ inl e | inr e ↦ inr (ap suc e.0, e.1) ]
+
+  within : (xs : List A) (j : ℕ) (y : A) → slice_get xs j ≡ Some y → j ≡ length xs → ⊥
+  within [] j y h e = cc h
+  within (z ∷ xs) zero y h e = omega (arith, e)
+  within (z ∷ xs) (suc j) y h e = within xs j y h (omega (arith, e))
+
+-- ---- each event
+
+served_plans : (plans : List TaskPlan) (ps : List AnyProgram) (u : ℕ) (p : AnyProgram) (o : Outcome)
+    → slice_get ps u ≡ Some p → RunThePlans plans ps → RunThePlans plans (slice_set ps u (after p o))
+served_plans plans ps u p o at it = record {
+  counted = it.counted ∙ sym (length-set ps u (after p o));
+  each = λ i plan x has is. elim (at_set ps u i (after p o) x is) [
+    | inl e ↦
+        let here : slice_get ps i ≡ Some p = ap (slice_get ps) e.0 ∙ at in
+        subst (IsProgramOf (suc i) plan plan.kind) (sym e.1)
+        (after_keeps (suc i) plan plan.kind p o (it.each i plan p has here))
+    | inr e ↦ it.each i plan x has e
+  ];
+}
+
+made_plans : (plans : List TaskPlan) (ps : List AnyProgram) (template : TaskPlan) (t : ℕ) → t ≡ suc (length ps)
+    → RunThePlans plans ps → RunThePlans (plans ++ template ∷ []) (ps ++ program_of t template ∷ [])
+made_plans plans ps template t number it = record {
+  counted =
+      length-append plans (template ∷ []) ∙ (let same = it.counted in omega (arith, same))
+      ∙ sym (length-append ps (program_of t template ∷ []));
+  each = λ i plan x has is. elim (at_last ps (program_of t template) i x is) [
+    | inl old ↦ elim (at_last plans template i plan has) [
+      | inl was ↦ it.each i plan x was old
+      | inr new ↦ absurd (within ps i x old (new.0 ∙ it.counted))
+    ]
+    | inr made ↦ elim (at_last plans template i plan has) [
+      | inl was ↦ absurd (within plans i plan was (made.0 ∙ sym it.counted))
+      | inr new ↦
+          let place : t ≡ suc i = number ∙ ap suc (sym made.0) in
+          subst (λ (y : TaskPlan). IsProgramOf (suc i) y y.kind x) new.1
+          (subst (IsProgramOf (suc i) template template.kind) made.1
+          (subst (λ (m : ℕ). IsProgramOf m template template.kind (program_of t template)) place
+          (new_is t template template.kind)))
+    ]
+  ];
+}
+
+module _ (now : RunState) (plans : List TaskPlan) (it : RunThePlans plans now.programs) where
+  stepped : (u : TaskNo) (x : Bool) (o : Option AnyProgram) → slice_get now.programs (u.0 - 1) ≡ o
+      → RunThePlans plans (step_by now u (if x then o else None)).state.programs
+  stepped u true None at = it
+  stepped u true (Some p) at =
+      served_plans plans now.programs (u.0 - 1) p (serve now.kernel u (wanted p)).outcome at it
+  stepped u false o at = it
+
+  ended : (u : TaskNo) (x : Bool)
+      → RunThePlans plans (if x then killed now u (kill_event now.kernel u) else gone now u).state.programs
+  ended u true = it
+  ended u false = it
+
+  hung_up : (u : TaskNo) (phone : ℕ) (x : Bool)
+      → RunThePlans plans
+      (if x then request_served now u (request.Hangup phone)
+      (serve now.kernel u (request.Hangup phone)) else gone now u).state.programs
+  hung_up u phone true = it
+  hung_up u phone false = it
+
+  made : (o : Option TaskPlan) → length now.programs ≡ length now.kernel.tasks.alive
+      → RunThePlans (plans ++ option_to_list o) (spawn_by now o).state.programs
+  made None paired = subst (λ (ps : List TaskPlan). RunThePlans ps now.programs) (sym (append-nil plans)) it
+  made (Some template) paired =
+      made_plans plans now.programs template (next_task now.kernel).0 (omega (arith, paired)) it
+
+-- the plans after one event
+abbrev next_plans : List TaskPlan → List TaskPlan → Event → List TaskPlan
+next_plans templates plans (Spawn place) = plans ++ option_to_list (slice_get templates place)
+next_plans templates plans _ = plans
+
+turn_plans : (now : RunState) (plans : List TaskPlan) → RunThePlans plans now.programs
+    → length now.programs ≡ length now.kernel.tasks.alive → (e : Event)
+    → RunThePlans (next_plans now.templates plans e) (turn now e).state.programs
+turn_plans now plans it paired (Step u) =
+    stepped now plans it u (is_alive now.kernel u) (slice_get now.programs (u.0 - 1)) refl
+turn_plans now plans it paired (Kill u) = ended now plans it u (is_alive now.kernel u)
+turn_plans now plans it paired (Hangup u phone) = hung_up now plans it u phone (is_alive now.kernel u)
+turn_plans now plans it paired (Spawn place) = made now plans it (slice_get now.templates place) paired
+
+first_event : (templates plans : List TaskPlan) (e : Event) (events : List Event) (ps : List AnyProgram)
+    → RunThePlans (plans_after templates (next_plans templates plans e) events) ps
+    → RunThePlans (plans_after templates plans (e ∷ events)) ps
+first_event templates plans (Step u) events ps h = h
+first_event templates plans (Kill u) events ps h = h
+first_event templates plans (Hangup u phone) events ps h = h
+first_event templates plans (Spawn place) events ps h = h
+
+-- all events
+plans_kept : (b : Beginning) (h : List Entry) (now : RunState) → RunFits b h now → (plans : List TaskPlan)
+    → RunThePlans plans now.programs → (events : List Event) → MayAllHappen now events
+    → RunThePlans (plans_after now.templates plans events) (state_after now events).programs
+plans_kept b h now told plans it [] may = it
+plans_kept b h now told plans it (e ∷ events) may =
+    let next : RunTransition = turn now e in
+    let later : List TaskPlan = next_plans now.templates plans e in
+    first_event now.templates plans e events (state_after next.state events).programs
+    (subst (λ (ts : List TaskPlan). RunThePlans (plans_after ts later events)
+    (state_after next.state events).programs) (turn_keeps now e)
+    (plans_kept b (h ++ next.entries) next.state (turn_fits b h now told e may.0) later
+    (turn_plans now plans it told.paired e) events (later_may now e events may)))
+
+-- ---- the start
+
+programs_are : (t : ℕ) (tasks : List TaskPlan) (i : ℕ) (plan : TaskPlan) (p : AnyProgram)
+    → slice_get tasks i ≡ Some plan → slice_get (programs_from t tasks) i ≡ Some p
+    → IsProgramOf (t + i) plan plan.kind p
+programs_are t [] i plan p has is = absurd (cc has)
+programs_are t (task ∷ tasks) zero plan p has is =
+    subst (λ (m : ℕ). IsProgramOf m plan plan.kind p) (omega arith)
+    (subst (IsProgramOf t plan plan.kind) (one_program (program_of t task) p is)
+    (subst (λ (y : TaskPlan). IsProgramOf t y y.kind (program_of t task)) (one_plan task plan has)
+    (new_is t task task.kind)))
+  where
+    one_plan : (a b : TaskPlan) → Some a ≡ Some b → a ≡ b
+    one_plan a b e = cc e
+
+    one_program : (a b : AnyProgram) → Some a ≡ Some b → a ≡ b
+    one_program a b e = cc e
+programs_are t (task ∷ tasks) (suc i) plan p has is =
+    subst (λ (m : ℕ). IsProgramOf m plan plan.kind p) (omega arith) (programs_are (t + 1) tasks i plan p has is)
+
+counted : (t : ℕ) (tasks : List TaskPlan) → length tasks ≡ length (programs_from t tasks)
+counted t [] = refl
+counted t (task ∷ tasks) = ap suc (counted (t + 1) tasks)
+
+start_plans : (plan : Plan) → RunThePlans plan.tasks (start plan).programs
+start_plans plan = record {
+  counted = counted 1 plan.tasks;
+  each = λ i task p has is. subst (λ (m : ℕ). IsProgramOf m task task.kind p) (one_more i)
+      (programs_are 1 plan.tasks i task p has is);
+} where
+  one_more : (i : ℕ) → 1 + i ≡ suc i
+  one_more i = omega arith
+
+may_first : (tasks templates : ℕ) (done later : List Event) → MayAllCome tasks templates (done ++ later)
+    → MayAllCome tasks templates done
+may_first tasks templates [] later may = tt
+may_first tasks templates (e ∷ done) later may = (may.0, may_first (tasks_after tasks e) templates done later may.1)
+
+pub tasks_run_their_plans : (plan : Plan) (events : List Event) → IsSound plan
+    → MayAllCome (length plan.tasks) (length plan.templates) events → TasksRunTheirPlans plan events
+tasks_run_their_plans plan events sound may done later is =
+    let all : MayAllCome (length plan.tasks) (length plan.templates) (done ++ later) =
+    subst (λ (es : List Event). MayAllCome (length plan.tasks) (length plan.templates) es) is may in
+    plans_kept (beginning plan) [] (start plan) (start_told plan sound) plan.tasks (start_plans plan) done
+    (may_from plan done (start plan) refl (may_first (length plan.tasks) (length plan.templates) done later all))

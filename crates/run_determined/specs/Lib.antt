@@ -1,0 +1,5 @@
+pub mod LiveWaits
+pub mod PhoneCauses
+pub mod ScheduleLines
+pub mod TaskPrograms
+pub mod TasksInTurn

@@ -1,0 +1,64 @@
+//! What holds of the run of every sound script, under every schedule that fits it.
+ghost use Rattle.std.specs.Prelude.{List, length};
+ghost use Rattle.ipc_ids.specs.declared.message.Event.{Event};
+ghost use Rattle.script_lines.specs.Plan.{Plan};
+ghost use Rattle.script_lines.specs.Sound.{IsSound};
+ghost use Rattle.script_reader.specs.Schedule.{MayAllCome};
+ghost use Rattle.task_system.specs.Run.{run};
+ghost use Rattle.schedule_replay.specs.RunHistory.{beginning};
+ghost use Rattle.run_determined.specs.LiveWaits.{WaitsAreForLiveCalls};
+ghost use Rattle.run_determined.specs.PhoneCauses.{PhonesChangeForCause};
+ghost use Rattle.run_determined.specs.ScheduleLines.{SpawnsMakeTheirTemplate, HangupLinesHangUpTheirPhone};
+ghost use Rattle.run_determined.specs.TaskPrograms.{TasksRunTheirPlans};
+ghost use Rattle.run_determined.specs.TasksInTurn.{TasksComeInTurn, NothingComesBeforeItsSpawn};
+
+/// Each change of a phone stands right behind the entry that is its cause, and each call goes the
+/// way that its phone has.
+pub fn phones_change_for_cause()
+    ensures { (plan : Plan) (events : List Event) → IsSound plan
+        → MayAllCome (length plan.tasks) (length plan.templates) events
+        → PhonesChangeForCause (beginning plan) (run plan events) }
+{}
+
+/// Each entry is of a task of the script or of one that was made before it, and tasks are numbered
+/// in turn; so no entry of a task stands before the one that makes it.
+pub fn tasks_come_in_turn()
+    ensures turns { (plan : Plan) (events : List Event) → IsSound plan
+        → MayAllCome (length plan.tasks) (length plan.templates) events
+        → TasksComeInTurn (length plan.tasks) (run plan events) }
+    ensures nothing_before { (plan : Plan) (events : List Event) → IsSound plan
+        → MayAllCome (length plan.tasks) (length plan.templates) events
+        → NothingComesBeforeItsSpawn (run plan events) }
+{}
+
+/// A task that a line of the schedule makes has the kind, the operations and the limit of the
+/// template that the line names, and its phone 0 leads to the naming service.
+pub fn spawns_make_their_template()
+    ensures { (plan : Plan) (events : List Event) → IsSound plan
+        → MayAllCome (length plan.tasks) (length plan.templates) events
+        → SpawnsMakeTheirTemplate plan events }
+{}
+
+/// After each event every task runs the program of its plan, in kind and in operations: a task of
+/// the script that which the script gives it, and a task that a line of the schedule made that of
+/// the template which the line names.
+pub fn tasks_run_their_plans()
+    ensures { (plan : Plan) (events : List Event) → IsSound plan
+        → MayAllCome (length plan.tasks) (length plan.templates) events
+        → TasksRunTheirPlans plan events }
+{}
+
+/// A line of the schedule that hangs up a phone hangs up the one that it names.
+pub fn hangup_lines_hang_up_their_phone()
+    ensures { (plan : Plan) (events : List Event) → IsSound plan
+        → MayAllCome (length plan.tasks) (length plan.templates) events
+        → HangupLinesHangUpTheirPhone plan events }
+{}
+
+/// A fibril that waits for an answer, of a task that has not ended, waits for a call of its task
+/// which waits at a task, is held by one, or whose answer waits for the task.
+pub fn waits_are_for_live_calls()
+    ensures { (plan : Plan) (events : List Event) → IsSound plan
+        → MayAllCome (length plan.tasks) (length plan.templates) events
+        → WaitsAreForLiveCalls plan events }
+{}

@@ -1,0 +1,13 @@
+//! Laws of whole runs: of what entries tell of phones and tasks, of the lines of a schedule, of
+//! the programs of tasks, and of fibrils that wait.
+//!
+//! The functions have empty bodies; what they promise is proved of the run that `task_system`
+//! defines, of every sound script and every schedule that fits it.
+#![tactic(auto)]
+
+mod laws;
+
+pub use laws::{
+    hangup_lines_hang_up_their_phone, phones_change_for_cause, spawns_make_their_template,
+    tasks_come_in_turn, tasks_run_their_plans, waits_are_for_live_calls,
+};
