@@ -7,20 +7,20 @@ use Rattle.script_lines.specs.Plan.{Plan}
 use Rattle.script_reader.specs.Schedule.{MayAllCome}
 use Rattle.task_system.specs.Run.{RunState, start, state_after}
 
--- the template from which an event makes a task, if it makes one
-abbrev pub made_from : Event → List ℕ
-made_from (Step task) = []
-made_from (Kill task) = []
-made_from (Hangup task phone) = []
-made_from (Spawn place) = place ∷ []
+-- the template of a spawn
+abbrev pub spawn_of : Event → List ℕ
+spawn_of (Step task) = []
+spawn_of (Kill task) = []
+spawn_of (Hangup task phone) = []
+spawn_of (Spawn place) = place ∷ []
 
--- the templates from which events make tasks, in turn
-abbrev pub made_by : List Event → List ℕ
-made_by events = flat_map made_from events
+-- the templates of all spawns among these events, in turn
+abbrev pub spawns_of : List Event → List ℕ
+spawns_of events = flat_map spawn_of events
 
--- from the start of the script, events that may come lead to this state, and make tasks from these templates in turn
-pub record IsReached (plan : Plan) (made : List ℕ) (now : RunState) : Type 0 where
+-- events that may come lead from the start of the script to this state, and the spawns among them have these templates
+pub record IsReached (plan : Plan) (spawned : List ℕ) (now : RunState) : Type 0 where
   pub events : List Event
   pub may : MayAllCome (length plan.tasks) (length plan.templates) events
-  pub makes : made_by events ≡ made
+  pub spawns : spawns_of events ≡ spawned
   pub state : now ≡ state_after (start plan) events
