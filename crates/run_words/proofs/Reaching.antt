@@ -23,17 +23,16 @@ tasks_of now = length now.kernel.tasks.alive
 -- ---- what is constant of the programs that spawns add
 
 -- where there are so many tasks, and this template, if there is one
-made_one : ℕ → Option TaskPlan → List Constant
+abbrev made_one : ℕ → Option TaskPlan → List Constant
 made_one tasks None = []
 made_one tasks (Some plan) = constant (program_of (tasks + 1) plan) ∷ []
 
-made_at : List TaskPlan → ℕ → List ℕ → List Constant
+abbrev made_at : List TaskPlan → ℕ → List ℕ → List Constant
 made_at templates tasks [] = []
 made_at templates tasks (place ∷ places) =
     made_one tasks (slice_get templates place) ++ made_at templates (tasks + 1) places
 
 one_made : (now : RunState) (o : Option TaskPlan) → made_from now o ≡ made_one (tasks_of now) o
-unfolding made_one
 one_made now None = refl
 one_made now (Some plan) = refl
 
@@ -45,23 +44,21 @@ module _ (now : RunState) where
       ap (λ (z : List TaskPlan). made_at z (tasks_of (turn now e).state) places) (turn_templates now e)
       ∙ ap (λ (z : ℕ). made_at now.templates z places) (turn_count now e may)
 
-  and_made : (e : Event) (events : List Event) → MayHappen now e
+  and_made : (e : Event) (events : List Event)
       → made_by_all (turn now e).state events ≡ made_at now.templates (tasks_after (tasks_of now) e) (spawns_of events)
       → made_by_all now (e ∷ events) ≡ made_at now.templates (tasks_of now) (spawns_of (e ∷ events))
-  unfolding made_at
-  and_made (Step t) events may h = h
-  and_made (Kill t) events may h = h
-  and_made (Hangup t phone) events may h = h
-  and_made (Spawn place) events may h =
+  and_made (Step t) events h = h
+  and_made (Kill t) events h = h
+  and_made (Hangup t phone) events h = h
+  and_made (Spawn place) events h =
       ap (λ (z : List Constant). z ++ made_by_all (turn now (Spawn place)).state events) (one_made now (slice_get now.templates place))
       ∙ ap (λ (z : List Constant). made_one (tasks_of now) (slice_get now.templates place) ++ z) h
 
 all_made : (now : RunState) (events : List Event) → MayAllHappen now events
     → made_by_all now events ≡ made_at now.templates (tasks_of now) (spawns_of events)
-unfolding made_at
 all_made now [] may = refl
 all_made now (e ∷ events) may =
-    and_made now e events may.0
+    and_made now e events
     (all_made (turn now e).state events (later_may now e events may) ∙ next_made now e (spawns_of events) may.0)
 
 -- ---- a state that is reached

@@ -12,12 +12,12 @@ use Rattle.kernel_words.specs.Kernel.{kernel_words}
 use Rattle.kernel_words.proofs.KernelSplits.{kernel_split}
 use Rattle.program_words.proofs.ProgramSplits.{raw_split, naming_split, block_split}
 use Rattle.async_words.proofs.AsyncSplits.{async_split}
-use Rattle.run_words.specs.RunWords.{program_words, run_words}
+use Rattle.run_words.specs.RunWords.{any_words, run_words}
 
 -- ---- one program
 
 program_split : (a b : AnyProgram) (s t : List ℕ) → constant a ≡ constant b
-    → program_words a ++ s ≡ program_words b ++ t → AreAlikePrograms a b × (s ≡ t)
+    → any_words a ++ s ≡ any_words b ++ t → AreAlikePrograms a b × (s ≡ t)
 program_split (any.Raw a) (any.Raw b) s t c e =
     let ops : a.ops ≡ b.ops = cc in
     let h = raw_split a b s t ops e in
@@ -49,7 +49,7 @@ program_split (any.Block a) (any.Block b) s t c e =
 -- ---- all programs
 
 abbrev all_words : List AnyProgram → List ℕ
-all_words programs = flat_map program_words programs
+all_words programs = flat_map any_words programs
 
 programs_split : (ps qs : List AnyProgram) (s t : List ℕ) → map constant ps ≡ map constant qs
     → all_words ps ++ s ≡ all_words qs ++ t → (uncounted_programs ps ≡ uncounted_programs qs) × (s ≡ t)
@@ -57,8 +57,8 @@ programs_split [] [] s t c e = (refl, e)
 programs_split [] (q ∷ qs) s t c e = absurd (cc)
 programs_split (p ∷ ps) [] s t c e = absurd (cc)
 programs_split (p ∷ ps) (q ∷ qs) s t c e =
-    let f : program_words p ++ (all_words ps ++ s) ≡ program_words q ++ (all_words qs ++ t) =
-    sym (append_assoc (program_words p) (all_words ps) s) ∙ e ∙ append_assoc (program_words q) (all_words qs) t in
+    let f : any_words p ++ (all_words ps ++ s) ≡ any_words q ++ (all_words qs ++ t) =
+    sym (append_assoc (any_words p) (all_words ps) s) ∙ e ∙ append_assoc (any_words q) (all_words qs) t in
     let one : constant p ≡ constant q = cc in
     let more : map constant ps ≡ map constant qs = cc in
     let h = program_split p q (all_words ps ++ s) (all_words qs ++ t) one f in
@@ -84,7 +84,7 @@ run_split a b s t h k c e =
 
 -- ---- and states that differ in counts alone have the same words
 
-one_again : (p : AnyProgram) → program_words (uncounted_program p) ≡ program_words p
+one_again : (p : AnyProgram) → any_words (uncounted_program p) ≡ any_words p
 one_again (any.Raw p) = refl
 one_again (any.Naming p) = refl
 one_again (any.Async p) = refl
@@ -93,7 +93,7 @@ one_again (any.Block p) = refl
 all_again : (ps : List AnyProgram) → all_words (uncounted_programs ps) ≡ all_words ps
 all_again [] = refl
 all_again (p ∷ ps) =
-    ap (λ z. z ++ all_words (uncounted_programs ps)) (one_again p) ∙ ap (λ z. program_words p ++ z) (all_again ps)
+    ap (λ z. z ++ all_words (uncounted_programs ps)) (one_again p) ∙ ap (λ z. any_words p ++ z) (all_again ps)
 
 words_again : (now : RunState) → run_words (uncounted now) ≡ run_words now
 words_again now = ap (λ z. kernel_words now.kernel ++ z) (all_again now.programs)

@@ -10,12 +10,12 @@ use Rattle.async_words.specs.AsyncWords.{async_words}
 use Rattle.kernel_words.specs.Kernel.{kernel_words}
 
 -- a program, by its kind
-abbrev pub program_words : AnyProgram → List ℕ
-program_words (any.Raw p) = raw_words p
-program_words (any.Naming p) = naming_words p
-program_words (any.Async p) = async_words p.state
-program_words (any.Block p) = block_words p
+abbrev pub any_words : AnyProgram → List ℕ
+any_words (any.Raw p) = raw_words p
+any_words (any.Naming p) = naming_words p
+any_words (any.Async p) = async_words p.state
+any_words (any.Block p) = block_words p
 
 -- the kernel, and then the program of each task in turn
 abbrev pub run_words : RunState → List ℕ
-run_words now = kernel_words now.kernel ++ flat_map program_words now.programs
+run_words now = kernel_words now.kernel ++ flat_map any_words now.programs

@@ -1,7 +1,7 @@
 //! A run as words.
 ghost use Rattle.std.specs.Prelude.{◌≡◌, ◌++◌, OnOk};
 ghost use Rattle.std.specs.List.{flat_map};
-ghost use Rattle.run_words.specs.RunWords.{program_words, run_words};
+ghost use Rattle.run_words.specs.RunWords.{any_words, run_words};
 
 use async_words::push_async_program;
 use kernel_words::push_kernel_words;
@@ -15,7 +15,7 @@ use task_system::{AnyProgram, System};
 ///
 /// `AllocError` where no memory was found.
 pub fn push_program(program: &AnyProgram, out: &mut Vec<u64>) -> Result<(), AllocError>
-    ensures { OnOk result (out.new.items ≡ out.old.items ++ program_words program.now) }
+    ensures { OnOk result (out.new.items ≡ out.old.items ++ any_words program.now) }
 {
     match program {
         AnyProgram::Raw(program) => push_raw_program(program, out),
@@ -28,7 +28,7 @@ pub fn push_program(program: &AnyProgram, out: &mut Vec<u64>) -> Result<(), Allo
 /// Those of each program.
 fn push_programs(programs: &[AnyProgram], out: &mut Vec<u64>) -> Result<(), AllocError>
     ensures { OnOk result (out.new.items
-        ≡ out.old.items ++ flat_map program_words programs.now) }
+        ≡ out.old.items ++ flat_map any_words programs.now) }
 {
     for program in programs {
         push_program(program, out)?;
