@@ -5,7 +5,7 @@ use Rattle.script_lines.specs.Plan.{Plan}
 use Rattle.script_lines.specs.Sound.{IsSound}
 use Rattle.task_system.specs.Run.{RunState, turn}
 use Rattle.turn_counts.specs.Alike.{AreAlikeStates, AreAlikeTurns}
-use Rattle.turn_counts.proofs.Turning.{turns_alike}
+use Rattle.turn_counts.proofs.TurnCounts.{turns_alike}
 use Rattle.run_words.specs.Reached.{IsReached}
 use Rattle.run_words.specs.RunWords.{run_words}
 use Rattle.run_words.proofs.RunSplits.{run_split, alike_words}
