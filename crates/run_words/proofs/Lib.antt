@@ -1,3 +1,3 @@
 pub mod RunSplits
 pub mod Reaching
-mod GoingOn
+pub mod GoingOn
