@@ -1,5 +1,5 @@
 -- Kernels of the same words go on alike.
-use Rattle.std.proofs.Common.{ℕ, ◌≡◌, ◌+◌, [], List, ◌++◌, Option, sym, ◌∙◌, ap}
+use Rattle.std.proofs.Common.{ℕ, ◌≡◌, [], List, ◌++◌, Option, sym, ◌∙◌, ap}
 use Rattle.ipc_ids.specs.declared.numbers.TaskNo.{TaskNo}
 use Rattle.ipc_ids.specs.declared.message.Request.{Request}
 use Rattle.cleanup.specs.State.{KernelState, Transition}
