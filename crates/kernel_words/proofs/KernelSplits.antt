@@ -22,7 +22,7 @@ pub kernel_split : (a b : KernelState) (s t : List ℕ) → IsSound a → IsSoun
     → kernel_words a ++ s ≡ kernel_words b ++ t → AreAlikeKernels a b × (s ≡ t)
 kernel_split a b s t h k e =
     let same = parts_split a.tasks.alive b.tasks.alive a.tasks.phones b.tasks.phones a.calls b.calls a.memory b.memory s t
-        (below a h) (below b k) h.memory.held.old k.memory.held.old e in (
+    (below a h) (below b k) h.memory.held.old k.memory.held.old e in (
       ap (λ z. made_of z a.tasks.phones a.calls a.memory) same.alive
           ∙ ap (λ z. made_of b.tasks.alive z a.calls a.memory) same.phones
           ∙ ap (λ z. made_of b.tasks.alive b.tasks.phones z a.memory) same.calls

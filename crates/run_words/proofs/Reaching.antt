@@ -72,8 +72,8 @@ reached_constants plan spawned now r =
     ap constants r.state
     ∙ events_keep (start plan) r.events
     ∙ ap (with_made (constants (start plan)))
-      (all_made (start plan) r.events (reached_may plan spawned now r)
-      ∙ ap (made_at plan.templates (tasks_of (start plan))) r.spawns)
+    (all_made (start plan) r.events (reached_may plan spawned now r)
+    ∙ ap (made_at plan.templates (tasks_of (start plan))) r.spawns)
 
 pub reached_sound : (plan : Plan) (spawned : List ℕ) (now : RunState) → script.IsSound plan → IsReached plan spawned now → IsSound now.kernel
 reached_sound plan spawned now sound r =
