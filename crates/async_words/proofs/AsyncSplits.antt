@@ -29,25 +29,9 @@ use Rattle.async_task.specs.AsyncState.{AsyncState}
 use Rattle.async_task.specs.Program.{AsyncTask}
 use Rattle.state_words.specs.Words.{number_words, list_words, option_words}
 use Rattle.state_words.specs.CallWords.{reply_words}
-use Rattle.state_words.proofs.Splits.{Splits, read_splits, pair_splits, by_splits, list_splits, option_splits, number_splits}
+use Rattle.state_words.proofs.Splits.{Splits, read_splits, number_splits, both, and_split, each_split, some_split, as_split}
 use Rattle.state_words.proofs.CallSplits.{label_splits, msg_splits, reply_splits, bool_splits}
 use Rattle.async_words.specs.AsyncWords.{why_words, status_words, fibril_words, order_words, slot_words, exchange_number_words, context_words, call_number_words, queued_words, conn_words, mode_words, held_words, session_words, exchange_words, pool_words, awaited_words, owed_words, async_words, async_quiet}
-
--- the words of both
-abbrev both : {A B : Type 0} → (A → List ℕ) → (B → List ℕ) → A × B → List ℕ
-both f g p = f p.0 ++ g p.1
-
-and_split : {A B : Type 0} {f : A → List ℕ} {g : B → List ℕ} → Splits f → Splits g → Splits (both f g)
-and_split {A} {B} {f} {g} v w = pair_splits f g v w
-
-each_split : {A : Type 0} {f : A → List ℕ} → Splits f → Splits (list_words f)
-each_split {A} {f} w = list_splits f w
-
-some_split : {A : Type 0} {f : A → List ℕ} → Splits f → Splits (option_words f)
-some_split {A} {f} w = option_splits f w
-
-as_split : {A B : Type 0} {f : B → List ℕ} → Splits f → (to : A → B) (from : B → A) → ((a : A) → from (to a) ≡ a) → Splits (λ (a : A). f (to a))
-as_split {A} {B} {f} w to from back = by_splits f w to from back
 
 -- ---- fibrils
 read_why : List ℕ → Option (Why × List ℕ)

@@ -16,27 +16,10 @@ use Rattle.block_server.specs.declared.received.Work.TheVariants as todo
 use Rattle.block_server.specs.Blocks.{BlockState}
 use Rattle.state_words.specs.Words.{number_words, list_words, option_words}
 use Rattle.state_words.specs.CallWords.{label_words}
-use Rattle.state_words.proofs.Splits.{Splits, read_splits, pair_splits, by_splits, list_splits, option_splits, number_splits}
+use Rattle.state_words.proofs.Splits.{Splits, read_splits, number_splits, both, and_split, each_split, some_split, as_split}
 use Rattle.state_words.proofs.CallSplits.{label_splits, msg_splits, bool_splits}
 use Rattle.program_words.specs.ProgramWords.{raw_words, entry_words, received_words, work_words, introduced_words, wait_words, ends_words, naming_words, block_work_words, block_words}
 use Rattle.program_words.specs.Apart.{IsSameRaw, IsSameNaming, IsSameBlock}
-
--- the words of both
-abbrev both : {A B : Type 0} → (A → List ℕ) → (B → List ℕ) → A × B → List ℕ
-both f g p = f p.0 ++ g p.1
-
-and_split : {A B : Type 0} {f : A → List ℕ} {g : B → List ℕ} → Splits f → Splits g → Splits (both f g)
-and_split {A} {B} {f} {g} v w = pair_splits f g v w
-
-each_split : {A : Type 0} {f : A → List ℕ} → Splits f → Splits (list_words f)
-each_split {A} {f} w = list_splits f w
-
-some_split : {A : Type 0} {f : A → List ℕ} → Splits f → Splits (option_words f)
-some_split {A} {f} w = option_splits f w
-
-as_split : {A B : Type 0} {f : B → List ℕ} → Splits f → (to : A → B) (from : B → A)
-    → ((a : A) → from (to a) ≡ a) → Splits (λ (a : A). f (to a))
-as_split {A} {B} {f} w to from back = by_splits f w to from back
 
 -- ---- parts of the naming service
 

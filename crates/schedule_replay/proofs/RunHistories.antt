@@ -530,7 +530,7 @@ tasks_counted k [] = omega arith
 tasks_counted k (task ∷ tasks) = let rest = tasks_counted (with_task k task.limit) tasks in let one = length-append k.tasks.alive (true ∷ []) in omega (arith, rest, one)
 
 -- there are as many tasks as the script has
-start_counted : (plan : Plan) → length (start plan).kernel.tasks.alive ≡ length plan.tasks
+pub start_counted : (plan : Plan) → length (start plan).kernel.tasks.alive ≡ length plan.tasks
 start_counted plan =
     let all = ap length (wires_same (with_service plan.tasks) plan.wires) ∙ ap length (wires_same (with_tasks kernel.start plan.tasks) (wires_to_service plan.tasks)) ∙ tasks_counted kernel.start plan.tasks in
     omega (arith, all)
@@ -601,7 +601,7 @@ module _ (now : RunState) where
   spawned_count place None at lt = absurd (let least = get_none now.templates place at in omega (arith, least, lt))
   spawned_count place (Some plan) at lt = made_count (next_task now.kernel) plan.limit (named now.kernel now.names)
 
-  turn_count : (e : Event) → MayHappen now e → tasks_of (turn now e) ≡ tasks_after (length now.kernel.tasks.alive) e
+  pub turn_count : (e : Event) → MayHappen now e → tasks_of (turn now e) ≡ tasks_after (length now.kernel.tasks.alive) e
   turn_count (Step t) may = stepped_count t (is_alive now.kernel t) (slice_get now.programs (t.0 - 1))
   turn_count (Kill t) may = ended_count t (is_alive now.kernel t)
   turn_count (Hangup t phone) may = hung_count t phone (is_alive now.kernel t)
@@ -619,7 +619,7 @@ module _ (now : RunState) where
   by_choice true x y h g = h
   by_choice false x y h g = g
 
-  turn_templates : (e : Event) → (turn now e).state.templates ≡ now.templates
+  pub turn_templates : (e : Event) → (turn now e).state.templates ≡ now.templates
   turn_templates (Step t) = step_templates t _
   turn_templates (Kill t) = by_choice (is_alive now.kernel t) _ _ refl refl
   turn_templates (Hangup t phone) = by_choice (is_alive now.kernel t) _ _ refl refl

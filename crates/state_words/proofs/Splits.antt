@@ -91,3 +91,22 @@ option_split words w (Some x) (Some y) s t e =
 
 pub option_splits : {A : Type 0} (words : A → List ℕ) → Splits words → Splits (option_words words)
 option_splits words w = record { split = option_split words w }
+
+-- ---- the same, of words that the type tells
+
+-- the words of both
+abbrev pub both : {A B : Type 0} → (A → List ℕ) → (B → List ℕ) → A × B → List ℕ
+both f g p = f p.0 ++ g p.1
+
+pub and_split : {A B : Type 0} {f : A → List ℕ} {g : B → List ℕ} → Splits f → Splits g → Splits (both f g)
+and_split {A} {B} {f} {g} v w = pair_splits f g v w
+
+pub each_split : {A : Type 0} {f : A → List ℕ} → Splits f → Splits (list_words f)
+each_split {A} {f} w = list_splits f w
+
+pub some_split : {A : Type 0} {f : A → List ℕ} → Splits f → Splits (option_words f)
+some_split {A} {f} w = option_splits f w
+
+pub as_split : {A B : Type 0} {f : B → List ℕ} → Splits f → (to : A → B) (from : B → A)
+    → ((a : A) → from (to a) ≡ a) → Splits (λ (a : A). f (to a))
+as_split {A} {B} {f} w to from back = by_splits f w to from back

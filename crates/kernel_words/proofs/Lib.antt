@@ -1,0 +1,2 @@
+pub mod KernelSplits
+mod GoingOn

@@ -1,0 +1,26 @@
+-- What is written of the state of the kernel: all but how many events there were; and what it says that two kernels go
+-- on alike.
+use Rattle.std.specs.Prelude.{ℕ, ◌≡◌, List}
+use Rattle.cleanup.specs.State.{KernelState, Transition}
+use Rattle.cleanup.specs.Serving.{Served}
+use Rattle.state_words.specs.KernelWords.{parts_words}
+use Rattle.kernel_counts.specs.Counted.{with_count}
+
+-- who is alive, the phones, the live calls and the memory
+abbrev pub kernel_words : KernelState → List ℕ
+kernel_words k = parts_words k.tasks.alive k.tasks.phones k.calls k.memory
+
+-- two states differ in how many events there were alone
+abbrev pub AreAlikeKernels : KernelState → KernelState → Type 0
+AreAlikeKernels a b = with_count 0 a ≡ with_count 0 b
+
+-- two steps have the same entries, and leave states of the same words
+pub record AreAlikeSteps (a b : Transition) : Type 0 where
+  pub entries : a.entries ≡ b.entries
+  pub words : kernel_words a.state ≡ kernel_words b.state
+
+-- two requests come to the same outcome, likewise
+pub record AreServedAlike (a b : Served) : Type 0 where
+  pub outcome : a.outcome ≡ b.outcome
+  pub entries : a.entries ≡ b.entries
+  pub words : kernel_words a.state ≡ kernel_words b.state

@@ -1,0 +1,3 @@
+pub mod RunSplits
+pub mod Reaching
+pub mod GoingOn
