@@ -1,0 +1,2 @@
+mod KillCounts
+pub mod RequestCounts
