@@ -1,0 +1,7 @@
+mod RawCounts
+mod ServiceCounts
+pub mod ProgramCounts
+pub mod TurnCounts
+mod RawKept
+mod AsyncKept
+pub mod KeptConstants
