@@ -1,45 +1,20 @@
 -- Steps and a kill come to the same after however many events.
-use Rattle.std.proofs.Common.{◌≡◌, ℕ, zero, suc, ◌+◌, ◌==◌, Bool, true, false, List, ◌++◌, length, refl, ◌∙◌, ap, Option, None, Some, Result, Ok, Err, cond, not, nat_le, if◌then◌else◌}
+use Rattle.std.proofs.Common.{◌≡◌, ℕ, zero, suc, ◌+◌, ◌==◌, Bool, true, false, ◌++◌, length, refl, ◌∙◌, ap, Option, None, Some, cond}
 use Rattle.std.specs.Option.{option_map_or}
 use Rattle.ipc_ids.specs.declared.numbers.TaskNo.{TaskNo}
-use Rattle.ipc_ids.specs.declared.numbers.Code.{Code}
-use Rattle.ipc_ids.specs.declared.numbers.Label.{Label}
-use Rattle.ipc_ids.specs.declared.message.Msg.{Msg}
 use Rattle.ipc_ids.specs.declared.message.Reply.{Reply}
-use Rattle.ipc_ids.specs.declared.message.Mode.{Mode}
-use Rattle.ipc_ids.specs.declared.message.Request.{Request}
-use Rattle.ipc_ids.specs.declared.message.Request.TheVariants as ask
 use Rattle.ipc_ids.specs.declared.message.PhoneState.{PhoneState}
 use Rattle.ipc_ids.specs.declared.message.PhoneState.TheVariants.{Free, Connecting, Connected, HungUp, Slammed}
-use Rattle.ipc_ids.specs.declared.methods.MethodKind.{MethodKind}
-use Rattle.ipc_ids.specs.declared.methods.MethodKind.TheVariants.{PhoneHungUp, ConnectToMe, ConnectMeTo, DataWrite, DataRead, ShareOut, ShareIn, NotBuilt, User}
-use Rattle.ipc_ids.specs.Methods.{kind_of}
-use Rattle.ipc_ids.specs.Tables.{most_active}
-use Rattle.ipc_ids.specs.declared.message.Outcome.TheVariants.{Done, Refused}
-use Rattle.ipc_ids.specs.Codes.{enoent, eperm, elimit}
-use Rattle.forwarding.specs.declared.passing.Forwarded.{Forwarded}
-use Rattle.forwarding.specs.declared.passing.ForwardFault.{ForwardFault}
-use Rattle.forwarding.specs.declared.passing.ForwardFault.TheVariants.{NotHeld, NotForwardable, NotConnected}
 use Rattle.call_slab.specs.declared.call.Call.{Call}
 use Rattle.call_slab.specs.declared.call.Place.{Place}
 use Rattle.call_slab.specs.declared.call.Place.TheVariants.{Incoming, Dispatched, Answers}
-use Rattle.answerbox.specs.Calls.{calls_at, calls_by, active_calls}
+use Rattle.answerbox.specs.Calls.{calls_at, calls_by}
 use Rattle.address_space.specs.Memory.{first_area, count_areas}
-use Rattle.cleanup.specs.State.{KernelState, Transition, nothing, then_do, each, drain, phone_at, label_of, with_event}
-use Rattle.cleanup.specs.Serving.{Handed, Served, then_serve, telling, refusal}
-use Rattle.cleanup.specs.Joins.{settle, settle_for, settle_live, lives, drop_answer, forget_call, hang_up, new_call, delivery, reception, answer_to}
+use Rattle.cleanup.specs.State.{KernelState, Transition, nothing, then_do, each, drain, phone_at}
+use Rattle.cleanup.specs.Joins.{settle, settle_for, lives, drop_answer, forget_call, hang_up}
 use Rattle.cleanup.specs.Kill.{task_no, width, mark_ended, hang_up_at, hang_up_own_phones, slam, slam_at, slam_phones_of, slam_other, slam_phones_to, settle_call, settle_calls_at, drop_answers, forget_calls_elsewhere, drop_first_area, drop_areas, kill, first_at, first_call_of}
 use Rattle.cleanup.specs.Areas.{lose_first_area}
-use Rattle.cleanup.specs.Kept.{accepts}
-use Rattle.kernel_core.specs.Moments.{before_send, before_send_of, keeping_to_send, carrying, bringing, asking, on_receive_of, on_accept_of, on_delivery, brings_bytes}
-use Rattle.kernel_core.specs.Calling.{call_over, call_tested, call_through, sent_to, is_callable}
-use Rattle.kernel_core.specs.Receiving.{receive, receive_now, receive_first, drop_unawaited, next_unawaited}
-use Rattle.kernel_core.specs.Answering.{answer_held, accept_for}
-use Rattle.kernel_core.specs.Forward.{forward_told}
-use Rattle.kernel_core.specs.HangingUp.{hangup_over}
-use Rattle.kernel_core.specs.Request.{serve_request}
-use Rattle.kernel_core.specs.Kernel.{serve, kill_event, spawn_event, spawning, next_task, named}
-use Rattle.kernel_counts.specs.Counted.{with_count, step_with_count, served_with_count}
+use Rattle.kernel_counts.specs.Counted.{with_count, step_with_count}
 
 module _ (n : ℕ) where
   -- ---- steps in a row
@@ -54,7 +29,7 @@ module _ (n : ℕ) where
   each_at step h zero i k = refl
   each_at step h (suc m) i k =
       ap (λ (z : Transition). then_do z (each step m (i + 1))) (h k i)
-          ∙ then_at (step k i) (each step m (i + 1)) (each_at step h m (i + 1))
+      ∙ then_at (step k i) (each step m (i + 1)) (each_at step h m (i + 1))
 
   drained : (next : KernelState → Option Call) (step : KernelState → Call → Transition)
       → ((k : KernelState) (c : Call) → step (with_count n k) c ≡ step_with_count n (step k c))
@@ -62,7 +37,7 @@ module _ (n : ℕ) where
       → ((j : KernelState) → drain next step m (with_count n j) ≡ step_with_count n (drain next step m j))
       → (o : Option Call)
       → option_map_or (λ c. then_do (step (with_count n k) c) (drain next step m)) o (nothing (with_count n k))
-          ≡ step_with_count n (option_map_or (λ c. then_do (step k c) (drain next step m)) o (nothing k))
+      ≡ step_with_count n (option_map_or (λ c. then_do (step k c) (drain next step m)) o (nothing k))
   drained next step h m k later None = refl
   drained next step h m k later (Some c) =
       ap (λ (z : Transition). then_do z (drain next step m)) (h k c) ∙ then_at (step k c) (drain next step m) later
@@ -75,7 +50,7 @@ module _ (n : ℕ) where
   drain_at next step e h (suc m) k =
       ap
       (λ (o : Option Call). option_map_or (λ c. then_do (step (with_count n k) c) (drain next step m)) o
-        (nothing (with_count n k)))
+      (nothing (with_count n k)))
       (e k)
       ∙ drained next step h m k (drain_at next step e h m) (next k)
 

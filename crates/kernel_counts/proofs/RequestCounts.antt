@@ -1,6 +1,5 @@
 -- A request, a kill and a spawn come to the same after however many events.
-use Rattle.std.proofs.Common.{◌≡◌, ℕ, zero, suc, ◌+◌, ◌==◌, Bool, true, false, List, ◌++◌, length, refl, ◌∙◌, ap, Option, None, Some, Result, Ok, Err, cond, not, nat_le, if◌then◌else◌}
-use Rattle.std.specs.Option.{option_map_or}
+use Rattle.std.proofs.Common.{◌≡◌, ℕ, ◌+◌, Bool, true, false, List, ◌++◌, refl, ◌∙◌, ap, Option, None, Some, Result, Ok, Err, cond, not, nat_le, if◌then◌else◌}
 use Rattle.ipc_ids.specs.declared.numbers.TaskNo.{TaskNo}
 use Rattle.ipc_ids.specs.declared.numbers.Code.{Code}
 use Rattle.ipc_ids.specs.declared.numbers.Label.{Label}
@@ -21,15 +20,11 @@ use Rattle.forwarding.specs.declared.passing.Forwarded.{Forwarded}
 use Rattle.forwarding.specs.declared.passing.ForwardFault.{ForwardFault}
 use Rattle.forwarding.specs.declared.passing.ForwardFault.TheVariants.{NotHeld, NotForwardable, NotConnected}
 use Rattle.call_slab.specs.declared.call.Call.{Call}
-use Rattle.call_slab.specs.declared.call.Place.{Place}
-use Rattle.call_slab.specs.declared.call.Place.TheVariants.{Incoming, Dispatched, Answers}
-use Rattle.answerbox.specs.Calls.{calls_at, calls_by, active_calls}
-use Rattle.address_space.specs.Memory.{first_area, count_areas}
-use Rattle.cleanup.specs.State.{KernelState, Transition, nothing, then_do, each, drain, phone_at, label_of, with_event}
+use Rattle.call_slab.specs.declared.call.Place.TheVariants.{Incoming, Answers}
+use Rattle.answerbox.specs.Calls.{calls_at, active_calls}
+use Rattle.cleanup.specs.State.{KernelState, Transition, label_of, with_event}
 use Rattle.cleanup.specs.Serving.{Handed, Served, then_serve, telling, refusal}
-use Rattle.cleanup.specs.Joins.{settle, settle_for, settle_live, lives, drop_answer, forget_call, hang_up, new_call, delivery, reception, answer_to}
-use Rattle.cleanup.specs.Kill.{task_no, width, mark_ended, hang_up_at, hang_up_own_phones, slam, slam_at, slam_phones_of, slam_other, slam_phones_to, settle_call, settle_calls_at, drop_answers, forget_calls_elsewhere, drop_first_area, drop_areas, kill, first_at, first_call_of}
-use Rattle.cleanup.specs.Areas.{lose_first_area}
+use Rattle.cleanup.specs.Joins.{settle_live, lives, drop_answer, new_call, delivery, reception, answer_to}
 use Rattle.cleanup.specs.Kept.{accepts}
 use Rattle.kernel_core.specs.Moments.{before_send, before_send_of, keeping_to_send, carrying, bringing, asking, on_receive_of, on_accept_of, on_delivery, brings_bytes}
 use Rattle.kernel_core.specs.Calling.{call_over, call_tested, call_through, sent_to, is_callable}

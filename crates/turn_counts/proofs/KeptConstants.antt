@@ -4,6 +4,7 @@ use Rattle.std.proofs.lemmas.List.{map-append}
 use Rattle.std.proofs.Math.Seq.{map-set_same}
 use Rattle.std.proofs.lemmas.Option.{get_or_from_slice_get}
 use Rattle.ipc_ids.specs.declared.numbers.TaskNo.{TaskNo}
+use Rattle.ipc_ids.specs.declared.op.Body.{Body}
 use Rattle.ipc_ids.specs.declared.message.Outcome.{Outcome}
 use Rattle.ipc_ids.specs.declared.message.Request.TheVariants as ask
 use Rattle.ipc_ids.specs.declared.message.Event.{Event}
@@ -22,7 +23,8 @@ use Rattle.turn_counts.proofs.AsyncKept.{async_keeps}
 
 -- ---- an outcome
 
-async_constant : (me me' : _) (bodies bodies' : _) → me ≡ me' → bodies ≡ bodies' → Async me bodies ≡ Async me' bodies'
+async_constant : (me me' : TaskNo) (bodies bodies' : List Body) → me ≡ me' → bodies ≡ bodies'
+    → Async me bodies ≡ Async me' bodies'
 async_constant me me' bodies bodies' h k = ap (λ z. Async z bodies) h ∙ ap (Async me') k
 
 pub program_keeps : (p : AnyProgram) (o : Outcome) → constant (after p o) ≡ constant p

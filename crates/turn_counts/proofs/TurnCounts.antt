@@ -1,5 +1,5 @@
 -- A run goes on alike whatever its kernel and its programs counted.
-use Rattle.std.proofs.Common.{◌≡◌, ◌+◌, ◌-◌, Bool, true, false, List, [], ◌∷◌, ◌++◌, refl, sym, ◌∙◌, ap, subst, Option, None, Some, cond, slice_get}
+use Rattle.std.proofs.Common.{◌≡◌, ◌-◌, Bool, true, false, List, [], ◌∷◌, ◌++◌, refl, sym, ◌∙◌, ap, subst, Option, None, Some, cond, slice_get}
 use Rattle.std.specs.Option.{option_map}
 use Rattle.std.proofs.lemmas.Option.{slice_get-map}
 use Rattle.ipc_ids.specs.declared.numbers.TaskNo.{TaskNo}
@@ -38,7 +38,8 @@ if_alike false x y x' y' h k = k
 -- ---- a step
 
 step_is_served : (now : RunState) (task : TaskNo) (p : AnyProgram) (s : Served)
-    → AreAlikeTurns (step_served (uncounted now) task (uncounted_program p) s) (step_served now task p s)
+    → AreAlikeTurns (step_served (uncounted now) task (uncounted_program p) (served_with_count 1 s))
+    (step_served now task p s)
 step_is_served now task p s =
     record {
       entries = ap (λ z. served_entries task z s ++ entries (uncounted_program p) s.outcome) (wanted_uncounted p)
@@ -52,10 +53,10 @@ step_by_program now task None = record { entries = refl; state = same_programs n
 step_by_program now task (Some p) =
     let served : Served = serve now.kernel task (wanted p) in
     let e : serve (with_count 0 now.kernel) task (wanted (uncounted_program p)) ≡ served_with_count 1 served =
-        ap (serve (with_count 0 now.kernel) task) (wanted_uncounted p) ∙ serve_counts 0 now.kernel task (wanted p) in
+    ap (serve (with_count 0 now.kernel) task) (wanted_uncounted p) ∙ serve_counts 0 now.kernel task (wanted p) in
     subst
     (λ (z : Served). AreAlikeTurns (step_served (uncounted now) task (uncounted_program p) z)
-      (step_served now task p served))
+    (step_served now task p served))
     (sym e)
     (step_is_served now task p served)
 
@@ -67,7 +68,7 @@ program_found false now task = refl
 
 step_alike : (now : RunState) (task : TaskNo)
     → AreAlikeTurns (step_by (uncounted now) task (program_at (uncounted now) task))
-      (step_by now task (program_at now task))
+    (step_by now task (program_at now task))
 step_alike now task =
     subst
     (λ z. AreAlikeTurns (step_by (uncounted now) task z) (step_by now task (program_at now task)))
