@@ -1,5 +1,5 @@
 -- A task with fibrils keeps its number and its bodies.
-use Rattle.std.proofs.Common.{◌≡◌, ℕ, Bool, true, false, Option, Some, None, Result, Ok, Err, refl, ◌∙◌}
+use Rattle.std.proofs.Common.{◌≡◌, ℕ, Bool, true, false, Option, Some, None, Result, Ok, Err, refl}
 use Rattle.std.specs.Prelude.{⊤, ◌==◌, slice_index, position}
 use Rattle.std.specs.List.{find}
 use Rattle.ipc_ids.specs.declared.numbers.CallNo.{CallNo}

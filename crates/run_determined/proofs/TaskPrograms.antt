@@ -17,15 +17,15 @@ use Rattle.script_lines.specs.declared.plan.TaskPlan.{TaskPlan}
 use Rattle.script_lines.specs.Plan.{Plan}
 use Rattle.script_lines.specs.Sound.{IsSound}
 use Rattle.script_reader.specs.Schedule.{MayAllCome, tasks_after}
-use Rattle.cleanup.specs.State.{is_alive, alive_in}
-use Rattle.kernel_core.specs.Kernel.{serve, kill_event, next_task, spawn_event}
+use Rattle.cleanup.specs.State.{is_alive}
+use Rattle.kernel_core.specs.Kernel.{serve, kill_event, next_task}
 use Rattle.raw_program.specs.Raw as raw
 use Rattle.raw_program.specs.Raw.{RawState}
-use Rattle.async_task.specs.Steps.{bare_task, start_bodies}
+use Rattle.async_task.specs.Steps.{bare_task}
 use Rattle.task_system.specs.declared.any.AnyProgram.{AnyProgram}
 use Rattle.task_system.specs.declared.any.AnyProgram.TheVariants as any
 use Rattle.task_system.specs.Any.{wanted, after}
-use Rattle.task_system.specs.Run.{RunState, RunTransition, program_by, program_of, programs_from, start, state_after, turn, step_by, step_served, request_served, killed, gone, spawned, spawn_by, MayHappen, MayAllHappen}
+use Rattle.task_system.specs.Run.{RunState, RunTransition, program_by, program_of, programs_from, start, state_after, turn, step_by, request_served, killed, gone, spawn_by, MayAllHappen}
 use Rattle.schedule_replay.specs.RunHistory.{beginning, RunFits}
 use Rattle.schedule_replay.proofs.RunHistories.{turn_fits, start_told, later_may, may_from}
 use Rattle.route_laws.specs.Leads.{Beginning}
@@ -33,7 +33,7 @@ use Rattle.ipc_ids.specs.declared.entry.Entry.{Entry}
 use Rattle.run_determined.specs.ScheduleLines.{AreFirstOps}
 use Rattle.run_determined.specs.TaskPrograms.{plans_after, IsProgramOf, RunThePlans, TasksRunTheirPlans}
 use Rattle.run_determined.proofs.AsyncStays.{step_still}
-use Rattle.run_determined.proofs.ScheduleLines.{IsStill, bodies_still, first_ops, turn_keeps}
+use Rattle.run_determined.proofs.ScheduleLines.{bodies_still, first_ops, turn_keeps}
 
 -- ---- a raw program keeps its operations
 

@@ -1,5 +1,5 @@
--- Every task runs the program of its plan, after each event of a run: a task of the script the one that the script gives
--- it, and a task that a line of the schedule made the one of the template which that line names.
+-- Every task runs the program of its plan, after each event of a run: a task of the script the one that the script
+-- gives it, and a task that a line of the schedule made the one of the template which that line names.
 use Rattle.std.specs.Prelude.{ℕ, suc, ◌≡◌, ⊤, List, [], ◌∷◌, ◌++◌, length, Some, slice_get}
 use Rattle.std.specs.Option.{option_to_list}
 use Rattle.ipc_ids.specs.declared.message.Event.{Event}
