@@ -34,7 +34,7 @@ returns-in-Lawful-clause-is c =
       omega (arith, c.if-bytes-gt-MOST.false),
       in_order to.past [],
       is_trace c.args.bytes.now c.loop-reader.rest.now c.loop-reader.reading to none,
-      rw (c.in-Lawful.is) at c.in_ok-calls.ensures to.past to.read.judges,
+      rw (c.in-Lawful.is) at c.verdict.ensures to.past to.read.judges,
       entries_are c.args.bytes.now c.loop-reader.rest.now c.loop-reader.reading to,
     )
 
@@ -43,7 +43,7 @@ returns-in-Lawful-clause-lawful c =
     let to = c.loop-reader.invariant in
     let none : c.loop-reader.rest.now ≡ [] = no_bytes c.loop-reader.rest.now (sym c.is_empty.ensures ∙ c.loop-reader-test.false) in
     let text = is_trace c.args.bytes.now c.loop-reader.rest.now c.loop-reader.reading to none in
-    let verdict = rw (c.in-Lawful.is) at c.in_ok-calls.ensures to.past to.read.judges in (
+    let verdict = rw (c.in-Lawful.is) at c.verdict.ensures to.past to.read.judges in (
       λ t. is_lawful c.args.bytes.now (in_order to.past []) c.in-Lawful.calls (omega (arith, c.if-bytes-gt-MOST.false)) text verdict,
       λ l. tt,
     )
@@ -55,7 +55,7 @@ returns-clause-is c =
       omega (arith, c.if-bytes-gt-MOST.false),
       in_order to.past [],
       is_trace c.args.bytes.now c.loop-reader.rest.now c.loop-reader.reading to none,
-      rw (c.in-Breaks.is) at c.in_ok-calls.ensures to.past to.read.judges,
+      rw (c.in-Breaks.is) at c.verdict.ensures to.past to.read.judges,
     )
 
 pub returns-clause-lawful : goal.returns-clause-lawful
@@ -63,7 +63,7 @@ returns-clause-lawful c =
     let to = c.loop-reader.invariant in
     let none : c.loop-reader.rest.now ≡ [] = no_bytes c.loop-reader.rest.now (sym c.is_empty.ensures ∙ c.loop-reader-test.false) in
     let text = is_trace c.args.bytes.now c.loop-reader.rest.now c.loop-reader.reading to none in
-    let verdict = rw (c.in-Breaks.is) at c.in_ok-calls.ensures to.past to.read.judges in (
+    let verdict = rw (c.in-Breaks.is) at c.verdict.ensures to.past to.read.judges in (
       λ f. absurd f,
       λ l. is_unlawful c.args.bytes.now (in_order to.past []) c.in-Breaks.law text verdict l,
     )
