@@ -6,7 +6,7 @@ use Rattle.cleanup.specs.State.{KernelState, Transition}
 use Rattle.cleanup.specs.Serving.{Served}
 use Rattle.cleanup.specs.Sound.{IsSound}
 use Rattle.kernel_core.specs.Kernel.{serve, kill_event, spawn_event}
-use Rattle.kernel_counts.specs.Counted.{with_count, step_with_count, served_with_count}
+use Rattle.kernel_counts.specs.Counted.{step_with_count, served_with_count}
 use Rattle.kernel_counts.proofs.RequestCounts.{serve_counts, kill_counts, spawn_counts}
 use Rattle.kernel_words.specs.Kernel.{kernel_words, AreAlikeKernels, AreAlikeSteps, AreServedAlike}
 use Rattle.kernel_words.proofs.KernelSplits.{kernel_split}

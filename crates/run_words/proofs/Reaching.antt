@@ -1,7 +1,6 @@
 -- A state that is reached is sound, and what is constant of it is told by the script and the spawns.
 use Rattle.std.proofs.Common.{ℕ, ◌≡◌, ◌+◌, List, [], ◌∷◌, ◌++◌, length, length-append, Option, None, Some, refl, sym, ◌∙◌, ap, subst, arith}
 use Rattle.std.specs.Prelude.{slice_get}
-use Rattle.std.specs.List.{flat_map}
 use Rattle.std.proofs.lemmas.Grind.{flat_map-append}
 use Rattle.std.proofs.lemmas.List.{append-nil}
 use Rattle.ipc_ids.specs.declared.message.Event.{Event}
@@ -12,7 +11,7 @@ use Rattle.script_lines.specs.Sound as script
 use Rattle.script_reader.specs.Schedule.{MayAllCome, tasks_after}
 use Rattle.cleanup.specs.Sound.{IsSound}
 use Rattle.task_system.specs.Run.{RunState, program_of, start, turn, state_after, MayHappen, MayAllHappen}
-use Rattle.turn_counts.specs.Constants.{Constant, constant, Constants, constants, made_from, made_by_all, with_made}
+use Rattle.turn_counts.specs.Constants.{Constant, constant, constants, made_from, made_by_all, with_made}
 use Rattle.turn_counts.proofs.KeptConstants.{events_keep}
 use Rattle.schedule_replay.proofs.RunHistories.{run_told, may_from, turn_count, turn_templates, later_may, start_counted}
 use Rattle.run_words.specs.Reached.{spawn_of, spawns_of, IsReached}
