@@ -1,0 +1,4 @@
+pub mod Words
+pub mod Behind
+pub mod Alike
+pub mod Resting

@@ -1,0 +1,31 @@
+//! What rest is, and what states of one code have in common.
+ghost use Rattle.std.specs.Prelude.{◌≡◌, ℕ, List, true, length};
+ghost use Rattle.ipc_ids.specs.declared.message.Event.TheVariants.{Step};
+ghost use Rattle.script_lines.specs.Plan.{Plan};
+ghost use Rattle.script_lines.specs.Sound.{IsSound, IsTask};
+ghost use Rattle.task_system.specs.Run.{RunState, turn};
+ghost use Rattle.turn_counts.specs.Alike.{AreAlikeStates};
+ghost use Rattle.run_words.specs.Reached.{IsReached};
+ghost use Rattle.schedule_search.specs.Search as search;
+ghost use Rattle.schedule_search.specs.Search.{Search};
+ghost use Rattle.schedule_search.specs.Meeting.{is_at_rest};
+ghost use Rattle.schedule_search.specs.Code.{Fits};
+
+/// A state of a script is at rest where each step of each task leaves a state that differs from it in
+/// counts alone, and there only.
+pub fn nothing_moves_at_rest()
+    ensures rests { (plan : Plan) (spawned : List ℕ) (now : RunState) (t : ℕ) → IsSound plan
+        → IsReached plan spawned now → is_at_rest now ≡ true
+        → IsTask (length now.kernel.tasks.alive) t
+        → AreAlikeStates (turn now (Step (record { 0 = t }))).state now }
+    ensures at_rest { (now : RunState)
+        → ((t : ℕ) → IsTask (length now.kernel.tasks.alive) t
+        → AreAlikeStates (turn now (Step (record { 0 = t }))).state now)
+        → is_at_rest now ≡ true }
+{}
+
+/// From states of one code each move leads to states of one code, and to what is looked for at both
+/// or at neither.
+pub fn codes_stand_for_schedules()
+    ensures { (s : Search) → search.IsSound s → Fits s }
+{}
