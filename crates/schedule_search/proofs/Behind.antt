@@ -1,6 +1,6 @@
 -- The states behind the events of moves.
-use Rattle.std.proofs.Common.{ℕ, zero, suc, ◌≡◌, ◌≤◌, ◌<◌, ◌+◌, Bool, true, false, List, [], ◌∷◌, ◌++◌, length, length-append, append_assoc, refl, sym, ◌∙◌, ap, subst, arith, Some, slice_get}
-use Rattle.std.specs.List.{All, AllByRecursion, count_by, flat_map}
+use Rattle.std.proofs.Common.{ℕ, ◌≡◌, ◌≤◌, ◌<◌, ◌+◌, List, [], ◌∷◌, ◌++◌, length, length-append, refl, sym, ◌∙◌, ap, subst, arith, Some, slice_get}
+use Rattle.std.specs.List.{All, AllByRecursion}
 use Rattle.std.proofs.lemmas.List.{append-nil}
 use Rattle.std.proofs.lemmas.List.Elements.{All-get_or}
 use Rattle.std.proofs.lemmas.List.Sums.{sum_by-append}
@@ -9,14 +9,13 @@ use Rattle.std.proofs.lemmas.Option.{get_or_from_slice_get, slice_get_within, sl
 use Rattle.ipc_ids.specs.declared.entry.Entry.{Entry}
 use Rattle.ipc_ids.specs.declared.message.Event.{Event}
 use Rattle.ipc_ids.specs.declared.message.Event.TheVariants.{Step, Kill, Hangup, Spawn}
-use Rattle.script_lines.specs.Plan.{Plan}
 use Rattle.script_reader.specs.Schedule.{MayCome, MayAllCome, tasks_after}
 use Rattle.task_system.specs.Run.{RunState, start, turn, state_after, MayAllHappen}
 use Rattle.schedule_replay.proofs.RunHistories.{may_from, may_on}
 use Rattle.search_core.specs.Moves.{AreMoves}
 use Rattle.search_goals.specs.Writing.{IsOnTask}
 use Rattle.run_words.specs.Reached.{IsReached, spawn_of, spawns_of}
-use Rattle.schedule_search.specs.Search.{Search, IsSound, AreOf, is_kill, kills_in, first_state, state_behind, last_told, event_at, events_of}
+use Rattle.schedule_search.specs.Search.{Search, IsSound, AreOf, kills_in, first_state, state_behind, last_told, event_at, events_of}
 
 -- ---- one event more
 

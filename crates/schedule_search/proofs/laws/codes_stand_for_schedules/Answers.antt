@@ -1,5 +1,3 @@
-use Rattle.schedule_search.specs.Search.{Search, IsSound}
-use Rattle.schedule_search.specs.Code.{Fits}
 use Rattle.schedule_search.proofs.Alike.{code_goes_on, goal_goes_on}
 use Rattle.schedule_search.proofs.laws.codes_stand_for_schedules.Goals as goal
 
