@@ -9,7 +9,6 @@ use Rattle.ipc_ids.specs.declared.message.Event.{Event}
 use Rattle.ipc_ids.specs.declared.message.Event.TheVariants.{Step}
 use Rattle.answerbox.specs.Calls.{CallTable}
 use Rattle.script_lines.specs.Plan.{Plan}
-use Rattle.script_lines.specs.Sound as script
 use Rattle.task_system.specs.Run.{RunState, turn}
 use Rattle.search_core.specs.Moves.{AreMoves}
 use Rattle.run_words.specs.Reached.{IsReached, spawns_of}
