@@ -20,8 +20,7 @@ use Rattle.cleanup.specs.State.{KernelState, phone_at, is_alive}
 use Rattle.cleanup.specs.Sound.{IsSound}
 use Rattle.cleanup.specs.Serving.{Served}
 use Rattle.cleanup.proofs.Lookups.{same_call}
-use Rattle.kernel_laws.specs.AnswerCodes.{code_after}
-use Rattle.kernel_laws.specs.DataLaws.{first, second, third, AreFirst, IsFull, IsLawfulTaking}
+use Rattle.kernel_laws.specs.DataLaws.{code_after, first, second, third, AreFirst, IsFull, IsLawfulTaking}
 use Rattle.kernel_laws.specs.MemoryRequests.{made, written}
 use Rattle.kernel_laws.specs.PoolLaws.{pool}
 use Rattle.kernel_laws.proofs.LawfulData.{decided_read}

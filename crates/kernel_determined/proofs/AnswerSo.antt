@@ -42,20 +42,17 @@ use Rattle.cleanup.proofs.Soundness.{value_of}
 use Rattle.kernel_core.specs.Answering.{accept_for, answer_call, answer_held, held_call}
 use Rattle.kernel_core.specs.Moments.{on_accept_of}
 use Rattle.kernel_core.specs.Kernel.{and_event, serve}
-use Rattle.kernel_laws.specs.AnswerCodes.{code_after}
-use Rattle.kernel_laws.specs.DataLaws.{first, second, third, IsLawfulTaking}
+use Rattle.kernel_laws.specs.DataLaws.{code_after, first, second, third, IsLawfulTaking}
 use Rattle.kernel_laws.specs.MemoryRequests.{made}
-use Rattle.kernel_laws.specs.PhoneCodes.{IsHeld}
+use Rattle.kernel_laws.specs.HeldCalls.{IsHeld}
 use Rattle.kernel_laws.proofs.CallRoutes.{at_dispatched}
 use Rattle.kernel_laws.proofs.PoolChanges.{pool-used}
-use Rattle.kernel_laws.proofs.LawfulAnswers.{same_told, same_code, accepts_eok}
+use Rattle.kernel_laws.proofs.AnswerWords.{same_told, same_code, accepts_eok}
 use Rattle.kernel_laws.proofs.LawfulData.{length_taken, taking_is_lawful}
 use Rattle.kernel_laws.proofs.LawfulWrites.{get_taken}
 use Rattle.kernel_laws.proofs.MemoryRequests.{written_is, added}
-use Rattle.kernel_laws.proofs.PhoneCodes.{holds}
-use Rattle.kernel_laws.proofs.PhoneRoutes.{to_me_method}
-use Rattle.kernel_laws.proofs.DeliveredAnswers.{connect_method, read_method}
-use Rattle.kernel_laws.proofs.ToldMessages.{write_method}
+use Rattle.kernel_laws.proofs.HeldCalls.{holds}
+use Rattle.kernel_laws.proofs.Methods.{to_me_method, me_to_method, read_method, write_method}
 use Rattle.kernel_determined.specs.Frames.{PhoneComesTo}
 use Rattle.kernel_determined.specs.SettleLaw.{IsWanted}
 use Rattle.kernel_determined.specs.AnswerLaw.{IsWholePlacing, bytes_after, Reaches, ConnectsTo, ConnectsNothing, WritesBytes, TakesBytes, SharesArea, IsPlain, AnswersPlainly, Accepts, AnswersDeclining, AnswersNobody, AnswersAccepting, IsAnswer}
@@ -190,7 +187,7 @@ module _ (k : KernelState) (sound : IsSound k) (t : TaskNo) (alive : is_alive k 
     plainly : (kind : MethodKind) → kind_of c.request.method ≡ kind → (done : Served) → AcceptsOf kind done
         → IsPlain c.request.method → AnswersPlainly t n reply c u k done
     plainly ConnectToMe e done h p = absurd (p.to_me (to_me_method c.request.method e))
-    plainly ConnectMeTo e done h p = absurd (p.me_to (connect_method c.request.method e))
+    plainly ConnectMeTo e done h p = absurd (p.me_to (me_to_method c.request.method e))
     plainly DataWrite e done h p = absurd (p.write (write_method c.request.method e))
     plainly DataRead e done h p = absurd (p.read (read_method c.request.method e))
     plainly ShareOut e done h p = absurd (p.out (out_method c.request.method e))
@@ -258,7 +255,7 @@ module _ (k : KernelState) (sound : IsSound k) (t : TaskNo) (alive : is_alive k 
         }))) (sym kept) (by_kept e c.reserved refl kept)
     accepted ok ConnectMeTo e = me_to (value_of c.reserved some) where
       kept : kept_phone c ≡ c.reserved
-      kept = (kept_is k k.tasks refl n c its pending).connect (inr (connect_method c.request.method e))
+      kept = (kept_is k k.tasks refl n c its pending).connect (inr (me_to_method c.request.method e))
 
       some : IsSome c.reserved
       some = its.reserved.needed (subst (λ p. NeedsPhone (who_keeps c) p c.reply.code) (sym at)

@@ -38,10 +38,9 @@ use Rattle.kernel_laws.specs.PoolLaws.{pool}
 use Rattle.kernel_laws.specs.CallCodes.{IsNoWay, IsNoCall, IsCheck}
 use Rattle.kernel_laws.specs.DataLaws.{IsLawfulCopy, IsLawfulAsking, IsLawfulOffer, IsLawfulWish}
 use Rattle.kernel_laws.specs.UsablePhones.{IsUsable}
-use Rattle.kernel_laws.proofs.DeliveredAnswers.{connect_method, read_method}
+use Rattle.kernel_laws.proofs.Methods.{me_to_method, read_method, write_method}
 use Rattle.kernel_laws.proofs.KillRoutes.{is_there}
 use Rattle.kernel_laws.proofs.LawfulCalls.{method_test, some_usable, none_usable, check_by}
-use Rattle.kernel_laws.proofs.ToldMessages.{write_method}
 use Rattle.kernel_laws.proofs.LawfulData.{copy_is_lawful, asking_is_lawful, cut_is_lawful}
 use Rattle.kernel_laws.proofs.LawfulShares.{offer_is_lawful, wish_is_lawful}
 use Rattle.kernel_laws.proofs.PoolChanges.{pool-used}
@@ -238,7 +237,7 @@ module _ (k : KernelState) (t : TaskNo) (p : ℕ) (msg : Msg) where
                     Some (label_of t q);
               };
               lawful = inl (record {
-                asks = connect_method msg.method is;
+                asks = me_to_method msg.method is;
                 phone = q;
                 usable =
                     usable_one k t l e;

@@ -16,7 +16,7 @@ use Rattle.cleanup.specs.State.{KernelState, phone_at, label_of}
 use Rattle.cleanup.specs.Serving.{Served}
 use Rattle.cleanup.proofs.Lookups.{same_call}
 use Rattle.kernel_laws.specs.CallCodes.{own_reply}
-use Rattle.kernel_laws.specs.PhoneCodes.{IsHeld, MayPass}
+use Rattle.kernel_laws.specs.HeldCalls.{IsHeld, MayPass}
 use Rattle.kernel_laws.specs.Routes.{Leads, label_by}
 use Rattle.kernel_determined.specs.Frames.{IsOneEvent, MayCome}
 use Rattle.kernel_determined.specs.ForwardLaw.{IsOther, IsNewMessage, passed_call, Passes, Fails, MayNotForward, ForwardsNowhere, Forwards, IsForward}

@@ -32,13 +32,11 @@ use Rattle.cleanup.specs.Serving.{Served, telling, refusal}
 use Rattle.cleanup.proofs.Lookups.{same_call}
 use Rattle.kernel_core.specs.Forward.{failed_forward, forward_told}
 use Rattle.kernel_core.specs.Kernel.{and_event, serve}
-use Rattle.kernel_laws.specs.PhoneCodes.{IsHeld, MayPass}
+use Rattle.kernel_laws.specs.HeldCalls.{IsHeld, MayPass}
 use Rattle.kernel_laws.specs.Routes.{label_by}
 use Rattle.kernel_laws.proofs.CallRoutes.{at_dispatched}
-use Rattle.kernel_laws.proofs.PhoneCodes.{holds, may_pass, may_not_pass}
-use Rattle.kernel_laws.proofs.PhoneRoutes.{to_me_method}
-use Rattle.kernel_laws.proofs.DeliveredAnswers.{connect_method}
-use Rattle.kernel_laws.proofs.ReceiveLaws.{user_kind}
+use Rattle.kernel_laws.proofs.HeldCalls.{holds, may_pass, may_not_pass}
+use Rattle.kernel_laws.proofs.Methods.{to_me_method, me_to_method, user_kind}
 use Rattle.kernel_determined.specs.Frames.{HasFifth}
 use Rattle.kernel_determined.specs.ForwardLaw.{IsOther, IsNewMessage, Passes, Fails, IsForward}
 use Rattle.kernel_determined.proofs.SettleSo.{may_come, as_many, moves, lent_is, lent_there, settle_quiet, settled_is}
@@ -86,7 +84,7 @@ module _ (k : KernelState) (sound : IsSound k) (t : TaskNo) (n : ℕ) (c : Call)
     by_kind : (kind : MethodKind) → kind_of m ≡ kind → changed_msg kind change msg ≡ msg
     by_kind User e = absurd (user_method e)
     by_kind ConnectToMe e = absurd (other.to_me (to_me_method m e))
-    by_kind ConnectMeTo e = absurd (other.me_to (connect_method m e))
+    by_kind ConnectMeTo e = absurd (other.me_to (me_to_method m e))
     by_kind PhoneHungUp e = refl
     by_kind DataWrite e = refl
     by_kind DataRead e = refl

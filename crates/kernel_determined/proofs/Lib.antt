@@ -5,6 +5,7 @@ pub mod HangupDetermined
 pub mod WriteDetermined
 pub mod ReceiveDetermined
 pub mod ReceiveSo
+pub mod TellsFirst
 pub mod TakesSo
 pub mod SettleDetermined
 pub mod SettleSo
@@ -24,3 +25,4 @@ pub mod LeastSo
 pub mod KillDetermined
 pub mod KillSo
 pub mod Machines
+pub mod LawExamples

@@ -17,8 +17,7 @@ use Rattle.cleanup.specs.State.{KernelState, phone_at, label_of}
 use Rattle.cleanup.specs.Sound.{IsSound}
 use Rattle.cleanup.specs.Serving.{Served}
 use Rattle.cleanup.proofs.Lookups.{same_call}
-use Rattle.kernel_laws.specs.AnswerCodes.{code_after}
-use Rattle.kernel_laws.specs.DataLaws.{first}
+use Rattle.kernel_laws.specs.DataLaws.{code_after, first}
 use Rattle.kernel_laws.specs.MemoryRequests.{written}
 use Rattle.kernel_laws.specs.ReceiveLaws.{IsFirst, HasNone}
 use Rattle.kernel_determined.specs.Frames.{PhoneComesTo}

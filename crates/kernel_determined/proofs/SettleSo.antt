@@ -33,10 +33,9 @@ use Rattle.cleanup.proofs.Silence.{IsEnding}
 use Rattle.cleanup.proofs.Usable.{kept_waits}
 use Rattle.kernel_laws.specs.Connecting.{IsUnconnected}
 use Rattle.kernel_laws.proofs.KillRoutes.{is_there}
-use Rattle.kernel_laws.proofs.LawfulAnswers.{same_code, accepts_eok}
-use Rattle.kernel_laws.proofs.KeptPhones.{own_phone}
-use Rattle.kernel_laws.proofs.PhoneRoutes.{to_me_method}
-use Rattle.kernel_laws.proofs.DeliveredAnswers.{connect_method}
+use Rattle.kernel_laws.proofs.AnswerWords.{same_code, accepts_eok}
+use Rattle.kernel_laws.proofs.UsablePhones.{own_phone}
+use Rattle.kernel_laws.proofs.Methods.{to_me_method, me_to_method}
 use Rattle.kernel_determined.specs.Frames.{MayCome, Moves, IsOver, IsQuietEvent}
 use Rattle.kernel_determined.specs.SettleLaw.{IsGivenBack, IsKeptFor, IsWanted, IsAnswered, IsEnded, IsSettled, DropsAnswer}
 
@@ -210,7 +209,7 @@ module _ (k : KernelState) (tasks : Tasks) (rows : tasks.phones ≡ k.tasks.phon
     }
     by_kind ConnectMeTo e = record {
       connect = λ _. kept_by ConnectMeTo e ∙ asked e;
-      others = λ _ ne. absurd (ne (connect_method c.request.method e));
+      others = λ _ ne. absurd (ne (me_to_method c.request.method e));
     }
     by_kind PhoneHungUp e = plain PhoneHungUp e (λ f. cc f) (λ f. cc f) refl
     by_kind DataWrite e = plain DataWrite e (λ f. cc f) (λ f. cc f) refl
@@ -334,7 +333,7 @@ module _ (marks : List Bool) (t : TaskNo) (k : KernelState) (ending : IsEnding m
     by true a o r = refl
     by false a None r = refl
     by false a (Some l) r = absurd (none l (record {
-      asks = connect_method c.request.method e;
+      asks = me_to_method c.request.method e;
       kept = r;
       unaccepted = λ u p code. false≢true (sym a ∙ accepts_eok c.reply.code code);
     }))

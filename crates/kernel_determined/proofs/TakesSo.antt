@@ -47,20 +47,16 @@ use Rattle.cleanup.proofs.Repeats.{by_test}
 use Rattle.kernel_core.specs.Moments.{with_phone_named, reply_of, brings_bytes, on_delivery, keeping_to_receive, on_receive_of, on_receive}
 use Rattle.kernel_core.specs.Receiving.{drop_unawaited, receive_first, receive_now}
 use Rattle.kernel_core.specs.Kernel.{and_event, serve}
-use Rattle.kernel_laws.specs.AnswerCodes.{code_after}
-use Rattle.kernel_laws.specs.DataLaws.{first}
-use Rattle.kernel_laws.specs.Delivering.{IsBrought}
+use Rattle.kernel_laws.specs.DataLaws.{code_after, first, IsBrought}
 use Rattle.kernel_laws.specs.ReceiveLaws.{IsFirst, HasNone}
 use Rattle.kernel_laws.specs.UsablePhones.{IsUsable}
-use Rattle.kernel_laws.proofs.DeliveredAnswers.{is_brought, brings, same_reply, connect_method}
-use Rattle.kernel_laws.proofs.KeptPhones.{own_phone}
+use Rattle.kernel_laws.proofs.AnswerWords.{is_brought, brings, same_reply, same_told, same_code, accepts_eok}
+use Rattle.kernel_laws.proofs.Methods.{me_to_method, to_me_method}
+use Rattle.kernel_laws.proofs.UsablePhones.{own_phone, own, usable_one, least_one, none_is}
 use Rattle.kernel_laws.proofs.KillRoutes.{is_there}
-use Rattle.kernel_laws.proofs.LawfulAnswers.{same_told, same_code, accepts_eok}
 use Rattle.kernel_laws.proofs.LawfulWrites.{write_is_lawful}
 use Rattle.kernel_laws.proofs.MemoryRequests.{written_is}
-use Rattle.kernel_laws.proofs.PhoneRoutes.{to_me_method}
 use Rattle.kernel_laws.proofs.ReceiveLaws.{at_answers, at_incoming, is_answers, is_incoming}
-use Rattle.kernel_laws.proofs.UsablePhones.{own, usable_one, least_one, none_is}
 use Rattle.kernel_determined.specs.Frames.{PhonesStay}
 use Rattle.kernel_determined.specs.Frames.{HasFifth}
 use Rattle.kernel_determined.specs.MemoryLaw.{IsWholeWrite}
@@ -216,7 +212,7 @@ module _ (t : TaskNo) (j : KernelState) (sound : IsSound j) (c : Call) (is : cal
     to_me : kind_of c.request.method ≡ ConnectMeTo → IsDelivery t j c (Given (reply_of ConnectMeTo c))
     to_me kind = by_code (accepts c.reply.code) refl c.reserved refl where
       asks : c.request.method ≡ connect_me_to
-      asks = connect_method c.request.method kind
+      asks = me_to_method c.request.method kind
 
       kept_by : (b : Bool) (o : Option Label) → accepts c.reply.code ≡ b → c.reserved ≡ o
           → kept_phone c ≡ (if b then None else phone_of c.from.task o)

@@ -17,11 +17,10 @@ use Rattle.call_slab.specs.declared.call.Place.TheVariants.{Answers}
 use Rattle.address_space.specs.Memory.{Memory, Step}
 use Rattle.cleanup.specs.State.{KernelState, is_alive}
 use Rattle.cleanup.specs.Serving.{Served}
-use Rattle.kernel_laws.specs.AnswerCodes.{code_after}
-use Rattle.kernel_laws.specs.DataLaws.{first, second, third, AreFirst, IsLawfulTaking}
+use Rattle.kernel_laws.specs.DataLaws.{code_after, first, second, third, AreFirst, IsLawfulTaking}
 use Rattle.kernel_laws.specs.MemoryLaws.{IsLawfulShare}
 use Rattle.kernel_laws.specs.MemoryRequests.{made, written}
-use Rattle.kernel_laws.specs.PhoneCodes.{IsHeld}
+use Rattle.kernel_laws.specs.HeldCalls.{IsHeld}
 use Rattle.kernel_laws.specs.PoolLaws.{pool}
 use Rattle.kernel_determined.specs.Frames.{IsOneEvent, PhonesStay, PhoneComesTo, Moves, IsQuietEvent}
 use Rattle.kernel_determined.specs.ForwardLaw.{IsNotHeld}

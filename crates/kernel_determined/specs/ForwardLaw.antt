@@ -16,7 +16,7 @@ use Rattle.call_slab.specs.declared.call.Place.TheVariants.{Incoming}
 use Rattle.cleanup.specs.State.{KernelState, label_of}
 use Rattle.cleanup.specs.Serving.{Served}
 use Rattle.kernel_laws.specs.CallCodes.{own_reply}
-use Rattle.kernel_laws.specs.PhoneCodes.{IsHeld, MayPass}
+use Rattle.kernel_laws.specs.HeldCalls.{IsHeld, MayPass}
 use Rattle.kernel_laws.specs.Routes.{Leads, label_by}
 use Rattle.kernel_determined.specs.Frames.{HasFifth, MayCome, Moves, IsQuietEvent, IsRefusal}
 use Rattle.kernel_determined.specs.SettleLaw.{IsGivenBack, IsSettled}

@@ -4,6 +4,7 @@ use Rattle.std.specs.Prelude.{◌≡◌, ℕ, ◌+◌, ◌<◌, ◌⊎◌, List,
 use Rattle.ipc_ids.specs.declared.numbers.Label.{Label}
 use Rattle.ipc_ids.specs.declared.numbers.StoreNo.{StoreNo}
 use Rattle.ipc_ids.specs.declared.numbers.TaskNo.{TaskNo}
+use Rattle.ipc_ids.specs.declared.message.Msg.{Msg}
 use Rattle.ipc_ids.specs.declared.message.Reply.{Reply}
 use Rattle.ipc_ids.specs.declared.message.PhoneState.TheVariants.{Free, Connecting}
 use Rattle.ipc_ids.specs.declared.message.Outcome.TheVariants as outcome
@@ -17,10 +18,8 @@ use Rattle.answerbox.specs.Calls.{CallTable, call_at}
 use Rattle.address_space.specs.Memory.{Memory, Step}
 use Rattle.cleanup.specs.State.{KernelState, label_of}
 use Rattle.cleanup.specs.Serving.{Served}
-use Rattle.kernel_laws.specs.AnswerCodes.{code_after}
+use Rattle.kernel_laws.specs.DataLaws.{code_after, first, IsBrought}
 use Rattle.kernel_laws.specs.Connecting.{IsUnconnected}
-use Rattle.kernel_laws.specs.DataLaws.{first}
-use Rattle.kernel_laws.specs.Delivering.{IsBrought}
 use Rattle.kernel_laws.specs.MemoryRequests.{written}
 use Rattle.kernel_laws.specs.ReceiveLaws.{IsAwaited, IsHangupAnswer, IsFirst, HasNone}
 use Rattle.kernel_laws.specs.UsablePhones.{IsUsable}
@@ -195,3 +194,15 @@ pub record IsReceive (t : TaskNo) (before : KernelState) (done : Served) : Type 
   pub told : List Entry
   pub takes : Takes t left (with_entries done told)
   pub entries : done.entries ≡ dropped ++ told
+
+-- so the first answer is told that is awaited, or else the first call that waits, and nothing just where there is
+-- neither
+pub record TellsTheFirst (t : TaskNo) (before : KernelState) (done : Served) : Type 0 where
+  pub answer : (c : Call) → IsFirst before.calls (IsAwaited t) c
+      → (reply : Reply) × (done.outcome ≡ outcome.Answered c.number reply)
+  pub call : (c : Call) → HasNone before.calls (IsAwaited t) → IsFirst before.calls (IsWaitingAt t) c
+      → (msg : Msg) × (done.outcome ≡ outcome.Received c.number msg c.label)
+  pub nothing : HasNone before.calls (IsAwaited t) → HasNone before.calls (IsWaitingAt t)
+      → done.outcome ≡ outcome.Empty
+  pub empty : done.outcome ≡ outcome.Empty
+      → HasNone before.calls (IsAwaited t) × HasNone before.calls (IsWaitingAt t)

@@ -24,7 +24,7 @@ ghost use Rattle.answerbox.specs.Calls.{call_at};
 ghost use Rattle.address_space.specs.Memory.{Memory};
 ghost use Rattle.kernel_determined.specs.KillLaw.{IsKill};
 ghost use Rattle.kernel_determined.specs.MemoryLaw.{IsPoke, IsPeek, IsAreaMake, IsAreaDrop};
-ghost use Rattle.kernel_determined.specs.ReceiveLaw.{IsReceive};
+ghost use Rattle.kernel_determined.specs.ReceiveLaw.{IsReceive, TellsTheFirst};
 ghost use Rattle.kernel_determined.specs.SpawnLaw.{IsSpawn};
 
 /// A hangup does what its law says, and whatever does all that it says does the same.
@@ -37,12 +37,15 @@ pub fn hangups_are_determined()
         → IsNothing k done → done ≡ serve k t request.Nothing }
 {}
 
-/// A receive does what its law says, and whatever does all that it says does the same.
+/// A receive does what its law says, and whatever does all that it says does the same: it tells the
+/// first answer that is awaited, or else the first call that waits.
 pub fn receives_are_determined()
     ensures kept { (k : KernelState) (t : TaskNo) → IsSound k
         → IsReceive t k (serve k t request.Receive) }
     ensures determined { (k : KernelState) (t : TaskNo) (done : Served) → IsSound k
         → IsReceive t k done → done ≡ serve k t request.Receive }
+    ensures first { (k : KernelState) (t : TaskNo) (done : Served) → IsSound k
+        → IsReceive t k done → TellsTheFirst t k done }
 {}
 
 /// A forward does what its law says, and whatever does all that it says does the same.
@@ -99,13 +102,16 @@ pub fn areas_are_determined()
         → is_alive k t ≡ true → IsAreaDrop t base k a → IsAreaDrop t base k b → a ≡ b }
 {}
 
-/// A spawn does what its law says, and whatever does all that it says does the same.
+/// A spawn does what its law says, whatever does all that it says does the same, and the state stays
+/// sound.
 pub fn spawns_are_determined()
     ensures kept { (k : KernelState) (limit : ℕ) (names : Option TaskNo) → IsSound k → 1 ≤ limit
         → IsSpawn limit names k (spawn_event k limit names) }
     ensures determined { (limit : ℕ) (names : Option TaskNo) (k : KernelState)
         (done : Transition) → IsSound k → 1 ≤ limit → IsSpawn limit names k done
         → done ≡ spawn_event k limit names }
+    ensures sound { (k : KernelState) (limit : ℕ) (names : Option TaskNo) → IsSound k → 1 ≤ limit
+        → IsSound (spawn_event k limit names).state }
 {}
 
 /// A kill does what its law says, and whatever does all that it says does the same.

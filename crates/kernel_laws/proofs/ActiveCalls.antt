@@ -1,22 +1,18 @@
 -- The active calls of a phone are those that the definitions count.
-use Rattle.std.proofs.Common.{◌≡◌, ℕ, zero, suc, ◌+◌, ◌<◌, ◌≤◌, T, Bool, true, false, cond, ◌&&◌, List, [], ◌∷◌, length, Option, None, Some, refl, ap, sym, subst, ◌∙◌, arith}
+use Rattle.std.proofs.Common.{◌≡◌, ℕ, zero, suc, ◌+◌, ◌≤◌, T, Bool, true, false, cond, ◌&&◌, List, [], ◌∷◌, length, Option, None, Some, refl, ap, sym, subst, ◌∙◌, arith}
 use Rattle.std.specs.Prelude.{◌==◌, if◌then◌else◌, slice_get, remove}
 use Rattle.std.specs.Ordering.{nat_cmp, is_eq}
 use Rattle.std.specs.FinMap.{find, is_sorted, entries, entries_sorted, get-entries}
 use Rattle.std.proofs.lemmas.Bool.{eq-eqb, eqb-true, and_parts}
 use Rattle.ipc_ids.specs.declared.numbers.Label.{Label}
 use Rattle.ipc_ids.specs.declared.numbers.TaskNo.{TaskNo}
-use Rattle.ipc_ids.specs.declared.message.Msg.{Msg}
 use Rattle.ipc_ids.specs.Labels.{same_label}
 use Rattle.call_slab.specs.declared.call.Call.{Call}
 use Rattle.answerbox.specs.Calls.{CallTable, is_caller, is_active_on, count_of, active_calls}
 use Rattle.answerbox.proofs.Fronts.{first, second, greater, key_same, not_tied}
 use Rattle.answerbox.proofs.Fronts as fronts
-use Rattle.cleanup.specs.State.{KernelState, label_of}
-use Rattle.cleanup.specs.Sound.{IsSound}
-use Rattle.kernel_core.specs.Calling.{call}
-use Rattle.kernel_laws.specs.ActiveCalls.{IsOneOf, AreTheActive, HasActive, IsLimitedBy}
-use Rattle.kernel_laws.proofs.LawfulCalls.{call_is_lawful}
+use Rattle.cleanup.specs.State.{label_of}
+use Rattle.kernel_laws.specs.ActiveCalls.{IsOneOf, AreTheActive, HasActive}
 
 -- ---- two lists of the same numbers, each once, are as long as each other
 
@@ -167,14 +163,3 @@ module _ (q : CallTable) (t : TaskNo) (p : ℕ) where
       let over : length ns ≤ length those = no_more ns those h.once (λ n g. are_active.all n (h.others n g)) in
       let under : length those ≤ length ns = no_more those ns are_active.once (λ n g. h.all n (are_active.others n g)) in
       omega (arith, counted, over, under)
-
--- ---- the limit
-
-pub call_is_limited : (k : KernelState) (t : TaskNo) (p : ℕ) (msg : Msg) (ns : List ℕ) → IsSound k → AreTheActive k.calls t p ns → IsLimitedBy k t p msg ns (call k t p msg).outcome
-call_is_limited k t p msg ns sound those =
-    let first = (call_is_lawful k t p msg sound).refusal in
-    let same : active_calls k.calls (label_of t p) ≡ length ns = active_count k.calls t p ns those in
-    record {
-      many = (λ e. let h = first.many.0 e in (h.0, h.1, subst (λ (n : ℕ). 64 ≤ n) same h.2), λ h. first.many.1 (h.0, h.1, subst (λ (n : ℕ). 64 ≤ n) (sym same) h.2));
-      few = (λ e. let h = first.accepted.0 e in (h.0, h.1, subst (λ (n : ℕ). n < 64) same h.2), λ h. first.accepted.1 (h.0, h.1, subst (λ (n : ℕ). n < 64) (sym same) h.2));
-    }

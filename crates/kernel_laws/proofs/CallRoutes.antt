@@ -56,7 +56,7 @@ use Rattle.kernel_core.specs.HangingUp.{hangup_over}
 use Rattle.kernel_core.specs.Request.{serve_request}
 use Rattle.kernel_core.specs.Kernel.{serve}
 use Rattle.kernel_laws.specs.Routes.{Leads, label_by, Comes, GoThere, GoWherePhonesLead}
-use Rattle.kernel_laws.proofs.ReceiveLaws.{user_kind}
+use Rattle.kernel_laws.proofs.Methods.{user_kind}
 
 -- what a table has where a record came, was put to a place, or left
 

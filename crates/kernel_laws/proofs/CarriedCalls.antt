@@ -55,7 +55,7 @@ use Rattle.kernel_core.specs.Kernel.{serve, kill_event}
 use Rattle.kernel_core.proofs.InEvent.{same_place-true}
 use Rattle.kernel_core.proofs.Passing.{held_of}
 use Rattle.kernel_laws.specs.Carrying.{Forwards, IsCarried, AreCarried}
-use Rattle.kernel_laws.proofs.LawfulCalls.{user_kind}
+use Rattle.kernel_laws.proofs.Methods.{user_kind}
 
 -- ---- one record after another
 
@@ -329,10 +329,6 @@ module _ (k : KernelState) (sound : IsSound k) (May : ℕ → Type 0) where
   held : (t : TaskNo) (reply : Reply) (n : ℕ) (o : Option Call) → call_at k.calls n ≡ o → KeepsServed (answer_held k t reply (held_call t o))
   held t reply n None is = at_first
   held t reply n (Some c) is = by_test (λ (x : Option Call). KeepsServed (answer_held k t reply x)) (is_held t c) (Some c) None (λ h. replied c (own n c is) (held_open t c h) t reply) (λ _. at_first)
-
-  not_held : (r : Result Forwarded ForwardFault) → Bool
-  not_held (Err NotHeld) = true
-  not_held _ = false
 
   forwarded : (t : TaskNo) (n p : ℕ) (mode : Mode) (change : Option Msg) → May n → (o : Option Call) (r : Result Forwarded ForwardFault) → call_at k.calls n ≡ o → forward_answer k.calls t (phone_at k t p) n change ≡ r → KeepsServed (forward_told k t p mode change o r)
   forwarded t n p mode change may None (Ok f) is answer = at_first

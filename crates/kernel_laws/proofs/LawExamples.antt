@@ -1,22 +1,17 @@
 -- Wrong machines that the laws refuse, each on one small state.
-use Rattle.std.proofs.Common.{ℕ, zero, suc, ◌+◌, ◌≡◌, ◌<◌, ◌≤◌, ap, true, Option, Some, None, List, [], ◌∷◌, length, refl, inl, arith}
+use Rattle.std.proofs.Common.{ℕ, zero, suc, ◌+◌, ◌≡◌, ◌≤◌, ap, true, Option, Some, None, List, [], ◌∷◌, refl, arith}
 use Rattle.std.specs.FinMap.{empty, get-empty}
 use Rattle.std.specs.Prelude.{slice_get}
 use Rattle.std.specs.Ordering.{nat_cmp}
 use Rattle.ipc_ids.specs.declared.numbers.TaskNo.{TaskNo}
-use Rattle.ipc_ids.specs.declared.message.Msg.{Msg}
 use Rattle.ipc_ids.specs.declared.message.PhoneState.{PhoneState}
-use Rattle.ipc_ids.specs.declared.message.PhoneState.TheVariants.{Free, Connecting, Connected, HungUp}
-use Rattle.ipc_ids.specs.declared.message.Outcome.TheVariants as outcome
-use Rattle.ipc_ids.specs.Codes.{elimit}
+use Rattle.ipc_ids.specs.declared.message.PhoneState.TheVariants.{Connected, HungUp}
 use Rattle.answerbox.specs.Calls.{call_at, no_calls}
 use Rattle.address_space.specs.Areas.{Area}
 use Rattle.address_space.specs.Memory.{Memory, no_memory}
-use Rattle.cleanup.specs.State.{KernelState, phone_at}
-use Rattle.kernel_laws.specs.ActiveCalls.{IsLimitedBy}
+use Rattle.cleanup.specs.State.{KernelState}
 use Rattle.kernel_laws.specs.KillLaws.{TellsWhereItLed}
 use Rattle.kernel_laws.specs.MemoryLaws.{Drops}
-use Rattle.kernel_laws.specs.UsablePhones.{IsUsable, KeepsLeast, KeepsNone}
 
 abbrev one : TaskNo
 one = record { 0 = 1 }
@@ -35,28 +30,6 @@ told_nobody law =
     let none : call_at no_calls told.0 ≡ None = get-empty nat_cmp told.0 in
     let come = told.2.1 in
     absurd (cc (come, none))
-
--- the second free phone is kept, and not the first
-abbrev both_free : KernelState
-both_free = phones (Free ∷ Free ∷ [])
-
-second_kept : KeepsLeast one 1 no_calls both_free (phones (Free ∷ Connecting ∷ [])) → ⊥
-second_kept law = by law.phone law.waits law.least where
-  by : (p : ℕ) → phone_at (phones (Free ∷ Connecting ∷ [])) one p ≡ Some Connecting → ((q : ℕ) → q < p → IsUsable both_free no_calls one q → ⊥) → ⊥
-  by zero waits least = cc waits
-  by (suc zero) waits least = least 0 (omega arith) (inl refl)
-  by (suc (suc p)) waits least = cc waits
-
--- none is kept, though one is free
-none_kept : KeepsNone one 1 no_calls both_free both_free → ⊥
-none_kept law = law.none 0 (inl refl)
-
--- a machine that refuses a call where 63 are active, and one that accepts it where 64 are
-refuses_63 : (k : KernelState) (p : ℕ) (msg : Msg) (ns : List ℕ) → length ns ≡ 63 → IsLimitedBy k one p msg ns (outcome.Refused elimit) → ⊥
-refuses_63 k p msg ns many law = let full = (law.many.0 refl).2 in omega (arith, many, full)
-
-accepts_64 : (k : KernelState) (p : ℕ) (msg : Msg) (ns : List ℕ) → length ns ≡ 64 → IsLimitedBy k one p msg ns (outcome.Accepted (record { 0 = k.calls.next_number })) → ⊥
-accepts_64 k p msg ns many law = let few = (law.few.0 refl).2 in omega (arith, many, few)
 
 -- two areas of the first task, over two stores
 abbrev low : Area

@@ -205,9 +205,6 @@ module _ (m : Memory) (t : TaskNo) (base pages rights : ℕ) (sound : IsSound m)
 
 -- ---- the area with a base
 
-based : (base : ℕ) → Area → Bool
-based base a = a.base == base
-
 same_base : (b base : ℕ) → (b == base) ≡ true → b ≡ base
 same_base b base h = grind (arith, nat_tests)
 
@@ -276,16 +273,6 @@ module _ (m : Memory) (t : TaskNo) (base : ℕ) where
   pub drop_is_lawful : IsLawfulDrop m t base (drop_area m t base)
   drop_is_lawful = by_place (place_of base (areas_of m t)) refl
 
-  -- and in a sound memory there is but one
-  at_base : (a : Area) → IsSound m → HasAt m t base a → IsIn a.base a.pages base
-  at_base a sound h =
-      let some = (range_of m t a sound h.has).some in
-      let same = h.begins in
-      record { from = omega (arith, same); to = omega (arith, same, some) }
-
-  pub base_is_one : (a b : Area) → IsSound m → HasAt m t base a → HasAt m t base b → a ≡ b
-  base_is_one a b sound h g = one_area m t base a b sound h.has g.has (at_base a sound h) (at_base b sound g)
-
 -- ---- a share
 
 among : (r all : ℕ) → r ≤ all → 1 ≤ all → all ≤ 3 → bit_and r all ≡ r → AreAmong r all
@@ -337,9 +324,6 @@ one_base m t base a b sound h g =
 module _ (m : Memory) (from : TaskNo) (base : ℕ) (to : TaskNo) (target pages rights : ℕ) (sound : IsSound m) (added : IsAdded m to) where
   abbrev given : Area → Area
   given a = record { base = target; pages = pages; rights = rights; store = a.store }
-
-  same_test : (p q b : Bool) → p && q ≡ true → (p ≡ true) × (q ≡ true)
-  same_test p q b h = both_true p q h
 
   pub sharable : (a : Area) → HasAt m from base a → (a.pages == pages) && is_subset rights a.rights ≡ true → IsSharable m from base pages rights a
   sharable a has h =

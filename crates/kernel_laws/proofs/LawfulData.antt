@@ -10,14 +10,13 @@ use Rattle.ipc_ids.specs.declared.numbers.TaskNo.{TaskNo}
 use Rattle.ipc_ids.specs.declared.message.Reply.{Reply}
 use Rattle.address_space.specs.declared.area.Right.TheVariants.{Read}
 use Rattle.address_space.specs.Areas.{Area, holder}
-use Rattle.address_space.specs.Memory.{Memory, refused, areas_of, spot_in, read_at, read, write}
+use Rattle.address_space.specs.Memory.{Memory, areas_of, spot_in, read_at, read}
 use Rattle.address_space.specs.Sound.{IsSound}
-use Rattle.data_hooks.specs.DataMoments.{count_of, kept_count, cut_args, pooled, write_kept, write_before_send, write_accept, read_before_send, read_accept}
+use Rattle.data_hooks.specs.DataMoments.{count_of, kept_count, cut_args, pooled, write_kept, write_before_send, read_before_send, read_accept}
 use Rattle.kernel_laws.specs.MemoryLaws.{IsLawfulRead}
-use Rattle.kernel_laws.specs.DataLaws.{first, second, third, IsTooLarge, asked, IsUnreadable, AreTold, IsLawfulCopy, IsLawfulPlacing, IsLawfulAsking, AreCutDown, IsLawfulTaking}
+use Rattle.kernel_laws.specs.DataLaws.{first, second, third, IsTooLarge, asked, IsUnreadable, AreTold, IsLawfulCopy, IsLawfulAsking, AreCutDown, IsLawfulTaking}
 use Rattle.kernel_laws.proofs.OneArea.{found_readable, none_readable}
 use Rattle.kernel_laws.proofs.LawfulReads.{read_is_lawful}
-use Rattle.kernel_laws.proofs.LawfulWrites.{write_is_lawful, get_taken}
 
 -- ---- the tests, decided
 
@@ -111,19 +110,6 @@ module _ (m : Memory) (caller : TaskNo) (args : List ℕ) (used : ℕ) (sound : 
 
 pub length_taken : (bytes : List ℕ) (n : ℕ) → n ≤ length bytes → length (take n bytes) ≡ n
 length_taken bytes n few = grind (arith, common_steps)
-
-module _ (m : Memory) (answerer : TaskNo) (brought : List ℕ) (reply : Reply) (sound : IsSound m) where
-  by_many : (b : Bool) → nat_lt (length brought) (second reply.args) ≡ b → IsLawfulPlacing m answerer brought reply (if b then refused m elimit else write m answerer (first reply.args) (take (second reply.args) brought))
-  by_many true is = let many : length brought < second reply.args = grind (arith, nat_tests, is) in record { more = λ _. (refl, refl); placed = λ few. absurd (omega (arith, many, few)) }
-  by_many false is =
-      let few : second reply.args ≤ length brought = grind (arith, nat_tests, is) in
-      record {
-        more = λ many. absurd (omega (arith, many, few));
-        placed = λ _. (take (second reply.args) brought, record { many = length_taken brought (second reply.args) few; each = λ i less. get_taken brought (second reply.args) i less }, write_is_lawful m answerer (first reply.args) (take (second reply.args) brought) sound);
-      }
-
-  pub placing_is_lawful : IsLawfulPlacing m answerer brought reply (write_accept m answerer brought reply)
-  placing_is_lawful = by_many (nat_lt (length brought) (second reply.args)) refl
 
 -- ---- a DATA_READ
 

@@ -2,6 +2,7 @@ pub mod KilledCalls
 pub mod KillOrder
 pub mod KilledAreas
 pub mod KillLaws
+pub mod Methods
 pub mod ReceiveLaws
 pub mod PoolChanges
 pub mod PoolSteps
@@ -12,13 +13,7 @@ pub mod SpawnLaws
 pub mod CallRoutes
 pub mod KillRoutes
 pub mod PhoneRoutes
-pub mod PhoneCodes
-pub mod KeptPhones
-pub mod FreedPhones
 pub mod ArgumentFive
-pub mod MovedBytes
-pub mod ToldMessages
-pub mod KeptReplies
 pub mod OneArea
 pub mod LawfulReads
 pub mod LawfulWrites
@@ -27,10 +22,10 @@ pub mod LawfulAreas
 pub mod LawfulData
 pub mod LawfulShares
 pub mod LawfulCalls
-pub mod LawfulAnswers
+pub mod AnswerWords
+pub mod HeldCalls
 pub mod CarriedCalls
 pub mod MemoryRequests
-pub mod DeliveredAnswers
 pub mod ActiveCalls
 pub mod UsablePhones
 pub mod ToldHangups

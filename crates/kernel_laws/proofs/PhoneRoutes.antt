@@ -50,6 +50,7 @@ use Rattle.kernel_core.specs.Request.{serve_request}
 use Rattle.kernel_core.specs.Kernel.{serve}
 use Rattle.kernel_core.proofs.Serving.{own, front_at, unawaited_front}
 use Rattle.kernel_laws.specs.Routes.{Leads, IsConnected, LeadWhereConnected}
+use Rattle.kernel_laws.proofs.Methods.{to_me_method, me_to_method}
 use Rattle.kernel_laws.proofs.CallRoutes.{at_dispatched, one_task}
 use Rattle.kernel_laws.proofs.KillRoutes.{IsNowhere, is_there}
 
@@ -78,34 +79,6 @@ kept_went rows (Some l) s nowhere v p u is = state_elsewhere rows l.task.0 l.pho
 pub kept_came : (rows : List (List PhoneState)) (kept : Option Label) (s : PhoneState) (v p : ℕ) (x : PhoneState) → state_at (kept_rows rows kept s) v p ≡ Some x → (state_at rows v p ≡ Some x) ⊎ ((kept ≡ Some (label_at v p)) × (s ≡ x))
 kept_came rows None s v p x is = inl is
 kept_came rows (Some l) s v p x is = elim (state_changed_at rows l.task.0 l.phone.0 v p s x is) [ inl e ↦ inr (ap Some (same_phone l (label_at v p) (sym e.0) (sym e.1)), e.2) | inr e ↦ inl e.1 ]
-
--- which methods the kinds of connect calls have
-
-not_to_me : (a c d e f g h i : Bool) → (if a then PhoneHungUp else if false then ConnectToMe else if c then ConnectMeTo else if d then DataWrite else if e then DataRead else if f then ShareOut else if g then ShareIn else if h then NotBuilt else User) ≡ ConnectToMe → ⊥
-not_to_me true c d e f g h i is = cc
-not_to_me false true d e f g h i is = cc
-not_to_me false false true e f g h i is = cc
-not_to_me false false false true f g h i is = cc
-not_to_me false false false false true g h i is = cc
-not_to_me false false false false false true h i is = cc
-not_to_me false false false false false false true i is = cc
-not_to_me false false false false false false false i is = cc
-
-pub to_me_method : (m : ℕ) → kind_of m ≡ ConnectToMe → m ≡ connect_to_me
-to_me_method m is = elim (cases_eq m 1) [ inl e ↦ e | inr ne ↦ absurd (not_to_me (m == 0) (m == 2) (m == 3) (m == 4) (m == 5) (m == 6) (nat_lt m 512) true (rw (ne_eqb m 1 ne) at is)) ]
-
-not_me_to : (a b d e f g h i : Bool) → (if a then PhoneHungUp else if b then ConnectToMe else if false then ConnectMeTo else if d then DataWrite else if e then DataRead else if f then ShareOut else if g then ShareIn else if h then NotBuilt else User) ≡ ConnectMeTo → ⊥
-not_me_to true b d e f g h i is = cc
-not_me_to false true d e f g h i is = cc
-not_me_to false false true e f g h i is = cc
-not_me_to false false false true f g h i is = cc
-not_me_to false false false false true g h i is = cc
-not_me_to false false false false false true h i is = cc
-not_me_to false false false false false false true i is = cc
-not_me_to false false false false false false false i is = cc
-
-pub me_to_method : (m : ℕ) → kind_of m ≡ ConnectMeTo → m ≡ connect_me_to
-me_to_method m is = elim (cases_eq m 2) [ inl e ↦ e | inr ne ↦ absurd (not_me_to (m == 0) (m == 1) (m == 3) (m == 4) (m == 5) (m == 6) (nat_lt m 512) true (rw (ne_eqb m 2 ne) at is)) ]
 
 -- the phone that a call keeps is the one that is reserved for it
 
@@ -231,9 +204,6 @@ module _ (k : KernelState) (sound : IsSound k) (t : TaskNo) where
 
   dropped : IsRest rest
   dropped = drain_keeps (next_unawaited t) (drop_answer t) IsRest drops (calls_at k.calls (Answers t)) k (record { fine = sound; alike = alike })
-
-  pub rest_sound : IsSound rest
-  rest_sound = dropped.fine
 
   received_as : (c : Call) (kind : MethodKind) → IsAlike (reception t (on_receive_of kind rest c t)).state.tasks.phones
   received_as c ConnectToMe = wrote rest.tasks.phones (first_usable_of rest t) Connecting (usable_nowhere rest t (first_usable_of rest t) refl) waiting_nowhere dropped.alike

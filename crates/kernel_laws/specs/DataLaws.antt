@@ -1,14 +1,15 @@
 -- Which bytes the data methods move, and which areas are shared, in the words of areas, addresses and bytes.
 -- The arguments of a call are a1 to a5, those of its answer b1 to b5.
-use Rattle.std.specs.Prelude.{◌≡◌, ℕ, ◌+◌, ◌<◌, ◌≤◌, ◌↔◌, nat_lt, if◌then◌else◌, List, length, slice_get, slice_index, Option, Result, Ok, Err}
+use Rattle.std.specs.Prelude.{◌≡◌, ℕ, ◌+◌, ◌<◌, ◌≤◌, ◌↔◌, nat_lt, if◌then◌else◌, List, length, slice_get, slice_index, Result, Ok, Err}
 use Rattle.ipc_ids.specs.declared.numbers.Code.{Code}
 use Rattle.ipc_ids.specs.declared.numbers.TaskNo.{TaskNo}
-use Rattle.ipc_ids.specs.declared.numbers.StoreNo.{StoreNo}
 use Rattle.ipc_ids.specs.declared.message.Reply.{Reply}
-use Rattle.ipc_ids.specs.Codes.{enoent, eperm, elimit, enomem}
+use Rattle.ipc_ids.specs.Codes.{eok, enoent, eperm, elimit, enomem}
+use Rattle.ipc_ids.specs.Methods.{data_read}
+use Rattle.call_slab.specs.declared.call.Call.{Call}
 use Rattle.address_space.specs.Areas.{Area}
-use Rattle.address_space.specs.Memory.{Memory, Step}
-use Rattle.kernel_laws.specs.MemoryLaws.{NoArea, HasAt, IsReadable, AreAmong, IsLawfulRead, IsLawfulWrite}
+use Rattle.address_space.specs.Memory.{Memory}
+use Rattle.kernel_laws.specs.MemoryLaws.{NoArea, HasAt, IsReadable, AreAmong, IsLawfulRead}
 
 -- a1 to a3 of a call, or b1 to b3 of an answer
 abbrev pub first : List ℕ → ℕ
@@ -57,14 +58,6 @@ pub record IsLawfulCopy (m : Memory) (caller : TaskNo) (args : List ℕ) (used :
 pub record AreFirst (new : List ℕ) (count : ℕ) (bytes : List ℕ) : Type 0 where
   pub many : length new ≡ count
   pub each : (i : ℕ) → i < count → slice_get new i ≡ slice_get bytes i
-
--- what an accepting answer to a DATA_WRITE does with the bytes that it brought
-pub record IsLawfulPlacing (m : Memory) (answerer : TaskNo) (brought : List ℕ) (reply : Reply) (done : Step (Option StoreNo)) : Type 0 where
-  -- it takes no more than there are
-  pub more : length brought < second reply.args → (done.told ≡ Err elimit) × (done.memory ≡ m)
-  -- the first b2 of them are written, from b1 on
-  pub placed : second reply.args ≤ length brought →
-      (new : List ℕ) × AreFirst new (second reply.args) brought × IsLawfulWrite m answerer (first reply.args) new done
 
 -- whether a DATA_READ is sent, and how many bytes it asks for then
 pub record IsLawfulAsking (args : List ℕ) (told : Result ℕ Code) : Type 0 where
@@ -116,3 +109,13 @@ pub record IsAreaAsked (args : List ℕ) : Type 0 where
 pub record IsLawfulWish (args : List ℕ) (told : Result Unit Code) : Type 0 where
   pub refused : told ≡ Err eperm ↔ (IsAreaAsked args → ⊥)
   pub sent : told ≡ Ok tt ↔ IsAreaAsked args
+
+-- the code of something that was tried: EOK where it was done
+abbrev pub code_after : {A : Type 0} → Result A Code → Code
+code_after (Ok x) = eok
+code_after (Err code) = code
+
+-- the call is a DATA_READ that was accepted
+pub record IsBrought (c : Call) : Type 0 where
+  pub asks : c.request.method ≡ data_read
+  pub accepted : c.reply.code ≡ eok

@@ -1,15 +1,12 @@
 pub mod ActiveCalls
-pub mod AnswerCodes
 pub mod CallCodes
 pub mod Carrying
 pub mod Connecting
 pub mod DataLaws
-pub mod Delivering
+pub mod HeldCalls
 pub mod KillLaws
 pub mod MemoryLaws
 pub mod MemoryRequests
-pub mod Messages
-pub mod PhoneCodes
 pub mod PoolLaws
 pub mod ReceiveLaws
 pub mod Routes

@@ -1,18 +1,15 @@
 -- What a task is told of what it does with its memory, and what it changes: the memory alone, as `MemoryLaws` says.
-use Rattle.std.specs.Prelude.{◌≡◌, ℕ, ⊤, List, [], ◌∷◌, length, Option, None, Some, Result, Ok, Err}
+use Rattle.std.specs.Prelude.{◌≡◌, ℕ, List, [], ◌∷◌, Option, None, Some, Result, Ok, Err}
 use Rattle.ipc_ids.specs.declared.numbers.Code.{Code}
 use Rattle.ipc_ids.specs.declared.numbers.StoreNo.{StoreNo}
 use Rattle.ipc_ids.specs.declared.numbers.TaskNo.{TaskNo}
-use Rattle.ipc_ids.specs.declared.message.Request.{Request}
-use Rattle.ipc_ids.specs.declared.message.Request.TheVariants as request
 use Rattle.ipc_ids.specs.declared.message.Outcome.{Outcome}
 use Rattle.ipc_ids.specs.declared.message.Outcome.TheVariants as outcome
 use Rattle.ipc_ids.specs.declared.entry.Entry.{Entry}
 use Rattle.ipc_ids.specs.declared.entry.Entry.TheVariants as entry
-use Rattle.address_space.specs.Memory.{Memory, Step}
+use Rattle.address_space.specs.Memory.{Memory}
 use Rattle.cleanup.specs.State.{KernelState}
 use Rattle.cleanup.specs.Serving.{Served}
-use Rattle.kernel_laws.specs.MemoryLaws.{IsLawfulMake, IsLawfulDrop, IsLawfulWrite, IsLawfulPeek}
 
 -- the task is told that it was done, or the code of the refusal
 abbrev pub Tells : {A : Type 0} → Result A Code → Outcome → Type 0
@@ -46,16 +43,3 @@ pub record Leaves (k : KernelState) (memory : Memory) (told : List Entry) (done 
   pub entries : done.entries ≡ told
   pub tasks : done.state.tasks ≡ k.tasks
   pub calls : done.state.calls ≡ k.calls
-
--- what a request of task t comes to that is about its memory
-abbrev pub IsLawfulRequest : KernelState → TaskNo → Request → Served → Type 0
-IsLawfulRequest k t (request.AreaMake base pages rights) done =
-    (step : Step StoreNo) × IsLawfulMake k.memory t base pages rights step × Tells step.told done.outcome × Leaves k step.memory (made t base pages rights step.told) done
-IsLawfulRequest k t (request.AreaDrop base) done =
-    (step : Step Unit) × IsLawfulDrop k.memory t base step × Tells step.told done.outcome × Leaves k step.memory (gone t base step.told) done
-IsLawfulRequest k t (request.Poke at bytes) done =
-    (step : Step (Option StoreNo)) × IsLawfulWrite k.memory t at bytes step × Tells step.told done.outcome × Leaves k step.memory (written t at (length bytes) step.told) done
-IsLawfulRequest k t (request.Peek at count) done =
-    (told : Result (List ℕ) Code) × IsLawfulPeek k.memory t at count told × TellsBytes told done.outcome × Leaves k k.memory [] done
-IsLawfulRequest k t request.Nothing done = (done.outcome ≡ outcome.Done) × Leaves k k.memory [] done
-IsLawfulRequest k t _ done = ⊤

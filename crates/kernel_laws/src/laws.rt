@@ -1,4 +1,4 @@
-//! What a kill and a receive come to, over all sound states, and how effects and outcomes agree.
+//! What a kill comes to, how effects and outcomes agree, and what each event does to the pool.
 ghost use Rattle.std.specs.Prelude.{◌≡◌, ℕ, ◌≤◌, true, false, Option};
 ghost use Rattle.ipc_ids.specs.declared.numbers.TaskNo.{TaskNo};
 ghost use Rattle.ipc_ids.specs.declared.message.Msg.{Msg};
@@ -9,13 +9,10 @@ ghost use Rattle.cleanup.specs.State.{KernelState, is_alive};
 ghost use Rattle.cleanup.specs.Sound.{IsSound};
 ghost use Rattle.cleanup.specs.Kill.{kill};
 ghost use Rattle.kernel_core.specs.Calling.{call};
-ghost use Rattle.kernel_core.specs.Receiving.{receive};
 ghost use Rattle.kernel_core.specs.Kernel.{serve, kill_event, spawn_event};
 ghost use Rattle.kernel_core.specs.Effects.{AreEffects, has_delivery, IsHonest};
 ghost use Rattle.kernel_laws.specs.KillLaws.{EndsTask, LeavesNothingOf, EndsWaitingFirst, ClosesPhones, ClosesCalls, ClosesAreas, TellsWhereItLed};
 ghost use Rattle.kernel_laws.specs.PoolLaws.{pool, bytes_asked, HasAnswer, IsFullFor, IsBalanced, IsGivenBack};
-ghost use Rattle.kernel_laws.specs.ReceiveLaws.{IsLawfulReceive};
-ghost use Rattle.kernel_laws.specs.SpawnLaws.{MakesTask};
 
 /// A kill ends the task and no other, leaves nothing of it, ends what waited at it before what it
 /// held, and closes its phones, its calls and its areas, and no others. Each other task that a phone
@@ -35,24 +32,6 @@ pub fn kills_leave_nothing()
         → ClosesAreas t k (kill k t).state }
     ensures told { (k : KernelState) (t : TaskNo) → IsSound k → is_alive k t ≡ true
         → TellsWhereItLed t k (kill k t).state }
-{}
-
-/// A receive drops answers of hangups alone, among them each that came before all awaited ones; then
-/// it tells the first awaited answer, or else the first call that waits. Which answers of hangups it
-/// leaves is said in `kernel_determined`.
-pub fn receives_are_lawful()
-    ensures { (k : KernelState) (t : TaskNo) → IsSound k
-        → IsLawfulReceive t k (receive k t) }
-{}
-
-/// A spawn makes one task with the number after those of all tasks, ended ones too, and so many phones.
-/// Phone 0 leads to the task that is given, where that is alive; all other phones are free. Nothing
-/// else changes, and the state stays sound.
-pub fn spawns_make_one_task()
-    ensures made { (k : KernelState) (limit : ℕ) (names : Option TaskNo) → IsSound k → 1 ≤ limit
-        → MakesTask limit names k (spawn_event k limit names).state }
-    ensures sound { (k : KernelState) (limit : ℕ) (names : Option TaskNo) → IsSound k → 1 ≤ limit
-        → IsSound (spawn_event k limit names).state }
 {}
 
 /// The kernel tells of a request and of a kill by effects alone. A task is told that its call was

@@ -1,5 +1,5 @@
 use Rattle.kernel_laws.proofs.ArgumentFive.{start_tells, serve_tells, kill_tells, spawn_tells}
-use Rattle.kernel_laws.proofs.connecting.argument_five_tells_the_phone.Goals as goal
+use Rattle.kernel_laws.proofs.carrying.argument_five_tells_the_phone.Goals as goal
 
 pub returns-clause-start : goal.returns-clause-start
 returns-clause-start c = start_tells
