@@ -1,6 +1,6 @@
 -- The law of causes at work on short lists: one that keeps it, and the lists of wrong machines, each of which breaks
 -- it. Phone 0 of the client leads to the server.
-use Rattle.std.proofs.Common.{ℕ, ◌≡◌, false, ◌++◌, Option, None, Some, List, [], ◌∷◌, refl, ap, sym, ◌∙◌, inl, inr}
+use Rattle.std.proofs.Common.{ℕ, zero, suc, ◌≡◌, ◌<◌, false, arith, ◌++◌, Option, None, Some, List, [], ◌∷◌, refl, ap, sym, ◌∙◌, inl, inr}
 use Rattle.std.specs.Prelude.{◌==◌}
 use Rattle.std.proofs.lemmas.Bool.{eq-eqb, false≢true}
 use Rattle.ipc_ids.specs.declared.numbers.TaskNo.{TaskNo}
@@ -8,17 +8,18 @@ use Rattle.ipc_ids.specs.declared.numbers.CallNo.{CallNo}
 use Rattle.ipc_ids.specs.declared.numbers.Code.{Code}
 use Rattle.ipc_ids.specs.declared.numbers.Label.{Label}
 use Rattle.ipc_ids.specs.declared.message.Msg.{Msg}
+use Rattle.ipc_ids.specs.declared.message.Mode.TheVariants.{Plain}
 use Rattle.ipc_ids.specs.declared.message.Reply.{Reply}
 use Rattle.ipc_ids.specs.declared.message.PhoneState.TheVariants.{Free, Connecting, Connected, HungUp, Slammed}
 use Rattle.ipc_ids.specs.declared.message.Request.TheVariants as request
 use Rattle.ipc_ids.specs.declared.message.Outcome.TheVariants as outcome
 use Rattle.ipc_ids.specs.declared.entry.Entry.{Entry}
 use Rattle.ipc_ids.specs.declared.entry.Entry.TheVariants as entry
-use Rattle.ipc_ids.specs.Codes.{eok, enoent, ehangup, elimit}
-use Rattle.ipc_ids.specs.Methods.{connect_me_to, first_user_method}
+use Rattle.ipc_ids.specs.Codes.{eok, enoent, eperm, ehangup, elimit}
+use Rattle.ipc_ids.specs.Methods.{connect_me_to, data_write, data_read, share_out, first_user_method}
 use Rattle.ipc_ids.specs.Life.{Incoming, Dispatched}
 use Rattle.ipc_ids.specs.Holdings.{Making, on_top}
-use Rattle.route_laws.specs.Leads.{Beginning}
+use Rattle.route_laws.specs.Leads.{Beginning, phone_in}
 use Rattle.run_determined.specs.PhoneCauses.{AllHaveCause, PhonesChangeForCause}
 
 abbrev client : TaskNo
@@ -135,6 +136,14 @@ after_hangup = on_top (hangs_up 2) after_connection
 abbrev after_end : List Entry
 after_end = on_top ends after_hangup
 
+-- of the client's phones below 1 none is free: phone 0 leads
+none_free_below : (p : ℕ) → p < 1
+    → phone_in began.wires 1 p
+    (entry.Accepted (call_no 1) (phone client 0) connect_me_to (Some server)
+    ∷ entry.Head client (request.Call 0 (msg connect_me_to)) ∷ []) ≡ Free → ⊥
+none_free_below zero few free = cc free
+none_free_below (suc p) few free = absurd (omega (arith, few))
+
 asked : AllHaveCause began [] (asks 1 1)
 asked = (
   record { changes = tt; hung_up = tt; done = tt; way = tt; code = tt; told = tt; dropped = tt },
@@ -142,7 +151,7 @@ asked = (
     record { changes = tt; hung_up = tt; done = tt; way = refl; code = tt; told = tt; dropped = tt },
     (
       record {
-        changes = (refl, refl);
+        changes = ((refl, refl), none_free_below);
         hung_up = λ e. absurd (apart 2 0 e refl);
         done = tt;
         way = tt;
@@ -187,11 +196,14 @@ connected = (
       record {
         changes
             = (
-              refl,
-              refl,
-              refl,
-              refl,
-              record { made = how_made; how = refl; held = refl; phone = inl (refl, refl, refl) },
+              (
+                refl,
+                refl,
+                refl,
+                refl,
+                record { made = how_made; how = refl; held = refl; phone = inl (refl, refl, refl) },
+              ),
+              tt,
             );
         hung_up = tt;
         done = tt;
@@ -215,7 +227,7 @@ hung_up = (
     record { changes = tt; hung_up = tt; done = tt; way = refl; code = tt; told = tt; dropped = tt },
     (
       record {
-        changes = (refl, refl, refl, (refl, refl));
+        changes = ((refl, refl, refl, (refl, refl)), tt);
         hung_up = λ e. refl;
         done = tt;
         way = tt;
@@ -235,7 +247,7 @@ ended : AllHaveCause began after_hangup (ends)
 ended = (
   record { changes = tt; hung_up = tt; done = tt; way = tt; code = tt; told = tt; dropped = tt },
   (
-    record { changes = refl; hung_up = tt; done = tt; way = tt; code = tt; told = tt; dropped = tt },
+    record { changes = (refl, tt); hung_up = tt; done = tt; way = tt; code = tt; told = tt; dropped = tt },
     tt,
   ),
 )
@@ -303,7 +315,7 @@ whole_keeps_the_law =
 -- a phone is connected by the answer to a call that the task has not received
 connected_before_it_is_received : PhonesChangeForCause began (asks 1 1 ++ connects 1 1) → ⊥
 connected_before_it_is_received l =
-    never 1 2 l.1.1.1.1.1.1.0.changes.4.made.caller l.1.1.1.1.1.1.0.changes.4.held where
+    never 1 2 l.1.1.1.1.1.1.0.changes.0.4.made.caller l.1.1.1.1.1.1.0.changes.0.4.held where
       never : (a b c : ℕ) → Incoming a b ≡ Dispatched c b → ⊥
       never a b c e = cc
 
@@ -311,7 +323,7 @@ connected_before_it_is_received l =
 connected_for_another_call : PhonesChangeForCause began
     (asks 1 1 ++ (asks 2 2 ++ (receives 1 ++ (receives 2 ++ connects 1 2)))) → ⊥
 connected_for_another_call l =
-    let c = l.1.1.1.1.1.1.1.1.1.1.1.1.1.1.1.1.0.changes.4 in
+    let c = l.1.1.1.1.1.1.1.1.1.1.1.1.1.1.1.1.0.changes.0.4 in
     elim c.phone [
       | inl h ↦ apart 1 2 (ap phone_in_label h.1) refl
       | inr h ↦ apart 2 1 (ap method_in c.how ∙ h.0) refl
@@ -322,14 +334,14 @@ answered_another_call : PhonesChangeForCause began
     (asks 1 1 ++ (receives 1 ++
     (entry.Head server (request.Answer 2 (with_code eok)) ∷ entry.Answered (call_no 1) (with_code eok)
     (Some server) ∷ entry.PhoneIs (phone client 1) (Connected server) ∷ []))) → ⊥
-answered_another_call l = apart 2 1 l.1.1.1.1.1.1.1.1.1.0.changes.1 refl
+answered_another_call l = apart 2 1 l.1.1.1.1.1.1.1.1.1.0.changes.0.1 refl
 
 -- it is connected though the answer declines
 connected_though_declined : PhonesChangeForCause began
     (asks 1 1 ++ (receives 1 ++
     (entry.Head server (request.Answer 1 (with_code elimit)) ∷ entry.Answered (call_no 1) (with_code elimit)
     (Some server) ∷ entry.PhoneIs (phone client 1) (Connected server) ∷ []))) → ⊥
-connected_though_declined l = apart 5 0 (ap (λ (code : Code). code.0) l.1.1.1.1.1.1.1.1.1.0.changes.2) refl
+connected_though_declined l = apart 5 0 (ap (λ (code : Code). code.0) l.1.1.1.1.1.1.1.1.1.0.changes.0.2) refl
 
 -- a hangup without the entry of its phone
 hung_up_without_its_entry : PhonesChangeForCause began
@@ -343,7 +355,7 @@ hung_up_without_its_entry l = never (l.1.1.0.hung_up refl) where
 hung_up_another_phone : PhonesChangeForCause began
     (entry.Head client (request.Hangup 1) ∷ entry.Accepted (call_no 1) (phone client 0) 0
     (Some server) ∷ entry.PhoneIs (phone client 0) HungUp ∷ []) → ⊥
-hung_up_another_phone l = apart 1 0 l.1.1.0.changes.3.1 refl
+hung_up_another_phone l = apart 1 0 l.1.1.0.changes.0.3.1 refl
 
 -- a call over a phone that leads is accepted, and goes back
 goes_back_though_it_leads : PhonesChangeForCause began (goes_back 1 ehangup) → ⊥
@@ -361,11 +373,11 @@ goes_back_with_another_code l = apart 6 1 (ap (λ (code : Code). code.0) l.1.1.1
 
 -- phones that lead nowhere change without cause: a kill of another task hangs up a free phone, and frees a slammed one
 free_phone_hung_up : PhonesChangeForCause began (entry.Kill other ∷ entry.PhoneIs (phone client 1) HungUp ∷ []) → ⊥
-free_phone_hung_up l = l.1.0.changes
+free_phone_hung_up l = l.1.0.changes.0
 
 slammed_phone_freed : PhonesChangeForCause began
     (ends ++ (entry.Kill other ∷ entry.PhoneIs (phone client 0) Free ∷ [])) → ⊥
-slammed_phone_freed l = l.1.1.1.0.changes
+slammed_phone_freed l = l.1.1.1.0.changes.0
 
 -- a receive of a call with a user's method keeps a phone
 kept_for_a_plain_call : PhonesChangeForCause began
@@ -373,7 +385,7 @@ kept_for_a_plain_call : PhonesChangeForCause began
     (phone client 0) first_user_method (Some server)
     ∷ entry.Head server request.Receive ∷ entry.Received (call_no 1) server ∷ entry.PhoneIs
     (phone server 0) Connecting ∷ []) → ⊥
-kept_for_a_plain_call l = apart 512 1 l.1.1.1.1.0.changes.1 refl
+kept_for_a_plain_call l = apart 512 1 l.1.1.1.1.0.changes.0.1 refl
 
 -- a phone that waits is let go while its call waits on
 let_go_while_it_waits : PhonesChangeForCause began
@@ -381,7 +393,7 @@ let_go_while_it_waits : PhonesChangeForCause began
     (receives 1 ++
     (entry.Head other request.Receive ∷ entry.Delivered (call_no 2) other ∷ entry.PhoneIs (phone client 1) Free ∷
     []))) → ⊥
-let_go_while_it_waits l = never (phone client 1) l.1.1.1.1.1.1.1.1.1.0.changes where
+let_go_while_it_waits l = never (phone client 1) l.1.1.1.1.1.1.1.1.1.0.changes.0 where
   never : (x : Label) → None ≡ Some x → ⊥
   never x e = cc
 
@@ -406,3 +418,115 @@ told_of_an_older_call l = never l.1.1.1.1.1.0.told.0 where
   never : ◌≡◌ {A = Option Entry} (Some (entry.Head client (request.Call 0 (msg connect_me_to))))
       (Some (entry.Head client (request.Call 0 (msg first_user_method)))) → ⊥
   never e = apart 2 512 (ap method_of e) refl
+
+-- ---- phones: which is kept, to whom it leads, and when it is let go or slammed
+
+-- a phone is kept though one with a lower number is free
+kept_above_a_free_one : PhonesChangeForCause began (asks 1 2) → ⊥
+kept_above_a_free_one l = l.1.1.0.changes.1 1 (omega arith) refl
+
+-- the caller's phone is connected to the caller
+connected_to_its_caller : PhonesChangeForCause began
+    (asks 1 1 ++ (receives 1 ++
+    (entry.Head server (request.Answer 1 (with_code eok)) ∷ entry.Answered (call_no 1) (with_code eok)
+    (Some server) ∷ entry.PhoneIs (phone client 1) (Connected client) ∷ []))) → ⊥
+connected_to_its_caller l =
+    let c = l.1.1.1.1.1.1.1.1.1.0.changes.0.4 in
+    elim c.phone [
+      | inl h ↦ apart 1 2 (ap (λ (t : TaskNo). t.0) h.2) refl
+      | inr h ↦ apart 2 1 (ap method_in c.how ∙ h.0) refl
+    ]
+
+-- a phone that leads to a task is freed
+leading_phone_freed : PhonesChangeForCause began (entry.Kill other ∷ entry.PhoneIs (phone client 0) Free ∷ []) → ⊥
+leading_phone_freed l = l.1.0.changes.0
+
+-- it is slammed in the kill of another task than the one to which it leads
+slammed_for_another : PhonesChangeForCause began (entry.Kill other ∷ entry.PhoneIs (phone client 0) Slammed ∷ []) → ⊥
+slammed_for_another l = apart 3 2 (ap (λ (t : TaskNo). t.0) l.1.0.changes.0) refl
+
+-- the phone that the caller keeps is let go as the call is passed on
+let_go_as_it_is_passed_on : PhonesChangeForCause began
+    (asks 1 1 ++
+    (receives 1 ++
+    (entry.Head server (request.Forward 1 0 Plain None) ∷ entry.Forwarded (call_no 1) server other (phone client 0)
+    ∷ entry.PhoneIs (phone client 1) Free ∷ []))) → ⊥
+let_go_as_it_is_passed_on l = never (phone client 1) l.1.1.1.1.1.1.1.1.1.0.changes.0 where
+  never : (x : Label) → None ≡ Some x → ⊥
+  never x e = cc
+
+-- phone 0 of a task that is made leads somewhere, though there is no naming service
+leads_without_a_service : PhonesChangeForCause began
+    (entry.Spawn other ∷ entry.PhoneIs (phone other 0) (Connected client) ∷ []) → ⊥
+leads_without_a_service l = never client l.1.0.changes.0.2 where
+  never : (t : TaskNo) → None ≡ Some t → ⊥
+  never t e = cc
+
+-- a hangup of a slammed phone is told as done, and the phone stays as it is
+slammed_phone_not_hung_up : PhonesChangeForCause began
+    (ends ++ (entry.Head client (request.Hangup 0) ∷ entry.Outcome outcome.Done ∷ [])) → ⊥
+slammed_phone_not_hung_up l = never l.1.1.1.0.done where
+  never : entry.Head client (request.Hangup 0) ≡ entry.PhoneIs (phone client 0) HungUp → ⊥
+  never e = cc
+
+-- ---- calls: where they go, and with which code they go back
+
+-- a call goes to another task than the one to which its phone leads
+goes_to_another_task : PhonesChangeForCause began
+    (entry.Head client (request.Call 0 (msg first_user_method)) ∷ entry.Accepted (call_no 1) (phone client 0)
+    first_user_method (Some other) ∷ []) → ⊥
+goes_to_another_task l = apart 3 2 (ap (λ (t : TaskNo). t.0) l.1.0.way) refl
+
+-- a call over a free phone is accepted
+goes_over_a_free_phone : PhonesChangeForCause began
+    (entry.Head client (request.Call 1 (msg first_user_method)) ∷ entry.Accepted (call_no 1) (phone client 1)
+    first_user_method None ∷ []) → ⊥
+goes_over_a_free_phone l = l.1.0.way
+
+-- a call with a method that is tested goes back with this code, over a phone that leads to the server
+abbrev fails_with : ℕ → Code → List Entry
+fails_with method code =
+    entry.Head client (request.Call 0 (msg method))
+    ∷ entry.Accepted (call_no 1) (phone client 0) method None
+    ∷ entry.Answered (call_no 1) (with_code code) None
+    ∷ []
+
+abbrev number_of : Code → ℕ
+number_of code = code.0
+
+-- a DATA_READ of too many bytes fails with EPERM
+read_fails_with_eperm : PhonesChangeForCause began (fails_with data_read eperm) → ⊥
+read_fails_with_eperm l = elim l.1.1.0.code [
+  | inl h ↦ apart 4 2 h.0 refl
+  | inr (inl h) ↦ apart 4 3 h.0 refl
+  | inr (inr (inl h)) ↦ apart 2 5 (ap number_of h.1) refl
+  | inr (inr (inr (inl h))) ↦ apart 4 5 h.0 refl
+  | inr (inr (inr (inr h))) ↦ apart 4 6 h.0 refl
+]
+
+-- a SHARE_OUT of an area that is not there fails with ELIMIT
+share_fails_with_elimit : PhonesChangeForCause began (fails_with share_out elimit) → ⊥
+share_fails_with_elimit l = elim l.1.1.0.code [
+  | inl h ↦ apart 5 2 h.0 refl
+  | inr (inl h) ↦ apart 5 3 h.0 refl
+  | inr (inr (inl h)) ↦ apart 5 4 h.0 refl
+  | inr (inr (inr (inl h))) ↦ elim h.1 [
+    | inl e ↦ apart 5 1 (ap number_of e) refl
+    | inr e ↦ apart 5 2 (ap number_of e) refl
+  ]
+  | inr (inr (inr (inr h))) ↦ apart 5 6 h.0 refl
+]
+
+-- a DATA_WRITE without room for its bytes fails with ENOENT
+write_fails_with_enoent : PhonesChangeForCause began (fails_with data_write enoent) → ⊥
+write_fails_with_enoent l = elim l.1.1.0.code [
+  | inl h ↦ apart 3 2 h.0 refl
+  | inr (inl h) ↦ elim h.1 [
+    | inl e ↦ apart 1 5 (ap number_of e) refl
+    | inr (inl e) ↦ apart 1 2 (ap number_of e) refl
+    | inr (inr e) ↦ apart 1 9 (ap number_of e) refl
+  ]
+  | inr (inr (inl h)) ↦ apart 3 4 h.0 refl
+  | inr (inr (inr (inl h))) ↦ apart 3 5 h.0 refl
+  | inr (inr (inr (inr h))) ↦ apart 3 6 h.0 refl
+]

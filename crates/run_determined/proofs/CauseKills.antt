@@ -31,6 +31,7 @@ use Rattle.cleanup.proofs.SoundJoins.{incoming_pending, held_pending}
 use Rattle.cleanup.proofs.Silence.{IsEnding, IsAlone, own_phones_hung_up, phones_slammed}
 use Rattle.cleanup.proofs.Queues.{IsLive, IsUncalled, IsIdle, IsUnanswered, front_at, call_from, forget_step, incoming_alone, incoming_settled, dispatched_uncalled, dispatched_settled, drop_idle, answers_dropped, forget_unanswered}
 use Rattle.cleanup.proofs.Killing.{after_hangups, after_slams, after_incoming, after_dispatched}
+use Rattle.kernel_laws.proofs.ReceiveLaws.{at_answers}
 use Rattle.route_laws.specs.Leads.{Beginning, phone_in}
 use Rattle.route_laws.specs.PhoneLaw.{HangsUp, Kills}
 use Rattle.route_laws.proofs.PhoneSteps.{is_some, state_told}
@@ -134,11 +135,6 @@ settle_now q k c reply by (Some u) true = freed_now (entry.Answered c.number rep
 
 no_eok : ehangup ≡ eok → ⊥
 no_eok e = false≢true (ap (λ code. code.0 == 6) (sym e))
-
-at_answers : (t : TaskNo) (place : Place) → same_place place (Answers t) ≡ true → place ≡ Answers t
-at_answers t (Incoming u) h = absurd (false≢true h)
-at_answers t (Dispatched u) h = absurd (false≢true h)
-at_answers t (Answers u) h = ap (λ n. let r : TaskNo = record { 0 = n } in Answers r) (eqb-true u.0 t.0 h)
 
 module _ (b : Beginning) (marks : List Bool) (t : TaskNo) where
   settle_fit : (q : List Entry) (k : KernelState) (c : Call) → IsEnding marks k → IsLive k c → IsPendingAt c.place

@@ -68,11 +68,16 @@ use Rattle.kernel_core.specs.Request.{serve_request}
 use Rattle.kernel_core.proofs.Passing.{held_of}
 use Rattle.kernel_core.proofs.AreaSteps.{quiet_hand}
 use Rattle.kernel_core.proofs.Serving.{own, front_at, unawaited_front, callable_method}
+use Rattle.kernel_laws.proofs.AnswerWords.{same_code}
+use Rattle.kernel_laws.proofs.CallRoutes.{at_dispatched}
+use Rattle.kernel_laws.proofs.Methods.{KindSays, kind_says}
+use Rattle.kernel_laws.proofs.ReceiveLaws.{at_answers, at_incoming}
 use Rattle.route_laws.specs.Leads.{Beginning, phone_in}
 use Rattle.route_laws.specs.PhoneHistory.{TellPhones}
 use Rattle.route_laws.proofs.PhoneSteps.{is_some, state_told, written}
-use Rattle.run_determined.specs.PhoneCauses.{asked_for, lent_for, IsMadeWith, IsConnectedFor, IsConnected, IsKept, IsCause, IsHungUpAtOnce, MayFail, IsWay, IsCodeBack, HadCause}
+use Rattle.run_determined.specs.PhoneCauses.{asked_for, lent_for, IsMadeWith, IsConnectedFor, IsConnected, IsKept, IsCause, IsHungUpAtOnce, MayFail, IsWay, IsTestedCode, IsCodeBack, HadCause}
 use Rattle.run_determined.proofs.CauseSteps.{IsKeptAs, kind_by, TellKept, same_told, CausesFit, WholeFit, whole_next, ArePlain, plain_told, plains_told, phone_told, less_told, gone_keeps, put_kept, new_kept}
+use Rattle.run_determined.proofs.CauseCodes.{FailsWith, write_tested, read_tested, out_tested, in_tested, is_lowest}
 use Rattle.run_determined.proofs.CauseCalls.{After, AfterStep, AfterServed, Fit, accepted_told, hung_up, vanished, delivered, dropped, answered_told, settled, passed}
 
 -- ---- entries that tell of memory alone
@@ -99,27 +104,6 @@ shared_plain t base pages rights (Err code) = tt
 
 -- ---- methods
 
--- what a kind of method says of the method
-abbrev KindSays : MethodKind → ℕ → Type 0
-KindSays ConnectToMe n = n ≡ connect_to_me
-KindSays ConnectMeTo n = n ≡ connect_me_to
-KindSays DataWrite n = n ≡ data_write
-KindSays DataRead n = n ≡ data_read
-KindSays ShareOut n = n ≡ share_out
-KindSays ShareIn n = n ≡ share_in
-KindSays _ n = ⊤
-
-kind_says : (n : ℕ) → KindSays (kind_of n) n
-kind_says n =
-    by_test (λ (x : MethodKind). KindSays x n) (n == phone_hungup) _ _ (λ _. tt)
-    (λ _. by_test (λ (x : MethodKind). KindSays x n) (n == connect_to_me) _ _ (λ e. eqb-true n connect_to_me e)
-    (λ _. by_test (λ (x : MethodKind). KindSays x n) (n == connect_me_to) _ _ (λ e. eqb-true n connect_me_to e)
-    (λ _. by_test (λ (x : MethodKind). KindSays x n) (n == data_write) _ _ (λ e. eqb-true n data_write e)
-    (λ _. by_test (λ (x : MethodKind). KindSays x n) (n == data_read) _ _ (λ e. eqb-true n data_read e)
-    (λ _. by_test (λ (x : MethodKind). KindSays x n) (n == share_out) _ _ (λ e. eqb-true n share_out e)
-    (λ _. by_test (λ (x : MethodKind). KindSays x n) (n == share_in) _ _ (λ e. eqb-true n share_in e)
-    (λ _. by_test (λ (x : MethodKind). KindSays x n) (nat_lt n first_user_method) _ _ (λ _. tt) (λ _. tt))))))))
-
 -- a method that a task may call with is none of a hangup
 pub no_hangup : (m : ℕ) → not (is_callable (kind_of m)) ≡ false → m ≡ phone_hungup → ⊥
 no_hangup m may is = false≢true (callable_method m may ∙ eq-eqb m 0 is)
@@ -127,26 +111,8 @@ no_hangup m may is = false≢true (callable_method m may ∙ eq-eqb m 0 is)
 same_no : (a b : TaskNo) → a.0 ≡ b.0 → a ≡ b
 same_no a b e = ap (λ n. let r : TaskNo = record { 0 = n } in r) e
 
-same_code : (a : Code) → accepts a ≡ true → a ≡ eok
-same_code a is = ap (λ n. let r : Code = record { 0 = n } in r) (eqb-true a.0 0 is)
-
 other_code : (a : Code) → accepts a ≡ false → a ≡ eok → ⊥
 other_code a is e = false≢true (sym is ∙ ap accepts e)
-
-at_dispatched : (t : TaskNo) (place : Place) → same_place place (Dispatched t) ≡ true → place ≡ Dispatched t
-at_dispatched t (Incoming u) h = absurd (false≢true h)
-at_dispatched t (Dispatched u) h = ap (λ n. let r : TaskNo = record { 0 = n } in Dispatched r) (eqb-true u.0 t.0 h)
-at_dispatched t (Answers u) h = absurd (false≢true h)
-
-at_answers : (t : TaskNo) (place : Place) → same_place place (Answers t) ≡ true → place ≡ Answers t
-at_answers t (Incoming u) h = absurd (false≢true h)
-at_answers t (Dispatched u) h = absurd (false≢true h)
-at_answers t (Answers u) h = ap (λ n. let r : TaskNo = record { 0 = n } in Answers r) (eqb-true u.0 t.0 h)
-
-at_incoming : (t : TaskNo) (place : Place) → same_place place (Incoming t) ≡ true → place ≡ Incoming t
-at_incoming t (Incoming u) h = ap (λ n. let r : TaskNo = record { 0 = n } in Incoming r) (eqb-true u.0 t.0 h)
-at_incoming t (Dispatched u) h = absurd (false≢true h)
-at_incoming t (Answers u) h = absurd (false≢true h)
 
 -- a caller that has not ended is the task of the phone that it called over
 maker : (k : KernelState) (from : Label) (u : TaskNo) (o : Option TaskNo) → o ≡ Some u → IsCaller k.tasks from o
@@ -187,10 +153,6 @@ usable_cause names l q (Connected u) n is h = absurd (false≢true is)
 usable_cause names l q HungUp n is h = h
 usable_cause names l q Slammed n is h = absurd (false≢true is)
 
--- numbers apart
-apart : (m n : ℕ) → (m == n) ≡ false → m ≡ n → ⊥
-apart m n ne e = false≢true (sym ne ∙ eq-eqb m n e)
-
 -- task t keeps its first usable phone, as the newest entry says why
 keeping_told : (b : Beginning) (k : KernelState) (t : TaskNo) (l : Label) (q : List Entry) (calls : CallTable)
     → first_usable_of k t ≡ Some l
@@ -206,9 +168,11 @@ keeping_told b k t l q calls first why at_once had phones kept =
         had = (
           had,
           record {
-            changes =
-                subst (λ (s : PhoneState). IsCause b.names l q s Connecting) (sym is)
-                (usable_cause b.names l q u.state (active_calls k.calls l) u.usable why);
+            changes = (
+              subst (λ (s : PhoneState). IsCause b.names l q s Connecting) (sym is)
+              (usable_cause b.names l q u.state (active_calls k.calls l) u.usable why),
+              is_lowest b q k t l first phones,
+            );
             hung_up = at_once;
             done = tt;
             way = tt;
@@ -294,7 +258,7 @@ module _ (b : Beginning) (t : TaskNo) (q : List Entry) (k : KernelState) (f : Fi
         → first_usable_of k t ≡ o
         → AfterServed b q
         (sent_to u k (new_call k t p msg (Incoming u)) (keeping_to_send k (new_call k t p msg (Incoming u)) o))
-    keeping kind says None first = goes_back (Connected u) elimit led (inl says) (λ _. refl)
+    keeping kind says None first = goes_back (Connected u) elimit led (inl says) (inl (says, refl))
     keeping kind says (Some l) first =
         let c : Call = new_call k t p msg (Incoming u) in
         let d : Call = record c { msg = with_fifth c.msg (64 * t.0 + l.phone.0); reserved = Some l } in
@@ -318,37 +282,37 @@ module _ (b : Beginning) (t : TaskNo) (q : List Entry) (k : KernelState) (f : Fi
         (λ m has. sent_own (kind_of msg.method) kind d.number.0 t u u d.reply.code l m d.from msg.method q has)
         f.fit.kept)
 
-    with_bytes : msg.method ≡ data_write → (told : Result (List ℕ) Code)
+    with_bytes : msg.method ≡ data_write → (told : Result (List ℕ) Code) → FailsWith (IsTestedCode msg.method) told
         → AfterServed b q
         (sent_to u k (new_call k t p msg (Incoming u)) (carrying k (new_call k t p msg (Incoming u)) told))
-    with_bytes says (Ok bytes) = goes_to (cut_args msg.args) (cut_down msg) bytes
-    with_bytes says (Err code) =
-        goes_back (Connected u) code led (inr (inl says)) (λ e. absurd (apart 3 2 refl (sym says ∙ e)))
+    with_bytes says (Ok bytes) why = goes_to (cut_args msg.args) (cut_down msg) bytes
+    with_bytes says (Err code) why = goes_back (Connected u) code led (inr (inl says)) why
 
-    wanted : msg.method ≡ data_read → (told : Result ℕ Code)
+    wanted : msg.method ≡ data_read → (told : Result ℕ Code) → FailsWith (IsTestedCode msg.method) told
         → AfterServed b q
         (sent_to u k (new_call k t p msg (Incoming u)) (bringing k (new_call k t p msg (Incoming u)) told))
-    wanted says (Ok count) = goes_to (cut_args msg.args) (cut_down msg) []
-    wanted says (Err code) =
-        goes_back (Connected u) code led (inr (inr (inl says))) (λ e. absurd (apart 4 2 refl (sym says ∙ e)))
+    wanted says (Ok count) why = goes_to (cut_args msg.args) (cut_down msg) []
+    wanted says (Err code) why = goes_back (Connected u) code led (inr (inr (inl says))) why
 
-    wanting : MayFail msg.method → (msg.method ≡ connect_me_to → ⊥) → (told : Result Unit Code)
+    wanting : MayFail msg.method → (told : Result Unit Code) → FailsWith (IsTestedCode msg.method) told
         → AfterServed b q
         (sent_to u k (new_call k t p msg (Incoming u)) (asking k (new_call k t p msg (Incoming u)) told))
-    wanting may other (Ok done) = goes_to msg.args msg []
-    wanting may other (Err code) = goes_back (Connected u) code led may (λ e. absurd (other e))
+    wanting may (Ok done) why = goes_to msg.args msg []
+    wanting may (Err code) why = goes_back (Connected u) code led may why
 
     sent : (kind : MethodKind) → kind_of msg.method ≡ kind → KindSays kind msg.method
         → AfterServed b q
         (sent_to u k (new_call k t p msg (Incoming u)) (before_send_of kind k (new_call k t p msg (Incoming u))))
     sent ConnectMeTo kind says = keeping kind says (first_usable_of k t) refl
-    sent DataWrite kind says = with_bytes says (write_before_send k.memory t msg.args (used k.calls))
-    sent DataRead kind says = wanted says (read_before_send msg.args)
+    sent DataWrite kind says =
+        with_bytes says (write_before_send k.memory t msg.args (used k.calls))
+        (write_tested msg.method k.memory t msg.args (used k.calls) says)
+    sent DataRead kind says = wanted says (read_before_send msg.args) (read_tested msg.method msg.args says)
     sent ShareOut kind says =
-        wanting (inr (inr (inr (inl says)))) (λ e. apart 5 2 refl (sym says ∙ e))
-        (out_before_send k.memory t msg.args)
+        wanting (inr (inr (inr (inl says)))) (out_before_send k.memory t msg.args)
+        (out_tested msg.method k.memory t msg.args says)
     sent ShareIn kind says =
-        wanting (inr (inr (inr (inr says)))) (λ e. apart 6 2 refl (sym says ∙ e)) (in_before_send msg.args)
+        wanting (inr (inr (inr (inr says)))) (in_before_send msg.args) (in_tested msg.method msg.args says)
     sent _ kind says = goes_to msg.args msg []
 
   through : (s : PhoneState) → phone_at k t p ≡ Some s → AfterServed b q (call_through k t p msg s)

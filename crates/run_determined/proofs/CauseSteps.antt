@@ -25,7 +25,7 @@ use Rattle.cleanup.proofs.Lookups.{at_insert, at_remove, chosen, same_call}
 use Rattle.route_laws.specs.Leads.{Beginning, phone_in}
 use Rattle.route_laws.specs.PhoneHistory.{TellPhones}
 use Rattle.route_laws.proofs.PhoneSteps.{IsLiveIn, is_some, state_told, written}
-use Rattle.run_determined.specs.PhoneCauses.{asked_for, lent_for, IsCause, IsHungUpAtOnce, TellsBack, HasItsCause, IsWhole, HadCause}
+use Rattle.run_determined.specs.PhoneCauses.{asked_for, lent_for, IsCause, IsLowest, IsHungUpAtOnce, TellsBack, HasItsCause, IsWhole, HadCause}
 
 -- ---- what the entries tell of the phones that calls keep
 
@@ -146,13 +146,28 @@ module _ (b : Beginning) (rows : List (List PhoneState)) where
       fit = record {
         had = (
           f.had,
-          record { changes = cause; hung_up = at_once; done = tt; way = tt; code = tt; told = tt; dropped = tt },
+          record {
+            changes = (cause, no_choice s not);
+            hung_up = at_once;
+            done = tt;
+            way = tt;
+            code = tt;
+            told = tt;
+            dropped = tt;
+          },
         );
         phones = λ t p. written rows l s there t p (phone_in b.wires t p q) (f.phones t p);
         kept = same_told q (entry.PhoneIs l s ∷ q) calls (λ n. words n s not) f.kept;
       };
       whole = tt;
     } where
+      no_choice : (s : PhoneState) → (s ≡ Connecting → ⊥) → IsLowest b l q s
+      no_choice Free other = tt
+      no_choice Connecting other = absurd (other refl)
+      no_choice (Connected u) other = tt
+      no_choice HungUp other = tt
+      no_choice Slammed other = tt
+
       words : (n : ℕ) (s : PhoneState) → (s ≡ Connecting → ⊥) → TellsSame n q (entry.PhoneIs l s ∷ q)
       words n Free other = (refl, refl)
       words n Connecting other = absurd (other refl)

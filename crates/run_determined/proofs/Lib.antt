@@ -1,6 +1,7 @@
 pub mod AsyncSends
 pub mod AsyncStays
 pub mod CauseSteps
+pub mod CauseCodes
 pub mod CauseCalls
 pub mod CauseRequests
 pub mod CauseKills

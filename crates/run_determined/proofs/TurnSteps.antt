@@ -317,7 +317,7 @@ module _ (b : Beginning) (n : ℕ) (begins : BeginAt n b.wires) where
       (named b n begins q came u.0 (dropped_by (tales q) k.0 u.0 (life k.0 (tales q)) l.2.0))
   in_turn q (entry.PhoneIs l s) came plain lawful had known =
       λ t it. subst (IsOneOf (count_after n q)) it
-      (caused_in_turn l q came (phone_in b.wires l.task.0 l.phone.0 q) s refl had.changes)
+      (caused_in_turn l q came (phone_in b.wires l.task.0 l.phone.0 q) s refl had.changes.0)
   in_turn q (entry.Head u asked) came plain l had known = λ t it. subst (IsOneOf (count_after n q)) it known
   in_turn q (entry.Kill u) came plain l had known = λ t it. subst (IsOneOf (count_after n q)) it known
   in_turn q (entry.Gone u) came plain l had known = λ t it. subst (IsOneOf (count_after n q)) it known

@@ -1,6 +1,6 @@
 -- The whole life of a phone, in a list of entries: each change of a phone stands right behind the entry that is its
 -- cause, and each call goes the way that its phone has. Each entry is read with those before it, the newest first.
-use Rattle.std.specs.Prelude.{ℕ, ◌≡◌, ◌==◌, ◌⊎◌, Bool, false, if◌then◌else◌, Option, None, Some, List, [], ◌∷◌, ⊤}
+use Rattle.std.specs.Prelude.{ℕ, ◌≡◌, ◌<◌, ◌==◌, ◌⊎◌, Bool, false, if◌then◌else◌, Option, None, Some, List, [], ◌∷◌, ⊤}
 use Rattle.ipc_ids.specs.declared.numbers.TaskNo.{TaskNo}
 use Rattle.ipc_ids.specs.declared.numbers.Label.{Label}
 use Rattle.ipc_ids.specs.declared.numbers.Code.{Code}
@@ -10,7 +10,7 @@ use Rattle.ipc_ids.specs.declared.message.Request.TheVariants as request
 use Rattle.ipc_ids.specs.declared.message.Outcome.TheVariants as outcome
 use Rattle.ipc_ids.specs.declared.entry.Entry.{Entry}
 use Rattle.ipc_ids.specs.declared.entry.Entry.TheVariants as entry
-use Rattle.ipc_ids.specs.Codes.{eok, enoent, elimit, ehangup}
+use Rattle.ipc_ids.specs.Codes.{eok, enoent, eperm, elimit, ehangup, enomem}
 use Rattle.ipc_ids.specs.Methods.{phone_hungup, connect_to_me, connect_me_to, data_write, data_read, share_out, share_in}
 use Rattle.ipc_ids.specs.Tales.{tales}
 use Rattle.ipc_ids.specs.Life.{Dispatched, life}
@@ -112,9 +112,15 @@ IsCause names l q _ _ = ⊥
 
 -- ---- the laws
 
+-- of the phones of its task none with a lower number than one that is kept is free
+abbrev pub IsLowest : Beginning → Label → List Entry → PhoneState → Type 0
+IsLowest b l q Connecting = (p : ℕ) → p < l.phone.0 → phone_in b.wires l.task.0 p q ≡ Free → ⊥
+IsLowest b l q _ = ⊤
+
 -- a phone changes only for its cause
 abbrev pub ChangesForCause : Beginning → List Entry → Entry → Type 0
-ChangesForCause b q (entry.PhoneIs l s) = IsCause b.names l q (phone_in b.wires l.task.0 l.phone.0 q) s
+ChangesForCause b q (entry.PhoneIs l s) =
+    IsCause b.names l q (phone_in b.wires l.task.0 l.phone.0 q) s × IsLowest b l q s
 ChangesForCause b q _ = ⊤
 
 -- a call that tells of a hangup is followed at once by the entry that its phone is hung up
@@ -156,9 +162,24 @@ abbrev pub GoesItsWay : Beginning → List Entry → Entry → Type 0
 GoesItsWay b q (entry.Accepted n from method to) = IsWay method to (phone_in b.wires from.task.0 from.phone.0 q)
 GoesItsWay b q _ = ⊤
 
+-- why bytes are not copied: there are too many, or they may not be read, or the pool has no room for them
+abbrev pub IsCopyCode : Code → Type 0
+IsCopyCode code = (code ≡ elimit) ⊎ ((code ≡ eperm) ⊎ (code ≡ enomem))
+
+-- why an area is not offered: there is none, or it has other pages or not these rights
+abbrev pub IsOfferCode : Code → Type 0
+IsOfferCode code = (code ≡ enoent) ⊎ (code ≡ eperm)
+
+-- the code with which a call with this method fails that is tested before it is sent
+abbrev pub IsTestedCode : ℕ → Code → Type 0
+IsTestedCode method code =
+    ((method ≡ connect_me_to) × (code ≡ elimit)) ⊎ ((method ≡ data_write) × IsCopyCode code)
+    ⊎ ((method ≡ data_read) × (code ≡ elimit)) ⊎ ((method ≡ share_out) × IsOfferCode code)
+    ⊎ ((method ≡ share_in) × (code ≡ eperm))
+
 -- the code with which a call goes back over a phone in this state
 abbrev pub IsCodeBack : ℕ → Code → PhoneState → Type 0
-IsCodeBack method code (Connected u) = method ≡ connect_me_to → code ≡ elimit
+IsCodeBack method code (Connected u) = IsTestedCode method code
 IsCodeBack method code HungUp = code ≡ ehangup
 IsCodeBack method code Slammed = code ≡ enoent
 IsCodeBack method code _ = ⊥
