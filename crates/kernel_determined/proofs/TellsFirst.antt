@@ -1,6 +1,7 @@
 -- A receive tells what is first: of the answers that are awaited, or else of the calls that wait. It follows from the
 -- law of a receive alone: what is dropped before are answers of hangups, and no phone changes by that.
 use Rattle.std.proofs.Common.{◌≡◌, ℕ, ◌<◌, ◌≤◌, ◌⊎◌, inl, inr, List, [], ◌∷◌, Option, None, Some, refl, sym, ap, subst, ◌∙◌, arith}
+use Rattle.std.specs.Prelude.{⊤}
 use Rattle.std.proofs.lemmas.Bool.{cases_eq, cases_lt}
 use Rattle.ipc_ids.specs.declared.numbers.Label.{Label}
 use Rattle.ipc_ids.specs.declared.numbers.TaskNo.{TaskNo}
@@ -84,12 +85,12 @@ module _ (t : TaskNo) (k : KernelState) where
   stays_gone : (n : ℕ) (xs : List ℕ) (i a : KernelState) (m : List Entry) → call_at i.calls n ≡ None
       → InTurn (DropsAnswer t) xs i a m → call_at a.calls n ≡ None
   stays_gone n xs i a m none f =
-      turns_hold (DropsAnswer t) (λ (j : KernelState). call_at j.calls n ≡ None) (λ p. ℕ)
+      turns_hold (DropsAnswer t) (λ (j : KernelState). call_at j.calls n ≡ None) (λ p. ⊤)
       (λ j p b es gone so y. elim (cases_eq n p) [
         | inl e ↦ ap (call_at b.calls) e ∙ y.calls.gone
         | inr ne ↦ y.calls.others n ne ∙ gone
       ])
-      xs (λ p h. p) i a m none f
+      xs (λ p h. tt) i a m none f
 
   all_gone : (n : ℕ) (xs : List ℕ) (i a : KernelState) (m : List Entry) → IsAmong n xs
       → InTurn (DropsAnswer t) xs i a m → call_at a.calls n ≡ None
