@@ -1,7 +1,7 @@
 -- The law of causes at work on short lists: one that keeps it, and the lists of wrong machines, each of which breaks
 -- it. Phone 0 of the client leads to the server.
 use Rattle.std.proofs.Common.{ℕ, zero, suc, ◌≡◌, ◌<◌, false, arith, ◌++◌, Option, None, Some, List, [], ◌∷◌, refl, ap, sym, ◌∙◌, inl, inr}
-use Rattle.std.specs.Prelude.{◌==◌}
+use Rattle.std.specs.Prelude.{◌==◌, slice_index}
 use Rattle.std.proofs.lemmas.Bool.{eq-eqb, false≢true}
 use Rattle.ipc_ids.specs.declared.numbers.TaskNo.{TaskNo}
 use Rattle.ipc_ids.specs.declared.numbers.CallNo.{CallNo}
@@ -19,8 +19,12 @@ use Rattle.ipc_ids.specs.Codes.{eok, enoent, eperm, ehangup, elimit}
 use Rattle.ipc_ids.specs.Methods.{connect_me_to, data_write, data_read, share_out, first_user_method}
 use Rattle.ipc_ids.specs.Life.{Incoming, Dispatched}
 use Rattle.ipc_ids.specs.Holdings.{Making, on_top}
+use Rattle.call_slab.specs.declared.call.Call.{Call}
+use Rattle.call_slab.specs.declared.call.Place.TheVariants as place
+use Rattle.answerbox.specs.Calls.{CallTable, call_at}
 use Rattle.route_laws.specs.Leads.{Beginning, phone_in}
 use Rattle.run_determined.specs.PhoneCauses.{AllHaveCause, PhonesChangeForCause}
+use Rattle.run_determined.specs.ToldPhones.{TellKeptPhones}
 
 abbrev client : TaskNo
 client = record { 0 = 1 }
@@ -436,6 +440,12 @@ connected_to_its_caller l =
       | inl h ↦ apart 1 2 (ap (λ (t : TaskNo). t.0) h.2) refl
       | inr h ↦ apart 2 1 (ap method_in c.how ∙ h.0) refl
     ]
+
+-- the message of the call that is held tells no phone
+tells_another_phone : (calls : CallTable) (c : Call) → call_at calls 1 ≡ Some c → c.place ≡ place.Dispatched server
+    → c.request.method ≡ connect_me_to → slice_index c.msg.args 4 ≡ 0 → TellKeptPhones after_receipt calls → ⊥
+tells_another_phone calls c is at asks zero law =
+    apart 65 0 (sym (law 1 c server (phone client 1) is at asks refl) ∙ zero) refl
 
 -- a phone that leads to a task is freed
 leading_phone_freed : PhonesChangeForCause began (entry.Kill other ∷ entry.PhoneIs (phone client 0) Free ∷ []) → ⊥

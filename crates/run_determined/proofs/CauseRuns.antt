@@ -57,7 +57,7 @@ entries_plain (any.Async p) o = all_plain p.state.me.0 (step p.state o).entries 
 
 -- before the first event
 
-none_made : (o : Option Making) (m : Making) → o ≡ None → o ≡ Some m → ⊥
+pub none_made : (o : Option Making) (m : Making) → o ≡ None → o ≡ Some m → ⊥
 none_made o m a b = cc
 
 pub start_caused : (plan : Plan) → RunFits (beginning plan) [] (start plan)
@@ -138,11 +138,17 @@ events_kept b h now told f (e ∷ events) may =
     (events_kept b (h ++ next.entries) next.state (turn_fits b h now told e may.0)
     (turn_kept b h now told f e) events (later_may now e events may))
 
+pub run_causes : (plan : Plan) (events : List Event) → IsSound plan
+    → MayAllCome (length plan.tasks) (length plan.templates) events
+    → CausesKept (beginning plan) (run plan events) (state_after (start plan) events).kernel
+run_causes plan events sound may =
+    let told : RunFits (beginning plan) [] (start plan) = start_told plan sound in
+    events_kept (beginning plan) [] (start plan) told (start_caused plan told) events
+    (may_from plan events (start plan) refl may)
+
 pub run_is_caused : (plan : Plan) (events : List Event) → IsSound plan
     → MayAllCome (length plan.tasks) (length plan.templates) events
     → PhonesChangeForCause (beginning plan) (run plan events)
 run_is_caused plan events sound may =
-    let told : RunFits (beginning plan) [] (start plan) = start_told plan sound in
     kept_are_caused (beginning plan) (run plan events) (state_after (start plan) events).kernel
-    (events_kept (beginning plan) [] (start plan) told (start_caused plan told) events
-    (may_from plan events (start plan) refl may))
+    (run_causes plan events sound may)

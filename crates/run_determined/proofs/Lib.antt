@@ -11,6 +11,7 @@ mod CauseExamples
 pub mod LiveCalls
 pub mod LiveEvents
 pub mod LiveRuns
+pub mod ToldPhones
 mod LiveExamples
 pub mod ScheduleLines
 mod ScheduleExamples

@@ -235,7 +235,8 @@ waits_live b h now it i p at alive f n blocked =
           absurd (false≢true (sym (fits.fits.answers.not_given n.0 d awaited.1) ∙ (it.sends t).gives n.0 over.1))
     ]
 
-may_first : (tasks templates : ℕ) (done later : List Event) → MayAllCome tasks templates (done ++ later)
+-- what a schedule may ask, so may a first part of it
+pub may_first : (tasks templates : ℕ) (done later : List Event) → MayAllCome tasks templates (done ++ later)
     → MayAllCome tasks templates done
 may_first tasks templates [] later may = tt
 may_first tasks templates (e ∷ done) later may = (may.0, may_first (tasks_after tasks e) templates done later may.1)

@@ -33,6 +33,7 @@ use Rattle.ipc_ids.specs.declared.entry.Entry.{Entry}
 use Rattle.run_determined.specs.ScheduleLines.{AreFirstOps}
 use Rattle.run_determined.specs.TaskPrograms.{plans_after, IsProgramOf, RunThePlans, TasksRunTheirPlans}
 use Rattle.run_determined.proofs.AsyncStays.{step_still}
+use Rattle.run_determined.proofs.LiveRuns.{may_first}
 use Rattle.run_determined.proofs.ScheduleLines.{bodies_still, first_ops, turn_keeps}
 
 -- ---- a raw program keeps its operations
@@ -259,11 +260,6 @@ start_plans plan = record {
 } where
   one_more : (i : ℕ) → 1 + i ≡ suc i
   one_more i = omega arith
-
-may_first : (tasks templates : ℕ) (done later : List Event) → MayAllCome tasks templates (done ++ later)
-    → MayAllCome tasks templates done
-may_first tasks templates [] later may = tt
-may_first tasks templates (e ∷ done) later may = (may.0, may_first (tasks_after tasks e) templates done later may.1)
 
 pub tasks_run_their_plans : (plan : Plan) (events : List Event) → IsSound plan
     → MayAllCome (length plan.tasks) (length plan.templates) events → TasksRunTheirPlans plan events

@@ -3,3 +3,4 @@ pub mod PhoneCauses
 pub mod ScheduleLines
 pub mod TaskPrograms
 pub mod TasksInTurn
+pub mod ToldPhones

@@ -10,6 +10,7 @@ ghost use Rattle.run_determined.specs.LiveWaits.{WaitsAreForLiveCalls};
 ghost use Rattle.run_determined.specs.PhoneCauses.{PhonesChangeForCause};
 ghost use Rattle.run_determined.specs.ScheduleLines.{SpawnsMakeTheirTemplate, HangupLinesHangUpTheirPhone};
 ghost use Rattle.run_determined.specs.TaskPrograms.{TasksRunTheirPlans};
+ghost use Rattle.run_determined.specs.ToldPhones.{ConnectCallsTellTheirPhone};
 ghost use Rattle.run_determined.specs.TasksInTurn.{TasksComeInTurn, NothingComesBeforeItsSpawn};
 
 /// Each change of a phone stands right behind the entry that is its cause, and each call goes the
@@ -18,6 +19,14 @@ pub fn phones_change_for_cause()
     ensures { (plan : Plan) (events : List Event) → IsSound plan
         → MayAllCome (length plan.tasks) (length plan.templates) events
         → PhonesChangeForCause (beginning plan) (run plan events) }
+{}
+
+/// Argument 5 of a `CONNECT_ME_TO` that a task holds tells the phone that the entries say to be kept
+/// for it, which is the one that an answer `EOK` connects: so while all messages have five arguments.
+pub fn connect_calls_tell_their_phone()
+    ensures { (plan : Plan) (events : List Event) → IsSound plan
+        → MayAllCome (length plan.tasks) (length plan.templates) events
+        → ConnectCallsTellTheirPhone plan events }
 {}
 
 /// Each entry is of a task of the script or of one that was made before it, and tasks are numbered
