@@ -42,5 +42,5 @@ pub read_method : (m : ℕ) → kind_of m ≡ DataRead → m ≡ data_read
 read_method m is = subst (λ (x : MethodKind). KindSays x m) is (kind_says m)
 
 -- each user's method is of one kind
-pub user_kind : (m : ℕ) → first_user_method ≤ m → kind_of m ≡ User
+pub user_kind : (m : ℕ) → 512 ≤ m → kind_of m ≡ User
 user_kind m far = grind (arith, nat_tests, far)
