@@ -444,8 +444,8 @@ connected_to_its_caller l =
 -- the message of the call that is held tells no phone
 tells_another_phone : (calls : CallTable) (c : Call) → call_at calls 1 ≡ Some c → c.place ≡ place.Dispatched server
     → c.request.method ≡ connect_me_to → slice_index c.msg.args 4 ≡ 0 → TellKeptPhones after_receipt calls → ⊥
-tells_another_phone calls c is at asks zero law =
-    apart 65 0 (sym (law 1 c server (phone client 1) is at asks refl) ∙ zero) refl
+tells_another_phone calls c is at asks none law =
+    apart 65 0 (sym (law 1 c server (phone client 1) is at asks refl) ∙ none) refl
 
 -- a phone that leads to a task is freed
 leading_phone_freed : PhonesChangeForCause began (entry.Kill other ∷ entry.PhoneIs (phone client 0) Free ∷ []) → ⊥
