@@ -170,7 +170,7 @@ keeping_told b k t l q calls first why at_once had phones kept =
           record {
             changes = (
               subst (λ (s : PhoneState). IsCause b.names l q s Connecting) (sym is)
-              (usable_cause b.names l q u.state (active_calls k.calls l) u.usable why),
+                  (usable_cause b.names l q u.state (active_calls k.calls l) u.usable why),
               is_lowest b q k t l first phones,
             );
             hung_up = at_once;
