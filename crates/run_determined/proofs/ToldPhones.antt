@@ -104,7 +104,7 @@ told_phones b h now told causes tells n c t l is at asks kept = by_phone c.reser
       (subst (λ (place : Place). NeedsPhone (keeper_of ConnectMeTo) place c.reply.code) (sym at) tt))
 
   by_phone : (o : Option Label) → c.reserved ≡ o → IsSome o → slice_index c.msg.args 4 ≡ 64 * l.task.0 + l.phone.0
-  by_phone None e some = absurd some
+  by_phone None e some = absurd (cc some)
   by_phone (Some m) e some =
       let own : asked_for n (newest_first h) ≡ Some m =
       subst (λ (x : MethodKind). IsKeptAs x n m (newest_first h)) kind (causes.fit.kept n c m is (keeps ∙ e)) in
