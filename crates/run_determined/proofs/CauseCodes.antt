@@ -1,6 +1,6 @@
 -- The codes with which calls fail that are tested, and which phone is kept.
-use Rattle.std.proofs.Common.{◌≡◌, ℕ, zero, suc, ◌<◌, ◌⊎◌, inl, inr, List, [], ◌∷◌, Option, None, Some, Result, Ok, Err, refl, ap, sym, subst, ◌∙◌, arith, nat_lt}
-use Rattle.std.specs.Prelude.{⊤, ◌+◌, ◌==◌, ◌&&◌, if◌then◌else◌, slice_get, unwrap_or}
+use Rattle.std.proofs.Common.{◌≡◌, ℕ, zero, suc, ◌<◌, inl, inr, List, [], ◌∷◌, Option, None, Some, Result, Ok, Err, refl, ap, sym, subst, ◌∙◌, arith, nat_lt}
+use Rattle.std.specs.Prelude.{⊤, ◌+◌, ◌==◌, ◌&&◌, slice_get, unwrap_or}
 use Rattle.ipc_ids.specs.declared.numbers.Code.{Code}
 use Rattle.ipc_ids.specs.declared.numbers.Label.{Label}
 use Rattle.ipc_ids.specs.declared.numbers.TaskNo.{TaskNo}
@@ -21,7 +21,7 @@ use Rattle.cleanup.specs.Kept.{first_usable_of}
 use Rattle.cleanup.proofs.Repeats.{by_test}
 use Rattle.cleanup.proofs.Usable.{IsUsable, usable_is}
 use Rattle.kernel_laws.proofs.UsablePhones.{least_one}
-use Rattle.route_laws.specs.Leads.{Beginning, phone_in}
+use Rattle.route_laws.specs.Leads.{Beginning}
 use Rattle.route_laws.specs.PhoneHistory.{TellPhones}
 use Rattle.run_determined.specs.PhoneCauses.{IsLowest, IsCopyCode, IsOfferCode, IsTestedCode}
 

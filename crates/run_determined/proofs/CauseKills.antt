@@ -14,9 +14,8 @@ use Rattle.ipc_ids.specs.Codes.{eok, ehangup}
 use Rattle.ipc_ids.specs.Holdings.{on_top, present}
 use Rattle.ipc_ids.proofs.LawfulAreas.{on_top-append}
 use Rattle.call_slab.specs.declared.call.Call.{Call}
-use Rattle.call_slab.specs.declared.call.Place.{Place}
 use Rattle.call_slab.specs.declared.call.Place.TheVariants.{Incoming, Dispatched, Answers}
-use Rattle.answerbox.specs.Calls.{calls_at, calls_by, same_place, with_record}
+use Rattle.answerbox.specs.Calls.{calls_at, calls_by, with_record}
 use Rattle.address_space.specs.Memory.{first_area, count_areas}
 use Rattle.cleanup.specs.State.{KernelState, Transition, then_do, phone_at, label_of, is_alive}
 use Rattle.cleanup.specs.Sound.{IsSound}

@@ -1,6 +1,6 @@
 -- Each request keeps the causes.
 use Rattle.std.proofs.Common.{◌≡◌, ℕ, Bool, true, false, not, ◌⊎◌, List, [], ◌∷◌, length, Option, None, Some, Result, Ok, Err, refl, ap, sym, subst, ◌∙◌, inl, inr, nat_le}
-use Rattle.std.specs.Prelude.{⊤, ◌+◌, ◌*◌, ◌==◌, if◌then◌else◌, nat_lt}
+use Rattle.std.specs.Prelude.{◌+◌, ◌*◌, ◌==◌, if◌then◌else◌}
 use Rattle.std.specs.Option.{option_to_list}
 use Rattle.std.proofs.lemmas.Bool.{eqb-true, eq-eqb, ne_eqb, false≢true}
 use Rattle.ipc_ids.specs.declared.numbers.TaskNo.{TaskNo}
@@ -19,7 +19,7 @@ use Rattle.ipc_ids.specs.declared.message.PhoneState.TheVariants.{Free, Connecti
 use Rattle.ipc_ids.specs.declared.entry.Entry.{Entry}
 use Rattle.ipc_ids.specs.declared.entry.Entry.TheVariants as entry
 use Rattle.ipc_ids.specs.Codes.{eok, enoent, eperm, elimit, ehangup, eforward}
-use Rattle.ipc_ids.specs.Methods.{kind_of, phone_hungup, connect_to_me, connect_me_to, data_write, data_read, share_out, share_in, first_user_method}
+use Rattle.ipc_ids.specs.Methods.{kind_of, phone_hungup, connect_to_me, connect_me_to, data_write, data_read}
 use Rattle.ipc_ids.specs.Tables.{most_active}
 use Rattle.ipc_ids.specs.Tales.{tales}
 use Rattle.ipc_ids.specs.Life.{life}

@@ -18,14 +18,16 @@ use Rattle.script_lines.specs.declared.plan.TaskPlan.{TaskPlan}
 use Rattle.answerbox.specs.Calls.{no_calls}
 use Rattle.address_space.specs.Memory.{no_memory}
 use Rattle.cleanup.specs.State as kernel
-use Rattle.kernel_core.specs.Kernel.{spawn_event}
+use Rattle.kernel_core.specs.Kernel.{serve, spawn_event}
 use Rattle.kernel_laws.specs.SpawnLaws.{new_number}
 use Rattle.task_system.specs.declared.any.AnyProgram.{AnyProgram}
 use Rattle.task_system.specs.declared.any.AnyProgram.TheVariants as any
-use Rattle.task_system.specs.Run.{program_of, RunState, RunTransition, spawn_by, spawned, request as served_request}
+use Rattle.ipc_ids.specs.declared.op.Value.TheVariants.{Number}
+use Rattle.raw_program.specs.Raw.{started}
+use Rattle.task_system.specs.Run.{program_of, RunState, RunTransition, step_served, spawn_by, spawned, request as served_request}
 use Rattle.ipc_ids.specs.declared.message.Event.TheVariants.{Spawn}
 use Rattle.run_determined.specs.TaskPrograms.{plans_after, RunThePlans}
-use Rattle.run_determined.specs.ScheduleLines.{IsNewProgram, IsMadeFrom, IsHangupLine}
+use Rattle.run_determined.specs.ScheduleLines.{IsNewProgram, IsMadeFrom, IsHangupLine, IsStepLine}
 
 apart : (m n : ℕ) → m ≡ n → (m == n) ≡ false → ⊥
 apart m n e ne = false≢true (sym ne ∙ eq-eqb m n e)
@@ -152,6 +154,33 @@ hangs_up_nothing line =
   where
     never : ◌≡◌ {A = Option PhoneState} (Some Slammed) (Some HungUp) → ⊥
     never e = cc
+
+-- ---- turns
+
+-- the program of the task asks to hang up phone 1
+abbrev asks_for_the_second : RunState
+asks_for_the_second =
+    record slammed {
+      programs = any.Raw (started (op.Hangup (Number 1) ∷ [])) ∷ [];
+    }
+
+-- a machine that tells of what the program wants, and hangs up phone 0
+serves_another_request : IsStepLine one asks_for_the_second
+    (step_served asks_for_the_second one (any.Raw (started (op.Hangup (Number 1) ∷ [])))
+    (serve asks_for_the_second.kernel one (request.Hangup 0))) → ⊥
+serves_another_request line =
+    let it = line.living (any.Raw (started (op.Hangup (Number 1) ∷ []))) refl refl in
+    let served = it.lawful tt in
+    never (ap (λ (k : kernel.KernelState). kernel.phone_at k one 1) it.kernel ∙ served.hangup.phone.this)
+  where
+    never : ◌≡◌ {A = Option PhoneState} (Some Slammed) (Some HungUp) → ⊥
+    never e = cc
+
+-- a machine that gives no task its turn
+gives_no_turn : IsStepLine one asks_for_the_second (record { state = asks_for_the_second; entries = [] }) → ⊥
+gives_no_turn line =
+    let it = line.living (any.Raw (started (op.Hangup (Number 1) ∷ []))) refl refl in
+    apart 5 1 (ap hung_up_phone it.entries) refl
 
 -- ---- programs
 

@@ -1,5 +1,5 @@
--- The lines of a schedule that make a task, and that hang up a phone, do what they name.
-use Rattle.std.proofs.Common.{◌≡◌, ℕ, zero, suc, ◌<◌, ◌≤◌, Bool, true, false, List, [], ◌∷◌, ◌++◌, length, Option, None, Some, refl, ap, sym, subst, ◌∙◌, arith}
+-- The lines of a schedule do what they name.
+use Rattle.std.proofs.Common.{◌≡◌, ℕ, zero, suc, ◌-◌, ◌<◌, ◌≤◌, Bool, true, false, List, [], ◌∷◌, ◌++◌, length, Option, None, Some, refl, ap, sym, subst, ◌∙◌, arith}
 use Rattle.std.specs.Prelude.{if◌then◌else◌, slice_get, All, map}
 use Rattle.std.proofs.lemmas.Option.{get_or_from_slice_get, slice_get_within}
 use Rattle.ipc_ids.specs.declared.numbers.TaskNo.{TaskNo}
@@ -15,17 +15,20 @@ use Rattle.script_lines.specs.Sound.{IsSound, IsSoundTask, IsRawOrAsync}
 use Rattle.script_reader.specs.Schedule.{tasks_after, MayCome, MayAllCome}
 use Rattle.cleanup.specs.State.{is_alive}
 use Rattle.cleanup.specs.Sound as kernel
-use Rattle.kernel_core.specs.Kernel.{serve, next_task, spawn_event}
+use Rattle.kernel_core.specs.Kernel.{serve, kill_event, next_task, spawn_event}
+use Rattle.kernel_determined.specs.KernelLaw.{IsKernel}
+use Rattle.kernel_determined.proofs.Machines.{kernel_is_lawful}
 use Rattle.kernel_determined.specs.SpawnLaw.{IsSpawn}
 use Rattle.kernel_determined.proofs.SpawnDetermined.{spawn_is_so}
 use Rattle.kernel_determined.proofs.HangupDetermined.{hangup_is_so}
 use Rattle.async_task.specs.AsyncState.{AsyncState}
 use Rattle.async_task.specs.Steps.{bare_task, start_in, start_at, start_bodies}
 use Rattle.task_system.specs.declared.any.AnyProgram.{AnyProgram}
-use Rattle.task_system.specs.Run.{RunState, RunTransition, start, run, state_after, turn, step_by, spawn_by, spawned, request_served, gone, program_by, ops_of, service_of}
+use Rattle.task_system.specs.Any.{wanted}
+use Rattle.task_system.specs.Run.{RunState, RunTransition, start, run, state_after, turn, step_by, step_served, killed, spawn_by, spawned, request_served, gone, program_by, ops_of, service_of}
 use Rattle.schedule_replay.specs.RunHistory.{beginning, RunFits}
 use Rattle.schedule_replay.proofs.RunHistories.{part_told}
-use Rattle.run_determined.specs.ScheduleLines.{AreFirstOps, IsNewProgram, IsMadeFrom, SpawnsMakeTheirTemplate, IsHungUpFor, IsHangupLine, HangupLinesHangUpTheirPhone}
+use Rattle.run_determined.specs.ScheduleLines.{AreFirstOps, IsNewProgram, IsMadeFrom, SpawnsMakeTheirTemplate, IsHungUpFor, IsHangupLine, HangupLinesHangUpTheirPhone, IsServedFor, IsStepLine, StepsServeTheirTask, IsKilledFor, IsKillLine, KillLinesKillTheirTask}
 
 -- ---- the templates stay
 
@@ -202,3 +205,75 @@ hangup_line now t p = by_mark (is_alive now.kernel t) refl where
 
 pub hangups_hang_up : (plan : Plan) (events : List Event) → HangupLinesHangUpTheirPhone plan events
 hangups_hang_up plan events done later t p is = hangup_line (state_after (start plan) done) t p
+
+-- ---- a line that gives a task its turn, and one that kills a task
+
+lawful_kernel : IsKernel serve kill_event spawn_event
+lawful_kernel = kernel_is_lawful
+
+served_for : (now : RunState) (t : TaskNo) (p : AnyProgram) → kernel.IsSound now.kernel → is_alive now.kernel t ≡ true
+    → IsServedFor t p now (step_served now t p (serve now.kernel t (wanted p)))
+served_for now t p sound alive =
+    let laws : IsKernel serve kill_event spawn_event = lawful_kernel in
+    record {
+      served = serve now.kernel t (wanted p);
+      lawful = λ five. laws.requests now.kernel t (wanted p) (record { sound = sound; alive = alive }) five;
+      kernel = refl;
+      programs = refl;
+      templates = refl;
+      entries = refl;
+    }
+
+step_line : (now : RunState) (t : TaskNo) → kernel.IsSound now.kernel → IsStepLine t now (turn now (Step t))
+step_line now t sound = by_mark (is_alive now.kernel t) refl where
+  by_mark : (b : Bool) → is_alive now.kernel t ≡ b
+      → IsStepLine t now (step_by now t (if b then slice_get now.programs (t.0 - 1) else None))
+  by_mark true is =
+      record {
+        living = λ p lives at. subst (λ (o : Option AnyProgram). IsServedFor t p now (step_by now t o)) (sym at)
+            (served_for now t p sound is);
+        ended = λ ended. absurd (true_false (is_alive now.kernel t) is ended);
+      }
+  by_mark false is =
+      record {
+        living = λ p lives at. absurd (true_false (is_alive now.kernel t) lives is);
+        ended = λ _. record { nothing = refl; entries = refl };
+      }
+
+killed_for : (now : RunState) (t : TaskNo) → kernel.IsSound now.kernel → is_alive now.kernel t ≡ true
+    → IsKilledFor t now (killed now t (kill_event now.kernel t))
+killed_for now t sound alive =
+    let laws : IsKernel serve kill_event spawn_event = lawful_kernel in
+    record {
+      step = kill_event now.kernel t;
+      lawful = laws.killed now.kernel t (record { sound = sound; alive = alive });
+      kernel = refl;
+      programs = refl;
+      templates = refl;
+      entries = refl;
+    }
+
+kill_line : (now : RunState) (t : TaskNo) → kernel.IsSound now.kernel → IsKillLine t now (turn now (Kill t))
+kill_line now t sound = by_mark (is_alive now.kernel t) refl where
+  by_mark : (b : Bool) → is_alive now.kernel t ≡ b
+      → IsKillLine t now (if b then killed now t (kill_event now.kernel t) else gone now t)
+  by_mark true is =
+      record {
+        living = λ _. killed_for now t sound is;
+        ended = λ ended. absurd (true_false (is_alive now.kernel t) is ended);
+      }
+  by_mark false is =
+      record {
+        living = λ lives. absurd (true_false (is_alive now.kernel t) lives is);
+        ended = λ _. record { nothing = refl; entries = refl };
+      }
+
+pub steps_serve : (plan : Plan) (events : List Event) → IsSound plan
+    → MayAllCome (length plan.tasks) (length plan.templates) events → StepsServeTheirTask plan events
+steps_serve plan events sound may done later t is =
+    step_line (state_after (start plan) done) t (told plan events sound may done (Step t ∷ later) is).kernel.sound
+
+pub kills_kill : (plan : Plan) (events : List Event) → IsSound plan
+    → MayAllCome (length plan.tasks) (length plan.templates) events → KillLinesKillTheirTask plan events
+kills_kill plan events sound may done later t is =
+    kill_line (state_after (start plan) done) t (told plan events sound may done (Kill t ∷ later) is).kernel.sound

@@ -16,7 +16,7 @@ use Rattle.script_lines.specs.declared.plan.Kind.TheVariants as kind
 use Rattle.script_lines.specs.declared.plan.TaskPlan.{TaskPlan}
 use Rattle.script_lines.specs.Plan.{Plan}
 use Rattle.script_lines.specs.Sound.{IsSound}
-use Rattle.script_reader.specs.Schedule.{MayAllCome, tasks_after}
+use Rattle.script_reader.specs.Schedule.{MayAllCome}
 use Rattle.cleanup.specs.State.{is_alive}
 use Rattle.kernel_core.specs.Kernel.{serve, kill_event, next_task}
 use Rattle.raw_program.specs.Raw as raw

@@ -16,7 +16,7 @@ use Rattle.ipc_ids.specs.Life as lives
 use Rattle.ipc_ids.specs.Lawful.{Lawful}
 use Rattle.ipc_ids.specs.Holdings.{present}
 use Rattle.kernel_core.specs.History as history
-use Rattle.kernel_core.specs.History.{actor, AreOfTasks}
+use Rattle.kernel_core.specs.History.{actor}
 use Rattle.route_laws.specs.Leads.{Lead, Beginning, is_phone, wired, phone_in}
 use Rattle.run_determined.specs.PhoneCauses.{is_sent, is_received, asked_for, lent_for, IsKept, AnswersFor, IsConnected, IsMadeLeading, IsLetGo, IsCause, HasItsCause}
 use Rattle.run_determined.specs.TasksInTurn.{IsOf, count_after, IsOneOf, IsInTurn, CameInTurn}

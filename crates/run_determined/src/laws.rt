@@ -8,7 +8,7 @@ ghost use Rattle.task_system.specs.Run.{run};
 ghost use Rattle.schedule_replay.specs.RunHistory.{beginning};
 ghost use Rattle.run_determined.specs.LiveWaits.{WaitsAreForLiveCalls};
 ghost use Rattle.run_determined.specs.PhoneCauses.{PhonesChangeForCause};
-ghost use Rattle.run_determined.specs.ScheduleLines.{SpawnsMakeTheirTemplate, HangupLinesHangUpTheirPhone};
+ghost use Rattle.run_determined.specs.ScheduleLines.{SpawnsMakeTheirTemplate, HangupLinesHangUpTheirPhone, StepsServeTheirTask, KillLinesKillTheirTask};
 ghost use Rattle.run_determined.specs.TaskPrograms.{TasksRunTheirPlans};
 ghost use Rattle.run_determined.specs.ToldPhones.{ConnectCallsTellTheirPhone};
 ghost use Rattle.run_determined.specs.TasksInTurn.{TasksComeInTurn, NothingComesBeforeItsSpawn};
@@ -62,6 +62,17 @@ pub fn hangup_lines_hang_up_their_phone()
     ensures { (plan : Plan) (events : List Event) → IsSound plan
         → MayAllCome (length plan.tasks) (length plan.templates) events
         → HangupLinesHangUpTheirPhone plan events }
+{}
+
+/// At a line of the schedule that gives a task its turn the kernel does with what the task's program
+/// wants what its law says, and at one that kills a task likewise. A task that has ended is told so.
+pub fn lines_keep_the_laws_of_the_kernel()
+    ensures steps { (plan : Plan) (events : List Event) → IsSound plan
+        → MayAllCome (length plan.tasks) (length plan.templates) events
+        → StepsServeTheirTask plan events }
+    ensures kills { (plan : Plan) (events : List Event) → IsSound plan
+        → MayAllCome (length plan.tasks) (length plan.templates) events
+        → KillLinesKillTheirTask plan events }
 {}
 
 /// A fibril that waits for an answer, of a task that has not ended, waits for a call of its task

@@ -8,7 +8,7 @@
 mod laws;
 
 pub use laws::{
-    connect_calls_tell_their_phone, hangup_lines_hang_up_their_phone, phones_change_for_cause,
-    spawns_make_their_template, tasks_come_in_turn, tasks_run_their_plans,
-    waits_are_for_live_calls,
+    connect_calls_tell_their_phone, hangup_lines_hang_up_their_phone,
+    lines_keep_the_laws_of_the_kernel, phones_change_for_cause, spawns_make_their_template,
+    tasks_come_in_turn, tasks_run_their_plans, waits_are_for_live_calls,
 };
