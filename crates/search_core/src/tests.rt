@@ -1,0 +1,153 @@
+//! Two jugs, of three and of five, of which the large one is to hold four.
+ghost use Rattle.std.specs.Prelude.{◌≡◌, ◌≤◌, ◌∷◌, [], IfOk, reverse};
+ghost use Rattle.search_core.specs.Jugs.{code_of, hold_alike, holds, jugs_behind, poured, same_code};
+
+use crate::{Answer, Chooser, Maze, Survey, Visit, search, survey};
+use std::alloc::{AllocError, Global};
+use std::test::Fail;
+
+/// The jugs, and how much the large one is to hold.
+#[derive(Drop)]
+struct Jugs {
+    wanted: u64,
+}
+
+impl Maze for Jugs {
+    ghost moves = { λ s. 6 };
+
+    ghost meets = { λ s p. holds s.wanted p };
+
+    ghost code = { λ s p. code_of p };
+
+    ghost code_goes_on = { λ s h p q m a b e. same_code p q m e };
+
+    ghost goal_goes_on = { λ s h p q m a b e. hold_alike s.wanted (m ∷ p) (m ∷ q) (same_code p q m e) };
+
+    fn moves(&self) -> u32 {
+        6
+    }
+
+    fn visit(&self, alloc: Global, path: &[u32]) -> Result<Visit, AllocError> {
+        let jugs = jugs_behind(path);
+        let code = words_of(alloc, jugs)?;
+        Ok(Visit {
+            met: jugs.1 == self.wanted,
+            code,
+        })
+    }
+
+    fn code(&self, alloc: Global, path: &[u32]) -> Result<Vec<u64>, AllocError> {
+        words_of(alloc, jugs_behind(path))
+    }
+}
+
+impl Chooser for Jugs {
+    ghost chosen = { λ s p. holds s.wanted p };
+
+    ghost chosen_alike = { λ s h p q a b e. hold_alike s.wanted p q e };
+
+    fn is_chosen(&self, _alloc: Global, path: &[u32]) -> Result<bool, AllocError> {
+        Ok(jugs_behind(path).1 == self.wanted)
+    }
+}
+
+fn words_of(alloc: Global, jugs: (u64, u64)) -> Result<Vec<u64>, AllocError>
+    ensures { IfOk result (λ words. words.items ≡ jugs.0 ∷ jugs.1 ∷ []) }
+{
+    let mut words = Vec::new(alloc);
+    words.push(jugs.0)?;
+    words.push(jugs.1)?;
+    Ok(words)
+}
+
+fn jugs_behind(path: &[u32]) -> (u64, u64)
+    ensures { result ≡ jugs_behind (reverse path.now) }
+{
+    let mut jugs = (0, 0);
+    for m in path {
+        jugs = poured(*m, jugs);
+    }
+    jugs
+}
+
+fn poured(m: u32, jugs: (u64, u64)) -> (u64, u64)
+    requires small { jugs.0 ≤ 3 }
+    requires large { jugs.1 ≤ 5 }
+    ensures poured { result ≡ poured m jugs }
+    ensures small { result.0 ≤ 3 }
+    ensures large { result.1 ≤ 5 }
+{
+    let both = jugs.0 + jugs.1;
+    match m {
+        0 => (3, jugs.1),
+        1 => (jugs.0, 5),
+        2 => (0, jugs.1),
+        3 => (jugs.0, 0),
+        4 if both <= 5 => (0, both),
+        4 => (both - 5, 5),
+        _ if both <= 3 => (both, 0),
+        _ => (3, both - 3),
+    }
+}
+
+/// The moves that leave four in the large jug and the small one full.
+const FOUR: [u32; 6] = [1, 5, 2, 5, 1, 5];
+
+/// The moves that leave four in the large jug and the small one empty.
+const FOUR_ALONE: [u32; 7] = [1, 5, 2, 5, 1, 5, 2];
+
+fn is_measured(alloc: Global, wanted: u64, most: u32) -> Result<bool, AllocError> {
+    match search(alloc, &Jugs { wanted }, most, 1000)? {
+        Answer::Found(path) => Ok(path.as_slice() == FOUR.as_slice()),
+        Answer::NoneWithin(_) | Answer::NoneAtAll(_) | Answer::NoRoom => Ok(false),
+    }
+}
+
+fn is_never_measured(alloc: Global, wanted: u64, most: u32) -> Result<bool, AllocError> {
+    match search(alloc, &Jugs { wanted }, most, 1000)? {
+        Answer::NoneAtAll(places) => Ok(places == 16),
+        Answer::Found(_) | Answer::NoneWithin(_) | Answer::NoRoom => Ok(false),
+    }
+}
+
+/// Whether both places with four in the large jug are listed, of all that there are.
+fn are_both_listed(survey: &Survey) -> bool {
+    match survey {
+        Survey::All { chosen, places } => {
+            *places == 16
+                && chosen.len() == 2
+                && chosen[0].as_slice() == FOUR.as_slice()
+                && chosen[1].as_slice() == FOUR_ALONE.as_slice()
+        }
+        Survey::Within { .. } | Survey::NoRoom => false,
+    }
+}
+
+/// Whether the first of them is listed alone, of those to which so many moves lead.
+fn is_one_listed(survey: &Survey) -> bool {
+    match survey {
+        Survey::Within { chosen, .. } => {
+            chosen.len() == 1 && chosen[0].as_slice() == FOUR.as_slice()
+        }
+        Survey::All { .. } | Survey::NoRoom => false,
+    }
+}
+
+#[test]
+fn four_are_measured_in_six_moves_and_six_never(rt: HostRuntime) -> Result<(), Fail> {
+    let alloc = rt.alloc();
+    assert!(rt; is_measured(alloc, 4, 6)?);
+    assert!(rt; !is_measured(alloc, 4, 5)?);
+    assert!(rt; is_never_measured(alloc, 6, 50)?);
+    Ok(())
+}
+
+#[test]
+fn the_places_with_four_are_listed(rt: HostRuntime) -> Result<(), Fail> {
+    let alloc = rt.alloc();
+    let jugs = Jugs { wanted: 4 };
+    assert!(rt; are_both_listed(&survey(alloc, &jugs, 50, 1000)?));
+    assert!(rt; is_one_listed(&survey(alloc, &jugs, 6, 1000)?));
+    assert!(rt; matches!(survey(alloc, &jugs, 50, 3)?, Survey::NoRoom));
+    Ok(())
+}
