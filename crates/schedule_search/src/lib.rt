@@ -7,9 +7,12 @@
 //! states of one code go on alike, for each move and each goal, and what it is that a state is at rest.
 #![tactic(auto)]
 
+mod kills;
 mod laws;
+mod open_calls;
 mod outcome;
 mod path;
+mod place;
 mod problem;
 mod rest;
 #[cfg(test)]
