@@ -40,7 +40,8 @@ pub fn search_schedules(
     requires few { most < 2 ^ 20 }
     ensures { IfOk result (λ outcome. IsRight (search_of problem.now) most outcome) }
 {
-    match search(alloc, problem, most, room)? {
+    let answer = search(alloc, problem, most, room)?;
+    match answer {
         Answer::Found(path) => {
             let events = events_by(alloc, problem.moves, path.as_slice())?;
             Ok(Outcome::Found(events))
