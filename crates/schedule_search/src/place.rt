@@ -24,21 +24,21 @@ fn started(alloc: Global, script: &Script) -> Result<Replay, AllocError>
     }
 }
 
-/// One event, whose entries take the place of those that were told.
+/// One event, whose entries take the place of those in `out`.
 pub(crate) fn do_event(
     replay: &mut Replay,
-    told: &mut Trace,
+    out: &mut Trace,
     event: &Event,
 ) -> Result<(), AllocError>
     requires few { replay.old.state.kernel.events < 2 ^ 24 }
     requires may { MayHappen replay.old.state event.now }
     ensures state { OnOk result (replay.new.state ≡ (turn replay.old.state event.now).state) }
-    ensures entries { OnOk result (told.new.entries
+    ensures entries { OnOk result (out.new.entries
         ≡ (turn replay.old.state event.now).entries) }
     ensures count { replay.new.state.kernel.events ≤ replay.old.state.kernel.events + 1 }
 {
-    told.clear();
-    match replay.step(event, told) {
+    out.clear();
+    match replay.step(event, out) {
         Ok(()) => Ok(()),
         Err(NoMemory) => Err(AllocError),
     }
