@@ -72,8 +72,8 @@ pub(crate) fn is_stuck(
     ensures { IfOk result (λ stuck. stuck
         ≡ (has_open_call task replay.now.state.kernel.calls && is_at_rest replay.now.state)) }
 {
-    let open = has_open_call(task, boxes(replay));
-    if !open {
+    let waits = has_open_call(task, boxes(replay));
+    if !waits {
         return Ok(false);
     }
     is_at_rest(alloc, problem, events, replay)
