@@ -107,8 +107,9 @@ fn pick<M: Labelled>(alloc: Global, maze: &M, nodes: &Nodes) -> Result<Vec<Vec<u
 {
     let mut paths = Vec::new(alloc);
     let mut labels = IndexSet::new(alloc);
-    for at in 0..nodes.count() as usize {
-        pick_place(alloc, maze, nodes, at, &mut paths, &mut labels)?;
+    let seen = nodes.count();
+    for at in 0..seen {
+        pick_place(alloc, maze, nodes, at as usize, &mut paths, &mut labels)?;
     }
     Ok(paths)
 }

@@ -10,4 +10,4 @@ returns g c =
     let n = length_trails c.args.nodes.now.later.items in
     all_picked (g.M.Labelled.label c.args.maze.now) (trails_of c.args.nodes.now.later.items) c.loop-at.at
     (moves_of c.loop-at.paths.items) c.loop-at.invariant.picked
-    (omega (arith, n, c.count-at-end.ensures, c.loop-at-test.false))
+    (omega (arith, n, c.count-seen.ensures, c.loop-at-test.false))
