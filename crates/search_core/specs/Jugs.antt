@@ -1,5 +1,5 @@
 -- What is in two jugs, of three and of five, behind moves: a maze for tests.
-use Rattle.std.specs.Prelude.{ℕ, ◌≡◌, ◌+◌, ◌-◌, ◌==◌, nat_le, Bool, if◌then◌else◌, List, [], ◌∷◌, slice_index}
+use Rattle.std.specs.Prelude.{ℕ, ◌≡◌, ◌+◌, ◌-◌, ◌==◌, nat_le, Bool, Option, None, Some, if◌then◌else◌, List, [], ◌∷◌, slice_index}
 use Rattle.std.proofs.Common.{ap}
 
 -- the first two moves fill a jug, the next two empty one, and the last two pour as much as the other takes
@@ -34,3 +34,7 @@ same_code p q m e = ap (λ (words : List ℕ). (poured m (jugs_of words)).0 ∷ 
 
 pub hold_alike : (wanted : ℕ) (p q : List ℕ) → code_of p ≡ code_of q → holds wanted p ≡ holds wanted q
 hold_alike wanted p q e = ap (λ (words : List ℕ). slice_index words 1 == wanted) e
+
+pub label_alike : (wanted : ℕ) (p q : List ℕ) → code_of p ≡ code_of q
+    → (if holds wanted p then Some (code_of p) else None) ≡ (if holds wanted q then Some (code_of q) else None)
+label_alike wanted p q e = ap (λ (words : List ℕ). if slice_index words 1 == wanted then Some words else None) e

@@ -4,22 +4,22 @@ ghost use Rattle.search_core.specs.Moves.{AreRising};
 ghost use Rattle.search_core.specs.Node.{ArePlaces, trails_of};
 ghost use Rattle.search_core.specs.Ended.{HasEnded};
 ghost use Rattle.search_core.specs.Survey.{IsSurvey, moves_of};
-ghost use Rattle.search_core.specs.Picked.{AreCodes, ArePicked};
+ghost use Rattle.search_core.specs.Picked.{AreLabels, ArePicked};
 
 use crate::answers::{Answer, Survey};
 use crate::by_breadth::look_on;
 use crate::nodes::Nodes;
-use crate::places::{Chooser, Maze, Visit};
+use crate::places::{Labelled, Maze, Visit};
 use indexmap::IndexSet;
 use std::alloc::{AllocError, Global};
 
-/// The chosen places to which lists of at most `most` moves lead, of each code the first. At most
-/// `room` places are looked at, and no more once more than `room` were seen.
+/// The labels to which lists of at most `most` moves lead, each by the first list that leads to it.
+/// At most `room` places are gone on from, and no more once more than `room` were seen.
 ///
 /// # Errors
 ///
 /// `AllocError` where no memory was found, here or by the maze.
-pub fn survey<M: Chooser>(
+pub fn survey<M: Labelled>(
     alloc: Global,
     maze: &M,
     most: u32,
@@ -27,8 +27,7 @@ pub fn survey<M: Chooser>(
 ) -> Result<Survey, AllocError>
     requires fits { M.fits maze.now }
     requires few { most < 2 ^ 20 }
-    ensures { IfOk result (λ survey. IsSurvey (M.moves maze.now) (M.chosen maze.now)
-        (M.code maze.now) most survey) }
+    ensures { IfOk result (λ survey. IsSurvey (M.moves maze.now) (M.label maze.now) most survey) }
 {
     let code = maze.code(alloc, &[])?;
     let mut nodes = Nodes::new(alloc, code.as_slice())?;
@@ -70,8 +69,8 @@ impl<'a, M: Maze> Maze for Unmet<'a, M> {
     }
 }
 
-/// What is listed where the search for a goal that is met nowhere ends so.
-fn survey_of<M: Chooser>(
+/// The survey, where the search for a goal that is met nowhere ended so.
+fn survey_of<M: Labelled>(
     alloc: Global,
     maze: &M,
     nodes: &Nodes,
@@ -82,73 +81,70 @@ fn survey_of<M: Chooser>(
     requires few { most < 2 ^ 20 }
     requires ended { HasEnded (M.moves maze.now) most (λ p. false) (M.code maze.now)
         (trails_of nodes.now.later.items) answer }
-    ensures { IfOk result (λ survey. IsSurvey (M.moves maze.now) (M.chosen maze.now)
-        (M.code maze.now) most survey) }
+    ensures { IfOk result (λ survey. IsSurvey (M.moves maze.now) (M.label maze.now) most survey) }
 {
     match answer {
         Answer::NoneAtAll(places) => {
-            let chosen = pick(alloc, maze, nodes)?;
-            Ok(Survey::All { chosen, places })
+            let paths = pick(alloc, maze, nodes)?;
+            Ok(Survey::All { paths, places })
         }
         Answer::NoneWithin(places) => {
-            let chosen = pick(alloc, maze, nodes)?;
-            Ok(Survey::Within { chosen, places })
+            let paths = pick(alloc, maze, nodes)?;
+            Ok(Survey::Within { paths, places })
         }
         Answer::Found(_) => unreachable!(),
         Answer::NoRoom => Ok(Survey::NoRoom),
     }
 }
 
-/// The chosen among the places that were seen, of each code the first.
-fn pick<M: Chooser>(alloc: Global, maze: &M, nodes: &Nodes) -> Result<Vec<Vec<u32>>, AllocError>
+/// The moves to the places that were seen, of each label the first.
+fn pick<M: Labelled>(alloc: Global, maze: &M, nodes: &Nodes) -> Result<Vec<Vec<u32>>, AllocError>
     requires fits { M.fits maze.now }
     requires places { ArePlaces (M.moves maze.now) (trails_of nodes.now.later.items) }
     requires rising { AreRising (trails_of nodes.now.later.items) }
-    ensures { IfOk result (λ chosen. ArePicked (M.chosen maze.now) (M.code maze.now)
-        (trails_of nodes.now.later.items) (length (trails_of nodes.now.later.items))
-        (moves_of chosen.items)) }
+    ensures { IfOk result (λ paths. ArePicked (M.label maze.now) (trails_of nodes.now.later.items)
+        (length (trails_of nodes.now.later.items)) (moves_of paths.items)) }
 {
-    let mut chosen = Vec::new(alloc);
-    let mut codes = IndexSet::new(alloc);
-    for at in 0..nodes.count() as usize {
-        pick_place(alloc, maze, nodes, at, &mut chosen, &mut codes)?;
+    let mut paths = Vec::new(alloc);
+    let mut labels = IndexSet::new(alloc);
+    let seen = nodes.count();
+    for at in 0..seen {
+        pick_place(alloc, maze, nodes, at as usize, &mut paths, &mut labels)?;
     }
-    Ok(chosen)
+    Ok(paths)
 }
 
-/// Picks the place of this number too, where it is chosen and its code is not among `codes`, those
-/// of the places that were picked.
-fn pick_place<M: Chooser>(
+/// Picks the place of this number too, where it has a label that is not among `labels`, those of the
+/// places that were picked.
+fn pick_place<M: Labelled>(
     alloc: Global,
     maze: &M,
     nodes: &Nodes,
     at: usize,
-    chosen: &mut Vec<Vec<u32>>,
-    codes: &mut IndexSet<Vec<u64>>,
+    paths: &mut Vec<Vec<u32>>,
+    labels: &mut IndexSet<Vec<u64>>,
 ) -> Result<(), AllocError>
     requires fits { M.fits maze.now }
     requires places { ArePlaces (M.moves maze.now) (trails_of nodes.now.later.items) }
     requires rising { AreRising (trails_of nodes.now.later.items) }
-    requires picked { ArePicked (M.chosen maze.now) (M.code maze.now)
-        (trails_of nodes.now.later.items) at (moves_of chosen.old.items) }
-    requires codes { AreCodes (M.code maze.now) (moves_of chosen.old.items) codes.old.keys }
-    ensures picked { OnOk result (ArePicked (M.chosen maze.now) (M.code maze.now)
-        (trails_of nodes.now.later.items) (at + 1) (moves_of chosen.new.items)) }
-    ensures codes { OnOk result (AreCodes (M.code maze.now) (moves_of chosen.new.items)
-        codes.new.keys) }
+    requires picked { ArePicked (M.label maze.now) (trails_of nodes.now.later.items) at
+        (moves_of paths.old.items) }
+    requires labels { AreLabels (M.label maze.now) (moves_of paths.old.items) labels.old.keys }
+    ensures picked { OnOk result (ArePicked (M.label maze.now) (trails_of nodes.now.later.items)
+        (at + 1) (moves_of paths.new.items)) }
+    ensures labels { OnOk result (AreLabels (M.label maze.now) (moves_of paths.new.items)
+        labels.new.keys) }
 {
     let Some(path) = nodes.path(alloc, at)? else {
         return Ok(());
     };
-    let is_chosen = maze.is_chosen(alloc, path.as_slice())?;
-    if !is_chosen {
+    let Some(label) = maze.label(alloc, path.as_slice())? else {
         return Ok(());
-    }
-    let code = maze.code(alloc, path.as_slice())?;
-    let is_new = codes.insert(code)?;
+    };
+    let is_new = labels.insert(label)?;
     if !is_new {
         return Ok(());
     }
-    chosen.push(path)?;
+    paths.push(path)?;
     Ok(())
 }

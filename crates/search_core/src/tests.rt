@@ -1,8 +1,8 @@
 //! Two jugs, of three and of five, of which the large one is to hold four.
-ghost use Rattle.std.specs.Prelude.{◌≡◌, ◌≤◌, ◌∷◌, [], IfOk, reverse};
-ghost use Rattle.search_core.specs.Jugs.{code_of, hold_alike, holds, jugs_behind, poured, same_code};
+ghost use Rattle.std.specs.Prelude.{◌≡◌, ◌≤◌, ◌∷◌, [], None, Some, if◌then◌else◌, IfOk, reverse};
+ghost use Rattle.search_core.specs.Jugs.{code_of, hold_alike, holds, jugs_behind, label_alike, poured, same_code};
 
-use crate::{Answer, Chooser, Maze, Survey, Visit, search, survey};
+use crate::{Answer, Labelled, Maze, Survey, Visit, search, survey};
 use std::alloc::{AllocError, Global};
 use std::test::Fail;
 
@@ -41,13 +41,18 @@ impl Maze for Jugs {
     }
 }
 
-impl Chooser for Jugs {
-    ghost chosen = { λ s p. holds s.wanted p };
+impl Labelled for Jugs {
+    ghost label = { λ s p. if holds s.wanted p then Some (code_of p) else None };
 
-    ghost chosen_alike = { λ s h p q a b e. hold_alike s.wanted p q e };
+    ghost label_alike = { λ s h p q a b e. label_alike s.wanted p q e };
 
-    fn is_chosen(&self, _alloc: Global, path: &[u32]) -> Result<bool, AllocError> {
-        Ok(jugs_behind(path).1 == self.wanted)
+    fn label(&self, alloc: Global, path: &[u32]) -> Result<Option<Vec<u64>>, AllocError> {
+        let jugs = jugs_behind(path);
+        if jugs.1 != self.wanted {
+            return Ok(None);
+        }
+        let words = words_of(alloc, jugs)?;
+        Ok(Some(words))
     }
 }
 
@@ -113,11 +118,11 @@ fn is_never_measured(alloc: Global, wanted: u64, most: u32) -> Result<bool, Allo
 /// Whether both places with four in the large jug are listed, of all that there are.
 fn are_both_listed(survey: &Survey) -> bool {
     match survey {
-        Survey::All { chosen, places } => {
+        Survey::All { paths, places } => {
             *places == 16
-                && chosen.len() == 2
-                && chosen[0].as_slice() == FOUR.as_slice()
-                && chosen[1].as_slice() == FOUR_ALONE.as_slice()
+                && paths.len() == 2
+                && paths[0].as_slice() == FOUR.as_slice()
+                && paths[1].as_slice() == FOUR_ALONE.as_slice()
         }
         Survey::Within { .. } | Survey::NoRoom => false,
     }
@@ -126,8 +131,8 @@ fn are_both_listed(survey: &Survey) -> bool {
 /// Whether the first of them is listed alone, of those to which so many moves lead.
 fn is_one_listed(survey: &Survey) -> bool {
     match survey {
-        Survey::Within { chosen, .. } => {
-            chosen.len() == 1 && chosen[0].as_slice() == FOUR.as_slice()
+        Survey::Within { paths, .. } => {
+            paths.len() == 1 && paths[0].as_slice() == FOUR.as_slice()
         }
         Survey::All { .. } | Survey::NoRoom => false,
     }

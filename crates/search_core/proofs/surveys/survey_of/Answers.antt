@@ -1,14 +1,13 @@
-use Rattle.std.proofs.Common.{ℕ, ◌≡◌, ◌≤◌, Bool, List, Some, false, true, length, slice_get}
-use Rattle.search_core.specs.Moves.{AreMoves, IsBefore}
+use Rattle.std.proofs.Common.{ℕ, ◌≡◌, ◌≤◌, List, Some, length, slice_get}
+use Rattle.search_core.specs.Moves.{IsBefore}
 use Rattle.search_core.specs.Node.{trails_of}
-use Rattle.search_core.specs.Ended.{HasCovered}
 use Rattle.search_core.specs.Survey.{moves_of}
 use Rattle.search_core.proofs.Surveying.{few_places, counts_before, surveyed}
 use Rattle.search_core.proofs.surveys.survey_of.Goals as goal
 
 pub pick-requires-clause-places : goal.pick-requires-clause-places
 pick-requires-clause-places g c =
-    few_places _ c.args.most _ _ _ _ (rw c.in-NoneAtAll.is at c.requires.ended) c.requires.few
+    few_places _ c.args.most _ _ _ (rw c.in-NoneAtAll.is at c.requires.ended) c.requires.few
 
 pub pick-requires-clause-rising : goal.pick-requires-clause-rising
 pick-requires-clause-rising g c =
@@ -19,18 +18,18 @@ pub returns-in-NoneAtAll : goal.returns-in-NoneAtAll
 returns-in-NoneAtAll g c =
     let trails : List (List ℕ) = trails_of c.args.nodes.now.later.items in
     let h = rw c.in-NoneAtAll.is at c.requires.ended in
-    surveyed (g.M.Maze.moves c.args.maze.now) c.args.most (g.M.Chooser.chosen c.args.maze.now)
-    (g.M.Maze.code c.args.maze.now) trails (g.met.M.Chooser.chosen_alike c.args.maze.now c.requires.fits)
-    (λ (q : List ℕ). Unit {0}) h
+    surveyed (g.M.Maze.moves c.args.maze.now) c.args.most (g.M.Maze.code c.args.maze.now) trails
+    (λ (q : List ℕ). Unit {0}) h (g.M.Labelled.label c.args.maze.now)
+    (g.met.M.Labelled.label_alike c.args.maze.now c.requires.fits)
     (λ (p q : List ℕ) (b : IsBefore q p) (t : Unit {0}). tt)
     (λ (k : ℕ) (p : List ℕ) (e : slice_get trails k ≡ Some p). tt)
-    (moves_of c.in_ok-chosen.chosen.items) c.in_ok-chosen.ensures
+    (moves_of c.in_ok-paths.paths.items) c.in_ok-paths.ensures
 
 pub returns-in-NoneWithin : goal.returns-in-NoneWithin
 returns-in-NoneWithin g c =
     let trails : List (List ℕ) = trails_of c.args.nodes.now.later.items in
     let h = rw c.in-NoneWithin.is at c.requires.ended in
-    surveyed (g.M.Maze.moves c.args.maze.now) c.args.most (g.M.Chooser.chosen c.args.maze.now)
-    (g.M.Maze.code c.args.maze.now) trails (g.met.M.Chooser.chosen_alike c.args.maze.now c.requires.fits)
-    (λ (q : List ℕ). length q ≤ c.args.most) h (counts_before c.args.most) h.short
-    (moves_of c.in_ok-chosen.chosen.items) c.in_ok-chosen.ensures
+    surveyed (g.M.Maze.moves c.args.maze.now) c.args.most (g.M.Maze.code c.args.maze.now) trails
+    (λ (q : List ℕ). length q ≤ c.args.most) h (g.M.Labelled.label c.args.maze.now)
+    (g.met.M.Labelled.label_alike c.args.maze.now c.requires.fits) (counts_before c.args.most) h.short
+    (moves_of c.in_ok-paths.paths.items) c.in_ok-paths.ensures
