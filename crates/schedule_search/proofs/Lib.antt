@@ -7,3 +7,4 @@ pub mod Doing
 pub mod Ranges
 pub mod Visits
 pub mod Rights
+pub mod Resters

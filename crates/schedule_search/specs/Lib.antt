@@ -3,3 +3,4 @@ pub mod Meeting
 pub mod Code
 pub mod Problem
 pub mod Right
+pub mod Survey

@@ -15,6 +15,7 @@ mod path;
 mod place;
 mod problem;
 mod rest;
+mod resting;
 #[cfg(test)]
 mod tests;
 mod visits;
@@ -22,3 +23,4 @@ mod visits;
 pub use laws::{codes_stand_for_schedules, nothing_moves_at_rest};
 pub use outcome::{Outcome, search_schedules};
 pub use problem::Problem;
+pub use resting::{RestingStates, survey_schedules};

@@ -1,14 +1,15 @@
 //! The schedules of a script, by their moves.
 ghost use Rattle.std.specs.Prelude.{length};
 ghost use Rattle.schedule_search.specs.Search.{events_of};
-ghost use Rattle.schedule_search.specs.Code.{Fits, code_behind, finds};
+ghost use Rattle.schedule_search.specs.Code.{Fits, code_behind, finds, rest_words};
 ghost use Rattle.schedule_search.specs.Problem.{search_of};
 
 use crate::path::events_by;
+use crate::rest::rest_words;
 use crate::visits::{code_behind, visit_behind};
 use ipc_ids::Event;
 use script_reader::Script;
-use search_core::{Maze, Visit};
+use search_core::{Labelled, Maze, Visit};
 use search_goals::Goal;
 use std::alloc::{AllocError, Global};
 
@@ -49,5 +50,16 @@ impl Maze for Problem<'_> {
     fn code(&self, alloc: Global, path: &[u32]) -> Result<Vec<u64>, AllocError> {
         let events = events_by(alloc, self.moves, path)?;
         code_behind(alloc, self, events.as_slice())
+    }
+}
+
+impl Labelled for Problem<'_> {
+    ghost label = { λ s p. rest_words (search_of s) (events_of s.moves.now p) };
+
+    ghost label_alike = { λ s fits. fits.rest_alike };
+
+    fn label(&self, alloc: Global, path: &[u32]) -> Result<Option<Vec<u64>>, AllocError> {
+        let events = events_by(alloc, self.moves, path)?;
+        rest_words(alloc, self, events.as_slice())
     }
 }

@@ -4,8 +4,11 @@ ghost use Rattle.script_lines.specs.Sound.{IsTask};
 ghost use Rattle.run_words.specs.RunWords.{run_words};
 ghost use Rattle.schedule_search.specs.Search.{state_behind};
 ghost use Rattle.schedule_search.specs.Meeting.{changes_nothing, is_at_rest, has_open_call};
+ghost use Rattle.schedule_search.specs.Code.{rest_words};
 ghost use Rattle.schedule_search.specs.Problem.{search_of, CanDo};
+ghost use Rattle.search_core.specs.Survey.{words_in};
 
+use crate::kills::{is_within, kills_in};
 use crate::open_calls::has_open_call;
 use crate::place::{boxes, do_event, replayed, tasks, words_of};
 use crate::problem::Problem;
@@ -77,4 +80,27 @@ pub(crate) fn is_stuck(
         return Ok(false);
     }
     is_at_rest(alloc, problem, events, replay)
+}
+
+/// The words of the state behind these events, where they may be tried and nothing moves there.
+pub(crate) fn rest_words(
+    alloc: Global,
+    problem: &Problem<'_>,
+    events: &[Event],
+) -> Result<Option<Vec<u64>>, AllocError>
+    requires can { CanDo (search_of problem.now) events.now }
+    ensures { IfOk result (λ o. words_in o ≡ rest_words (search_of problem.now) events.now) }
+{
+    let kills = kills_in(events);
+    if !is_within(problem.kills, kills) {
+        return Ok(None);
+    }
+    let mut told = Trace::new(alloc);
+    let replay = replayed(alloc, problem, events, &mut told)?;
+    let rests = is_at_rest(alloc, problem, events, &replay)?;
+    if !rests {
+        return Ok(None);
+    }
+    let words = words_of(alloc, &replay)?;
+    Ok(Some(words))
 }
