@@ -95,7 +95,7 @@ pub(crate) fn tasks(replay: &Replay) -> usize
 }
 
 /// The calls of all tasks.
-pub(crate) fn boxes(replay: &Replay) -> &Boxes
+pub(crate) fn all_calls(replay: &Replay) -> &Boxes
     ensures { result.now.calls ≡ replay.now.state.kernel.calls }
 {
     replay.system().kernel().board().boxes()

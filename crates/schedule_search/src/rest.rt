@@ -10,7 +10,7 @@ ghost use Rattle.search_core.specs.Survey.{words_in};
 
 use crate::kills::{is_within, kills_in};
 use crate::open_calls::has_open_call;
-use crate::place::{boxes, do_event, replayed, tasks, words_of};
+use crate::place::{all_calls, do_event, replayed, tasks, words_of};
 use crate::problem::Problem;
 use ipc_ids::{Event, TaskNo, Trace};
 use schedule_replay::Replay;
@@ -75,7 +75,7 @@ pub(crate) fn is_stuck(
     ensures { IfOk result (λ stuck. stuck
         ≡ (has_open_call task replay.now.state.kernel.calls && is_at_rest replay.now.state)) }
 {
-    let waits = has_open_call(task, boxes(replay));
+    let waits = has_open_call(task, all_calls(replay));
     if !waits {
         return Ok(false);
     }

@@ -8,7 +8,7 @@ use crate::{Outcome, Problem, search_schedules};
 use ipc_ids::{Event, TaskNo};
 use script_reader::{Script, read_script};
 use search_goals::{Goal, read_goal};
-use std::alloc::{AllocError, Global};
+use std::alloc::Global;
 
 /// Each task calls the other, and waits for its own answer.
 const SCRIPT: &[u8] = b"task a raw\n\
@@ -27,7 +27,7 @@ const A: TaskNo = TaskNo(1);
 const B: TaskNo = TaskNo(2);
 
 /// What a search comes to, over steps of both tasks and at most so many kills of the second.
-fn outcome(
+fn outcome_of(
     alloc: Global,
     script: &Script,
     goal: &Goal,
@@ -51,7 +51,7 @@ fn outcome(
     };
     match search_schedules(alloc, &problem, most, room) {
         Ok(outcome) => Some(outcome),
-        Err(AllocError) => None,
+        Err(_) => None,
     }
 }
 
@@ -64,7 +64,7 @@ fn line_outcome(
     room: u32,
 ) -> Option<Outcome> {
     match read_goal(alloc, script, text) {
-        Ok(Goal::Line { head, asked }) => outcome(
+        Ok(Goal::Line { head, asked }) => outcome_of(
             alloc,
             script,
             &Goal::Line { head, asked },
@@ -101,8 +101,8 @@ fn finds_the_deadlock(alloc: Global, script: &Script) -> bool {
         Event::Step(A),
         Event::Step(B),
     ];
-    is_found(outcome(alloc, script, &goal, 0, 10, 100), events.as_slice())
-        && matches!(outcome(alloc, script, &goal, 0, 3, 100), Some(Outcome::NoneWithin(_)))
+    is_found(outcome_of(alloc, script, &goal, 0, 10, 100), events.as_slice())
+        && matches!(outcome_of(alloc, script, &goal, 0, 3, 100), Some(Outcome::NoneWithin(_)))
 }
 
 /// Whether a line is found, and one that a kill alone makes only with a kill. Without, all 13 states
