@@ -4,7 +4,7 @@ ghost use Rattle.std.specs.Prelude.{◌<◌, ◌^◌};
 ghost use Rattle.search_goals.specs.GoalText.{said};
 ghost use Rattle.schedule_search.specs.Search.{IsLookedFor};
 
-use crate::{Outcome, Problem, search_schedules};
+use crate::{Outcome, Problem, RestingStates, search_schedules, survey_schedules};
 use ipc_ids::{Event, TaskNo};
 use script_reader::{Script, read_script};
 use search_goals::{Goal, read_goal};
@@ -121,10 +121,70 @@ fn finds_lines(alloc: Global, script: &Script) -> bool {
         && matches!(line_outcome(alloc, script, delivered, 0, 5), Some(Outcome::NoRoom))
 }
 
+/// The states at rest to which steps of both tasks lead, within so many events.
+fn resting(alloc: Global, script: &Script, most: u32) -> Option<RestingStates>
+    requires { most < 2 ^ 20 }
+{
+    if script.tasks.as_slice().len() < 2 {
+        return None;
+    }
+    let moves = [Event::Step(A), Event::Step(B)];
+    let problem = Problem {
+        script,
+        from: &[],
+        moves: moves.as_slice(),
+        kills: None,
+        goal: &Goal::Rest,
+    };
+    match survey_schedules(alloc, &problem, most, 100) {
+        Ok(resting) => Some(resting),
+        Err(AllocError) => None,
+    }
+}
+
+/// Whether these two schedules are listed.
+fn are_both(schedules: &[Vec<Event>], first: &[Event], second: &[Event]) -> bool {
+    schedules.len() == 2
+        && schedules[0].as_slice() == first
+        && schedules[1].as_slice() == second
+}
+
+/// Whether both states at rest are listed, of all 13: who calls first makes the first call. Within
+/// three events there is none.
+fn lists_states_at_rest(alloc: Global, script: &Script) -> bool {
+    let first = [
+        Event::Step(A),
+        Event::Step(B),
+        Event::Step(A),
+        Event::Step(B),
+    ];
+    let second = [
+        Event::Step(B),
+        Event::Step(A),
+        Event::Step(A),
+        Event::Step(B),
+    ];
+    let all = match resting(alloc, script, 10) {
+        Some(RestingStates::All { schedules, states }) => {
+            states == 13 && are_both(schedules.as_slice(), first.as_slice(), second.as_slice())
+        }
+        _ => false,
+    };
+    let none = match resting(alloc, script, 3) {
+        Some(RestingStates::Within { schedules, .. }) => schedules.is_empty(),
+        _ => false,
+    };
+    all && none
+}
+
 /// Whether the searches over the script come to what they are to.
 fn searches(alloc: Global) -> bool {
     match read_script(alloc, SCRIPT) {
-        Ok(script) => finds_the_deadlock(alloc, &script) && finds_lines(alloc, &script),
+        Ok(script) => {
+            finds_the_deadlock(alloc, &script)
+                && finds_lines(alloc, &script)
+                && lists_states_at_rest(alloc, &script)
+        }
         Err(_) => false,
     }
 }
