@@ -138,7 +138,7 @@ fn resting(alloc: Global, script: &Script, most: u32) -> Option<RestingStates>
     };
     match survey_schedules(alloc, &problem, most, 100) {
         Ok(resting) => Some(resting),
-        Err(AllocError) => None,
+        Err(_) => None,
     }
 }
 
