@@ -1,4 +1,5 @@
 use Rattle.std.proofs.Common.{ℕ, ◌≡◌, ◌≤◌, List, Some, length, slice_get}
+use Rattle.std.proofs.lemmas.Bool.{false≢true}
 use Rattle.search_core.specs.Moves.{IsBefore}
 use Rattle.search_core.specs.Node.{trails_of}
 use Rattle.search_core.specs.Survey.{moves_of}
@@ -33,3 +34,8 @@ returns-in-NoneWithin g c =
     (λ (q : List ℕ). length q ≤ c.args.most) h (g.M.Labelled.label c.args.maze.now)
     (g.met.M.Labelled.label_alike c.args.maze.now c.requires.fits) (counts_before c.args.most) h.short
     (moves_of c.in_ok-paths.paths.items) c.in_ok-paths.ensures
+
+pub prove-unreachable-requires : goal.prove-unreachable-requires
+prove-unreachable-requires g c =
+    let h = rw c.in-Found.is at c.requires.ended in
+    absurd (false≢true h.met)
