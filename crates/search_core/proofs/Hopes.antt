@@ -119,8 +119,6 @@ module _ (moves : ℕ) (meets : List ℕ → Bool) (code : List ℕ → List ℕ
           subst (λ (z : List ℕ). AreMoves moves (x ∷ z)) s d,
           subst (λ (z : List ℕ). meets (x ∷ z) ≡ true) s y)
 
-    hope_by : (n i : ℕ) (p : List ℕ) → slice_get trails i ≡ Some p → (r : ℕ) → slice_get ranks i ≡ Some r → 0 < r → r ≤ n
-        → HasHope moves meets p
     by_way : (n i : ℕ) (p : List ℕ) → slice_get trails i ≡ Some p → (r : ℕ) → r ≤ suc n → (t : At i p)
         → HasWay ranks r t.row.items
         → ((j : ℕ) (a : List ℕ) → slice_get trails j ≡ Some a → (k : ℕ) → slice_get ranks j ≡ Some k → 0 < k → k ≤ n
@@ -135,6 +133,9 @@ module _ (moves : ℕ) (meets : List ℕ → Bool) (code : List ℕ → List ℕ
         let b : k < r = y.3 in
         let there : HasHope moves meets d.trail = less lead.place d.trail d.there k y.1 y.2 (omega arith) in
         one_step m p h (hope_along d.trail (m ∷ p) d.same h there)
+
+    hope_by : (n i : ℕ) (p : List ℕ) → slice_get trails i ≡ Some p → (r : ℕ) → slice_get ranks i ≡ Some r → 0 < r → r ≤ n
+        → HasHope moves meets p
     hope_by zero i p e r z b l = absurd (omega arith)
     hope_by (suc n) i p e r z b l =
         let t : At i p = at i p e in
