@@ -1,9 +1,9 @@
 -- Which of the places that were seen are picked, one after the other.
-use Rattle.std.proofs.Common.{ℕ, ◌≡◌, ◌<◌, ◌≤◌, ◌+◌, ◌⊎◌, true, false, List, [], ◌∷◌, ◌++◌, length, Option, None, Some, slice_get, refl, sym, ◌∙◌, ap, subst, inl, inr, arith}
+use Rattle.std.proofs.Common.{ℕ, ◌≡◌, ◌<◌, ◌≤◌, ◌+◌, ◌⊎◌, List, [], ◌∷◌, ◌++◌, length, Option, None, Some, slice_get, sym, ◌∙◌, ap, subst, inl, inr, arith}
 use Rattle.std.specs.Prelude.{IsSome, is_some}
 use Rattle.std.proofs.lemmas.Bool.{cases_order, false≢true}
 use Rattle.std.proofs.lemmas.Option.{none-some, same_Some, slice_get_within}
-use Rattle.search_core.specs.Moves.{AreMoves, IsBefore, AreRising}
+use Rattle.search_core.specs.Moves.{IsBefore, AreRising}
 use Rattle.search_core.specs.Survey.{IsListed}
 use Rattle.search_core.specs.Picked.{IsPicked, ArePicked}
 use Rattle.search_core.proofs.Pushed.{kept_at, last_at, pushed_at}

@@ -1,5 +1,5 @@
 //! Two jugs, of three and of five, of which the large one is to hold four.
-ghost use Rattle.std.specs.Prelude.{◌≡◌, ◌≤◌, ◌∷◌, [], None, Some, if◌then◌else◌, IfOk, reverse};
+ghost use Rattle.std.specs.Prelude.{◌≡◌, ◌≤◌, ◌<◌, ◌^◌, ◌∷◌, [], None, Some, if◌then◌else◌, IfOk, reverse};
 ghost use Rattle.search_core.specs.Jugs.{code_of, hold_alike, holds, jugs_behind, label_alike, poured, same_code};
 
 use crate::{Answer, Labelled, Maze, Survey, Visit, search, survey};
@@ -101,14 +101,20 @@ const FOUR: [u32; 6] = [1, 5, 2, 5, 1, 5];
 /// The moves that leave four in the large jug and the small one empty.
 const FOUR_ALONE: [u32; 7] = [1, 5, 2, 5, 1, 5, 2];
 
-fn is_measured(alloc: Global, wanted: u64, most: u32) -> Result<bool, AllocError> {
+/// Whether so much is measured by the moves that leave four.
+fn is_measured(alloc: Global, wanted: u64, most: u32) -> Result<bool, AllocError>
+    requires { most < 2 ^ 20 }
+{
     match search(alloc, &Jugs { wanted }, most, 1000)? {
         Answer::Found(path) => Ok(path.as_slice() == FOUR.as_slice()),
         Answer::NoneWithin(_) | Answer::NoneAtAll(_) | Answer::NoRoom => Ok(false),
     }
 }
 
-fn is_never_measured(alloc: Global, wanted: u64, most: u32) -> Result<bool, AllocError> {
+/// Whether no moves measure so much, and there are 16 places.
+fn is_never_measured(alloc: Global, wanted: u64, most: u32) -> Result<bool, AllocError>
+    requires { most < 2 ^ 20 }
+{
     match search(alloc, &Jugs { wanted }, most, 1000)? {
         Answer::NoneAtAll(places) => Ok(places == 16),
         Answer::Found(_) | Answer::NoneWithin(_) | Answer::NoRoom => Ok(false),

@@ -1,4 +1,4 @@
-use Rattle.std.proofs.Common.{ℕ, ◌≡◌, List, [], Option, refl, sym, subst, arith}
+use Rattle.std.proofs.Common.{ℕ, List, [], Option, refl, sym, subst, arith}
 use Rattle.std.specs.Global.{Vec}
 use Rattle.search_core.specs.Node.{trails_of}
 use Rattle.search_core.specs.Survey.{moves_of}
