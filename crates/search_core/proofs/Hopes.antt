@@ -114,10 +114,12 @@ module _ (moves : ℕ) (meets : List ℕ → Bool) (code : List ℕ → List ℕ
 
     one_step : (m : ℕ) (p : List ℕ) → AreMoves moves (m ∷ p) → HasHope moves meets (m ∷ p) → HasHope moves meets p
     one_step m p h (x, q, d, y) =
-        let s : q ++ (m ∷ p) ≡ (q ++ m ∷ []) ++ p = sym (append_assoc q (m ∷ []) p) in
-        (x, q ++ m ∷ [],
+        let s : q ++ (m ∷ p) ≡ (q ++ m ∷ []) ++ p = sym (append_assoc q (m ∷ []) p) in (
+          x,
+          q ++ m ∷ [],
           subst (λ (z : List ℕ). AreMoves moves (x ∷ z)) s d,
-          subst (λ (z : List ℕ). meets (x ∷ z) ≡ true) s y)
+          subst (λ (z : List ℕ). meets (x ∷ z) ≡ true) s y,
+        )
 
     by_way : (n i : ℕ) (p : List ℕ) → slice_get trails i ≡ Some p → (r : ℕ) → r ≤ suc n → (t : At i p)
         → HasWay ranks r t.row.items

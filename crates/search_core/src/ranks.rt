@@ -1,6 +1,6 @@
 //! From which places the goal can be met. A place has rank 0 where it cannot. Where it can, a move
 //! meets it, or leads to a place of a lower rank that is not 0.
-ghost use Rattle.std.specs.Prelude.{◌≡◌, ◌×◌, ◌<◌, ℕ, true, false, Some, length, slice_get};
+ghost use Rattle.std.specs.Prelude.{◌≡◌, ◌<◌, ℕ, true, false, Some, length, slice_get};
 ghost use Rattle.search_core.specs.Lead.{AreRanked, HasWay, IsRanked, LeadsNowhere};
 
 use crate::leads::Lead;

@@ -11,7 +11,7 @@ visit-requires-clause-few g c =
     let n : ℕ = length c.args.path.now in
     let l : n < n + 1 = omega arith in
     rw c.as_slice.ensures.value (few_moves c.in_ok-longer.longer.items c.args.path.now c.args.m (n + 1) c.in_ok-longer.ensures l
-      c.requires.few)
+    c.requires.few)
 
 pub visit-requires-clause-moves : goal.visit-requires-clause-moves
 visit-requires-clause-moves g c =
