@@ -1,10 +1,10 @@
 -- From which places the goal can be met, as the ranks tell.
-use Rattle.std.proofs.Common.{ℕ, zero, suc, ◌≡◌, ◌<◌, ◌≤◌, ◌+◌, ◌⊎◌, Bool, true, false, List, [], ◌∷◌, ◌++◌, length, Some, slice_get, append_assoc, refl, sym, ◌∙◌, ap, subst, inl, inr, arith}
+use Rattle.std.proofs.Common.{ℕ, zero, suc, ◌≡◌, ◌<◌, ◌≤◌, Bool, true, false, List, [], ◌∷◌, ◌++◌, length, Some, slice_get, append_assoc, refl, sym, ◌∙◌, ap, subst, inl, inr, arith}
 use Rattle.std.specs.Global.{Vec}
 use Rattle.std.proofs.lemmas.Option.{same_Some, slice_get_within}
 use Rattle.search_core.specs.Moves.{AreMoves}
 use Rattle.search_core.specs.Lost.{IsHopeless}
-use Rattle.search_core.specs.Lead.{IsLead, IsRow, AreRows, LeadsNowhere, HasWay, IsRanked, AreRanked, HasHope, TellsHope, TellHope}
+use Rattle.search_core.specs.Lead.{IsLead, IsRow, AreRows, LeadsNowhere, HasWay, IsRanked, AreRanked, HasHope, TellHope}
 use Rattle.search_core.specs.declared.leads.Lead.{Lead}
 use Rattle.search_core.proofs.Covers.{GoOn}
 

@@ -1,13 +1,13 @@
 -- The first of the places that is lost is the first of all lists of moves that are.
-use Rattle.std.proofs.Common.{ℕ, ◌≡◌, ◌<◌, ◌+◌, ◌⊎◌, Bool, true, false, List, ◌∷◌, ◌++◌, length, Option, Some, slice_get, refl, sym, ◌∙◌, ap, subst, inl, inr, arith}
+use Rattle.std.proofs.Common.{ℕ, ◌≡◌, ◌<◌, ◌+◌, ◌⊎◌, Bool, false, List, ◌∷◌, ◌++◌, length, Option, Some, slice_get, sym, ◌∙◌, subst, inl, inr, arith}
 use Rattle.std.specs.Prelude.{IsSome}
 use Rattle.std.proofs.lemmas.Bool.{cases_order, both_ways}
-use Rattle.std.proofs.lemmas.Option.{same_Some, slice_get_within}
+use Rattle.std.proofs.lemmas.Option.{slice_get_within}
 use Rattle.search_core.specs.Moves.{AreMoves, IsBefore}
 use Rattle.search_core.specs.Node.{IsCovered}
 use Rattle.search_core.specs.Ended.{HasCovered}
 use Rattle.search_core.specs.Lost.{IsHopeless, IsLost, IsFirstLost}
-use Rattle.search_core.specs.Lead.{HasHope, TellsHope, TellHope, IsNotLost}
+use Rattle.search_core.specs.Lead.{HasHope, IsNotLost}
 use Rattle.search_core.proofs.Order.{not_after_before, no_shorter}
 use Rattle.search_core.proofs.Covers.{GoOn}
 use Rattle.search_core.proofs.Hopes.{met_along, front_moves}

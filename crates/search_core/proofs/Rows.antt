@@ -1,10 +1,10 @@
 -- Rows of moves, and tests of them, one more at a time.
-use Rattle.std.proofs.Common.{ℕ, ◌≡◌, ◌<◌, ◌≤◌, ◌+◌, ◌⊎◌, Bool, true, false, List, [], ◌∷◌, ◌++◌, length, get_or, Some, slice_get, refl, sym, ◌∙◌, ap, subst, inl, inr, arith}
+use Rattle.std.proofs.Common.{ℕ, ◌≡◌, ◌<◌, ◌+◌, ◌⊎◌, Bool, List, [], ◌∷◌, ◌++◌, length, Some, slice_get, refl, sym, ◌∙◌, subst, inl, inr, arith}
 use Rattle.std.specs.Global.{Vec}
 use Rattle.std.proofs.lemmas.Bool.{cases_order}
 use Rattle.std.proofs.lemmas.List.{length_push}
 use Rattle.std.proofs.lemmas.Option.{none-some, same_Some}
-use Rattle.search_core.specs.Lead.{IsLead, IsRow, AreRows, LeadsNowhere, IsRanked, AreRanked}
+use Rattle.search_core.specs.Lead.{IsLead, IsRow, AreRows}
 use Rattle.search_core.specs.declared.leads.Lead.{Lead}
 use Rattle.search_core.proofs.Pushed.{pushed_at}
 

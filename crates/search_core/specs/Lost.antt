@@ -1,5 +1,5 @@
 -- Places from which what is hoped for can never come.
-use Rattle.std.specs.Prelude.{ℕ, ◌≡◌, ◌≤◌, Bool, true, false, List, ◌∷◌, ◌++◌, Option, IsSome, length, reverse}
+use Rattle.std.specs.Prelude.{ℕ, ◌≡◌, ◌≤◌, Bool, false, List, ◌∷◌, ◌++◌, Option, IsSome, length, reverse}
 use Rattle.search_core.specs.Moves.{AreMoves, IsBefore}
 use Rattle.search_core.specs.declared.answers.Lost.{Lost}
 use Rattle.search_core.specs.declared.answers.Lost.TheVariants.{Found, NoneAtAll, Unknown}

@@ -1,8 +1,6 @@
-use Rattle.std.proofs.Common.{ℕ, ◌≡◌, ◌∷◌, ◌+◌, ◌<◌, ◌∙◌, List, Some, true, length, reverse, slice_get, sym, ap, subst, arith}
+use Rattle.std.proofs.Common.{ℕ, ◌≡◌, ◌∷◌, ◌+◌, ◌<◌, ◌∙◌, List, length, reverse, sym, ap, subst, arith}
 use Rattle.std.proofs.lemmas.List.{length-reverse}
-use Rattle.std.proofs.lemmas.Slice.Eq.{bytes_eq-Decides}
 use Rattle.search_core.specs.Moves.{AreMoves}
-use Rattle.search_core.specs.Node.{trails_of}
 use Rattle.search_core.proofs.Going.{few_moves}
 use Rattle.search_core.proofs.leads.lead_of.Goals as goal
 

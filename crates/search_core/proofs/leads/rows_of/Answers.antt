@@ -1,4 +1,4 @@
-use Rattle.std.proofs.Common.{ℕ, ◌≡◌, ◌+◌, Bool, List, Some, length, reverse, slice_get, sym, subst, arith}
+use Rattle.std.proofs.Common.{ℕ, ◌≡◌, ◌+◌, Bool, List, length, reverse, sym, subst, arith}
 use Rattle.std.specs.Global.{Vec}
 use Rattle.search_core.specs.declared.leads.Lead.{Lead}
 use Rattle.search_core.specs.Node.{trails_of}
@@ -20,7 +20,7 @@ loop-at-preserved g c =
     subst (λ (z : List ℕ). IsRow meets code trails (reverse z) moves row) c.as_slice.ensures.value told in
     subst (λ (z : List (Vec Lead)). AreRows moves meets code trails (c.loop-at.at + 1) z) (sym c.in_ok-push.ensures.items)
     (rows_more moves meets code trails c.loop-at.at c.loop-at.rows.items p c.in-Some-2.row c.loop-at.invariant
-      (rw c.in-Some.is at c.in_ok-path.ensures.some) is_row)
+    (rw c.in-Some.is at c.in_ok-path.ensures.some) is_row)
 
 pub returns : goal.returns
 returns g c =
@@ -29,4 +29,4 @@ returns g c =
     let all : c.loop-at.at ≡ length trails =
     omega (arith, n, c.count-seen.ensures, c.loop-at-test.false, c.loop-at.auto.at-end) in
     subst (λ (z : ℕ). AreRows (g.M.Maze.moves c.args.maze.now) (g.M.Maze.meets c.args.maze.now)
-        (g.M.Maze.code c.args.maze.now) trails z c.loop-at.rows.items) all c.loop-at.invariant
+    (g.M.Maze.code c.args.maze.now) trails z c.loop-at.rows.items) all c.loop-at.invariant

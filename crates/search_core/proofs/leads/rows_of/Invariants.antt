@@ -1,4 +1,3 @@
-use Rattle.std.proofs.Common.{ℕ, ◌≡◌, Some, slice_get}
 use Rattle.search_core.specs.Node.{trails_of}
 use Rattle.search_core.specs.Lead.{AreRows}
 use Rattle.search_core.proofs.leads.rows_of.Given as goal

@@ -38,5 +38,5 @@ returns g c =
     none_lost moves c.args.most meets code go trails c.requires.all label
     (g.met.M.Labelled.label_alike c.args.maze.now c.requires.fits)
     (λ (i : ℕ) (b : i < length trails) (p : List ℕ) (e : slice_get trails i ≡ Some p) (h : IsSome (label p))
-      (l : IsHopeless moves meets p).
-      c.loop-at.invariant i (omega (arith, b, n, c.count-seen.ensures, c.loop-at-test.false)) p e h l)
+    (l : IsHopeless moves meets p).
+    c.loop-at.invariant i (omega (arith, b, n, c.count-seen.ensures, c.loop-at-test.false)) p e h l)
