@@ -1,9 +1,9 @@
 -- Which of the places that were seen are picked, one after the other.
-use Rattle.std.proofs.Common.{ℕ, ◌≡◌, ◌<◌, ◌≤◌, ◌+◌, ◌⊎◌, true, false, List, [], ◌∷◌, ◌++◌, length, Option, None, Some, slice_get, refl, sym, ◌∙◌, ap, subst, inl, inr, arith}
+use Rattle.std.proofs.Common.{ℕ, ◌≡◌, ◌<◌, ◌≤◌, ◌+◌, ◌⊎◌, List, [], ◌∷◌, ◌++◌, length, Option, None, Some, slice_get, sym, ◌∙◌, ap, subst, inl, inr, arith}
 use Rattle.std.specs.Prelude.{IsSome, is_some}
 use Rattle.std.proofs.lemmas.Bool.{cases_order, false≢true}
 use Rattle.std.proofs.lemmas.Option.{none-some, same_Some, slice_get_within}
-use Rattle.search_core.specs.Moves.{AreMoves, IsBefore, AreRising}
+use Rattle.search_core.specs.Moves.{IsBefore, AreRising}
 use Rattle.search_core.specs.Survey.{IsListed}
 use Rattle.search_core.specs.Picked.{IsPicked, ArePicked}
 use Rattle.search_core.proofs.Pushed.{kept_at, last_at, pushed_at}
@@ -53,20 +53,20 @@ module _ (label : List ℕ → Option (List ℕ)) (trails : List (List ℕ)) whe
       → ArePicked label trails (n + 1) listed
   past_all n listed u l =
       skip n listed u (λ (p : List ℕ) (e : slice_get trails n ≡ Some p) (h : IsSome (label p)).
-        (let k : n < length trails = slice_get_within trails n p e in absurd (omega arith)))
+      (let k : n < length trails = slice_get_within trails n p e in absurd (omega arith)))
 
   pub unlabelled : (n : ℕ) (listed : List (List ℕ)) (p : List ℕ) → ArePicked label trails n listed
       → slice_get trails n ≡ Some p → label p ≡ None → ArePicked label trails (n + 1) listed
   unlabelled n listed p u e f =
       skip n listed u (λ (q : List ℕ) (d : slice_get trails n ≡ Some q) (h : IsSome (label q)).
-        (let s : label p ≡ label q = ap label (same_Some p q (sym e ∙ d)) in
-        absurd (false≢true (ap is_some (sym f ∙ s) ∙ h))))
+      (let s : label p ≡ label q = ap label (same_Some p q (sym e ∙ d)) in
+      absurd (false≢true (ap is_some (sym f ∙ s) ∙ h))))
 
   pub known : (n : ℕ) (listed : List (List ℕ)) (p : List ℕ) → ArePicked label trails n listed
       → slice_get trails n ≡ Some p → IsListed label listed (label p) → ArePicked label trails (n + 1) listed
   known n listed p u e s =
       skip n listed u (λ (q : List ℕ) (d : slice_get trails n ≡ Some q) (h : IsSome (label q)).
-        subst (λ (z : List ℕ). IsListed label listed (label z)) (same_Some p q (sym e ∙ d)) s)
+      subst (λ (z : List ℕ). IsListed label listed (label z)) (same_Some p q (sym e ∙ d)) s)
 
   -- ---- a place that is listed
   added_each : (n : ℕ) (listed : List (List ℕ)) (p : List ℕ) → ArePicked label trails n listed

@@ -17,7 +17,7 @@ counts_before most p q b l =
     omega arith
 
 -- a place whose moves are before another's was seen before it
-at_by : (trails : List (List ℕ)) → AreRising trails → (j k : ℕ) (a p : List ℕ) → slice_get trails j ≡ Some a
+pub at_by : (trails : List (List ℕ)) → AreRising trails → (j k : ℕ) (a p : List ℕ) → slice_get trails j ≡ Some a
     → slice_get trails k ≡ Some p → IsBefore a p → (j ≡ k) ⊎ ((j < k) ⊎ (k < j)) → j < k
 at_by trails r j k a p e f b (inl s) =
     let g : slice_get trails k ≡ Some a = subst (λ (z : ℕ). slice_get trails z ≡ Some a) s e in

@@ -1,5 +1,5 @@
 -- What is in two jugs, of three and of five, behind moves: a maze for tests.
-use Rattle.std.specs.Prelude.{ℕ, ◌≡◌, ◌+◌, ◌-◌, ◌==◌, nat_le, Bool, Option, None, Some, if◌then◌else◌, List, [], ◌∷◌, slice_index}
+use Rattle.std.specs.Prelude.{ℕ, ◌≡◌, ◌+◌, ◌-◌, ◌==◌, nat_le, Bool, None, Some, if◌then◌else◌, List, [], ◌∷◌, slice_index}
 use Rattle.std.proofs.Common.{ap}
 
 -- the first two moves fill a jug, the next two empty one, and the last two pour as much as the other takes

@@ -38,8 +38,8 @@ pub fn survey<M: Labelled>(
 
 /// The same places, with a goal that is met nowhere.
 #[derive_where(Clone, Copy)]
-struct Unmet<'a, M> {
-    maze: &'a M,
+pub struct Unmet<'a, M> {
+    pub maze: &'a M,
 }
 
 impl<'a, M: Maze> Maze for Unmet<'a, M> {

@@ -1,15 +1,16 @@
-//! Two jugs, of three and of five, of which the large one is to hold four.
-ghost use Rattle.std.specs.Prelude.{◌≡◌, ◌≤◌, ◌∷◌, [], None, Some, if◌then◌else◌, IfOk, reverse};
+//! Two jugs, of three and of five, of which the large one is to hold four. Sixteen places are known.
+ghost use Rattle.std.specs.Prelude.{◌≡◌, ◌≤◌, ◌<◌, ◌^◌, ◌∷◌, [], None, Some, if◌then◌else◌, IfOk, reverse};
 ghost use Rattle.search_core.specs.Jugs.{code_of, hold_alike, holds, jugs_behind, label_alike, poured, same_code};
 
-use crate::{Answer, Labelled, Maze, Survey, Visit, search, survey};
+use crate::{Answer, Labelled, Lost, Maze, Survey, Visit, first_lost, search, survey};
 use std::alloc::{AllocError, Global};
 use std::test::Fail;
 
-/// The jugs, and how much the large one is to hold.
+/// The jugs, how much the large one is to hold, and with how much in it a place has a label.
 #[derive(Drop)]
 struct Jugs {
     wanted: u64,
+    labelled: u64,
 }
 
 impl Maze for Jugs {
@@ -42,13 +43,13 @@ impl Maze for Jugs {
 }
 
 impl Labelled for Jugs {
-    ghost label = { λ s p. if holds s.wanted p then Some (code_of p) else None };
+    ghost label = { λ s p. if holds s.labelled p then Some (code_of p) else None };
 
-    ghost label_alike = { λ s h p q a b e. label_alike s.wanted p q e };
+    ghost label_alike = { λ s h p q a b e. label_alike s.labelled p q e };
 
     fn label(&self, alloc: Global, path: &[u32]) -> Result<Option<Vec<u64>>, AllocError> {
         let jugs = jugs_behind(path);
-        if jugs.1 != self.wanted {
+        if jugs.1 != self.labelled {
             return Ok(None);
         }
         let words = words_of(alloc, jugs)?;
@@ -101,15 +102,29 @@ const FOUR: [u32; 6] = [1, 5, 2, 5, 1, 5];
 /// The moves that leave four in the large jug and the small one empty.
 const FOUR_ALONE: [u32; 7] = [1, 5, 2, 5, 1, 5, 2];
 
-fn is_measured(alloc: Global, wanted: u64, most: u32) -> Result<bool, AllocError> {
-    match search(alloc, &Jugs { wanted }, most, 1000)? {
+/// Whether so much is measured by the moves that leave four.
+fn is_measured(alloc: Global, wanted: u64, most: u32) -> Result<bool, AllocError>
+    requires { most < 2 ^ 20 }
+{
+    let jugs = Jugs {
+        wanted,
+        labelled: 4,
+    };
+    match search(alloc, &jugs, most, 1000)? {
         Answer::Found(path) => Ok(path.as_slice() == FOUR.as_slice()),
         Answer::NoneWithin(_) | Answer::NoneAtAll(_) | Answer::NoRoom => Ok(false),
     }
 }
 
-fn is_never_measured(alloc: Global, wanted: u64, most: u32) -> Result<bool, AllocError> {
-    match search(alloc, &Jugs { wanted }, most, 1000)? {
+/// Whether no moves measure so much, and there are 16 places.
+fn is_never_measured(alloc: Global, wanted: u64, most: u32) -> Result<bool, AllocError>
+    requires { most < 2 ^ 20 }
+{
+    let jugs = Jugs {
+        wanted,
+        labelled: 4,
+    };
+    match search(alloc, &jugs, most, 1000)? {
         Answer::NoneAtAll(places) => Ok(places == 16),
         Answer::Found(_) | Answer::NoneWithin(_) | Answer::NoRoom => Ok(false),
     }
@@ -138,6 +153,14 @@ fn is_one_listed(survey: &Survey) -> bool {
     }
 }
 
+/// Whether the first place with four in the large jug is lost: so much is never measured behind it.
+fn is_lost(lost: &Lost) -> bool {
+    match lost {
+        Lost::Found(path) => path.as_slice() == FOUR.as_slice(),
+        Lost::NoneAtAll(_) | Lost::Unknown => false,
+    }
+}
+
 #[test]
 fn four_are_measured_in_six_moves_and_six_never(rt: HostRuntime) -> Result<(), Fail> {
     let alloc = rt.alloc();
@@ -150,9 +173,29 @@ fn four_are_measured_in_six_moves_and_six_never(rt: HostRuntime) -> Result<(), F
 #[test]
 fn the_places_with_four_are_listed(rt: HostRuntime) -> Result<(), Fail> {
     let alloc = rt.alloc();
-    let jugs = Jugs { wanted: 4 };
+    let jugs = Jugs {
+        wanted: 6,
+        labelled: 4,
+    };
     assert!(rt; are_both_listed(&survey(alloc, &jugs, 50, 1000)?));
     assert!(rt; is_one_listed(&survey(alloc, &jugs, 6, 1000)?));
     assert!(rt; matches!(survey(alloc, &jugs, 50, 3)?, Survey::NoRoom));
+    Ok(())
+}
+
+#[test]
+fn what_is_never_measured_is_lost(rt: HostRuntime) -> Result<(), Fail> {
+    let alloc = rt.alloc();
+    let never = Jugs {
+        wanted: 6,
+        labelled: 4,
+    };
+    assert!(rt; is_lost(&first_lost(alloc, &never, 50, 1000)?));
+    assert!(rt; matches!(first_lost(alloc, &never, 5, 1000)?, Lost::Unknown));
+    let again = Jugs {
+        wanted: 4,
+        labelled: 4,
+    };
+    assert!(rt; matches!(first_lost(alloc, &again, 50, 1000)?, Lost::NoneAtAll(16)));
     Ok(())
 }

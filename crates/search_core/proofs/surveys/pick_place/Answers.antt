@@ -1,4 +1,4 @@
-use Rattle.std.proofs.Common.{ℕ, ◌≡◌, ◌+◌, ◌∷◌, ◌++◌, [], ◌∙◌, List, Option, None, Some, false, true, map, reverse, slice_get, refl, sym, ap, subst, arith}
+use Rattle.std.proofs.Common.{ℕ, ◌≡◌, ◌+◌, ◌∷◌, ◌++◌, [], ◌∙◌, List, Option, None, Some, false, true, reverse, slice_get, sym, ap, subst, arith}
 use Rattle.std.specs.Prelude.{IsSome, is_some}
 use Rattle.std.specs.Global.{Vec}
 use Rattle.std.specs.List.{list_any}
@@ -106,6 +106,6 @@ returns-clause-labels g c =
     ∙ map_push (λ (w : Vec ℕ). reverse w.items) c.args.paths.now.items c.in-Some.path in
     let l : AreLabels label (listed ++ p ∷ []) (c.args.labels.now.keys ++ v ∷ []) =
     label_added label listed c.args.labels.now.keys c.requires.labels v p e in
-    subst (λ (z : List (List ℕ)). AreLabels label z c.insert-is_new.new.self.keys) (sym next)
+    subst (λ (z : List (List ℕ)). AreLabels label z c.insert.new.self.keys) (sym next)
     (subst (λ (z : List (Vec ℕ)). AreLabels label (listed ++ p ∷ []) z)
-      (sym (c.in_ok-is_new.ensures.keys ∙ cond-false _ _ _ none)) l)
+    (sym (c.in_ok-is_new.ensures.keys ∙ cond-false _ _ _ none)) l)
