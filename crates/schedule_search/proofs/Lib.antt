@@ -5,6 +5,6 @@ pub mod Resting
 pub mod Paths
 pub mod Doing
 pub mod Ranges
-pub mod Visits
+pub mod Visiting
 pub mod Rights
 pub mod Resters

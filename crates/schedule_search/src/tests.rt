@@ -101,8 +101,13 @@ fn finds_the_deadlock(alloc: Global, script: &Script) -> bool {
         Event::Step(A),
         Event::Step(B),
     ];
-    is_found(outcome_of(alloc, script, &goal, 0, 10, 100), events.as_slice())
-        && matches!(outcome_of(alloc, script, &goal, 0, 3, 100), Some(Outcome::NoneWithin(_)))
+    is_found(
+        outcome_of(alloc, script, &goal, 0, 10, 100),
+        events.as_slice(),
+    ) && matches!(
+        outcome_of(alloc, script, &goal, 0, 3, 100),
+        Some(Outcome::NoneWithin(_))
+    )
 }
 
 /// Whether a line is found, and one that a kill alone makes only with a kill. Without, all 13 states
@@ -118,7 +123,10 @@ fn finds_lines(alloc: Global, script: &Script) -> bool {
         line_outcome(alloc, script, delivered, 1, 100),
         killed.as_slice(),
     ) && none_at_all(line_outcome(alloc, script, delivered, 0, 100)) == Some(14)
-        && matches!(line_outcome(alloc, script, delivered, 0, 5), Some(Outcome::NoRoom))
+        && matches!(
+            line_outcome(alloc, script, delivered, 0, 5),
+            Some(Outcome::NoRoom)
+        )
 }
 
 /// The states at rest to which steps of both tasks lead, within so many events.

@@ -7,8 +7,8 @@ use Rattle.schedule_search.specs.Problem.{search_of}
 use Rattle.schedule_search.proofs.Ranges.{all_on, not_all, all_seen}
 use Rattle.schedule_search.proofs.rest.is_at_rest.Goals as goal
 
-pub changes_nothing-same-requires-clause-there : goal.changes_nothing-same-requires-clause-there
-changes_nothing-same-requires-clause-there c =
+pub changes_nothing-requires-clause-there : goal.changes_nothing-requires-clause-there
+changes_nothing-requires-clause-there c =
     let t : ℕ = c.loop-t.t in
     let n : ℕ = length c.args.replay.now.state.kernel.tasks.alive in
     let l : t < n = subst (λ (z : ℕ). t < z) c.tasks-count.ensures c.loop-t-test.true in
