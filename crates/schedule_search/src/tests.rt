@@ -152,9 +152,7 @@ fn resting(alloc: Global, script: &Script, most: u32) -> Option<RestingStates>
 
 /// Whether these two schedules are listed.
 fn are_both(schedules: &[Vec<Event>], first: &[Event], second: &[Event]) -> bool {
-    schedules.len() == 2
-        && schedules[0].as_slice() == first
-        && schedules[1].as_slice() == second
+    schedules.len() == 2 && schedules[0].as_slice() == first && schedules[1].as_slice() == second
 }
 
 /// Whether both states at rest are listed, of all 13: who calls first makes the first call. Within
