@@ -3,8 +3,8 @@ use Rattle.std.specs.Prelude.{ℕ, ◌≡◌, ◌<◌, ◌≤◌, ⊤, true, Lis
 use Rattle.std.specs.Global.{Vec}
 use Rattle.ipc_ids.specs.declared.message.Event.{Event}
 use Rattle.run_words.specs.RunWords.{run_words}
-use Rattle.schedule_search.specs.declared.resting.RestingStates.{RestingStates}
-use Rattle.schedule_search.specs.declared.resting.RestingStates.TheVariants.{All, Within, NoRoom}
+use Rattle.schedule_search.specs.declared.at_rest.RestingStates.{RestingStates}
+use Rattle.schedule_search.specs.declared.at_rest.RestingStates.TheVariants.{All, Within, NoRoom}
 use Rattle.schedule_search.specs.Search.{Search, Made, state_behind}
 use Rattle.schedule_search.specs.Meeting.{is_at_rest}
 

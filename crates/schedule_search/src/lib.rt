@@ -7,6 +7,7 @@
 //! states of one code go on alike, for each move and each goal, and what it is that a state is at rest.
 #![tactic(auto)]
 
+mod at_rest;
 mod kills;
 mod laws;
 mod open_calls;
@@ -15,12 +16,11 @@ mod path;
 mod place;
 mod problem;
 mod rest;
-mod resting;
 #[cfg(test)]
 mod tests;
 mod visits;
 
+pub use at_rest::{RestingStates, survey_schedules};
 pub use laws::{codes_stand_for_schedules, nothing_moves_at_rest};
 pub use outcome::{Outcome, search_schedules};
 pub use problem::Problem;
-pub use resting::{RestingStates, survey_schedules};

@@ -8,7 +8,7 @@ use Rattle.schedule_search.specs.Problem.{search_of}
 use Rattle.schedule_search.specs.Survey.{schedules_of}
 use Rattle.schedule_search.proofs.Alike.{fits}
 use Rattle.schedule_search.proofs.Resters.{schedules_right, events_within, moves_within}
-use Rattle.schedule_search.proofs.resting.survey_schedules.Goals as goal
+use Rattle.schedule_search.proofs.at_rest.survey_schedules.Goals as goal
 
 pub survey-requires-clause-fits : goal.survey-requires-clause-fits
 survey-requires-clause-fits c = fits (search_of c.args.problem.now) c.requires.sound

@@ -8,7 +8,7 @@ use Rattle.search_core.specs.Survey.{moves_of}
 use Rattle.schedule_search.specs.Search.{events_of}
 use Rattle.schedule_search.specs.Survey.{schedules_of}
 use Rattle.schedule_search.proofs.Resters.{at_made}
-use Rattle.schedule_search.proofs.resting.schedules_by.Goals as goal
+use Rattle.schedule_search.proofs.at_rest.schedules_by.Goals as goal
 
 pub events_by-requires : goal.events_by-requires
 events_by-requires c =
