@@ -8,7 +8,7 @@ use Rattle.schedule_search.proofs.tests.resting.Goals as goal
 
 pub survey_schedules-requires-clause-sound : goal.survey_schedules-requires-clause-sound
 survey_schedules-requires-clause-sound c =
-    let two : 2 ≤ length c.args.script.now.tasks = omega (arith, c.if-len-lt2.false, c.len.ensures, ap length c.as_slice.ensures, ap (λ (p : Plan). length p.tasks) c.script.view_is) in
+    let two : 2 ≤ length c.args.script.now.tasks = omega (arith, c.if-as_slice-lt2.false, ap length c.as_slice.ensures, ap (λ (p : Plan). length p.tasks) c.script.view_is) in
     record {
       script = subst script.IsSound c.script.view_is c.script.invariant;
       may = tt;
