@@ -59,7 +59,8 @@ module _ (moves : ℕ) (meets : List ℕ → Bool) (code : List ℕ → List ℕ
         let r : (x : Vec Lead) × (slice_get rows i ≡ Some x) = there_is rows i b in
         record { row = r.0; is_row = are_rows.each i r.0 p r.1 e; is_ranked = ranked i r.0 r.1 b }
 
-    rank_zero : (i : ℕ) (row : List Lead) → (t : IsRanked ranks row i) → slice_get ranks i ≡ Some 0 → LeadsNowhere ranks row
+    rank_zero : (i : ℕ) (row : List Lead) → (t : IsRanked ranks row i) → slice_get ranks i ≡ Some 0
+        → LeadsNowhere ranks row
     rank_zero i row t z = t.none (same_Some t.rank 0 (sym t.there ∙ z))
 
     -- ---- without a rank there is no hope
@@ -101,7 +102,8 @@ module _ (moves : ℕ) (meets : List ℕ → Bool) (code : List ℕ → List ℕ
     follow [] i p e z h = record { place = i; trail = p; there = e; none = z; same = refl }
     follow (m ∷ q) i p e z h = (one_more (q ++ p) m h (follow q i p e z h.1)).follows
 
-    hopeless : (i : ℕ) (p : List ℕ) → slice_get trails i ≡ Some p → slice_get ranks i ≡ Some 0 → IsHopeless moves meets p
+    hopeless : (i : ℕ) (p : List ℕ) → slice_get trails i ≡ Some p → slice_get ranks i ≡ Some 0
+        → IsHopeless moves meets p
     hopeless i p e z m q h = (one_more (q ++ p) m h (follow q i p e z h.1)).unmet
 
     -- ---- with one there is
@@ -136,8 +138,8 @@ module _ (moves : ℕ) (meets : List ℕ → Bool) (code : List ℕ → List ℕ
         let there : HasHope moves meets d.trail = less lead.place d.trail d.there k y.1 y.2 (omega arith) in
         one_step m p h (hope_along d.trail (m ∷ p) d.same h there)
 
-    hope_by : (n i : ℕ) (p : List ℕ) → slice_get trails i ≡ Some p → (r : ℕ) → slice_get ranks i ≡ Some r → 0 < r → r ≤ n
-        → HasHope moves meets p
+    hope_by : (n i : ℕ) (p : List ℕ) → slice_get trails i ≡ Some p → (r : ℕ) → slice_get ranks i ≡ Some r → 0 < r
+        → r ≤ n → HasHope moves meets p
     hope_by zero i p e r z b l = absurd (omega arith)
     hope_by (suc n) i p e r z b l =
         let t : At i p = at i p e in

@@ -1,5 +1,5 @@
 -- The first of the places that is lost is the first of all lists of moves that are.
-use Rattle.std.proofs.Common.{ℕ, ◌≡◌, ◌<◌, ◌+◌, ◌⊎◌, Bool, false, List, ◌∷◌, ◌++◌, length, Option, Some, slice_get, sym, ◌∙◌, subst, inl, inr, arith}
+use Rattle.std.proofs.Common.{ℕ, ◌≡◌, ◌<◌, Bool, false, List, ◌∷◌, ◌++◌, length, Option, Some, slice_get, sym, ◌∙◌, subst}
 use Rattle.std.specs.Prelude.{IsSome}
 use Rattle.std.proofs.lemmas.Bool.{cases_order, both_ways}
 use Rattle.std.proofs.lemmas.Option.{slice_get_within}
@@ -70,14 +70,3 @@ module _ (moves most : ℕ) (meets : List ℕ → Bool) (code : List ℕ → Lis
         shortest = λ (q : List ℕ) (k : IsLost moves meets label q). no_shorter p q (none_before i p e none q k);
         first = none_before i p e none;
       }
-
--- one place more that is not lost
-pub not_lost_more : (moves : ℕ) (meets : List ℕ → Bool) (label : List ℕ → Option (List ℕ)) (trails : List (List ℕ)) (n : ℕ)
-    → ((j : ℕ) → j < n → IsNotLost moves meets label trails j) → IsNotLost moves meets label trails n
-    → (j : ℕ) → j < n + 1 → IsNotLost moves meets label trails j
-not_lost_more moves meets label trails n none here j l = by_place (cases_order j n)
-  where
-    by_place : (j ≡ n) ⊎ ((j < n) ⊎ (n < j)) → IsNotLost moves meets label trails j
-    by_place (inl s) = subst (λ (z : ℕ). IsNotLost moves meets label trails z) (sym s) here
-    by_place (inr (inl b)) = none j b
-    by_place (inr (inr b)) = absurd (omega arith)

@@ -32,18 +32,20 @@ module _ (moves : ℕ) (meets : List ℕ → Bool) (code : List ℕ → List ℕ
       lead_at m other (inl f) = u.each m other f
       lead_at m other (inr f) =
           let k : n ≡ m = sym (f.0 ∙ u.long) in
-          subst (λ (z : Lead). IsLead meets code trails p m z) f.1 (subst (λ (z : ℕ). IsLead meets code trails p z lead) k h)
+          subst (λ (z : Lead). IsLead meets code trails p m z) f.1
+          (subst (λ (z : ℕ). IsLead meets code trails p z lead) k h)
 
   pub no_rows : AreRows moves meets code trails 0 []
   no_rows =
       record {
         long = refl;
-        each = λ (i : ℕ) (row : Vec Lead) (p : List ℕ) (e : slice_get [] i ≡ Some row) (f : slice_get trails i ≡ Some p).
+        each = λ (i : ℕ) (row : Vec Lead) (p : List ℕ) (e : slice_get [] i ≡ Some row)
+            (f : slice_get trails i ≡ Some p).
             absurd (none-some row e);
       }
 
-  pub rows_more : (n : ℕ) (rows : List (Vec Lead)) (p : List ℕ) (row : Vec Lead) → AreRows moves meets code trails n rows
-      → slice_get trails n ≡ Some p → IsRow meets code trails p moves row.items
+  pub rows_more : (n : ℕ) (rows : List (Vec Lead)) (p : List ℕ) (row : Vec Lead)
+      → AreRows moves meets code trails n rows → slice_get trails n ≡ Some p → IsRow meets code trails p moves row.items
       → AreRows moves meets code trails (n + 1) (rows ++ row ∷ [])
   rows_more n rows p row u at h =
       let s : length rows ≡ n = u.long in
@@ -55,7 +57,8 @@ module _ (moves : ℕ) (meets : List ℕ → Bool) (code : List ℕ → List ℕ
       }
     where
       row_at : (i : ℕ) (other : Vec Lead) (q : List ℕ) → slice_get trails i ≡ Some q
-          → (slice_get rows i ≡ Some other) ⊎ ((i ≡ length rows) × (row ≡ other)) → IsRow meets code trails q moves other.items
+          → (slice_get rows i ≡ Some other) ⊎ ((i ≡ length rows) × (row ≡ other))
+          → IsRow meets code trails q moves other.items
       row_at i other q f (inl e) = u.each i other q e f
       row_at i other q f (inr e) =
           let k : n ≡ i = sym (e.0 ∙ u.long) in

@@ -43,9 +43,11 @@ module _ (moves most : ℕ) (code : List ℕ → List ℕ) (trails : List (List 
     none_before : (n : ℕ) (p : List ℕ) → IsPicked label trails n p → (q : List ℕ) → AreMoves moves q
         → label q ≡ label p → IsBefore q p → ⊥
     none_before n p i q h e b =
-        let c : IsCovered (λ p. false) code trails q = covered.covered q h (before p q b (trails_count i.at p i.there)) in
+        let c : IsCovered (λ p. false) code trails q =
+        covered.covered q h (before p q b (trails_count i.at p i.there)) in
         let d : IsBefore c.trail p = not_after_before c.trail q p c.no_later b in
-        let l : c.at < i.at = at_by trails covered.rising c.at i.at c.trail p c.there i.there d (cases_order c.at i.at) in
+        let l : c.at < i.at =
+        at_by trails covered.rising c.at i.at c.trail p c.there i.there d (cases_order c.at i.at) in
         i.new c.at c.trail c.there l (same_label q h c ∙ e)
 
     first_of : (n : ℕ) (p : List ℕ) → IsPicked label trails n p → IsFirstOf moves label p

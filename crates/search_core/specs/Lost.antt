@@ -15,7 +15,8 @@ pub record IsLost (moves : ℕ) (meets : List ℕ → Bool) (label : List ℕ �
   pub hopeless : IsHopeless moves meets p
 
 -- no fewer moves are lost, nor as many that are before these
-pub record IsFirstLost (moves : ℕ) (meets : List ℕ → Bool) (label : List ℕ → Option (List ℕ)) (p : List ℕ) : Type 0 where
+pub record IsFirstLost (moves : ℕ) (meets : List ℕ → Bool) (label : List ℕ → Option (List ℕ)) (p : List ℕ)
+    : Type 0 where
   pub lost : IsLost moves meets label p
   pub shortest : (q : List ℕ) → IsLost moves meets label q → length p ≤ length q
   pub first : (q : List ℕ) → IsLost moves meets label q → IsBefore q p → ⊥

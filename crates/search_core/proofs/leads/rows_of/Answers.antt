@@ -15,7 +15,8 @@ loop-at-preserved g c =
     let trails : List (List ℕ) = trails_of c.args.nodes.now.later.items in
     let p : List ℕ = reverse c.in-Some.path.items in
     let row : List Lead = c.in-Some-2.row.items in
-    let told : IsRow meets code trails (reverse c.as_slice.result.now) moves row = rw c.in-Some-2.is at c.in_ok-row.ensures in
+    let told : IsRow meets code trails (reverse c.as_slice.result.now) moves row =
+    rw c.in-Some-2.is at c.in_ok-row.ensures in
     let is_row : IsRow meets code trails p moves row =
     subst (λ (z : List ℕ). IsRow meets code trails (reverse z) moves row) c.as_slice.ensures.value told in
     subst (λ (z : List (Vec Lead)). AreRows moves meets code trails (c.loop-at.at + 1) z) (sym c.in_ok-push.ensures.items)
