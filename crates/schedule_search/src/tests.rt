@@ -45,7 +45,7 @@ fn outcome_of(
     let problem = Problem {
         script,
         from: &[],
-        moves: moves.as_slice(),
+        moves: &moves,
         kills: Some(kills),
         goal,
     };
@@ -155,9 +155,8 @@ fn are_both(schedules: &[Vec<Event>], first: &[Event], second: &[Event]) -> bool
     schedules.len() == 2 && schedules[0].as_slice() == first && schedules[1].as_slice() == second
 }
 
-/// Whether both states at rest are listed, of all 13: who calls first makes the first call. Within
-/// three events there is none.
-fn lists_states_at_rest(alloc: Global, script: &Script) -> bool {
+/// Whether both states at rest are listed, of all 13: who calls first makes the first call.
+fn are_all_listed(resting: &RestingStates) -> bool {
     let first = [
         Event::Step(A),
         Event::Step(B),
@@ -170,17 +169,28 @@ fn lists_states_at_rest(alloc: Global, script: &Script) -> bool {
         Event::Step(A),
         Event::Step(B),
     ];
-    let all = match resting(alloc, script, 10) {
-        Some(RestingStates::All { schedules, states }) => {
-            states == 13 && are_both(schedules.as_slice(), first.as_slice(), second.as_slice())
+    match resting {
+        RestingStates::All { schedules, states } => {
+            *states == 13 && are_both(schedules.as_slice(), first.as_slice(), second.as_slice())
         }
+        RestingStates::Within { .. } | RestingStates::NoRoom => false,
+    }
+}
+
+/// Whether there is none within so many events.
+fn is_none_listed(resting: &RestingStates) -> bool {
+    match resting {
+        RestingStates::Within { schedules, .. } => schedules.is_empty(),
+        RestingStates::All { .. } | RestingStates::NoRoom => false,
+    }
+}
+
+/// Whether the states at rest are listed, and within three events there is none.
+fn lists_states_at_rest(alloc: Global, script: &Script) -> bool {
+    match (resting(alloc, script, 10), resting(alloc, script, 3)) {
+        (Some(all), Some(none)) => are_all_listed(&all) && is_none_listed(&none),
         _ => false,
-    };
-    let none = match resting(alloc, script, 3) {
-        Some(RestingStates::Within { schedules, .. }) => schedules.is_empty(),
-        _ => false,
-    };
-    all && none
+    }
 }
 
 /// Whether the searches over the script come to what they are to.

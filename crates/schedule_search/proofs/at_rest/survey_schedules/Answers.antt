@@ -13,17 +13,17 @@ use Rattle.schedule_search.proofs.at_rest.survey_schedules.Goals as goal
 pub survey-requires-clause-fits : goal.survey-requires-clause-fits
 survey-requires-clause-fits c = fits (search_of c.args.problem.now) c.requires.sound
 
-pub returns-in-All : goal.returns-in-All
-returns-in-All c =
+pub returns-in_ok-schedules-in-All : goal.returns-in_ok-schedules-in-All
+returns-in_ok-schedules-in-All c =
     let s : Search = search_of c.args.problem.now in
     let h = rw c.in-All.is at c.in_ok-answer.ensures in
-    let is : schedules_of c.in_ok-schedules.schedules.items ≡ map (events_of s.moves) (moves_of c.in-All.paths.items) =
-    c.in_ok-schedules.ensures ∙ ap (λ (z : List (Vec ℕ)). map (events_of s.moves) (moves_of z)) c.as_slice.ensures.value in
+    let is : schedules_of c.in_ok-schedules-in-All.schedules.items ≡ map (events_of s.moves) (moves_of c.in-All.paths.items) =
+    c.in_ok-schedules-in-All.ensures ∙ ap (λ (z : List (Vec ℕ)). map (events_of s.moves) (moves_of z)) c.as_slice.ensures.value in
     schedules_right s c.requires.sound (λ (p : List ℕ). ⊤) (λ (es : List Event). ⊤) (moves_of c.in-All.paths.items) h
-    (λ (p : List ℕ) (t : ⊤). tt) (λ (p : List ℕ) (t : ⊤). tt) (schedules_of c.in_ok-schedules.schedules.items) is
+    (λ (p : List ℕ) (t : ⊤). tt) (λ (p : List ℕ) (t : ⊤). tt) (schedules_of c.in_ok-schedules-in-All.schedules.items) is
 
-pub returns-in-Within : goal.returns-in-Within
-returns-in-Within c =
+pub returns-in_ok-schedules-in-Within : goal.returns-in_ok-schedules-in-Within
+returns-in_ok-schedules-in-Within c =
     let s : Search = search_of c.args.problem.now in
     let most : ℕ = c.args.most in
     let h = rw c.in-Within.is at c.in_ok-answer.ensures in

@@ -7,10 +7,12 @@ use Rattle.schedule_search.specs.Problem.{search_of}
 use Rattle.schedule_search.proofs.Paths.{can_do}
 use Rattle.schedule_search.proofs.problem.ProblemLabelled.label.Goals as goal
 
-pub rest_words-requires-clause-can : goal.rest_words-requires-clause-can
-rest_words-requires-clause-can c =
-    can_do (search_of c.args.self.now) c.args.path.now c.as_slice.result.now c.requires.fits.sound c.requires.moves c.requires.few
-    (c.as_slice.ensures.value ∙ c.in_ok-events.ensures)
+pub rest_words-requires : goal.rest_words-requires
+rest_words-requires c =
+    record {
+      can = can_do (search_of c.args.self.now) c.args.path.now c.as_slice.result.now c.requires.fits.sound c.requires.moves c.requires.few
+          (c.as_slice.ensures.value ∙ c.in_ok-events.ensures);
+    }
 
 pub returns : goal.returns
 returns c =
