@@ -1,12 +1,10 @@
 -- What a survey of lists of moves lists, in events.
-use Rattle.std.proofs.Common.{ℕ, zero, suc, ◌≡◌, ◌<◌, ◌≤◌, Bool, true, false, ◌&&◌, List, [], ◌∷◌, length, map, Option, None, Some, slice_get, refl, sym, ◌∙◌, ap, subst, arith}
+use Rattle.std.proofs.Common.{ℕ, zero, suc, ◌≡◌, ◌<◌, ◌≤◌, Bool, true, false, ◌&&◌, List, [], ◌∷◌, length, map, None, Some, slice_get, refl, sym, ◌∙◌, ap, subst, arith}
 use Rattle.std.specs.Prelude.{IsSome, is_some, if◌then◌else◌}
 use Rattle.std.proofs.lemmas.Bool.{false≢true}
 use Rattle.std.proofs.lemmas.Option.{none-some, same_Some}
 use Rattle.ipc_ids.specs.declared.message.Event.{Event}
 use Rattle.run_words.specs.Reached.{spawns_of}
-use Rattle.run_words.specs.RunWords.{run_words}
-use Rattle.search_core.specs.Moves.{AreMoves}
 use Rattle.search_core.specs.Survey as core
 use Rattle.schedule_search.specs.Search.{Search, IsSound, Made, kills_in, is_within, state_behind, events_of}
 use Rattle.schedule_search.specs.Meeting.{is_at_rest}

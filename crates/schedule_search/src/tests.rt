@@ -185,11 +185,18 @@ fn is_none_listed(resting: &RestingStates) -> bool {
     }
 }
 
-/// Whether the states at rest are listed, and within three events there is none.
+/// Whether it is so, of all events and within three.
 fn lists_states_at_rest(alloc: Global, script: &Script) -> bool {
-    match (resting(alloc, script, 10), resting(alloc, script, 3)) {
-        (Some(all), Some(none)) => are_all_listed(&all) && is_none_listed(&none),
-        _ => false,
+    match resting(alloc, script, 10) {
+        Some(resting) => are_all_listed(&resting) && lists_none_at_first(alloc, script),
+        None => false,
+    }
+}
+
+fn lists_none_at_first(alloc: Global, script: &Script) -> bool {
+    match resting(alloc, script, 3) {
+        Some(resting) => is_none_listed(&resting),
+        None => false,
     }
 }
 

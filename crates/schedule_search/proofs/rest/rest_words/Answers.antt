@@ -5,7 +5,6 @@ use Rattle.run_words.specs.RunWords.{run_words}
 use Rattle.schedule_search.specs.Search.{Search, kills_in, is_within, state_behind}
 use Rattle.schedule_search.specs.Meeting.{is_at_rest}
 use Rattle.schedule_search.specs.Problem.{search_of}
-use Rattle.schedule_search.specs.Survey.{words_behind}
 use Rattle.schedule_search.proofs.Resters.{words_of_rest}
 use Rattle.schedule_search.proofs.rest.rest_words.Goals as goal
 
