@@ -17,7 +17,7 @@ use Rattle.search_goals.specs.GoalText.{Asked, IsRest, IsStuck, HoldAll, HasLine
 use Rattle.search_goals.specs.Goals.{meets_line}
 use Rattle.schedule_search.specs.Search.{Search, IsSound, AreOf, kills_in, is_within, first_state, state_behind, last_told, event_at, events_of}
 use Rattle.schedule_search.specs.Meeting.{changes_nothing, is_at_rest, has_open_call, is_met, meets}
-use Rattle.schedule_search.specs.Code.{counted, code_by, code_behind, finds}
+use Rattle.schedule_search.specs.Code.{counted, code_by, code_behind, finds, rest_words, Fits}
 use Rattle.schedule_search.proofs.Words.{WordsTell, words_tell}
 use Rattle.schedule_search.proofs.Behind.{after_both, told_more, kills_more, moves_are_of, reached}
 
@@ -33,7 +33,7 @@ module _ (plan : Plan) (spawned : List ℕ) (tell : WordsTell plan spawned) (a b
       ap (λ (z : List ℕ). pointwise nat_eq z (run_words a)) (tell.words a b (Step (record { 0 = t })) h k same)
       ∙ ap (pointwise nat_eq (run_words (turn b (Step (record { 0 = t }))).state)) same
 
-  rest_alike : is_at_rest a ≡ is_at_rest b
+  pub rest_alike : is_at_rest a ≡ is_at_rest b
   rest_alike =
       all_same (changes_nothing a) (changes_nothing b) (range_with_len 1 (length a.kernel.tasks.alive)) change_alike
       ∙ ap (λ (n : ℕ). list_all (changes_nothing b) (range_with_len 1 n)) (tell.tasks a b h k)
@@ -141,3 +141,36 @@ module _ (s : Search) (sound : IsSound s) where
       finds_alike (events_of s.moves p) (events_of s.moves q) (event_at s.moves m)
       (moves_are_of s.moves p h.1) (moves_are_of s.moves q k.1) (moves_are_of s.moves (m ∷ p) h) (moves_are_of s.moves (m ∷ q) k)
       (alike_by s.kills _ _ _ _ e)
+
+  -- states of one code are at rest with the same words, or are not
+  words_at_rest : (es fs : List Event) → AreOf s.moves es → AreOf s.moves fs
+      → AreAlike s.kills (kills_in es) (kills_in fs) (run_words (state_behind s es)) (run_words (state_behind s fs))
+      → rest_words s es ≡ rest_words s fs
+  words_at_rest es fs of_es of_fs (inl h) =
+      let a : RunState = state_behind s es in
+      let b : RunState = state_behind s fs in
+      let same : is_at_rest a ≡ is_at_rest b =
+      rest_alike s.plan (spawns_of s.from) tell a b (reached s sound es of_es) (reached s sound fs of_fs) h.1 in
+      ap (λ (z : Bool). if z && is_at_rest a then Some (run_words a) else None) (within_alike s.kills (kills_in es) (kills_in fs) h.0)
+      ∙ ap (λ (z : Bool). if is_within s.kills (kills_in fs) && z then Some (run_words a) else None) same
+      ∙ ap (λ (z : List ℕ). if is_within s.kills (kills_in fs) && is_at_rest b then Some z else None) h.1
+  words_at_rest es fs of_es of_fs (inr h) =
+      ap (λ (z : Bool). if z && is_at_rest (state_behind s es) then Some (run_words (state_behind s es)) else None) h.0
+      ∙ sym (ap (λ (z : Bool). if z && is_at_rest (state_behind s fs) then Some (run_words (state_behind s fs)) else None) h.1)
+
+  pub rest_words_alike : (p q : List ℕ) → AreMoves (length s.moves) p → AreMoves (length s.moves) q
+      → code_behind s (events_of s.moves p) ≡ code_behind s (events_of s.moves q)
+      → rest_words s (events_of s.moves p) ≡ rest_words s (events_of s.moves q)
+  rest_words_alike p q h k e =
+      words_at_rest (events_of s.moves p) (events_of s.moves q) (moves_are_of s.moves p h) (moves_are_of s.moves q k)
+      (alike_by s.kills _ _ _ _ e)
+
+-- so a search may rest on it
+pub fits : (s : Search) → IsSound s → Fits s
+fits s sound =
+    record {
+      sound = sound;
+      code_goes_on = code_goes_on s sound;
+      goal_goes_on = goal_goes_on s sound;
+      rest_alike = rest_words_alike s sound;
+    }

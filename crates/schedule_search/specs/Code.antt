@@ -4,7 +4,7 @@ use Rattle.ipc_ids.specs.declared.message.Event.{Event}
 use Rattle.run_words.specs.RunWords.{run_words}
 use Rattle.search_core.specs.Moves.{AreMoves}
 use Rattle.schedule_search.specs.Search.{Search, IsSound, kills_in, is_within, state_behind, events_of}
-use Rattle.schedule_search.specs.Meeting.{meets}
+use Rattle.schedule_search.specs.Meeting.{is_at_rest, meets}
 
 -- how many kills a code tells of: where any number may come, of none
 abbrev pub counted : Option ℕ → ℕ → ℕ
@@ -23,8 +23,13 @@ code_behind s es = code_by s.kills (kills_in es) (run_words (state_behind s es))
 abbrev pub finds : Search → List Event → Bool
 finds s es = is_within s.kills (kills_in es) && meets s es
 
--- what the search rests on: it is sound, and from states of one code each move leads to states of one code, and to what
--- is looked for at both or at neither
+-- the words of the state behind these events, where they may be tried and no step of a task changes anything there
+abbrev pub rest_words : Search → List Event → Option (List ℕ)
+rest_words s es =
+    if is_within s.kills (kills_in es) && is_at_rest (state_behind s es) then Some (run_words (state_behind s es)) else None
+
+-- what the search rests on: it is sound, from states of one code each move leads to states of one code, and to what is
+-- looked for at both or at neither, and such states are at rest with the same words, or are not
 pub record Fits (s : Search) : Type 0 where
   pub sound : IsSound s
   pub code_goes_on : (p q : List ℕ) (m : ℕ) → AreMoves (length s.moves) (m ∷ p) → AreMoves (length s.moves) (m ∷ q)
@@ -33,3 +38,6 @@ pub record Fits (s : Search) : Type 0 where
   pub goal_goes_on : (p q : List ℕ) (m : ℕ) → AreMoves (length s.moves) (m ∷ p) → AreMoves (length s.moves) (m ∷ q)
       → code_behind s (events_of s.moves p) ≡ code_behind s (events_of s.moves q)
       → finds s (events_of s.moves (m ∷ p)) ≡ finds s (events_of s.moves (m ∷ q))
+  pub rest_alike : (p q : List ℕ) → AreMoves (length s.moves) p → AreMoves (length s.moves) q
+      → code_behind s (events_of s.moves p) ≡ code_behind s (events_of s.moves q)
+      → rest_words s (events_of s.moves p) ≡ rest_words s (events_of s.moves q)

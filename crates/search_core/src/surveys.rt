@@ -1,0 +1,150 @@
+//! The survey.
+ghost use Rattle.std.specs.Prelude.{◌≡◌, ◌+◌, ◌<◌, ◌^◌, false, refl, IfOk, OnOk, length};
+ghost use Rattle.search_core.specs.Moves.{AreRising};
+ghost use Rattle.search_core.specs.Node.{ArePlaces, trails_of};
+ghost use Rattle.search_core.specs.Ended.{HasEnded};
+ghost use Rattle.search_core.specs.Survey.{IsSurvey, moves_of};
+ghost use Rattle.search_core.specs.Picked.{AreLabels, ArePicked};
+
+use crate::answers::{Answer, Survey};
+use crate::by_breadth::look_on;
+use crate::nodes::Nodes;
+use crate::places::{Labelled, Maze, Visit};
+use indexmap::IndexSet;
+use std::alloc::{AllocError, Global};
+
+/// The labels to which lists of at most `most` moves lead, each by the first list that leads to it.
+/// At most `room` places are gone on from, and no more once more than `room` were seen.
+///
+/// # Errors
+///
+/// `AllocError` where no memory was found, here or by the maze.
+pub fn survey<M: Labelled>(
+    alloc: Global,
+    maze: &M,
+    most: u32,
+    room: u32,
+) -> Result<Survey, AllocError>
+    requires fits { M.fits maze.now }
+    requires few { most < 2 ^ 20 }
+    ensures { IfOk result (λ survey. IsSurvey (M.moves maze.now) (M.label maze.now) most survey) }
+{
+    let code = maze.code(alloc, &[])?;
+    let mut nodes = Nodes::new(alloc, code.as_slice())?;
+    let unmet = Unmet { maze };
+    let answer = look_on(alloc, &unmet, &mut nodes, most, room)?;
+    survey_of(alloc, maze, &nodes, most, answer)
+}
+
+/// The same places, with a goal that is met nowhere.
+#[derive_where(Clone, Copy)]
+pub struct Unmet<'a, M> {
+    pub maze: &'a M,
+}
+
+impl<'a, M: Maze> Maze for Unmet<'a, M> {
+    ghost fits = { λ s. M.fits s.maze.now };
+
+    ghost moves = { λ s. M.moves s.maze.now };
+
+    ghost meets = { λ s p. false };
+
+    ghost code = { λ s p. M.code s.maze.now p };
+
+    ghost code_goes_on = { λ s h p q m a b e. M.code_goes_on s.maze.now h p q m a b e };
+
+    ghost goal_goes_on = { λ s h p q m a b e. refl };
+
+    fn moves(&self) -> u32 {
+        self.maze.moves()
+    }
+
+    fn visit(&self, alloc: Global, path: &[u32]) -> Result<Visit, AllocError> {
+        let code = self.maze.code(alloc, path)?;
+        Ok(Visit { met: false, code })
+    }
+
+    fn code(&self, alloc: Global, path: &[u32]) -> Result<Vec<u64>, AllocError> {
+        self.maze.code(alloc, path)
+    }
+}
+
+/// The survey, where the search for a goal that is met nowhere ended so.
+fn survey_of<M: Labelled>(
+    alloc: Global,
+    maze: &M,
+    nodes: &Nodes,
+    most: u32,
+    answer: Answer,
+) -> Result<Survey, AllocError>
+    requires fits { M.fits maze.now }
+    requires few { most < 2 ^ 20 }
+    requires ended { HasEnded (M.moves maze.now) most (λ p. false) (M.code maze.now)
+        (trails_of nodes.now.later.items) answer }
+    ensures { IfOk result (λ survey. IsSurvey (M.moves maze.now) (M.label maze.now) most survey) }
+{
+    match answer {
+        Answer::NoneAtAll(places) => {
+            let paths = pick(alloc, maze, nodes)?;
+            Ok(Survey::All { paths, places })
+        }
+        Answer::NoneWithin(places) => {
+            let paths = pick(alloc, maze, nodes)?;
+            Ok(Survey::Within { paths, places })
+        }
+        Answer::Found(_) => unreachable!(),
+        Answer::NoRoom => Ok(Survey::NoRoom),
+    }
+}
+
+/// The moves to the places that were seen, of each label the first.
+fn pick<M: Labelled>(alloc: Global, maze: &M, nodes: &Nodes) -> Result<Vec<Vec<u32>>, AllocError>
+    requires fits { M.fits maze.now }
+    requires places { ArePlaces (M.moves maze.now) (trails_of nodes.now.later.items) }
+    requires rising { AreRising (trails_of nodes.now.later.items) }
+    ensures { IfOk result (λ paths. ArePicked (M.label maze.now) (trails_of nodes.now.later.items)
+        (length (trails_of nodes.now.later.items)) (moves_of paths.items)) }
+{
+    let mut paths = Vec::new(alloc);
+    let mut labels = IndexSet::new(alloc);
+    let seen = nodes.count();
+    for at in 0..seen {
+        pick_place(alloc, maze, nodes, at as usize, &mut paths, &mut labels)?;
+    }
+    Ok(paths)
+}
+
+/// Picks the place of this number too, where it has a label that is not among `labels`, those of the
+/// places that were picked.
+fn pick_place<M: Labelled>(
+    alloc: Global,
+    maze: &M,
+    nodes: &Nodes,
+    at: usize,
+    paths: &mut Vec<Vec<u32>>,
+    labels: &mut IndexSet<Vec<u64>>,
+) -> Result<(), AllocError>
+    requires fits { M.fits maze.now }
+    requires places { ArePlaces (M.moves maze.now) (trails_of nodes.now.later.items) }
+    requires rising { AreRising (trails_of nodes.now.later.items) }
+    requires picked { ArePicked (M.label maze.now) (trails_of nodes.now.later.items) at
+        (moves_of paths.old.items) }
+    requires labels { AreLabels (M.label maze.now) (moves_of paths.old.items) labels.old.keys }
+    ensures picked { OnOk result (ArePicked (M.label maze.now) (trails_of nodes.now.later.items)
+        (at + 1) (moves_of paths.new.items)) }
+    ensures labels { OnOk result (AreLabels (M.label maze.now) (moves_of paths.new.items)
+        labels.new.keys) }
+{
+    let Some(path) = nodes.path(alloc, at)? else {
+        return Ok(());
+    };
+    let Some(label) = maze.label(alloc, path.as_slice())? else {
+        return Ok(());
+    };
+    let is_new = labels.insert(label)?;
+    if !is_new {
+        return Ok(());
+    }
+    paths.push(path)?;
+    Ok(())
+}
