@@ -21,7 +21,7 @@ use Rattle.schedule_replay.proofs.RunHistories.{turn_templates}
 use Rattle.turn_counts.specs.Constants.{Constant, constant, Constants, constants, made_from, made_by_all}
 use Rattle.turn_counts.proofs.KeptConstants.{events_keep}
 use Rattle.run_words.specs.Reached.{IsReached, spawns_of}
-use Rattle.state_goals.specs.Plans.{template_of, spawned_plans, plans_of, plan_at, bodies_in, DoesBodies}
+use Rattle.state_goals.specs.Plans.{template_of, spawned_plans, plans_of, bodies_in, bodies_of, DoesBodies}
 use Rattle.state_goals.specs.Holding.{program_with}
 
 -- ---- a program before its first step
@@ -122,15 +122,14 @@ is_there : (b : Bool) (o : Option AnyProgram) (p : AnyProgram) → Some p ≡ co
 is_there true o p e = sym e
 is_there false o p e = absurd (cc e)
 
-pub task_does : (plan : Plan) (spawned : List ℕ) (now : RunState) (task : TaskNo) (p : AnyProgram) (o : Option TaskPlan)
-    → IsReached plan spawned now → Some p ≡ program_with now task → o ≡ plan_at plan spawned task
-    → DoesBodies (constant p) (bodies_in o)
-task_does plan spawned now task p o r e f =
+pub task_does : (plan : Plan) (spawned : List ℕ) (now : RunState) (task : TaskNo) (p : AnyProgram)
+    → IsReached plan spawned now → Some p ≡ program_with now task
+    → DoesBodies (constant p) (bodies_of plan spawned task)
+task_does plan spawned now task p r e =
     let i : ℕ = task.0 - 1 in
     let at : slice_get now.programs i ≡ Some p = is_there (nat_lt 0 task.0) (slice_get now.programs i) p e in
-    subst (λ (z : Option TaskPlan). DoesBodies (constant p) (bodies_in z)) (sym f)
-    (does_at (map constant now.programs) (plans_of plan spawned) i (constant p) (reached_do plan spawned now r)
-    (slice_get-map constant now.programs i ∙ ap (option_map constant) at))
+    does_at (map constant now.programs) (plans_of plan spawned) i (constant p) (reached_do plan spawned now r)
+    (slice_get-map constant now.programs i ∙ ap (option_map constant) at)
 
 -- ---- what the code looks up
 

@@ -29,10 +29,14 @@ plans_of plan spawned = plan.tasks ++ spawned_plans plan.templates spawned
 abbrev pub plan_at : Plan → List ℕ → TaskNo → Option TaskPlan
 plan_at plan spawned task = slice_get (plans_of plan spawned) (task.0 - 1)
 
--- its bodies
+-- the bodies of a plan; none where there is no plan
 abbrev pub bodies_in : Option TaskPlan → List Body
 bodies_in None = []
 bodies_in (Some plan) = plan.bodies
+
+-- those of a task
+abbrev pub bodies_of : Plan → List ℕ → TaskNo → List Body
+bodies_of plan spawned task = bodies_in (plan_at plan spawned task)
 
 -- a program of which this is constant does these bodies: a raw one the first of them, one of fibrils all
 abbrev pub DoesBodies : Constant → List Body → Type 0

@@ -11,7 +11,7 @@ ghost use Rattle.state_goals.specs.Holding.{holds_of_ended, holds_of_raw, holds_
 ghost use Rattle.state_goals.specs.Holding.{holds_of_fibril, holds_of, is_killed, program_with};
 ghost use Rattle.state_goals.specs.Holding.{holds, all_hold};
 
-use crate::plans::{bodies_in, plan_of};
+use crate::plans::bodies_of;
 use async_task::{AsyncProgram, Context};
 use ipc_ids::{Body, Event, FibrilNo, Op, TaskNo};
 use raw_program::RawProgram;
@@ -223,8 +223,8 @@ pub fn holds(condition: &Condition, script: &Script, from: &[Event], system: &Sy
     let task = task_of(condition);
     match program_with(system, task) {
         Some(program) => {
-            let plan = plan_of(script, from, task);
-            is_killed(condition, system) || holds_of(condition, program, bodies_in(plan))
+            let bodies = bodies_of(script, from, task);
+            is_killed(condition, system) || holds_of(condition, program, bodies)
         }
         None => false,
     }

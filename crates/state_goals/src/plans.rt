@@ -2,7 +2,7 @@
 ghost use Rattle.std.specs.Prelude.{◌≡◌, ◌-◌, slice_get};
 ghost use Rattle.std.specs.Option.{option_copied};
 ghost use Rattle.run_words.specs.Reached.{spawns_of};
-ghost use Rattle.state_goals.specs.Plans.{template_of, spawned_plans, plan_at, bodies_in};
+ghost use Rattle.state_goals.specs.Plans.{template_of, spawned_plans, plan_at, bodies_in, bodies_of};
 
 use ipc_ids::{Body, Event, TaskNo};
 use script_reader::{Script, TaskPlan};
@@ -43,7 +43,7 @@ fn spawned_plan<'a>(
 
 /// The plan of a task: of the script, or of those that the spawns among these events made.
 #[tactic(auto, using(crate::proofs::Plans::of_script, crate::proofs::Plans::of_spawn))]
-pub(crate) fn plan_of<'a>(
+fn plan_of<'a>(
     script: &'a Script,
     from: &[Event],
     task: TaskNo,
@@ -59,11 +59,18 @@ pub(crate) fn plan_of<'a>(
 }
 
 /// The bodies of a plan; none where there is no plan.
-pub(crate) fn bodies_in(plan: Option<&TaskPlan>) -> &[Body]
+fn bodies_in(plan: Option<&TaskPlan>) -> &[Body]
     ensures { result.now ≡ bodies_in (option_copied plan.entry) }
 {
     match plan {
         Some(plan) => plan.bodies.as_slice(),
         None => &[],
     }
+}
+
+/// The bodies of a task.
+pub(crate) fn bodies_of<'a>(script: &'a Script, from: &[Event], task: TaskNo) -> &'a [Body]
+    ensures { result.now ≡ bodies_of script.now (spawns_of from.now) task }
+{
+    bodies_in(plan_of(script, from, task))
 }
