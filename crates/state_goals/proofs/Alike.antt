@@ -1,6 +1,7 @@
 -- A condition holds in both or in neither of two states that differ in counts alone.
 use Rattle.std.proofs.Common.{ℕ, ◌≡◌, ◌-◌, Bool, true, false, ◌&&◌, List, [], ◌∷◌, map, Option, None, Some, refl, sym, ◌∙◌, ap, slice_get}
-use Rattle.std.specs.Prelude.{◌||◌, nat_lt, option_map, if◌then◌else◌}
+use Rattle.std.specs.Prelude.{◌||◌, nat_lt, if◌then◌else◌}
+use Rattle.std.specs.Option.{option_map}
 use Rattle.std.proofs.lemmas.Option.{slice_get-map}
 use Rattle.ipc_ids.specs.declared.numbers.FibrilNo.{FibrilNo}
 use Rattle.cleanup.specs.State.{KernelState}

@@ -1,7 +1,8 @@
 -- Each program of a run does the bodies of its task's plan.
 use Rattle.std.proofs.Common.{ℕ, zero, suc, ◌≡◌, ◌≤◌, ◌<◌, ◌+◌, ◌-◌, Bool, true, false, cond, List, [], ◌∷◌, ◌++◌, map, length, Option, None, Some, refl, sym, ◌∙◌, ap, subst, arith, slice_get}
-use Rattle.std.specs.Prelude.{⊤, nat_lt, option_map, is_some}
+use Rattle.std.specs.Prelude.{⊤, nat_lt, is_some}
 use Rattle.std.specs.List.{cons_option}
+use Rattle.std.specs.Option.{option_map}
 use Rattle.std.proofs.lemmas.Option.{slice_get-map, same_Some}
 use Rattle.ipc_ids.specs.declared.numbers.TaskNo.{TaskNo}
 use Rattle.ipc_ids.specs.declared.op.Body.{Body}
@@ -17,9 +18,8 @@ use Rattle.async_task.specs.AsyncState.{AsyncState, op_in}
 use Rattle.async_task.specs.Steps.{bare_task, start_in, start_at, start_bodies}
 use Rattle.task_system.specs.declared.any.AnyProgram.{AnyProgram}
 use Rattle.task_system.specs.Run.{RunState, ops_of, program_by, program_of, programs_from, start, turn, state_after}
-use Rattle.schedule_replay.proofs.RunHistories.{turn_templates}
 use Rattle.turn_counts.specs.Constants.{Constant, constant, Constants, constants, made_from, made_by_all}
-use Rattle.turn_counts.proofs.KeptConstants.{events_keep}
+use Rattle.turn_counts.proofs.KeptConstants.{turn_keeps, events_keep}
 use Rattle.run_words.specs.Reached.{IsReached, spawns_of}
 use Rattle.state_goals.specs.Plans.{template_of, spawned_plans, plans_of, bodies_in, bodies_of, DoesBodies}
 use Rattle.state_goals.specs.Holding.{program_with}
@@ -93,7 +93,7 @@ events_do now [] = tt
 events_do now (e ∷ events) =
     event_does now e events
     (subst (λ (templates : List TaskPlan). DoAll (made_by_all (turn now e).state events) (spawned_plans templates (spawns_of events)))
-    (turn_templates now e) (events_do (turn now e).state events))
+    (ap (λ (z : Constants). z.templates) (turn_keeps now e)) (events_do (turn now e).state events))
 
 reached_do : (plan : Plan) (spawned : List ℕ) (now : RunState) → IsReached plan spawned now
     → DoAll (map constant now.programs) (plans_of plan spawned)

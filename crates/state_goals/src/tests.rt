@@ -106,9 +106,9 @@ fn raw_task_stands(alloc: Global, script: &Script) -> bool {
     meets(
         alloc,
         script,
-        [Event::Step(CLIENT)].as_slice(),
-        [Condition::At(client, 1), Condition::Holds(client, 5, 7)].as_slice(),
-        [
+        &[Event::Step(CLIENT)],
+        &[Condition::At(client, 1), Condition::Holds(client, 5, 7)],
+        &[
             Condition::At(client, 0),
             Condition::Holds(client, 5, 8),
             Condition::Holds(client, 6, 7),
@@ -117,24 +117,21 @@ fn raw_task_stands(alloc: Global, script: &Script) -> bool {
             Condition::Killed(CLIENT),
             Condition::AtEnd(nobody),
             Condition::Killed(NOBODY),
-        ]
-        .as_slice(),
+        ],
     ) && meets(
         alloc,
         script,
-        [
+        &[
             Event::Step(CLIENT),
             Event::Step(CLIENT),
             Event::Kill(CLIENT),
-        ]
-        .as_slice(),
-        [
+        ],
+        &[
             Condition::AtEnd(client),
             Condition::Holds(client, 6, 7),
             Condition::Killed(CLIENT),
-        ]
-        .as_slice(),
-        [Condition::At(client, 2), Condition::Killed(SERVER)].as_slice(),
+        ],
+        &[Condition::At(client, 2), Condition::Killed(SERVER)],
     )
 }
 
@@ -156,37 +153,34 @@ fn fibrils_stand(alloc: Global, script: &Script) -> bool {
     meets(
         alloc,
         script,
-        [step].as_slice(),
-        [
+        &[step],
+        &[
             Condition::At(server, 1),
             Condition::At(fibril(1), 1),
             Condition::Holds(server, 1, 7),
             Condition::At(fibril(2), 0),
-        ]
-        .as_slice(),
-        [
+        ],
+        &[
             Condition::At(fibril(3), 0),
             Condition::AtEnd(fibril(3)),
             Condition::AtEnd(fibril(2)),
-        ]
-        .as_slice(),
+        ],
     ) && meets(
         alloc,
         script,
-        [step, step, step].as_slice(),
-        [
+        &[step, step, step],
+        &[
             Condition::AtEnd(server),
             Condition::AtEnd(fibril(2)),
             Condition::Holds(fibril(2), 2, 9),
-        ]
-        .as_slice(),
-        [Condition::At(fibril(2), 1)].as_slice(),
+        ],
+        &[Condition::At(fibril(2), 1)],
     ) && meets(
         alloc,
         script,
-        [step, step, step, step].as_slice(),
-        [Condition::AtEnd(fibril(2))].as_slice(),
-        [Condition::Holds(fibril(2), 2, 9)].as_slice(),
+        &[step, step, step, step],
+        &[Condition::AtEnd(fibril(2))],
+        &[Condition::Holds(fibril(2), 2, 9)],
     )
 }
 
