@@ -11,7 +11,8 @@ use search_goals::{Condition, Subject};
 use std::alloc::Global;
 use task_system::System;
 
-const SCRIPT: &[u8] = b"task client raw\nset r5 7\nset r6 r5\ntask server async\nfibril\nset r1 7\nyield\nfibril\nset r2 9\n";
+const SCRIPT: &[u8] =
+    b"task client raw\nset r5 7\nset r6 r5\ntask server async\nfibril\nset r1 7\nyield\nfibril\nset r2 9\n";
 
 const CLIENT: TaskNo = TaskNo(1);
 
