@@ -107,7 +107,7 @@ fn goes_on(bodies: &[Body], body: usize, place: usize) -> bool
 }
 
 /// Whether a condition holds of a raw task with these bodies; not where it names a fibril.
-#[tactic(auto, using(crate::proofs::Plans::first_body))]
+#[tactic(auto, using(crate::proofs::Bodies::first_body))]
 fn holds_of_raw(
     condition: &Condition,
     fibril: Option<FibrilNo>,

@@ -9,6 +9,7 @@ use ipc_ids::{Event, FibrilNo, NoMemory, TaskNo, Trace};
 use script_reader::{Script, read_script};
 use search_goals::{Condition, Subject};
 use std::alloc::Global;
+use std::mem::forget;
 use task_system::System;
 
 const SCRIPT: &[u8] =
@@ -51,7 +52,8 @@ fn turn(
     ensures reached { OnOk result (IsReached script.now [] system.new) }
     ensures few { system.new.kernel.events ≤ system.old.kernel.events + 1 }
 {
-    if !is_on_task(event, script.tasks.as_slice().len()) {
+    let tasks = script.tasks.as_slice().len();
+    if !is_on_task(event, tasks) {
         return Err(NoMemory);
     }
     match system.turn(event, out) {
@@ -72,7 +74,29 @@ fn none_holds(conditions: &[Condition], script: &Script, system: &System) -> boo
     true
 }
 
-/// Whether behind these events each of the first conditions holds, and none of the others.
+/// Whether all these events can be done, behind which each of the first conditions holds, and none of
+/// the others.
+fn meet_behind(
+    script: &Script,
+    system: &mut System,
+    out: &mut Trace,
+    events: &[Event],
+    hold: &[Condition],
+    others: &[Condition],
+) -> bool
+    requires reached { IsReached script.now [] system.old }
+    requires no_event { system.old.kernel.events ≡ 0 }
+    requires few { length events.now ≤ 1000 }
+{
+    for event in events {
+        if turn(script, system, event, out).is_err() {
+            return false;
+        }
+    }
+    all_hold(hold, script, &[], system) && none_holds(others, script, system)
+}
+
+/// The same of the tasks of the script. They are forgotten: how they end is proved elsewhere.
 fn meets(
     alloc: Global,
     script: &Script,
@@ -86,12 +110,9 @@ fn meets(
         return false;
     };
     let mut out = Trace::new(alloc);
-    for event in events {
-        if turn(script, &mut system, event, &mut out).is_err() {
-            return false;
-        }
-    }
-    all_hold(hold, script, &[], &system) && none_holds(others, script, &system)
+    let met = meet_behind(script, &mut system, &mut out, events, hold, others);
+    forget(system);
+    met
 }
 
 /// Whether a raw task stands where its steps lead, and stays there once it was killed.
