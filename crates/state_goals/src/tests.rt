@@ -9,7 +9,6 @@ use ipc_ids::{Event, FibrilNo, NoMemory, TaskNo, Trace};
 use script_reader::{Script, read_script};
 use search_goals::{Condition, Subject};
 use std::alloc::Global;
-use std::mem::forget;
 use task_system::System;
 
 const SCRIPT: &[u8] =
@@ -96,7 +95,7 @@ fn meet_behind(
     all_hold(hold, script, &[], system) && none_holds(others, script, system)
 }
 
-/// The same of the tasks of the script. They are forgotten: how they end is proved elsewhere.
+/// The same of the tasks of the script, before which no event came.
 fn meets(
     alloc: Global,
     script: &Script,
@@ -106,13 +105,11 @@ fn meets(
 ) -> bool
     requires { length events.now ≤ 1000 }
 {
-    let Ok(mut system) = System::new(alloc, script) else {
-        return false;
-    };
     let mut out = Trace::new(alloc);
-    let met = meet_behind(script, &mut system, &mut out, events, hold, others);
-    forget(system);
-    met
+    match System::new(alloc, script) {
+        Ok(mut system) => meet_behind(script, &mut system, &mut out, events, hold, others),
+        Err(NoMemory) => false,
+    }
 }
 
 /// Whether a raw task stands where its steps lead, and stays there once it was killed.
