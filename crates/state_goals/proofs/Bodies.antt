@@ -16,7 +16,7 @@ use Rattle.kernel_core.specs.Kernel.{next_task}
 use Rattle.async_task.specs.AsyncState.{AsyncState, op_in}
 use Rattle.async_task.specs.Steps.{bare_task, start_in, start_at, start_bodies}
 use Rattle.task_system.specs.declared.any.AnyProgram.{AnyProgram}
-use Rattle.task_system.specs.Run.{RunState, ops_of, program_by, program_of, programs_from, start, turn, state_after}
+use Rattle.task_system.specs.Run.{RunState, ops_of, program_by, program_of, programs_from, start, turn}
 use Rattle.turn_counts.specs.Constants.{Constant, constant, Constants, made_from, made_by_all}
 use Rattle.turn_counts.proofs.KeptConstants.{turn_keeps, events_keep}
 use Rattle.run_words.specs.Reached.{IsReached, spawns_of}
