@@ -6,3 +6,4 @@ pub mod Following
 pub mod Written
 pub mod Answering
 pub mod Loading
+pub mod Named

@@ -1,6 +1,7 @@
 -- The words of a list, one behind the other, and the events that they say.
 use Rattle.std.proofs.Common.{◌≡◌, ℕ, suc, ◌+◌, ◌≤◌, ◌<◌, Bool, true, false, cond, List, [], ◌∷◌, ◌++◌, length, take, drop, Option, Some, None, Result, Ok, Err, refl, sym, ap, subst, ◌∙◌, arith}
-use Rattle.std.specs.Prelude.{All, option_map, position, nat_le}
+use Rattle.std.specs.Borrow.{Bor}
+use Rattle.std.specs.Prelude.{All, IfSome, option_map, position, nat_le}
 use Rattle.std.specs.List.{position_or_len}
 use Rattle.std.specs.Option.{ok_or}
 use Rattle.std.specs.Str.{bytes_eq}
@@ -19,6 +20,7 @@ use Rattle.script_lines.specs.Names.{task_named, place_of}
 use Rattle.script_lines.specs.Operation.{◌>>=◌}
 use Rattle.script_lines.specs.Sound.{IsTask}
 use Rattle.script_lines.proofs.Faultless.{ok_is, then_ok, found_is}
+use Rattle.script_lines.proofs.Lines.{here}
 use Rattle.script_reader.specs.Reading.{lines_from, at_line}
 use Rattle.search_goals.specs.Writing.{IsOnTask}
 use Rattle.search_goals.proofs.GoalWords.{none_found, found_at}
@@ -54,6 +56,12 @@ less_behind text at e =
 abbrev pub bytes_left : Option (List ℕ) → ℕ
 bytes_left None = 0
 bytes_left (Some text) = suc (length text)
+
+-- the words behind one have fewer
+pub less_left : (text : List ℕ) (others : Option (Bor (List ℕ))) → IfSome others (λ t. length t.now < length text)
+    → bytes_left (here others) < bytes_left (Some text)
+less_left text None h = omega arith
+less_left text (Some t) h = omega (arith, h)
 
 -- ---- the event of a word
 

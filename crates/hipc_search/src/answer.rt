@@ -2,6 +2,7 @@
 ghost use Rattle.std.specs.Prelude.{◌≡◌, ◌≤◌, true, IfOk, length};
 ghost use Rattle.std.specs.List.{list_all};
 ghost use Rattle.script_lines.specs.Text.{is_allowed};
+ghost use Rattle.search_goals.specs.Writing.{AreNamed};
 ghost use Rattle.command_line.specs.Due.{cannot_line};
 ghost use Rattle.schedule_search.specs.Search.{IsSound};
 ghost use Rattle.schedule_search.specs.Problem.{search_of};
@@ -104,6 +105,7 @@ pub(crate) fn search_answer(
     before: &[u8],
 ) -> Result<Answer, NoMemory>
     requires sound { IsSound (search_of problem.now) }
+    requires named { AreNamed problem.now.script.now.tasks }
     requires few { command.now.events ≤ 10000 }
     requires few_first { length problem.now.from.now ≤ 32768 }
     requires short { length before.now ≤ 524289 }

@@ -9,6 +9,7 @@ ghost use Rattle.script_lines.specs.Sound.{IsSound};
 ghost use Rattle.script_lines.specs.Text.{is_allowed};
 ghost use Rattle.script_reader.specs.Schedule.{MayAllCome};
 ghost use Rattle.search_goals.specs.GoalText.{said as said_goal};
+ghost use Rattle.search_goals.specs.Writing.{AreNamed};
 ghost use Rattle.command_line.specs.Command.{texts};
 ghost use Rattle.command_line.specs.Due.{LosesOneAtMost};
 ghost use Rattle.schedule_search.specs.Search.{IsLookedFor};
@@ -41,10 +42,11 @@ fn names_in(alloc: Global, script: &Script) -> Result<Names, NoMemory>
     names_of(alloc, script.tasks.as_slice())
 }
 
-/// How many tasks a script has.
+/// How many tasks a script has. It is sound, as each is.
 fn count_tasks(script: &Script) -> u64
     ensures count { result ≡ length script.now.tasks }
     ensures few { result ≤ 64 }
+    ensures sound { IsSound script.now }
 {
     script.tasks.as_slice().len() as u64
 }
@@ -59,7 +61,7 @@ fn with_goal(
     goal: &Goal,
 ) -> Result<Answer, NoMemory>
     requires events { command.now.events ≤ 10000 }
-    requires sound { IsSound script.now }
+    requires named { AreNamed script.now.tasks }
     requires may { MayAllCome (length script.now.tasks) (length script.now.templates) from.now }
     requires few { length from.now ≤ 32768 }
     requires short { length before.now ≤ 524289 }
@@ -86,7 +88,8 @@ fn with_goal(
         }
         Err(GoalFault::NoMemory) => return Err(NoMemory),
     };
-    let moves = moves_of(alloc, count_tasks(script), killed.as_slice(), hangups.as_slice())?;
+    let tasks = count_tasks(script);
+    let moves = moves_of(alloc, tasks, killed.as_slice(), hangups.as_slice())?;
     let problem = Problem {
         script,
         from,
@@ -107,7 +110,7 @@ fn with_events(
     before: &[u8],
 ) -> Result<Answer, NoMemory>
     requires events { command.now.events ≤ 10000 }
-    requires sound { IsSound script.now }
+    requires named { AreNamed script.now.tasks }
     requires may { MayAllCome (length script.now.tasks) (length script.now.templates) from.now }
     requires few { length from.now ≤ 32768 }
     requires short { length before.now ≤ 524289 }
@@ -142,7 +145,7 @@ fn with_first(
     bytes: &[u8],
 ) -> Result<Answer, NoMemory>
     requires events { command.now.events ≤ 10000 }
-    requires sound { IsSound script.now }
+    requires named { AreNamed script.now.tasks }
     ensures due { IfOk result (λ answer. DueForPlan (said command.now) script.now (Some bytes.now)
         answer.status answer.text.items) }
     ensures told { IfOk result (λ answer. IsOfText answer.status) }
@@ -166,7 +169,7 @@ fn with_script(
     first: Option<&[u8]>,
 ) -> Result<Answer, NoMemory>
     requires events { command.now.events ≤ 10000 }
-    requires sound { IsSound script.now }
+    requires named { AreNamed script.now.tasks }
     ensures due { IfOk result (λ answer. DueForPlan (said command.now) script.now
         (option_map (λ bytes. bytes.now) first.entry) answer.status answer.text.items) }
     ensures told { IfOk result (λ answer. IsOfText answer.status) }

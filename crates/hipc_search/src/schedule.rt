@@ -4,6 +4,7 @@ ghost use Rattle.std.specs.List.{list_all};
 ghost use Rattle.script_lines.specs.Text.{is_allowed};
 ghost use Rattle.search_goals.specs.GoalText.{said as said_goal};
 ghost use Rattle.search_goals.specs.Lines.{comment_text};
+ghost use Rattle.search_goals.specs.Writing.{AreNamed};
 ghost use Rattle.schedule_search.specs.Search.{IsSound, AreOf};
 ghost use Rattle.schedule_search.specs.Problem.{search_of};
 ghost use Rattle.hipc_search.specs.Schedule.{found_comment, asks_for_rest, closing, IsSchedule, Precedes};
@@ -11,7 +12,7 @@ ghost use Rattle.hipc_search.specs.Schedule.{found_comment, asks_for_rest, closi
 use crate::moves::push_living;
 use ipc_ids::{Event, NoMemory};
 use schedule_search::Problem;
-use search_goals::{Goal, are_named, push_events};
+use search_goals::{Goal, push_events};
 use std::alloc::Global;
 
 const MOST_GOAL: usize = 1024;
@@ -70,11 +71,6 @@ fn closing(alloc: Global, problem: &Problem<'_>, events: &[Event]) -> Result<Vec
 }
 
 /// The schedule of the events that were found, behind the bytes of those that come first.
-///
-/// # Errors
-///
-/// `NoMemory` where no memory was found. It would come for a script with a task whose name no line can
-/// have, too, but no script that was read has one.
 pub(crate) fn found_text(
     alloc: Global,
     problem: &Problem<'_>,
@@ -83,6 +79,7 @@ pub(crate) fn found_text(
     events: &[Event],
 ) -> Result<Vec<u8>, NoMemory>
     requires sound { IsSound (search_of problem.now) }
+    requires named { AreNamed problem.now.script.now.tasks }
     requires few_first { length problem.now.from.now ≤ 32768 }
     requires short { length before.now ≤ 524289 }
     requires first { Precedes problem.now.script.now before.now problem.now.from.now }
@@ -92,9 +89,6 @@ pub(crate) fn found_text(
     ensures { IfOk result (λ text. IsSchedule (search_of problem.now) before.now goal.now events.now
         text.items) }
 {
-    if !are_named(problem.script) {
-        return Err(NoMemory);
-    }
     let steps = closing(alloc, problem, events)?;
     let mut text = Vec::from_slice(alloc, before)?;
     push_comment(alloc, &mut text, goal.as_bytes(), events.len())?;
