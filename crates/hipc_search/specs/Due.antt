@@ -120,12 +120,12 @@ abbrev pub Due : List (List ℕ) → Files → (before after : Names) → Answer
 Due words files before after status text = DueForCommand files before after (command_of words) status text
 
 -- the names of the files that a command loads: of the script, and of the schedule where there is one
-abbrev pub names_of : Command → List ℕ × List ℕ
-names_of c = (c.script, unwrap_or c.from c.script)
+abbrev pub loaded_by : Command → List ℕ × List ℕ
+loaded_by c = (c.script, unwrap_or c.from c.script)
 
 -- likewise of the words of a command line
 abbrev pub files_of : List (List ℕ) → Option (List ℕ × List ℕ)
-files_of words = option_map names_of (command_of words)
+files_of words = option_map loaded_by (command_of words)
 
 -- ---- what was written
 

@@ -16,7 +16,7 @@ ghost use Rattle.schedule_search.specs.Search.{IsLookedFor};
 ghost use Rattle.hipc_search.specs.Asking.{search_with};
 ghost use Rattle.hipc_search.specs.Command.{said};
 ghost use Rattle.hipc_search.specs.Schedule.{Precedes};
-ghost use Rattle.hipc_search.specs.Due.{DueForAsked, DueForEvents, DueForPlan, DueForBytes, DueForFiles, Due, files_of, names_of, IsOfText, Whole, Part};
+ghost use Rattle.hipc_search.specs.Due.{DueForAsked, DueForEvents, DueForPlan, DueForBytes, DueForFiles, Due, files_of, loaded_by, IsOfText, Whole, Part};
 ghost use Rattle.hipc_search.specs.declared.status.Status.TheVariants.{WriteFailed, NoMemory as Memory};
 
 use crate::answer::{Answer, cannot_answer, fault_answer, search_answer, usage_answer};
@@ -262,7 +262,7 @@ fn with_files<S: Shelf>(
         answer.status answer.text.items) }
     ensures told { IfOk result (λ answer. IsOfText answer.status) }
     ensures files { S.files shelf.new ≡ S.files shelf.old }
-    ensures failed { LosesOneAtMost (Some (names_of (said command.now)))
+    ensures failed { LosesOneAtMost (Some (loaded_by (said command.now)))
         (S.failed shelf.old) (S.failed shelf.new) }
 {
     match command.from {
