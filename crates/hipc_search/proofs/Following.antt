@@ -93,7 +93,7 @@ module _ (templates : List (List ℕ)) (before : EventsAndNames) where
       let said = then_ok r (with_repeated before) after e in
       let made = then_ok (with_events before.events said.0.0 said.0.1) _ after said.2 in
       stays before.names after.names
-      (ap (λ (m : EventsAndNames). m.names) (ok_is (record { events = made.0; names = before.names }) after made.2))
+      (ap (λ (m : EventsAndNames). m.names) (ok_is _ after made.2))
 
   spawn_grows : (others : List (List ℕ)) (after : EventsAndNames) → spawn_of templates before others ≡ Ok after
       → Grows before.names after.names
@@ -102,7 +102,7 @@ module _ (templates : List (List ℕ)) (before : EventsAndNames) where
       let made = then_ok (with_events before.events (Spawn chosen.0) 1) _ after chosen.2 in
       record {
         others = name ∷ [];
-        is = sym (ap (λ (m : EventsAndNames). m.names) (ok_is (record { events = made.0; names = before.names ++ name ∷ [] }) after made.2));
+        is = sym (ap (λ (m : EventsAndNames). m.names) (ok_is _ after made.2));
       }
   spawn_grows _ after e = absurd cc
 

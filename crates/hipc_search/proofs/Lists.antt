@@ -71,9 +71,6 @@ Told = Result (List Event) (ℕ × Reason)
 module _ (kind : Listed) (names : List (List ℕ)) (n : ℕ) (so_far : List Event) (word : List ℕ)
     (words all : List (List ℕ)) (whole : Told) (is : all ≡ word ∷ words)
     (told : lines_from (with_listed kind names) n so_far all ≡ whole) where
-  go : List Event → Told
-  go next = lines_from (with_listed kind names) (n + 1) next words
-
   by : (r : Result (List Event) Reason) → with_listed kind names so_far word ≡ r
       → at_line n r (λ next. lines_from (with_listed kind names) (n + 1) next words) ≡ whole
   by r e =

@@ -24,7 +24,7 @@ use Rattle.script_lines.specs.Plan.{Plan}
 use Rattle.script_lines.specs.ScriptParts.{ScriptParts, no_parts, script_of_parts, with_tasks, with_templates, with_wires, part, with_part}
 use Rattle.script_lines.specs.Text.{is_allowed, lines, words}
 use Rattle.script_lines.specs.Word.{verb_of, number, is_name, name_of}
-use Rattle.script_lines.proofs.Faultless.{ok_is, then_ok, chosen_ok}
+use Rattle.script_lines.proofs.Faultless.{given, ok_is, then_ok, chosen_ok}
 use Rattle.script_reader.specs.Reading.{lines_from, reading, plan_from_parts, script_of}
 use Rattle.search_goals.specs.Writing.{AreNamed}
 use Rattle.hipc_search.proofs.Lists.{line_ok}
@@ -58,7 +58,7 @@ abbrev HasName : TaskHead → Type 0
 HasName h = is_name h.name ≡ true
 
 made_head : (name : List ℕ) (kind : Kind) (count : ℕ) (service : Option ℕ) (h : TaskHead) → is_name name ≡ true
-    → Ok {E = Reason} (head name kind count service) ≡ Ok h → HasName h
+    → given (head name kind count service) ≡ given h → HasName h
 made_head name kind count service h good e =
     ap is_name (ap (λ (k : TaskHead). k.name) (sym (ok_is (head name kind count service) h e)) ∙ head_name name kind count service)
     ∙ good
@@ -78,20 +78,20 @@ counted_named name found count h e =
     let counted = then_ok (needed (number_up_to (most_behind kinded.0) count)) _ h kinded.2 in
     made_head named.0 kinded.0 counted.0 None h (name_is name named.0 named.1) counted.2
 
-service_named : (name kind count given : List ℕ) (h : TaskHead) → service_task name kind count given ≡ Ok h → HasName h
+service_named : (name kind count other : List ℕ) (h : TaskHead) → service_task name kind count other ≡ Ok h → HasName h
 unfolding service_task
-service_named name kind count given h e =
+service_named name kind count other h e =
     let named = then_ok (needed (name_of name)) _ h e in
     let kinded = then_ok (needed (service_kind_of kind)) _ h named.2 in
     let counted = then_ok (needed (number_up_to (most_behind kinded.0) count)) _ h kinded.2 in
-    let numbered = then_ok (needed (number given)) _ h counted.2 in
+    let numbered = then_ok (needed (number other)) _ h counted.2 in
     made_head named.0 kinded.0 counted.0 (Some numbered.0) h (name_is name named.0 named.1) numbered.2
 
 task_named : (ws : List (List ℕ)) (h : TaskHead) → task_of ws ≡ Ok h → HasName h
 unfolding task_of
 task_named (name ∷ kind ∷ []) h e = plain_named name kind h e
 task_named (name ∷ kind ∷ count ∷ []) h e = counted_named name (counted_kind_of kind) count h e
-task_named (name ∷ kind ∷ count ∷ given ∷ []) h e = service_named name kind count given h e
+task_named (name ∷ kind ∷ count ∷ other ∷ []) h e = service_named name kind count other h e
 task_named _ h e = absurd cc
 
 template_named : (ws : List (List ℕ)) (h : TaskHead) → template_of ws ≡ Ok h → HasName h
@@ -112,7 +112,7 @@ new_named others plan new h named good e =
     let first = passed (is_some (place_of others h.name)) NameTaken _ new e in
     let second = passed (is_ns h.name || is_some (place_of (task_names plan.tasks) h.name)) NameTaken _ new first in
     let third = passed (nat_le most_tasks (length plan.tasks)) TooMany _ new second in
-    subst (λ (p : Plan). Named p.tasks) (ok_is (record plan { tasks = plan.tasks ++ new_task h ∷ [] }) new third)
+    subst (λ (p : Plan). Named p.tasks) (ok_is _ new third)
     (one_more plan.tasks (new_task h) named good)
 
 -- ---- a change of the last task
@@ -133,7 +133,7 @@ last_named change keeps (t ∷ next ∷ others) new named e =
 op_keeps : (op : Op) → KeepsNames (task_with_op op)
 op_keeps op t u e =
     let made = then_ok (on_last (body_with_op op) t.bodies) _ u e in
-    ap (λ (k : TaskPlan). k.name) (sym (ok_is (record t { bodies = made.0 }) u made.2))
+    ap (λ (k : TaskPlan). k.name) (sym (ok_is _ u made.2))
 
 body_keeps : (connection : Bool) → KeepsNames (task_with_body connection)
 unfolding task_with_body
@@ -144,14 +144,14 @@ with_op_named : (plan new : Plan) (op : Op) → Named plan.tasks → with_op pla
 unfolding with_op
 with_op_named plan new op named e =
     let made = then_ok (on_last (task_with_op op) plan.tasks) _ new e in
-    subst (λ (p : Plan). Named p.tasks) (ok_is (record plan { tasks = made.0 }) new made.2)
+    subst (λ (p : Plan). Named p.tasks) (ok_is _ new made.2)
     (last_named (task_with_op op) (op_keeps op) plan.tasks made.0 named made.1)
 
 with_body_named : (plan new : Plan) (connection : Bool) → Named plan.tasks → with_body plan connection ≡ Ok new → Named new.tasks
 unfolding with_body
 with_body_named plan new connection named e =
     let made = then_ok (on_last (task_with_body connection) plan.tasks) _ new e in
-    subst (λ (p : Plan). Named p.tasks) (ok_is (record plan { tasks = made.0 }) new made.2)
+    subst (λ (p : Plan). Named p.tasks) (ok_is _ new made.2)
     (last_named (task_with_body connection) (body_keeps connection) plan.tasks made.0 named made.1)
 
 -- ---- a line

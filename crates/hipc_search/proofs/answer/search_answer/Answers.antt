@@ -7,4 +7,4 @@ found_text-requires-clause-moves c = c.in-Found.ensures.made.of_moves
 
 pub returns-in-NoneWithin-clause-due : goal.returns-in-NoneWithin-clause-due
 returns-in-NoneWithin-clause-due c =
-    (outcomes.NoneWithin c.in-NoneWithin.states, c.in-NoneWithin.ensures, refl, c.in_ok-text.ensures)
+    (outcomes.NoneWithin c.in-NoneWithin.states, c.in-NoneWithin.ensures, (refl, c.in_ok-text.ensures))

@@ -32,5 +32,5 @@ returns-clause-due g c =
     if_ok_on _ _ c.with_bytes.result
     (λ answer due. both_loaded (g.S.Shelf.files c.args.shelf.now) (said c.args.command.now) c.args.name.now c.in-Ok.bytes.items c.in-Ok-load.bytes.items _ _
     answer.status answer.text.items (lost_none _ _ _ same) (lost_none _ _ _ same) script.bytes (rw script.files at first.bytes)
-    (rw (c.as_slice.ensures, c.as_slice-2.ensures) at due))
+    (rw (c.as_slice.ensures.value, c.as_slice-2.ensures.value) at due))
     c.with_bytes.ensures.due

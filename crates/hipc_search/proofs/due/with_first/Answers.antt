@@ -18,12 +18,12 @@ returns-in-Err-Bad-clause-due c =
 pub with_events-requires-clause-short : goal.with_events-requires-clause-short
 with_events-requires-clause-short c =
     let long = length-append c.args.bytes.now (10 ∷ []) in
-    let same = ap length (c.as_slice-2.ensures ∙ c.in_ok-before.ensures) in
+    let same = ap length (c.as_slice-2.ensures.value ∙ c.in_ok-before.ensures) in
     let short = c.in-Ok.ensures.short in
     omega (arith, long, same, short)
 
 pub with_events-requires-clause-first : goal.with_events-requires-clause-first
 with_events-requires-clause-first c =
-    subst (λ (es : List Event). Precedes c.args.script.now c.as_slice-2.result.now es) (sym c.as_slice.ensures)
-    (subst (λ (b : List ℕ). Precedes c.args.script.now b c.in-Ok.from.items) (sym (c.as_slice-2.ensures ∙ c.in_ok-before.ensures))
+    subst (λ (es : List Event). Precedes c.args.script.now c.as_slice-2.result.now es) (sym c.as_slice.ensures.value)
+    (subst (λ (b : List ℕ). Precedes c.args.script.now b c.in-Ok.from.items) (sym (c.as_slice-2.ensures.value ∙ c.in_ok-before.ensures))
     (schedule_first c.args.script.now c.args.bytes.now c.in-Ok.from.items c.in-Ok.ensures.spelled))

@@ -41,7 +41,7 @@ search_answer-requires-clause-sound c =
     search_sound c.args.script.now c.args.from.now c.as_slice-3.result.now command.kills (said_goal c.args.goal.now)
     c.in-Ok.killed.items c.in-Ok-listed_in.hangups.items command.hangup c.count_tasks-tasks.ensures.sound c.requires.may
     c.requires.few c.requires.looked (rw c.in_ok-names.ensures at c.in-Ok-listed_in.ensures.value) c.in-Ok-listed_in.ensures.few
-    (c.as_slice-3.ensures ∙ rw (c.count_tasks-tasks.ensures.count, c.as_slice.ensures, c.as_slice-2.ensures) at c.in_ok-moves.ensures)
+    (c.as_slice-3.ensures.value ∙ rw (c.count_tasks-tasks.ensures.count, c.as_slice.ensures.value, c.as_slice-2.ensures.value) at c.in_ok-moves.ensures)
 
 pub returns-clause-due : goal.returns-clause-due
 returns-clause-due c =
@@ -51,5 +51,5 @@ returns-clause-due c =
     (λ answer. DueForAsked command c.args.before.now r answer.status answer.text.items))
     (sym (search_is command c.args.script.now c.args.from.now (said_goal c.args.goal.now) c.in-Ok.killed.items c.in-Ok-listed_in.hangups.items
     c.as_slice-3.result.now (rw c.in_ok-names.ensures at c.in-Ok.ensures.value) (rw c.in_ok-names.ensures at c.in-Ok-listed_in.ensures.value)
-    (c.as_slice-3.ensures ∙ rw (c.count_tasks-tasks.ensures.count, c.as_slice.ensures, c.as_slice-2.ensures) at c.in_ok-moves.ensures)))
+    (c.as_slice-3.ensures.value ∙ rw (c.count_tasks-tasks.ensures.count, c.as_slice.ensures.value, c.as_slice-2.ensures.value) at c.in_ok-moves.ensures)))
     c.search_answer.ensures.due

@@ -11,7 +11,7 @@ returns-in-Ok-clause-due g c =
     let file = c.in-Ok.ensures in
     if_ok_on _ _ c.with_bytes.result
     (λ answer due. script_loaded (g.S.Shelf.files c.args.shelf.now) (said c.args.command.now) c.in-Ok.bytes.items _ answer.status answer.text.items
-    (lost_none _ _ _ file.ok) file.bytes (rw c.as_slice.ensures at due))
+    (lost_none _ _ _ file.ok) file.bytes (rw c.as_slice.ensures.value at due))
     c.with_bytes.ensures.due
 
 pub returns-in-Err-Failed-clause-due : goal.returns-in-Err-Failed-clause-due

@@ -14,13 +14,13 @@ push_events-requires-clause-on c = found_on (search_of c.args.problem.now) c.arg
 pub push_events-requires-2-clause-on : goal.push_events-requires-2-clause-on
 push_events-requires-2-clause-on c =
     let n = length c.args.problem.now.script.now.tasks in
-    subst (All (IsOnTask n)) (sym (c.as_slice.ensures ∙ c.in_ok-steps.ensures)) (closing_on (search_of c.args.problem.now) c.args.events.now)
+    subst (All (IsOnTask n)) (sym (c.as_slice.ensures.value ∙ c.in_ok-steps.ensures)) (closing_on (search_of c.args.problem.now) c.args.events.now)
 
 pub push_events-requires-2-clause-few : goal.push_events-requires-2-clause-few
 push_events-requires-2-clause-few c =
     let few = closing_few (search_of c.args.problem.now) c.args.events.now in
     let tasks = c.requires.sound.script.few in
-    let same = ap (λ (es : List Event). length es) (c.as_slice.ensures ∙ c.in_ok-steps.ensures) in
+    let same = ap (λ (es : List Event). length es) (c.as_slice.ensures.value ∙ c.in_ok-steps.ensures) in
     omega (arith, few, tasks, same)
 
 pub returns : goal.returns
@@ -30,4 +30,4 @@ returns c =
     c.requires.few_first c.requires.short c.requires.first c.requires.allowed c.requires.few c.in_ok-text.ensures
     c.in_ok-push_comment.ensures c.in_ok-push_events.ensures
     (subst (λ (es : List Event). Writes (task_names c.args.problem.now.script.now.tasks) c.push_events.new.text.items c.push_events-2.new.text.items es)
-    (c.as_slice.ensures ∙ c.in_ok-steps.ensures) c.in_ok-push_events-2.ensures)
+    (c.as_slice.ensures.value ∙ c.in_ok-steps.ensures) c.in_ok-push_events-2.ensures)
