@@ -1,7 +1,7 @@
 -- The words of a list, one behind the other, and the events that they say.
 use Rattle.std.proofs.Common.{◌≡◌, ℕ, suc, ◌+◌, ◌≤◌, ◌<◌, Bool, true, false, cond, List, [], ◌∷◌, ◌++◌, length, take, drop, Option, Some, None, Result, Ok, Err, refl, sym, ap, subst, ◌∙◌, arith}
 use Rattle.std.specs.Borrow.{Bor}
-use Rattle.std.specs.Prelude.{All, IfSome, option_map, position, nat_le}
+use Rattle.std.specs.Prelude.{All, IfSome, option_map, unwrap_or, slice_get, position, nat_le}
 use Rattle.std.specs.List.{position_or_len}
 use Rattle.std.specs.Option.{ok_or}
 use Rattle.std.specs.Str.{bytes_eq}
@@ -9,7 +9,7 @@ use Rattle.std.proofs.lemmas.Bool.{lt-leb, le-leb, leb-false}
 use Rattle.std.proofs.lemmas.List.{length-drop}
 use Rattle.std.proofs.lemmas.List.Elements.{All-push}
 use Rattle.std.proofs.lemmas.List.Quantifiers.{position-Some}
-use Rattle.std.proofs.lemmas.List.Splits.{slice_split_none, slice_split_first}
+use Rattle.std.proofs.lemmas.List.Splits.{slice_split_none, slice_split_first, length-slice_split}
 use Rattle.std.proofs.lemmas.List.Sums.{fails_before_first}
 use Rattle.ipc_ids.specs.declared.numbers.TaskNo.{TaskNo}
 use Rattle.ipc_ids.specs.declared.message.Event.{Event}
@@ -51,6 +51,22 @@ less_behind text at e =
     let within : at < length text = (position-Some is_comma text at 0 e).0 in
     let long = length-drop (at + 1) text in
     omega (arith, within, long)
+
+-- there is a first word
+pub first_of : List ℕ → List ℕ
+first_of text = unwrap_or (slice_get (words_of text) 0) []
+
+pub others_of : List ℕ → List (List ℕ)
+others_of text = drop 1 (words_of text)
+
+some_words : (words : List (List ℕ)) → 1 ≤ length words → words ≡ unwrap_or (slice_get words 0) [] ∷ drop 1 words
+some_words [] l = absurd (omega (arith, l))
+some_words (w ∷ ws) l = refl
+
+pub cut_is : (text : List ℕ) → words_of text ≡ first_of text ∷ others_of text
+unfolding first_of others_of
+cut_is text =
+    some_words (words_of text) (let long = length-slice_split is_comma text in omega (arith, long))
 
 -- how many bytes are left, with one for the word that they begin
 abbrev pub bytes_left : Option (List ℕ) → ℕ

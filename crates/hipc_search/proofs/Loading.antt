@@ -107,7 +107,11 @@ both_loaded files c name bytes first true y s t e f gives also d = cc
 both_loaded files c name bytes first false true s t e f gives also d = cc
 both_loaded files c name bytes first false false s t e f gives also d =
     let script = loads.held files c.script bytes gives in
-    let whole = held files name first also in
-    (script.0, whole.0, script.1, whole.1,
+    let whole = held files name first also in (
+      script.0,
+      whole.0,
+      script.1,
+      whole.1,
       script_alike c (script_of script.0) first whole.0 s t whole.2
-      (by_bytes c bytes script.0 (Some first) s t script.2.0 d))
+          (by_bytes c bytes script.0 (Some first) s t script.2.0 d),
+    )

@@ -48,19 +48,19 @@ name_is word name e = by_test (is_name word) refl e where
   by_test true t e = ap is_name (sym (ok_is word name e)) ∙ t
   by_test false t e = absurd cc
 
-head_name : (name : List ℕ) (kind : Kind) (count : ℕ) (service : Option ℕ) → (head name kind count service).name ≡ name
-head_name name Naming count service = refl
-head_name name Raw count service = refl
-head_name name Async count service = refl
-head_name name Block count service = refl
+head_name : (name : List ℕ) (kind : Kind) (count : ℕ) (other : Option ℕ) → (head name kind count other).name ≡ name
+head_name name Naming count other = refl
+head_name name Raw count other = refl
+head_name name Async count other = refl
+head_name name Block count other = refl
 
 abbrev HasName : TaskHead → Type 0
 HasName h = is_name h.name ≡ true
 
-made_head : (name : List ℕ) (kind : Kind) (count : ℕ) (service : Option ℕ) (h : TaskHead) → is_name name ≡ true
-    → given (head name kind count service) ≡ given h → HasName h
-made_head name kind count service h good e =
-    ap is_name (ap (λ (k : TaskHead). k.name) (sym (ok_is (head name kind count service) h e)) ∙ head_name name kind count service)
+made_head : (name : List ℕ) (kind : Kind) (count : ℕ) (other : Option ℕ) (h : TaskHead) → is_name name ≡ true
+    → given (head name kind count other) ≡ given h → HasName h
+made_head name kind count other h good e =
+    ap is_name (ap (λ (k : TaskHead). k.name) (sym (ok_is (head name kind count other) h e)) ∙ head_name name kind count other)
     ∙ good
 
 plain_named : (name kind : List ℕ) (h : TaskHead) → plain_task name kind ≡ Ok h → HasName h

@@ -59,10 +59,10 @@ chosen_on event chosen n h =
 
 filter_fewer : (p : ℕ → Bool) (xs : List ℕ) → length (filter p xs) ≤ length xs
 filter_fewer p [] = omega arith
-filter_fewer p (x ∷ xs) = by_test (p x) where
-  by_test : (b : Bool) → length (cond b (x ∷ filter p xs) (filter p xs)) ≤ suc (length xs)
-  by_test true = let less = filter_fewer p xs in omega (arith, less)
-  by_test false = let less = filter_fewer p xs in omega (arith, less)
+filter_fewer p (x ∷ xs) = by_test (p x) (filter_fewer p xs) where
+  by_test : (b : Bool) → length (filter p xs) ≤ length xs → length (cond b (x ∷ filter p xs) (filter p xs)) ≤ suc (length xs)
+  by_test true less = omega (arith, less)
+  by_test false less = omega (arith, less)
 
 chosen_few : (event : ℕ → Event) (chosen : ℕ → Bool) (n : ℕ) → length (for_chosen event chosen n) ≤ n
 chosen_few event chosen n =

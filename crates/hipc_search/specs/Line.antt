@@ -6,7 +6,8 @@ use Rattle.script_lines.specs.Text.{text_of_reason}
 -- the line for words that are no command
 abbrev pub usage_line : List ℕ
 usage_line =
-    codes "usage: hipc-search SCRIPT [GOAL] [--kill NAME,..] [--kills N] [--hangup NAME.PHONE,..] [--from SCHEDULE] [--events N] [--states N]\n"
+    codes "usage: hipc-search SCRIPT [GOAL] [--kill NAME,..] [--kills N] "
+    ++ codes "[--hangup NAME.PHONE,..] [--from SCHEDULE] [--events N] [--states N]\n"
 
 -- the line of a first fault: where it is, as `script line` or `goal word`, the number, and the reason
 abbrev pub fault_line : List ℕ → ℕ × Reason → List ℕ
@@ -17,10 +18,15 @@ fault_line place fault =
 abbrev pub none_line : ℕ → List ℕ
 none_line states = codes "# none, of any length: " ++ decimal states ++ codes " states\n"
 
+abbrev pub none_within_start : ℕ → List ℕ
+none_within_start most = codes "# none within " ++ decimal most ++ codes " events: "
+
+abbrev pub states_end : ℕ → List ℕ
+states_end states = decimal states ++ codes " states\n"
+
 -- no schedule of so many events does; so many states were seen
 abbrev pub none_within_line : (most states : ℕ) → List ℕ
-none_within_line most states =
-    codes "# none within " ++ decimal most ++ codes " events: " ++ decimal states ++ codes " states\n"
+none_within_line most states = none_within_start most ++ states_end states
 
 -- there are more states than so many, and nothing is known
 abbrev pub not_known_line : ℕ → List ℕ

@@ -6,7 +6,7 @@ ghost use Rattle.search_goals.specs.Writing.{AreNamed};
 ghost use Rattle.command_line.specs.Due.{cannot_line};
 ghost use Rattle.schedule_search.specs.Search.{IsSound};
 ghost use Rattle.schedule_search.specs.Problem.{search_of};
-ghost use Rattle.hipc_search.specs.Line.{usage_line, fault_line, none_line, none_within_line, not_known_line};
+ghost use Rattle.hipc_search.specs.Line.{usage_line, fault_line, none_line, none_within_start, states_end, none_within_line, not_known_line};
 ghost use Rattle.hipc_search.specs.Schedule.{Precedes};
 ghost use Rattle.hipc_search.specs.Due.{Says, IsOfText, DueForSearch};
 ghost use Rattle.hipc_search.specs.declared.status.Status.TheVariants.{CannotRead, Usage};
@@ -19,7 +19,8 @@ use schedule_search::{Outcome, Problem, search_schedules};
 use script_reader::Reason;
 use std::alloc::Global;
 
-const USAGE: &[u8] = b"usage: hipc-search SCRIPT [GOAL] [--kill NAME,..] [--kills N] [--hangup NAME.PHONE,..] [--from SCHEDULE] [--events N] [--states N]\n";
+const USAGE: &[u8] = b"usage: hipc-search SCRIPT [GOAL] [--kill NAME,..] [--kills N] \
+[--hangup NAME.PHONE,..] [--from SCHEDULE] [--events N] [--states N]\n";
 
 /// A status, and the text that is due with it.
 #[derive(Drop)]
@@ -81,12 +82,30 @@ fn none_text(alloc: Global, states: u64) -> Result<Vec<u8>, NoMemory>
     Ok(text.into_bytes())
 }
 
+/// How many events were tried at most.
+fn within_text(alloc: Global, most: u32) -> Result<Vec<u8>, NoMemory>
+    ensures { IfOk result (λ text. text.items ≡ none_within_start most) }
+{
+    let text = format!(in alloc; "# none within {most} events: ")?;
+    Ok(text.into_bytes())
+}
+
+/// How many states were seen.
+fn states_text(alloc: Global, states: u64) -> Result<Vec<u8>, NoMemory>
+    ensures { IfOk result (λ text. text.items ≡ states_end states) }
+{
+    let text = format!(in alloc; "{states} states\n")?;
+    Ok(text.into_bytes())
+}
+
 /// The line for a search that found no schedule of so many events.
 fn none_within_text(alloc: Global, most: u32, states: u64) -> Result<Vec<u8>, NoMemory>
     ensures { IfOk result (λ text. text.items ≡ none_within_line most states) }
 {
-    let text = format!(in alloc; "# none within {most} events: {states} states\n")?;
-    Ok(text.into_bytes())
+    let mut text = within_text(alloc, most)?;
+    let end = states_text(alloc, states)?;
+    text.extend_from_slice(end.as_slice())?;
+    Ok(text)
 }
 
 /// The line for a search that had no room for all states.
@@ -115,7 +134,8 @@ pub(crate) fn search_answer(
         command.now.states before.now command.now.goal.now answer.status answer.text.items) }
     ensures told { IfOk result (λ answer. IsOfText answer.status) }
 {
-    match search_schedules(alloc, problem, command.events, command.states)? {
+    let outcome = search_schedules(alloc, problem, command.events, command.states)?;
+    match outcome {
         Outcome::Found(events) => {
             let text = found_text(alloc, problem, before, command.goal, events.as_slice())?;
             Ok(Answer {

@@ -1,5 +1,5 @@
 //! What the words of a command line ask.
-ghost use Rattle.std.specs.Prelude.{◌≡◌, ◌≤◌, ◌<◌, ◌^◌, IfSome};
+ghost use Rattle.std.specs.Prelude.{◌≡◌, ◌≤◌, ◌<◌, ◌∷◌, IfSome, IfNone, length};
 ghost use Rattle.std.specs.Option.{option_map};
 ghost use Rattle.command_line.specs.Command.{texts};
 ghost use Rattle.hipc_search.specs.Command.{no_options, with_kill, with_hangup, with_from, with_kills, with_events, with_states, with_option, options_of};
@@ -164,19 +164,55 @@ fn with_option<'a>(options: Options<'a>, option: &str, value: &'a str) -> Option
     None
 }
 
-/// The options that the words are, each with its value behind it.
-fn options_of(words: &[String]) -> Option<Options<'_>>
-    ensures { option_map said_options result ≡ options_of no_options (texts words.now) }
+/// An option and its value, and the words behind them.
+#[derive(Clone, Copy)]
+struct Pair<'a> {
+    option: &'a str,
+    value: &'a str,
+    others: &'a [String],
+}
+
+/// The option and its value at the front; `None` where there are fewer than two words.
+fn next_pair(words: &[String]) -> Option<Pair<'_>>
+    ensures some { IfSome result (λ pair. texts words.now
+        ≡ pair.option.now ∷ pair.value.now ∷ texts pair.others.now) }
+    ensures none { IfNone result (length words.now < 2) }
+    ensures shorter { IfSome result (λ pair. length pair.others.now < length words.now) }
 {
-    let mut options = no_options();
-    let mut rest = words;
-    while let [option, value, others @ ..] = rest {
-        options = with_option(options, option.as_str(), value.as_str())?;
-        rest = others;
+    match words {
+        [option, value, others @ ..] => Some(Pair {
+            option: option.as_str(),
+            value: value.as_str(),
+            others,
+        }),
+        _ => None,
     }
-    match rest {
+}
+
+/// These options, where no word is left.
+fn last_options<'a>(options: Options<'a>, words: &'a [String]) -> Option<Options<'a>>
+    requires { length words.now < 2 }
+    ensures { option_map said_options result
+        ≡ options_of (said_options options.entry) (texts words.now) }
+{
+    match words {
         [] => Some(options),
         _ => None,
+    }
+}
+
+/// These options and those that the words are, each with its value behind it. There are no more
+/// calls than options.
+fn options_behind<'a>(options: Options<'a>, words: &'a [String]) -> Option<Options<'a>>
+    ensures { option_map said_options result
+        ≡ options_of (said_options options.entry) (texts words.now) }
+{
+    match next_pair(words) {
+        Some(pair) => match with_option(options, pair.option, pair.value) {
+            Some(more) => options_behind(more, pair.others),
+            None => None,
+        },
+        None => last_options(options, words),
     }
 }
 
@@ -278,6 +314,6 @@ pub(crate) fn command_of(words: &[String]) -> Option<Command<'_>>
         return None;
     }
     let (goal, others) = goal_and_others(behind);
-    let options = options_of(others)?;
+    let options = options_behind(no_options(), others)?;
     command_for(script.as_str(), goal, options)
 }

@@ -1,5 +1,5 @@
 //! The moves of a search: a step of each task, and the kills and hangups that are listed.
-ghost use Rattle.std.specs.Prelude.{◌≡◌, ◌≤◌, ◌<◌, ◌++◌, ◌∷◌, [], cond, All, IfOk, OnOk, IfSome, length, position};
+ghost use Rattle.std.specs.Prelude.{◌≡◌, ◌≤◌, ◌<◌, ◌==◌, ◌++◌, ◌∷◌, [], cond, All, IfOk, OnOk, IfSome, length, position};
 ghost use Rattle.std.specs.List.{position_or_len};
 ghost use Rattle.std.specs.Option.{option_map};
 ghost use Rattle.script_lines.specs.Names.{task_names};
@@ -92,7 +92,7 @@ fn comma_at(text: &[u8]) -> Option<usize>
 }
 
 /// The first word of a list, and what stands behind its comma; `None` where it has none.
-#[tactic(auto, using(crate::proofs::Lists::last_piece, crate::proofs::Lists::first_piece))]
+#[tactic(auto, using(crate::proofs::Lists::last_piece))]
 fn first_word(text: &[u8]) -> (&[u8], Option<&[u8]>)
     ensures cut { words_of text.now
         ≡ result.0.now ∷ words_left (option_map (λ others. others.now) result.1) }
@@ -130,7 +130,10 @@ fn listed_of(
         let (word, others) = first_word(rest);
         match event_in(kind, names, word) {
             Ok(event) => events.push(event)?,
-            Err(reason) => return Err(GoalFault::Bad { word: place, reason }),
+            Err(reason) => return Err(GoalFault::Bad {
+                word: place,
+                reason,
+            }),
         }
         left = others;
         place += 1;

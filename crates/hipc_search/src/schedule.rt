@@ -18,7 +18,6 @@ use std::alloc::Global;
 const MOST_GOAL: usize = 1024;
 
 /// The first bytes of a goal.
-#[tactic(auto, using(std::proofs::lemmas::List::take_all))]
 fn cut(goal: &[u8]) -> &[u8]
     ensures { result.now ≡ take 1024 goal.now }
 {
@@ -65,7 +64,8 @@ fn closing(alloc: Global, problem: &Problem<'_>, events: &[Event]) -> Result<Vec
     if !asks_for_rest(problem.goal) {
         return Ok(steps);
     }
-    let tasks = problem.script.tasks.as_slice().len() as u64;
+    let script = problem.script;
+    let tasks = script.tasks.as_slice().len() as u64;
     push_living(problem.from, events, tasks, &mut steps)?;
     Ok(steps)
 }

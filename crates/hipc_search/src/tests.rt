@@ -24,7 +24,8 @@ receive\n\
 wire a 0 b\n\
 wire b 0 a\n";
 
-const USAGE: &[u8] = b"usage: hipc-search SCRIPT [GOAL] [--kill NAME,..] [--kills N] [--hangup NAME.PHONE,..] [--from SCHEDULE] [--events N] [--states N]\n";
+const USAGE: &[u8] = b"usage: hipc-search SCRIPT [GOAL] [--kill NAME,..] [--kills N] \
+[--hangup NAME.PHONE,..] [--from SCHEDULE] [--events N] [--states N]\n";
 
 /// The words of a command line, and the status and the text that they come to.
 type Line = (&'static [&'static str], Status, &'static [u8]);

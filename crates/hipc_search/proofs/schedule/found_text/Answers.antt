@@ -27,7 +27,7 @@ pub returns : goal.returns
 returns c =
     is_schedule (search_of c.args.problem.now) c.args.before.now c.args.goal.now c.args.events.now c.in_ok-text.text.items
     c.push_comment.new.text.items c.push_events.new.text.items c.push_events-2.new.text.items c.requires.sound.script.few
-    c.requires.few_first c.requires.short c.requires.first c.requires.allowed c.requires.few c.in_ok-text.ensures
-    c.in_ok-push_comment.ensures c.in_ok-push_events.ensures
+    c.requires.few_first c.requires.short c.requires.first c.requires.allowed c.requires.few c.in_ok-text.ensures.items
+    (rw c.as_bytes.ensures.value at c.in_ok-push_comment.ensures) c.in_ok-push_events.ensures
     (subst (λ (es : List Event). Writes (task_names c.args.problem.now.script.now.tasks) c.push_events.new.text.items c.push_events-2.new.text.items es)
     (c.as_slice.ensures.value ∙ c.in_ok-steps.ensures) c.in_ok-push_events-2.ensures)
