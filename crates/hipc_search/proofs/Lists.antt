@@ -5,7 +5,7 @@ use Rattle.std.specs.Prelude.{All, IfSome, option_map, unwrap_or, slice_get, pos
 use Rattle.std.specs.List.{position_or_len}
 use Rattle.std.specs.Option.{ok_or}
 use Rattle.std.specs.Str.{bytes_eq}
-use Rattle.std.proofs.lemmas.Bool.{lt-leb, le-leb, leb-false}
+use Rattle.std.proofs.lemmas.Bool.{lt-leb, le-leb}
 use Rattle.std.proofs.lemmas.List.{length-drop}
 use Rattle.std.proofs.lemmas.List.Elements.{All-push}
 use Rattle.std.proofs.lemmas.List.Quantifiers.{position-Some}
@@ -26,7 +26,7 @@ use Rattle.search_goals.specs.Writing.{IsOnTask}
 use Rattle.search_goals.proofs.GoalWords.{none_found, found_at}
 use Rattle.hipc_search.specs.declared.moves.Listed.{Listed}
 use Rattle.hipc_search.specs.declared.moves.Listed.TheVariants.{Kills, Hangups}
-use Rattle.hipc_search.specs.Moves.{kill_in, dot_place, phone_in, hangup_in, event_in, with_listed, is_comma, words_of, words_left, listed_of, listed_in}
+use Rattle.hipc_search.specs.Moves.{kill_in, dot_place, phone_in, hangup_in, event_in, with_listed, is_comma, words_of, listed_in}
 
 -- ---- the first word
 

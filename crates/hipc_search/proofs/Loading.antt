@@ -1,6 +1,6 @@
 -- What is due for files, from what their loads give.
-use Rattle.std.proofs.Common.{◌≡◌, ℕ, ◌+◌, ◌≤◌, ◌<◌, ◌⊎◌, inl, inr, Bool, true, false, List, ◌++◌, length, take, Option, Some, None, Result, Ok, Err, refl, sym, ap, subst, ◌∙◌, arith, cond}
-use Rattle.std.specs.Prelude.{codes, nat_lt}
+use Rattle.std.proofs.Common.{◌≡◌, ℕ, ◌<◌, ◌⊎◌, inl, inr, Bool, true, false, List, ◌++◌, length, take, Option, Some, None, Result, Ok, Err, refl, sym, ap, subst, ◌∙◌, arith, cond}
+use Rattle.std.specs.Prelude.{codes}
 use Rattle.std.specs.Option.{option_map}
 use Rattle.std.proofs.lemmas.Bool.{cases_lt, lt-ltb}
 use Rattle.std.proofs.lemmas.List.{take_all, length-take-le}
@@ -10,9 +10,8 @@ use Rattle.script_lines.specs.declared.fault.Reason.{Reason}
 use Rattle.script_lines.specs.declared.fault.Reason.TheVariants.{TooLong}
 use Rattle.script_lines.specs.Plan.{Plan}
 use Rattle.script_reader.specs.Reading.{script_of, schedule_of}
-use Rattle.command_line.specs.Due.{Files, Names, cannot_line, lost}
+use Rattle.command_line.specs.Due.{Files, cannot_line}
 use Rattle.command_line.proofs.Dues as loads
-use Rattle.command_line.proofs.Lost.{lost_it, lost_only, lost_none}
 use Rattle.hipc_search.specs.declared.status.Status.{Status}
 use Rattle.hipc_search.specs.declared.status.Status.TheVariants.{CannotRead}
 use Rattle.hipc_search.specs.Asking.{few_first, first_events}

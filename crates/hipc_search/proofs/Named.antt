@@ -1,25 +1,24 @@
 -- Each task of a script that bytes spell has a name as lines have them.
 use Rattle.std.proofs.Common.{◌≡◌, ℕ, ◌+◌, Bool, true, false, cond, List, [], ◌∷◌, ◌++◌, length, Option, Some, None, Result, Ok, Err, refl, sym, ap, subst, ◌∙◌}
-use Rattle.std.specs.Prelude.{⊤, is_some, nat_lt, nat_le, ◌||◌}
+use Rattle.std.specs.Prelude.{is_some, nat_lt, nat_le, ◌||◌}
 use Rattle.std.specs.List.{AllByRecursion, list_all}
 use Rattle.std.specs.Option.{ok_or}
 use Rattle.std.proofs.lemmas.List.Elements.{All-from_recursion}
 use Rattle.ipc_ids.specs.Tables.{most_bytes, most_tasks}
 use Rattle.ipc_ids.specs.declared.op.Op.{Op}
-use Rattle.ipc_ids.specs.declared.op.Body.{Body}
 use Rattle.script_lines.specs.declared.draft.TaskHead.{TaskHead}
 use Rattle.script_lines.specs.declared.fault.Reason.{Reason}
-use Rattle.script_lines.specs.declared.fault.Reason.TheVariants.{TooLong, BadWord, OutOfPlace, NameTaken, TooMany, BadPhone, UnknownName, WrongCount}
+use Rattle.script_lines.specs.declared.fault.Reason.TheVariants.{TooLong, NameTaken, TooMany, BadPhone, UnknownName}
 use Rattle.script_lines.specs.declared.plan.Kind.{Kind}
 use Rattle.script_lines.specs.declared.plan.Kind.TheVariants.{Naming, Raw, Async, Block}
 use Rattle.script_lines.specs.declared.plan.TaskPlan.{TaskPlan}
 use Rattle.script_lines.specs.declared.word.OpVerb.{OpVerb}
 use Rattle.script_lines.specs.declared.word.Verb.{Verb}
 use Rattle.script_lines.specs.declared.word.Verb.TheVariants as verbs
-use Rattle.script_lines.specs.Draft.{service, stands_first, with_service, new_task, with_task, with_new, with_wire, present, on_last, body_with_op, task_with_op, takes_bodies, is_full, task_with_body, with_body, with_op, limit_at, is_wired, leads_to_service}
+use Rattle.script_lines.specs.Draft.{service, stands_first, with_service, new_task, with_task, with_new, with_wire, present, on_last, body_with_op, task_with_op, takes_bodies, is_full, task_with_body, with_body, with_op}
 use Rattle.script_lines.specs.Line.{kind_of, counted_kind_of, service_kind_of, number_up_to, most_behind, head, plain_task, counted_task, service_task, task_of, template_of, wire_of, alone_at, ns, task, template, body, wire, operation, body_of_last, operation_of_last, after_verb, after_words, after_line}
-use Rattle.script_lines.specs.Names.{task_names, place_of, ns_name, is_ns}
-use Rattle.script_lines.specs.Operation.{◌>>=◌, needed, op_in}
+use Rattle.script_lines.specs.Names.{task_names, place_of, is_ns}
+use Rattle.script_lines.specs.Operation.{needed, op_in}
 use Rattle.script_lines.specs.Plan.{Plan}
 use Rattle.script_lines.specs.ScriptParts.{ScriptParts, no_parts, script_of_parts, with_tasks, with_templates, with_wires, part, with_part}
 use Rattle.script_lines.specs.Text.{is_allowed, lines, words}

@@ -1,6 +1,6 @@
 -- Events for tasks that are chosen, one task more at a time.
 use Rattle.std.proofs.Common.{◌≡◌, ℕ, zero, suc, ◌+◌, ◌≤◌, ◌<◌, Bool, true, false, cond, List, [], ◌∷◌, ◌++◌, length, refl, sym, ap, ◌∙◌, append_assoc, add-one, length-append, arith}
-use Rattle.std.specs.Prelude.{⊤, All, map, filter}
+use Rattle.std.specs.Prelude.{All, map, filter}
 use Rattle.std.specs.List.{AllByRecursion, range_with_len}
 use Rattle.std.proofs.lemmas.List.{length-map, map-append}
 use Rattle.std.proofs.lemmas.List.Elements.{All-from_recursion, All-append, All-filter, All-map, filter-append}

@@ -1,18 +1,17 @@
 -- The text of a schedule that was found is read as its events.
-use Rattle.std.proofs.Common.{◌≡◌, ℕ, zero, suc, ◌+◌, ◌*◌, ◌^◌, ◌≤◌, ◌<◌, Bool, true, false, List, [], ◌∷◌, ◌++◌, length, take, Ok, refl, sym, ap, subst, ◌∙◌, append_assoc, length-append, arith, decimal, le-leb, ne_eqb}
+use Rattle.std.proofs.Common.{◌≡◌, ℕ, zero, suc, ◌^◌, ◌≤◌, ◌<◌, Bool, true, false, List, [], ◌∷◌, ◌++◌, length, take, Ok, refl, ap, ◌∙◌, append_assoc, length-append, arith, decimal, le-leb, ne_eqb}
 use Rattle.std.specs.Prelude.{All, codes, if◌then◌else◌, nat_le}
 use Rattle.std.specs.Char.{is_ascii_digit}
 use Rattle.std.specs.List.{list_all}
 use Rattle.std.proofs.lemmas.Bool.{and_parts, and_from, leb-true}
 use Rattle.std.proofs.lemmas.List.Elements.{All-from_recursion, All-nil}
 use Rattle.std.proofs.lemmas.List.Folds.{list_all-append}
-use Rattle.ipc_ids.specs.Tables.{most_bytes, most_events}
 use Rattle.ipc_ids.specs.declared.message.Event.{Event}
 use Rattle.script_lines.specs.Names.{task_names}
 use Rattle.script_lines.specs.Text.{is_allowed}
 use Rattle.script_reader.specs.Reading.{schedule_of}
 use Rattle.search_goals.specs.Lines.{comment_text}
-use Rattle.search_goals.specs.Writing.{IsOnTask, Adds, Writes}
+use Rattle.search_goals.specs.Writing.{IsOnTask, Writes}
 use Rattle.search_goals.proofs.Adding.{both_added, writes_both}
 use Rattle.search_goals.proofs.Decimals.{are_digits, length_20}
 use Rattle.search_goals.proofs.Texts.{comment_adds}

@@ -1,5 +1,5 @@
 -- What the words of a command ask of a script, and of the events that come first.
-use Rattle.std.specs.Prelude.{ℕ, List, [], ◌∷◌, length, Bool, true, false, nat_lt, Option, Result, Ok, Err, codes, if◌then◌else◌}
+use Rattle.std.specs.Prelude.{ℕ, List, length, Bool, true, false, nat_lt, Option, Result, Ok, Err, codes, if◌then◌else◌}
 use Rattle.ipc_ids.specs.declared.message.Event.{Event}
 use Rattle.script_lines.specs.declared.fault.Reason.{Reason}
 use Rattle.script_lines.specs.declared.fault.Reason.TheVariants.{BadWord, TooLong, TooManyEvents}

@@ -1,5 +1,5 @@
 -- Which moves a search has, by the tasks of the script and the lists of kills and hangups.
-use Rattle.std.specs.Prelude.{ℕ, List, [], ◌∷◌, ◌++◌, length, Bool, true, false, not, ◌&&◌, ◌==◌, nat_le, map, filter, take, drop, Option, Some, None, Result, Ok, Err, if◌then◌else◌}
+use Rattle.std.specs.Prelude.{ℕ, List, [], ◌∷◌, ◌++◌, length, Bool, false, not, ◌&&◌, ◌==◌, nat_le, map, filter, take, drop, Option, Some, None, Result, Ok, Err, if◌then◌else◌}
 use Rattle.std.specs.List.{list_any, range_with_len, slice_split, position_or_len}
 use Rattle.std.specs.Option.{ok_or}
 use Rattle.ipc_ids.specs.declared.message.Event.{Event}

@@ -1,4 +1,4 @@
-use Rattle.std.proofs.Common.{◌≤◌, List, length, refl, sym, ap, subst, arith}
+use Rattle.std.proofs.Common.{List, length, refl, sym, ap, subst, arith}
 use Rattle.ipc_ids.specs.declared.message.Event.{Event}
 use Rattle.schedule_search.specs.declared.outcome.Outcome.TheVariants as outcomes
 use Rattle.schedule_search.specs.Problem.{search_of}

@@ -1,4 +1,4 @@
-use Rattle.std.proofs.Common.{refl, ap, ◌∙◌, ◌++◌, ◌∷◌, [], Err, sym}
+use Rattle.std.proofs.Common.{ap, ◌∙◌, ◌++◌, ◌∷◌, [], Err}
 use Rattle.hipc_search.specs.Command.{said}
 use Rattle.hipc_search.proofs.Answering.{if_ok_on}
 use Rattle.hipc_search.proofs.Loading.{first_lost, second_lost, both_loaded}

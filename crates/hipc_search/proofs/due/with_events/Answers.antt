@@ -1,4 +1,4 @@
-use Rattle.std.proofs.Common.{ℕ, Result, Ok, sym, subst}
+use Rattle.std.proofs.Common.{ℕ, Result, sym, subst}
 use Rattle.std.specs.Prelude.{IfOk}
 use Rattle.script_lines.specs.declared.fault.Reason.{Reason}
 use Rattle.search_goals.specs.GoalText.{Asked}

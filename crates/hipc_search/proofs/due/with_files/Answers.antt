@@ -1,8 +1,7 @@
 use Rattle.std.proofs.Common.{List, ℕ, Option, sym, subst}
 use Rattle.std.specs.Borrow.{Bor}
-use Rattle.std.specs.Prelude.{IfOk, Some}
-use Rattle.std.specs.Option.{option_map, unwrap_or}
-use Rattle.command_line.specs.Due.{LosesOneAtMost}
+use Rattle.std.specs.Prelude.{IfOk}
+use Rattle.std.specs.Option.{option_map}
 use Rattle.hipc_search.specs.Command.{said}
 use Rattle.hipc_search.specs.Due.{DueForFiles}
 use Rattle.hipc_search.proofs.due.with_files.Goals as goal

@@ -1,14 +1,9 @@
-use Rattle.std.proofs.Common.{◌≡◌, ℕ, List, Result, Ok, Err, length, sym, ap, subst, ◌∙◌}
+use Rattle.std.proofs.Common.{ℕ, List, Result, sym, subst, ◌∙◌}
 use Rattle.std.specs.Prelude.{IfOk}
-use Rattle.std.specs.Option.{option_map}
-use Rattle.ipc_ids.specs.declared.message.Event.{Event}
-use Rattle.script_lines.specs.Names.{task_names}
 use Rattle.search_goals.specs.GoalText.{said as said_goal}
 use Rattle.schedule_search.specs.Search.{Search}
-use Rattle.hipc_search.specs.declared.moves.Listed.TheVariants.{Kills, Hangups}
 use Rattle.hipc_search.specs.Command.{said}
 use Rattle.hipc_search.specs.Due.{DueForAsked}
-use Rattle.hipc_search.specs.Moves.{listed_in, moves_of}
 use Rattle.hipc_search.proofs.Answering.{kills_at_fault, hangups_at_fault, search_is, search_sound}
 use Rattle.hipc_search.proofs.due.with_goal.Goals as goal
 

@@ -1,5 +1,4 @@
-use Rattle.std.proofs.Common.{refl, ap, Err}
-use Rattle.std.specs.Prelude.{codes}
+use Rattle.std.proofs.Common.{ap, Err}
 use Rattle.hipc_search.specs.Command.{said}
 use Rattle.hipc_search.proofs.Answering.{if_ok_on}
 use Rattle.hipc_search.proofs.Loading.{script_lost, script_loaded}

@@ -1,4 +1,4 @@
-use Rattle.std.proofs.Common.{◌≡◌, ℕ, ◌+◌, ◌≤◌, ◌<◌, List, [], ◌∷◌, ◌++◌, length, Err, refl, sym, ap, ◌∙◌, length-append, arith}
+use Rattle.std.proofs.Common.{◌+◌, ◌≤◌, ◌<◌, List, [], ◌∷◌, length, sym, ap, ◌∙◌, length-append, arith}
 use Rattle.ipc_ids.specs.declared.message.Event.{Event}
 use Rattle.script_lines.proofs.Lines.{here}
 use Rattle.script_reader.specs.Reading.{lines_from}

@@ -1,5 +1,4 @@
 use Rattle.std.proofs.Common.{◌≡◌, ◌≤◌, ◌+◌, length}
-use Rattle.std.specs.Option.{option_map}
 use Rattle.script_lines.proofs.Lines.{here}
 use Rattle.script_reader.specs.Reading.{lines_from}
 use Rattle.hipc_search.specs.Moves.{with_listed, words_left, listed_of}

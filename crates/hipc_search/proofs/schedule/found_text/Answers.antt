@@ -1,10 +1,9 @@
-use Rattle.std.proofs.Common.{◌≡◌, ℕ, ◌≤◌, List, length, sym, ap, subst, ◌∙◌, arith}
+use Rattle.std.proofs.Common.{List, length, sym, ap, subst, ◌∙◌, arith}
 use Rattle.std.specs.Prelude.{All}
 use Rattle.ipc_ids.specs.declared.message.Event.{Event}
 use Rattle.script_lines.specs.Names.{task_names}
 use Rattle.search_goals.specs.Writing.{IsOnTask, Writes}
 use Rattle.schedule_search.specs.Problem.{search_of}
-use Rattle.hipc_search.specs.Schedule.{closing}
 use Rattle.hipc_search.proofs.Written.{found_on, closing_on, closing_few, is_schedule}
 use Rattle.hipc_search.proofs.schedule.found_text.Goals as goal
 
