@@ -154,7 +154,7 @@ comment_says : (templates : List (List ℕ)) (before : EventsAndNames) (w : List
 unfolding after_event_line
 comment_says templates before w h = rw h refl
 
-comment_adds : (names : List (List ℕ)) (w : List ℕ) → list_all is_allowed w ≡ true → Adds names (comment_text w) []
+pub comment_adds : (names : List (List ℕ)) (w : List ℕ) → list_all is_allowed w ≡ true → Adds names (comment_text w) []
 comment_adds names w h = record {
   count = 1;
   read = λ templates known n before rest same room.
@@ -168,12 +168,12 @@ comment_adds names w h = record {
 
 -- ---- the whole text
 
-ends : (templates : List (List ℕ)) (n : ℕ) (made : EventsAndNames) →
+pub ends : (templates : List (List ℕ)) (n : ℕ) (made : EventsAndNames) →
     lines_from (after_event_line templates) n made (lines []) ≡ Ok made
 unfolding after_event_line
 ends templates n made = refl
 
-whole_read : (script : Plan) (text : List ℕ) (es : List Event) → length text ≤ 1048576 → length es ≤ 65536 →
+pub whole_read : (script : Plan) (text : List ℕ) (es : List Event) → length text ≤ 1048576 → length es ≤ 65536 →
     Adds (task_names script.tasks) text es → schedule_of script text ≡ Ok es
 unfolding reading
 whole_read script text es short few adds =

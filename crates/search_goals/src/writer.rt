@@ -161,8 +161,13 @@ fn front_of(events: &[Event]) -> Option<Front<'_>>
     }
 }
 
-/// Adds the lines of events.
-fn push_events(
+/// Adds the lines of events to a schedule of a script, the steps of one task in a row as one line.
+/// There are at most 16,384 events, each a step, a kill or a hangup of a task of the script.
+///
+/// # Errors
+///
+/// `NoMemory` where no memory was found.
+pub fn push_events(
     alloc: Global,
     text: &mut Vec<u8>,
     script: &Script,

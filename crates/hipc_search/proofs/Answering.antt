@@ -1,0 +1,107 @@
+-- What is due, from what the calls of the program say.
+use Rattle.std.proofs.Common.{◌≡◌, ℕ, ◌≤◌, List, length, Option, Result, Ok, Err, sym, ap, subst, ◌∙◌, arith}
+use Rattle.std.specs.Prelude.{IfOk, ◌≢◌, All, codes}
+use Rattle.std.specs.Io.KnownBytes.{Appends}
+use Rattle.io_edge.specs.Edge.{AppendsStart}
+use Rattle.ipc_ids.specs.declared.message.Event.{Event}
+use Rattle.script_lines.specs.declared.fault.Reason.{Reason}
+use Rattle.script_lines.specs.Names.{task_names}
+use Rattle.script_lines.specs.Plan.{Plan}
+use Rattle.script_lines.specs.Sound as script
+use Rattle.script_reader.specs.Schedule.{MayAllCome}
+use Rattle.std.proofs.lemmas.List.{length-map}
+use Rattle.script_lines.specs.declared.plan.TaskPlan.{TaskPlan}
+use Rattle.search_goals.specs.GoalText.{Asked}
+use Rattle.search_goals.specs.Writing.{IsOnTask}
+use Rattle.schedule_search.specs.Search.{Search, IsLookedFor, IsSound}
+use Rattle.hipc_search.specs.declared.moves.Listed.TheVariants.{Kills, Hangups}
+use Rattle.hipc_search.specs.declared.status.Status.{Status}
+use Rattle.hipc_search.specs.declared.status.Status.TheVariants as statuses
+use Rattle.hipc_search.specs.Asking.{search_by, search_with}
+use Rattle.hipc_search.specs.Command.{Command}
+use Rattle.hipc_search.specs.Due.{Answers, IsOfText, Whole, Part}
+use Rattle.hipc_search.specs.Line.{fault_line}
+use Rattle.hipc_search.specs.Moves.{listed_in, moves_of}
+use Rattle.hipc_search.proofs.Lists.{listed_on}
+use Rattle.hipc_search.proofs.Steps.{moves_on, moves_few}
+
+-- ---- what is written
+
+-- what holds of a value that there is, under a wider word
+pub if_ok_on : {A E : Type 0} (P Q : A → Type 0) (r : Result A E) → ((x : A) → P x → Q x) → IfOk r P → IfOk r Q
+if_ok_on P Q (Ok x) f h = f x h
+if_ok_on P Q (Err e) f h = tt
+
+no_want : (s : Status) → IsOfText s → s ≡ statuses.NoMemory → ⊥
+no_want s h e = subst IsOfText e h
+
+-- the text that is due was told, whole
+pub whole_of : (due : Answers) (old new : Option (List ℕ)) (status told : Status) (text lent : List ℕ) → due status text
+    → lent ≡ text → (told ≢ statuses.WriteFailed → (told ≡ status) × Appends old new lent) → Whole due old new told
+whole_of due old new status told text lent is same ok =
+    λ w m. (text, subst (λ (s : Status). due s text) (sym (ok w).0) is, subst (Appends old new) same (ok w).1)
+
+-- a prefix of it
+pub part_of : (due : Answers) (old new : Option (List ℕ)) (status : Status) (text lent : List ℕ) → due status text
+    → lent ≡ text → AppendsStart old new lent → Part due old new
+part_of due old new status text lent is same start = (status, text, is, subst (AppendsStart old new) same start)
+
+-- no want of memory is told
+pub no_memory_told : (A : Type 0) (status told : Status) → IsOfText status
+    → (told ≢ statuses.WriteFailed → told ≡ status) → told ≡ statuses.NoMemory → A
+no_memory_told A status told h ok m =
+    absurd (no_want status h (sym (ok (λ (w : told ≡ statuses.WriteFailed). other_status (sym w ∙ m))) ∙ m)) where
+      other_status : statuses.WriteFailed ≡ statuses.NoMemory → ⊥
+      other_status e = cc
+
+-- ---- what is asked
+
+module _ (c : Command) (plan : Plan) (from : List Event) (asked : Asked) where
+  pub kills_at_fault : (fault : ℕ × Reason) → listed_in Kills (task_names plan.tasks) c.kill ≡ Err fault
+      → search_with c plan from (Ok asked) ≡ Err (fault_line (codes "kill word") fault)
+  kills_at_fault fault e =
+      ap (λ k. search_by plan from c.kills asked k (listed_in Hangups (task_names plan.tasks) c.hangup)) e
+
+  pub hangups_at_fault : (killed : List Event) (fault : ℕ × Reason)
+      → listed_in Kills (task_names plan.tasks) c.kill ≡ Ok killed
+      → listed_in Hangups (task_names plan.tasks) c.hangup ≡ Err fault
+      → search_with c plan from (Ok asked) ≡ Err (fault_line (codes "hangup word") fault)
+  hangups_at_fault killed fault e f =
+      ap (λ k. search_by plan from c.kills asked k (listed_in Hangups (task_names plan.tasks) c.hangup)) e
+      ∙ ap (λ h. search_by plan from c.kills asked (Ok killed) h) f
+
+  pub search_is : (killed hangups moves : List Event)
+      → listed_in Kills (task_names plan.tasks) c.kill ≡ Ok killed
+      → listed_in Hangups (task_names plan.tasks) c.hangup ≡ Ok hangups
+      → moves ≡ moves_of (length plan.tasks) killed hangups
+      → search_with c plan from (Ok asked)
+      ≡ Ok (record { plan = plan; from = from; moves = moves; kills = c.kills; asked = asked })
+  search_is killed hangups moves e f g =
+      ap (λ k. search_by plan from c.kills asked k (listed_in Hangups (task_names plan.tasks) c.hangup)) e
+      ∙ ap (λ h. search_by plan from c.kills asked (Ok killed) h) f
+      ∙ ap (λ (m : List Event). search_made m) (sym g) where
+        search_made : List Event → Result Search (List ℕ)
+        search_made m = Ok (record { plan = plan; from = from; moves = m; kills = c.kills; asked = asked })
+
+-- the search that is asked is sound
+pub search_sound : (plan : Plan) (from moves : List Event) (kills : Option ℕ) (asked : Asked) (killed hangups : List Event)
+    (text : Option (List ℕ)) → script.IsSound plan → MayAllCome (length plan.tasks) (length plan.templates) from
+    → length from ≤ 32768 → IsLookedFor asked → listed_in Hangups (task_names plan.tasks) text ≡ Ok hangups
+    → length hangups ≤ 4096 → moves ≡ moves_of (length plan.tasks) killed hangups
+    → IsSound (record { plan = plan; from = from; moves = moves; kills = kills; asked = asked })
+search_sound plan from moves kills asked killed hangups text sound may few looked listed few_hangups is =
+    let n : ℕ = length plan.tasks in
+    let tasks : n ≤ 64 = sound.few in
+    let names : length (task_names plan.tasks) ≡ n = length-map plan.tasks (λ (t : TaskPlan). t.name) in
+    let on : All (IsOnTask n) hangups =
+    subst (λ (m : ℕ). All (IsOnTask m) hangups) names (listed_on Hangups (task_names plan.tasks) text hangups listed) in
+    let all = moves_few n killed hangups in
+    let long = ap (λ (ms : List Event). length ms) is in
+    record {
+      script = sound;
+      may = may;
+      few = omega (arith, few);
+      on = subst (All (IsOnTask n)) (sym is) (moves_on n killed hangups on);
+      few_moves = omega (arith, tasks, few_hangups, all, long);
+      goal = looked;
+    }

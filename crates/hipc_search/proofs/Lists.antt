@@ -1,0 +1,189 @@
+-- The words of a list, one behind the other, and the events that they say.
+use Rattle.std.proofs.Common.{◌≡◌, ℕ, suc, ◌+◌, ◌≤◌, ◌<◌, Bool, true, false, cond, List, [], ◌∷◌, ◌++◌, length, take, drop, Option, Some, None, Result, Ok, Err, refl, sym, ap, subst, ◌∙◌, arith}
+use Rattle.std.specs.Borrow.{Bor}
+use Rattle.std.specs.Prelude.{All, IfSome, option_map, unwrap_or, slice_get, position, nat_le}
+use Rattle.std.specs.List.{position_or_len}
+use Rattle.std.specs.Option.{ok_or}
+use Rattle.std.specs.Str.{bytes_eq}
+use Rattle.std.proofs.lemmas.Bool.{lt-leb, le-leb}
+use Rattle.std.proofs.lemmas.List.{length-drop}
+use Rattle.std.proofs.lemmas.List.Elements.{All-push}
+use Rattle.std.proofs.lemmas.List.Quantifiers.{position-Some}
+use Rattle.std.proofs.lemmas.List.Splits.{slice_split_none, slice_split_first, length-slice_split}
+use Rattle.std.proofs.lemmas.List.Sums.{fails_before_first}
+use Rattle.ipc_ids.specs.declared.numbers.TaskNo.{TaskNo}
+use Rattle.ipc_ids.specs.declared.message.Event.{Event}
+use Rattle.ipc_ids.specs.declared.message.Event.TheVariants.{Kill, Hangup}
+use Rattle.script_lines.specs.declared.fault.Reason.{Reason}
+use Rattle.script_lines.specs.declared.fault.Reason.TheVariants.{BadWord, UnknownName, TooMany}
+use Rattle.script_lines.specs.Names.{task_named, place_of}
+use Rattle.script_lines.specs.Operation.{◌>>=◌}
+use Rattle.script_lines.specs.Sound.{IsTask}
+use Rattle.script_lines.proofs.Faultless.{ok_is, then_ok, found_is}
+use Rattle.script_lines.proofs.Lines.{here}
+use Rattle.script_reader.specs.Reading.{lines_from, at_line}
+use Rattle.search_goals.specs.Writing.{IsOnTask}
+use Rattle.search_goals.proofs.GoalWords.{none_found, found_at}
+use Rattle.hipc_search.specs.declared.moves.Listed.{Listed}
+use Rattle.hipc_search.specs.declared.moves.Listed.TheVariants.{Kills, Hangups}
+use Rattle.hipc_search.specs.Moves.{kill_in, dot_place, phone_in, hangup_in, event_in, with_listed, is_comma, words_of, listed_in}
+
+-- ---- the first word
+
+-- no comma stands in the text: it is one word
+pub last_piece : (text : List ℕ) → position is_comma text ≡ None → words_of text ≡ text ∷ []
+last_piece text e =
+    let whole : length text ≡ position_or_len is_comma text = none_found is_comma text e in
+    slice_split_none is_comma text
+    (λ (k : ℕ) (d : ℕ) (l : k < length text). fails_before_first is_comma text k d (omega arith))
+
+-- a comma stands there: a word is before it, and others are behind it
+pub first_piece : (text : List ℕ) (at : ℕ) → position is_comma text ≡ Some at
+    → words_of text ≡ take at text ∷ words_of (drop (at + 1) text)
+first_piece text at e =
+    let place : at ≡ position_or_len is_comma text = (found_at is_comma text at e).0 in
+    let within : at < length text = (position-Some is_comma text at 0 e).0 in
+    slice_split_first is_comma text 0 (omega arith)
+    ∙ ap (λ (i : ℕ). take i text ∷ words_of (drop (i + 1) text)) (sym place)
+
+pub less_behind : (text : List ℕ) (at : ℕ) → position is_comma text ≡ Some at → length (drop (at + 1) text) < length text
+less_behind text at e =
+    let within : at < length text = (position-Some is_comma text at 0 e).0 in
+    let long = length-drop (at + 1) text in
+    omega (arith, within, long)
+
+-- there is a first word
+pub first_of : List ℕ → List ℕ
+first_of text = unwrap_or (slice_get (words_of text) 0) []
+
+pub others_of : List ℕ → List (List ℕ)
+others_of text = drop 1 (words_of text)
+
+some_words : (words : List (List ℕ)) → 1 ≤ length words → words ≡ unwrap_or (slice_get words 0) [] ∷ drop 1 words
+some_words [] l = absurd (omega (arith, l))
+some_words (w ∷ ws) l = refl
+
+pub cut_is : (text : List ℕ) → words_of text ≡ first_of text ∷ others_of text
+unfolding first_of others_of
+cut_is text =
+    some_words (words_of text) (let long = length-slice_split is_comma text in omega (arith, long))
+
+-- how many bytes are left, with one for the word that they begin
+abbrev pub bytes_left : Option (List ℕ) → ℕ
+bytes_left None = 0
+bytes_left (Some text) = suc (length text)
+
+-- the words behind one have fewer
+pub less_left : (text : List ℕ) (others : Option (Bor (List ℕ))) → IfSome others (λ t. length t.now < length text)
+    → bytes_left (here others) < bytes_left (Some text)
+less_left text None h = omega arith
+less_left text (Some t) h = omega (arith, h)
+
+-- ---- the event of a word
+
+abbrev pub Told : Type 0
+Told = Result (List Event) (ℕ × Reason)
+
+module _ (kind : Listed) (names : List (List ℕ)) (n : ℕ) (so_far : List Event) (word : List ℕ)
+    (words all : List (List ℕ)) (whole : Told) (is : all ≡ word ∷ words)
+    (told : lines_from (with_listed kind names) n so_far all ≡ whole) where
+  by : (r : Result (List Event) Reason) → with_listed kind names so_far word ≡ r
+      → at_line n r (λ next. lines_from (with_listed kind names) (n + 1) next words) ≡ whole
+  by r e =
+      ap (λ (z : Result (List Event) Reason). at_line n z (λ next. lines_from (with_listed kind names) (n + 1) next words))
+      (sym e)
+      ∙ ap (lines_from (with_listed kind names) n so_far) (sym is) ∙ told
+
+  room : length so_far < 4096 → (r : Result Event Reason) → event_in kind names word ≡ r
+      → with_listed kind names so_far word ≡ (r >>= λ event. Ok (so_far ++ event ∷ []))
+  unfolding with_listed
+  room l r e =
+      rw (lt-leb 4096 (length so_far) l)
+      (ap (λ (z : Result Event Reason). z >>= λ event. Ok (so_far ++ event ∷ [])) e)
+
+  -- an event more
+  pub event_listed : length so_far < 4096 → (event : Event) → event_in kind names word ≡ Ok event
+      → lines_from (with_listed kind names) (n + 1) (so_far ++ event ∷ []) words ≡ whole
+  event_listed l event e = by (Ok (so_far ++ event ∷ [])) (room l (Ok event) e)
+
+  -- a word at fault
+  pub fault_listed : length so_far < 4096 → (reason : Reason) → event_in kind names word ≡ Err reason
+      → whole ≡ Err (n, reason)
+  fault_listed l reason e = sym (by (Err reason) (room l (Err reason) e))
+
+  full : 4096 ≤ length so_far → with_listed kind names so_far word ≡ Err TooMany
+  unfolding with_listed
+  full l = rw (le-leb 4096 (length so_far) l) refl
+
+  -- a word too many
+  pub one_too_many : 4096 ≤ length so_far → whole ≡ Err (n, TooMany)
+  one_too_many l = sym (by (Err TooMany) (full l))
+
+-- ---- each event is on a task with one of the names
+
+numbered : (count : ℕ) (o : Option ℕ) (t : TaskNo) → ((i : ℕ) → o ≡ Some i → i < count)
+    → option_map (λ place. record { 0 = place + 1 }) o ≡ Some t → IsTask count t.0
+numbered count None t within e = absurd cc
+numbered count (Some i) t within e =
+    let is : i + 1 ≡ t.0 = ap (λ (o : Option TaskNo). number_in o) e in
+    let below = within i refl in
+    (omega (arith, is), omega (arith, is, below)) where
+      number_in : Option TaskNo → ℕ
+      number_in None = 0
+      number_in (Some n) = n.0
+
+named_on : (names : List (List ℕ)) (name : List ℕ) (t : TaskNo) → task_named names name ≡ Some t
+    → IsTask (length names) t.0
+unfolding task_named
+named_on names name t e =
+    numbered (length names) (place_of names name) t
+    (λ i is. (position-Some (λ known. bytes_eq name known) names i [] is).0) e
+
+event_on : (kind : Listed) (names : List (List ℕ)) (word : List ℕ) (event : Event)
+    → event_in kind names word ≡ Ok event → IsOnTask (length names) event
+unfolding kill_in hangup_in
+event_on Kills names word event e =
+    let found = then_ok (ok_or (task_named names word) UnknownName) _ event e in
+    subst (IsOnTask (length names)) (ok_is (Kill found.0) event found.2)
+    (named_on names word found.0 (found_is _ found.0 found.1))
+event_on Hangups names word event e =
+    let phone = then_ok (ok_or (phone_in (drop (dot_place word) word)) BadWord) _ event e in
+    let found = then_ok (ok_or (task_named names (take (dot_place word) word)) UnknownName) _ event phone.2 in
+    subst (IsOnTask (length names)) (ok_is (Hangup found.0 phone.0) event found.2)
+    (named_on names (take (dot_place word) word) found.0 (found_is _ found.0 found.1))
+
+abbrev AreOn : List (List ℕ) → List Event → Type 0
+AreOn names events = All (IsOnTask (length names)) events
+
+chosen_room : (b : Bool) (r : Result (List Event) Reason) (y : List Event) → cond b (Err TooMany) r ≡ Ok y → r ≡ Ok y
+chosen_room true r y e = absurd cc
+chosen_room false r y e = e
+
+one_on : (kind : Listed) (names : List (List ℕ)) (so_far next : List Event) (word : List ℕ) → AreOn names so_far
+    → with_listed kind names so_far word ≡ Ok next → AreOn names next
+unfolding with_listed
+one_on kind names so_far next word on e =
+    let made = then_ok (event_in kind names word) _ next
+    (chosen_room (nat_le 4096 (length so_far)) (event_in kind names word >>= λ event. Ok (so_far ++ event ∷ [])) next e) in
+    subst (AreOn names) (ok_is (so_far ++ made.0 ∷ []) next made.2)
+    (All-push (IsOnTask (length names)) so_far made.0 on (event_on kind names word made.0 made.1))
+
+pub line_ok : {A : Type 0} (n : ℕ) (r : Result A Reason) (go : A → Result A (ℕ × Reason)) (y : A)
+    → at_line n r go ≡ Ok y → (x : A) × (r ≡ Ok x) × (go x ≡ Ok y)
+line_ok n (Ok x) go y e = (x, refl, e)
+line_ok n (Err reason) go y e = absurd cc
+
+all_on : (kind : Listed) (names : List (List ℕ)) (n : ℕ) (so_far : List Event) (words : List (List ℕ)) (events : List Event)
+    → AreOn names so_far → lines_from (with_listed kind names) n so_far words ≡ Ok events → AreOn names events
+all_on kind names n so_far [] events on e = subst (AreOn names) (let same : so_far ≡ events = cc in same) on
+all_on kind names n so_far (word ∷ words) events on e =
+    let one = line_ok n (with_listed kind names so_far word)
+    (λ next. lines_from (with_listed kind names) (n + 1) next words) events e in
+    all_on kind names (n + 1) one.0 words events (one_on kind names so_far one.0 word on one.1) one.2
+
+pub listed_on : (kind : Listed) (names : List (List ℕ)) (text : Option (List ℕ)) (events : List Event)
+    → listed_in kind names text ≡ Ok events → All (IsOnTask (length names)) events
+listed_on kind names None events e =
+    subst (AreOn names) (let same : [] ≡ events = cc in same) (λ (k : ℕ) (d : Event) (l : k < 0). absurd (omega (arith, l)))
+listed_on kind names (Some text) events e =
+    all_on kind names 1 [] (words_of text) events (λ (k : ℕ) (d : Event) (l : k < 0). absurd (omega (arith, l))) e

@@ -1,0 +1,94 @@
+-- Events for tasks that are chosen, one task more at a time.
+use Rattle.std.proofs.Common.{◌≡◌, ℕ, zero, suc, ◌+◌, ◌≤◌, ◌<◌, Bool, true, false, cond, List, [], ◌∷◌, ◌++◌, length, refl, sym, ap, ◌∙◌, append_assoc, add-one, length-append, arith}
+use Rattle.std.specs.Prelude.{All, map, filter}
+use Rattle.std.specs.List.{AllByRecursion, range_with_len}
+use Rattle.std.proofs.lemmas.List.{length-map, map-append}
+use Rattle.std.proofs.lemmas.List.Elements.{All-from_recursion, All-append, All-filter, All-map, filter-append}
+use Rattle.std.proofs.lemmas.List.FromFn.{length-range_with_len}
+use Rattle.ipc_ids.specs.declared.message.Event.{Event}
+use Rattle.search_goals.specs.Writing.{IsOnTask}
+use Rattle.hipc_search.specs.Moves.{is_living, is_killed, step_by, kill_of, for_chosen, living_steps, moves_of}
+
+range_more : (a n : ℕ) → range_with_len a (suc n) ≡ range_with_len a n ++ (a + n) ∷ []
+range_more a zero = ap (λ (m : ℕ). m ∷ []) (let e : a ≡ a + 0 = omega arith in e)
+range_more a (suc n) =
+    let e : a + 1 + n ≡ a + suc n = omega arith in
+    ap (λ (ms : List ℕ). a ∷ ms) (range_more (a + 1) n ∙ ap (λ (m : ℕ). range_with_len (a + 1) n ++ m ∷ []) e)
+
+map_chosen : (event : ℕ → Event) (b : Bool) (t : ℕ) → map event (cond b (t ∷ []) []) ≡ cond b (event t ∷ []) []
+map_chosen event true t = refl
+map_chosen event false t = refl
+
+module _ (event : ℕ → Event) (chosen : ℕ → Bool) (n : ℕ) where
+  pub chosen_more : for_chosen event chosen (n + 1) ≡ for_chosen event chosen n ++ cond (chosen (n + 1)) (event (n + 1) ∷ []) []
+  chosen_more =
+      let last : 1 + n ≡ n + 1 = omega arith in
+      ap (for_chosen event chosen) (add-one n)
+      ∙ ap (λ (ts : List ℕ). map event (filter chosen ts))
+      (range_more 1 n ∙ ap (λ (t : ℕ). range_with_len 1 n ++ t ∷ []) last)
+      ∙ ap (map event) (filter-append chosen (range_with_len 1 n) ((n + 1) ∷ []))
+      ∙ map-append event (filter chosen (range_with_len 1 n)) (cond (chosen (n + 1)) ((n + 1) ∷ []) [])
+      ∙ ap (λ (es : List Event). for_chosen event chosen n ++ es) (map_chosen event (chosen (n + 1)) (n + 1))
+
+  -- a task more, behind what stood before
+  pub one_more : (old so_far new : List Event) (b : Bool) (e : Event) → so_far ≡ old ++ for_chosen event chosen n
+      → b ≡ chosen (n + 1) → e ≡ event (n + 1) → new ≡ so_far ++ cond b (e ∷ []) []
+      → new ≡ old ++ for_chosen event chosen (n + 1)
+  one_more old so_far new b e way test same added =
+      added
+      ∙ ap (λ (es : List Event). es ++ cond b (e ∷ []) []) way
+      ∙ ap (λ (c : Bool). (old ++ for_chosen event chosen n) ++ cond c (e ∷ []) []) test
+      ∙ ap (λ (x : Event). (old ++ for_chosen event chosen n) ++ cond (chosen (n + 1)) (x ∷ []) []) same
+      ∙ append_assoc old (for_chosen event chosen n) (cond (chosen (n + 1)) (event (n + 1) ∷ []) [])
+      ∙ ap (λ (es : List Event). old ++ es) (sym chosen_more)
+
+-- ---- each is on a task
+
+in_range : (P : ℕ → Type 0) (a n : ℕ) → ((t : ℕ) → a ≤ t → t < a + n → P t) → AllByRecursion P (range_with_len a n)
+in_range P a zero h = tt
+in_range P a (suc n) h =
+    (h a (omega arith) (omega arith), in_range P (a + 1) n (λ (t : ℕ) (l : a + 1 ≤ t) (m : t < a + 1 + n). h t (omega arith) (omega arith)))
+
+chosen_on : (event : ℕ → Event) (chosen : ℕ → Bool) (n : ℕ) → ((t : ℕ) → 1 ≤ t → t ≤ n → IsOnTask n (event t))
+    → All (IsOnTask n) (for_chosen event chosen n)
+chosen_on event chosen n h =
+    All-map (IsOnTask n) event (filter chosen (range_with_len 1 n))
+    (All-filter chosen (λ (t : ℕ). IsOnTask n (event t)) (range_with_len 1 n)
+    (All-from_recursion (λ (t : ℕ). IsOnTask n (event t)) (range_with_len 1 n)
+    (in_range (λ (t : ℕ). IsOnTask n (event t)) 1 n (λ (t : ℕ) (l : 1 ≤ t) (m : t < 1 + n). h t l (omega arith)))))
+
+filter_fewer : (p : ℕ → Bool) (xs : List ℕ) → length (filter p xs) ≤ length xs
+filter_fewer p [] = omega arith
+filter_fewer p (x ∷ xs) = by_test (p x) (filter_fewer p xs) where
+  by_test : (b : Bool) → length (filter p xs) ≤ length xs → length (cond b (x ∷ filter p xs) (filter p xs)) ≤ suc (length xs)
+  by_test true less = omega (arith, less)
+  by_test false less = omega (arith, less)
+
+chosen_few : (event : ℕ → Event) (chosen : ℕ → Bool) (n : ℕ) → length (for_chosen event chosen n) ≤ n
+chosen_few event chosen n =
+    let all = length-map (filter chosen (range_with_len 1 n)) event in
+    let less = filter_fewer chosen (range_with_len 1 n) in
+    let long = length-range_with_len 1 n in
+    omega (arith, all, less, long)
+
+pub living_on : (first later : List Event) (n : ℕ) → All (IsOnTask n) (living_steps first later n)
+living_on first later n = chosen_on step_by (is_living first later) n (λ (t : ℕ) (l : 1 ≤ t) (m : t ≤ n). (l, m))
+
+pub living_few : (first later : List Event) (n : ℕ) → length (living_steps first later n) ≤ n
+living_few first later n = chosen_few step_by (is_living first later) n
+
+pub moves_on : (n : ℕ) (killed hangups : List Event) → All (IsOnTask n) hangups
+    → All (IsOnTask n) (moves_of n killed hangups)
+moves_on n killed hangups on =
+    All-append (IsOnTask n) (living_steps [] [] n ++ for_chosen kill_of (is_killed killed) n) hangups
+    (All-append (IsOnTask n) (living_steps [] [] n) (for_chosen kill_of (is_killed killed) n) (living_on [] [] n)
+    (chosen_on kill_of (is_killed killed) n (λ (t : ℕ) (l : 1 ≤ t) (m : t ≤ n). (l, m))))
+    on
+
+pub moves_few : (n : ℕ) (killed hangups : List Event) → length (moves_of n killed hangups) ≤ n + n + length hangups
+moves_few n killed hangups =
+    let a = length-append (living_steps [] [] n ++ for_chosen kill_of (is_killed killed) n) hangups in
+    let b = length-append (living_steps [] [] n) (for_chosen kill_of (is_killed killed) n) in
+    let c = living_few [] [] n in
+    let d = chosen_few kill_of (is_killed killed) n in
+    omega (arith, a, b, c, d)

@@ -1,0 +1,41 @@
+use Rattle.std.proofs.Common.{List, length, refl, sym, ap, subst, arith}
+use Rattle.ipc_ids.specs.declared.message.Event.{Event}
+use Rattle.schedule_search.specs.declared.outcome.Outcome.TheVariants as outcomes
+use Rattle.schedule_search.specs.Problem.{search_of}
+use Rattle.schedule_search.specs.Search.{AreOf}
+use Rattle.hipc_search.specs.Schedule.{IsSchedule}
+use Rattle.hipc_search.proofs.answer.search_answer.Goals as goal
+
+pub found_text-requires-clause-moves : goal.found_text-requires-clause-moves
+found_text-requires-clause-moves c =
+    let right = rw c.in-Found.is at c.in_ok-outcome.ensures in
+    subst (λ (es : List Event). AreOf c.args.problem.now.moves.now es) (sym c.as_slice.ensures.value) right.made.of_moves
+
+pub found_text-requires-clause-few : goal.found_text-requires-clause-few
+found_text-requires-clause-few c =
+    let right = rw c.in-Found.is at c.in_ok-outcome.ensures in
+    let within = right.within in
+    let long = ap (λ (es : List Event). length es) c.as_slice.ensures.value in
+    let most = c.requires.few in
+    omega (arith, within, long, most)
+
+pub returns-in_ok-text-in-Found-clause-due : goal.returns-in_ok-text-in-Found-clause-due
+returns-in_ok-text-in-Found-clause-due c =
+    let right = rw c.in-Found.is at c.in_ok-outcome.ensures in
+    let written =
+    subst (λ (es : List Event). IsSchedule (search_of c.args.problem.now) c.args.before.now c.args.command.now.goal.now es c.in_ok-text-in-Found.text.items)
+    c.as_slice.ensures.value c.in_ok-text-in-Found.ensures in
+    (outcomes.Found c.in-Found.events, right, (refl, written))
+
+pub returns-in_ok-text-in-NoneWithin-clause-due : goal.returns-in_ok-text-in-NoneWithin-clause-due
+returns-in_ok-text-in-NoneWithin-clause-due c =
+    let right = rw c.in-NoneWithin.is at c.in_ok-outcome.ensures in
+    (outcomes.NoneWithin c.in-NoneWithin.states, right, (refl, c.in_ok-text-in-NoneWithin.ensures))
+
+pub returns-in_ok-text-in-NoneAtAll-clause-due : goal.returns-in_ok-text-in-NoneAtAll-clause-due
+returns-in_ok-text-in-NoneAtAll-clause-due c =
+    let right = rw c.in-NoneAtAll.is at c.in_ok-outcome.ensures in
+    (outcomes.NoneAtAll c.in-NoneAtAll.states, right, (refl, c.in_ok-text-in-NoneAtAll.ensures))
+
+pub returns-in_ok-text-in-NoRoom-clause-due : goal.returns-in_ok-text-in-NoRoom-clause-due
+returns-in_ok-text-in-NoRoom-clause-due c = (outcomes.NoRoom, tt, (refl, c.in_ok-text-in-NoRoom.ensures))

@@ -1,0 +1,168 @@
+//! What is answered: a status with a text.
+ghost use Rattle.std.specs.Prelude.{◌≡◌, ◌≤◌, true, IfOk, length};
+ghost use Rattle.std.specs.List.{list_all};
+ghost use Rattle.script_lines.specs.Text.{is_allowed};
+ghost use Rattle.search_goals.specs.Writing.{AreNamed};
+ghost use Rattle.command_line.specs.Due.{cannot_line};
+ghost use Rattle.schedule_search.specs.Search.{IsSound};
+ghost use Rattle.schedule_search.specs.Problem.{search_of};
+ghost use Rattle.hipc_search.specs.Line.{usage_line, fault_line, none_line, none_within_start, states_end, none_within_line, not_known_line};
+ghost use Rattle.hipc_search.specs.Schedule.{Precedes};
+ghost use Rattle.hipc_search.specs.Due.{Says, IsOfText, DueForSearch};
+ghost use Rattle.hipc_search.specs.declared.status.Status.TheVariants.{CannotRead, Usage};
+
+use crate::command::Command;
+use crate::schedule::found_text;
+use crate::status::Status;
+use ipc_ids::NoMemory;
+use schedule_search::{Outcome, Problem, search_schedules};
+use script_reader::Reason;
+use std::alloc::Global;
+
+const USAGE: &[u8] = b"usage: hipc-search SCRIPT [GOAL] [--kill NAME,..] [--kills N] \
+[--hangup NAME.PHONE,..] [--from SCHEDULE] [--events N] [--states N]\n";
+
+/// A status, and the text that is due with it.
+#[derive(Drop)]
+pub(crate) struct Answer {
+    pub status: Status,
+    pub text: Vec<u8>,
+}
+
+/// The answer to words that are no command.
+pub(crate) fn usage_answer(alloc: Global) -> Result<Answer, NoMemory>
+    ensures says { IfOk result (λ answer. Says Usage usage_line answer.status answer.text.items) }
+    ensures told { IfOk result (λ answer. IsOfText answer.status) }
+{
+    let text = Vec::from_slice(alloc, USAGE)?;
+    Ok(Answer {
+        status: Status::Usage,
+        text,
+    })
+}
+
+/// The answer where a file could not be loaded.
+pub(crate) fn cannot_answer(alloc: Global, name: &str) -> Result<Answer, NoMemory>
+    ensures says { IfOk result (λ answer. Says CannotRead (cannot_line name.now)
+        answer.status answer.text.items) }
+    ensures told { IfOk result (λ answer. IsOfText answer.status) }
+{
+    let text = format!(in alloc; "cannot read {name}\n")?;
+    Ok(Answer {
+        status: Status::CannotRead,
+        text: text.into_bytes(),
+    })
+}
+
+/// The answer for the first fault at a place, as a line of a file or a word.
+pub(crate) fn fault_answer(
+    alloc: Global,
+    status: Status,
+    place: &str,
+    number: u64,
+    reason: Reason,
+) -> Result<Answer, NoMemory>
+    requires { IsOfText status }
+    ensures says { IfOk result (λ answer. Says status (fault_line place.now (number, reason))
+        answer.status answer.text.items) }
+    ensures told { IfOk result (λ answer. IsOfText answer.status) }
+{
+    let text = format!(in alloc; "{place} {number}: {reason}\n")?;
+    Ok(Answer {
+        status,
+        text: text.into_bytes(),
+    })
+}
+
+/// The line for a search that ended with no schedule.
+fn none_text(alloc: Global, states: u64) -> Result<Vec<u8>, NoMemory>
+    ensures { IfOk result (λ text. text.items ≡ none_line states) }
+{
+    let text = format!(in alloc; "# none, of any length: {states} states\n")?;
+    Ok(text.into_bytes())
+}
+
+/// How many events were tried at most.
+fn within_text(alloc: Global, most: u32) -> Result<Vec<u8>, NoMemory>
+    ensures { IfOk result (λ text. text.items ≡ none_within_start most) }
+{
+    let text = format!(in alloc; "# none within {most} events: ")?;
+    Ok(text.into_bytes())
+}
+
+/// How many states were seen.
+fn states_text(alloc: Global, states: u64) -> Result<Vec<u8>, NoMemory>
+    ensures { IfOk result (λ text. text.items ≡ states_end states) }
+{
+    let text = format!(in alloc; "{states} states\n")?;
+    Ok(text.into_bytes())
+}
+
+/// The line for a search that found no schedule of so many events.
+fn none_within_text(alloc: Global, most: u32, states: u64) -> Result<Vec<u8>, NoMemory>
+    ensures { IfOk result (λ text. text.items ≡ none_within_line most states) }
+{
+    let mut text = within_text(alloc, most)?;
+    let end = states_text(alloc, states)?;
+    text.extend_from_slice(end.as_slice())?;
+    Ok(text)
+}
+
+/// The line for a search that had no room for all states.
+fn not_known_text(alloc: Global, room: u32) -> Result<Vec<u8>, NoMemory>
+    ensures { IfOk result (λ text. text.items ≡ not_known_line room) }
+{
+    let text = format!(in alloc; "# not known: more than {room} states\n")?;
+    Ok(text.into_bytes())
+}
+
+/// Searches, and answers the outcome.
+pub(crate) fn search_answer(
+    alloc: Global,
+    problem: &Problem<'_>,
+    command: &Command<'_>,
+    before: &[u8],
+) -> Result<Answer, NoMemory>
+    requires sound { IsSound (search_of problem.now) }
+    requires named { AreNamed problem.now.script.now.tasks }
+    requires few { command.now.events ≤ 10000 }
+    requires few_first { length problem.now.from.now ≤ 32768 }
+    requires short { length before.now ≤ 524289 }
+    requires first { Precedes problem.now.script.now before.now problem.now.from.now }
+    requires allowed { list_all is_allowed command.now.goal.now ≡ true }
+    ensures due { IfOk result (λ answer. DueForSearch (search_of problem.now) command.now.events
+        command.now.states before.now command.now.goal.now answer.status answer.text.items) }
+    ensures told { IfOk result (λ answer. IsOfText answer.status) }
+{
+    let outcome = search_schedules(alloc, problem, command.events, command.states)?;
+    match outcome {
+        Outcome::Found(events) => {
+            let text = found_text(alloc, problem, before, command.goal, events.as_slice())?;
+            Ok(Answer {
+                status: Status::Found,
+                text,
+            })
+        }
+        Outcome::NoneWithin(states) => {
+            let text = none_within_text(alloc, command.events, states)?;
+            Ok(Answer {
+                status: Status::NoneWithin,
+                text,
+            })
+        }
+        Outcome::NoneAtAll(states) => {
+            let text = none_text(alloc, states)?;
+            Ok(Answer {
+                status: Status::NoneAtAll,
+                text,
+            })
+        }
+        Outcome::NoRoom => {
+            let text = not_known_text(alloc, command.states)?;
+            Ok(Answer {
+                status: Status::NotKnown,
+                text,
+            })
+        }
+    }
+}

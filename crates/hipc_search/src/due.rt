@@ -1,0 +1,339 @@
+//! Does what is due for a command line: words, files, and the sink that takes the text.
+ghost use Rattle.std.specs.Prelude.{◌≡◌, ◌≢◌, ◌≤◌, ◌<◌, ◌++◌, ◌∷◌, ◌⊎◌, [], true, Ok, Some, IfOk, length};
+ghost use Rattle.std.specs.Io.KnownBytes.{Appends, Keeps};
+ghost use Rattle.std.specs.List.{list_all};
+ghost use Rattle.std.specs.Option.{option_map};
+ghost use Rattle.io_edge.specs.Edge.{AppendsStart, Rose};
+ghost use Rattle.script_lines.specs.Names.{task_names};
+ghost use Rattle.script_lines.specs.Sound.{IsSound};
+ghost use Rattle.script_lines.specs.Text.{is_allowed};
+ghost use Rattle.script_reader.specs.Schedule.{MayAllCome};
+ghost use Rattle.search_goals.specs.GoalText.{said as said_goal};
+ghost use Rattle.search_goals.specs.Writing.{AreNamed};
+ghost use Rattle.command_line.specs.Command.{texts};
+ghost use Rattle.command_line.specs.Due.{LosesOneAtMost};
+ghost use Rattle.schedule_search.specs.Search.{IsLookedFor};
+ghost use Rattle.hipc_search.specs.Asking.{search_with};
+ghost use Rattle.hipc_search.specs.Command.{said};
+ghost use Rattle.hipc_search.specs.Schedule.{Precedes};
+ghost use Rattle.hipc_search.specs.Due.{DueForAsked, DueForEvents, DueForPlan, DueForBytes, DueForFiles, Due, files_of, loaded_by, IsOfText, Whole, Part};
+ghost use Rattle.hipc_search.specs.declared.status.Status.TheVariants.{WriteFailed, NoMemory as Memory};
+
+use crate::answer::{Answer, cannot_answer, fault_answer, search_answer, usage_answer};
+use crate::command::{Command, command_of};
+use crate::goal::{first_events, goal_for};
+use crate::moves::{Listed, listed_in, moves_of};
+use crate::status::Status;
+use io_edge::{LoadFault, PutFailed, Shelf, Sink};
+use ipc_ids::{Event, NoMemory};
+use schedule_search::Problem;
+use script_lines::{Names, names_of};
+use script_reader::{ScheduleFault, Script, ScriptFault, read_script};
+use search_goals::{Goal, GoalFault};
+use std::alloc::Global;
+
+// One more byte than a file may have, so that a longer one shows.
+const MOST: usize = 1_048_577;
+
+/// The names of the tasks of a script.
+fn names_in(alloc: Global, script: &Script) -> Result<Names, NoMemory>
+    ensures { IfOk result (λ names. names ≡ task_names script.now.tasks) }
+{
+    names_of(alloc, script.tasks.as_slice())
+}
+
+/// How many tasks a script has. It is sound, as each is.
+fn count_tasks(script: &Script) -> u64
+    ensures count { result ≡ length script.now.tasks }
+    ensures few { result ≤ 64 }
+    ensures sound { IsSound script.now }
+{
+    script.tasks.as_slice().len() as u64
+}
+
+/// Reads the lists of kills and of hangups, and searches.
+fn with_goal(
+    alloc: Global,
+    command: &Command<'_>,
+    script: &Script,
+    from: &[Event],
+    before: &[u8],
+    goal: &Goal,
+) -> Result<Answer, NoMemory>
+    requires events { command.now.events ≤ 10000 }
+    requires named { AreNamed script.now.tasks }
+    requires may { MayAllCome (length script.now.tasks) (length script.now.templates) from.now }
+    requires few { length from.now ≤ 32768 }
+    requires short { length before.now ≤ 524289 }
+    requires first { Precedes script.now before.now from.now }
+    requires allowed { list_all is_allowed command.now.goal.now ≡ true }
+    requires looked { IsLookedFor (said_goal goal.now) }
+    ensures due { IfOk result (λ answer. DueForAsked (said command.now) before.now
+        (search_with (said command.now) script.now from.now (Ok (said_goal goal.now)))
+        answer.status answer.text.items) }
+    ensures told { IfOk result (λ answer. IsOfText answer.status) }
+{
+    let names = names_in(alloc, script)?;
+    let killed = match listed_in(alloc, Listed::Kills, &names, command.kill) {
+        Ok(killed) => killed,
+        Err(GoalFault::Bad { word, reason }) => {
+            return fault_answer(alloc, Status::BadGoal, "kill word", word, reason);
+        }
+        Err(GoalFault::NoMemory) => return Err(NoMemory),
+    };
+    let hangups = match listed_in(alloc, Listed::Hangups, &names, command.hangup) {
+        Ok(hangups) => hangups,
+        Err(GoalFault::Bad { word, reason }) => {
+            return fault_answer(alloc, Status::BadGoal, "hangup word", word, reason);
+        }
+        Err(GoalFault::NoMemory) => return Err(NoMemory),
+    };
+    let tasks = count_tasks(script);
+    let moves = moves_of(alloc, tasks, killed.as_slice(), hangups.as_slice())?;
+    let problem = Problem {
+        script,
+        from,
+        moves: moves.as_slice(),
+        kills: command.kills,
+        goal,
+    };
+    search_answer(alloc, &problem, command, before)
+}
+
+/// Reads the goal, and searches behind the events that come first, whose bytes stand before what is
+/// found.
+fn with_events(
+    alloc: Global,
+    command: &Command<'_>,
+    script: &Script,
+    from: &[Event],
+    before: &[u8],
+) -> Result<Answer, NoMemory>
+    requires events { command.now.events ≤ 10000 }
+    requires named { AreNamed script.now.tasks }
+    requires may { MayAllCome (length script.now.tasks) (length script.now.templates) from.now }
+    requires few { length from.now ≤ 32768 }
+    requires short { length before.now ≤ 524289 }
+    requires first { Precedes script.now before.now from.now }
+    ensures due { IfOk result (λ answer. DueForEvents (said command.now) script.now before.now
+        (Ok from.now) answer.status answer.text.items) }
+    ensures told { IfOk result (λ answer. IsOfText answer.status) }
+{
+    match goal_for(alloc, script, command.goal) {
+        Ok(goal) => with_goal(alloc, command, script, from, before, &goal),
+        Err(GoalFault::Bad { word, reason }) => {
+            fault_answer(alloc, Status::BadGoal, "goal word", word, reason)
+        }
+        Err(GoalFault::NoMemory) => Err(NoMemory),
+    }
+}
+
+/// The bytes of a schedule, and the end of its last line.
+fn with_feed(alloc: Global, bytes: &[u8]) -> Result<Vec<u8>, NoMemory>
+    ensures { IfOk result (λ before. before.items ≡ bytes.now ++ 10 ∷ []) }
+{
+    let mut before = Vec::from_slice(alloc, bytes)?;
+    before.push(b'\n')?;
+    Ok(before)
+}
+
+/// Searches behind the events of a schedule that comes first.
+fn with_first(
+    alloc: Global,
+    command: &Command<'_>,
+    script: &Script,
+    bytes: &[u8],
+) -> Result<Answer, NoMemory>
+    requires events { command.now.events ≤ 10000 }
+    requires named { AreNamed script.now.tasks }
+    ensures due { IfOk result (λ answer. DueForPlan (said command.now) script.now (Some bytes.now)
+        answer.status answer.text.items) }
+    ensures told { IfOk result (λ answer. IsOfText answer.status) }
+{
+    let from = match first_events(alloc, script, bytes) {
+        Ok(from) => from,
+        Err(ScheduleFault::Bad { line, reason }) => {
+            return fault_answer(alloc, Status::BadSchedule, "schedule line", line, reason);
+        }
+        Err(ScheduleFault::NoMemory) => return Err(NoMemory),
+    };
+    let before = with_feed(alloc, bytes)?;
+    with_events(alloc, command, script, from.as_slice(), before.as_slice())
+}
+
+/// Searches over a script that was read.
+fn with_script(
+    alloc: Global,
+    command: &Command<'_>,
+    script: &Script,
+    first: Option<&[u8]>,
+) -> Result<Answer, NoMemory>
+    requires events { command.now.events ≤ 10000 }
+    requires named { AreNamed script.now.tasks }
+    ensures due { IfOk result (λ answer. DueForPlan (said command.now) script.now
+        (option_map (λ bytes. bytes.now) first.entry) answer.status answer.text.items) }
+    ensures told { IfOk result (λ answer. IsOfText answer.status) }
+{
+    match first {
+        None => with_events(alloc, command, script, &[], &[]),
+        Some(bytes) => with_first(alloc, command, script, bytes),
+    }
+}
+
+/// Reads the bytes of a script, and searches.
+fn with_bytes(
+    alloc: Global,
+    command: &Command<'_>,
+    bytes: &[u8],
+    first: Option<&[u8]>,
+) -> Result<Answer, NoMemory>
+    requires { command.now.events ≤ 10000 }
+    ensures due { IfOk result (λ answer. DueForBytes (said command.now) bytes.now
+        (option_map (λ bytes. bytes.now) first.entry) answer.status answer.text.items) }
+    ensures told { IfOk result (λ answer. IsOfText answer.status) }
+{
+    match read_script(alloc, bytes) {
+        Ok(script) => with_script(alloc, command, &script, first),
+        Err(ScriptFault::Bad { line, reason }) => {
+            fault_answer(alloc, Status::BadScript, "script line", line, reason)
+        }
+        Err(ScriptFault::NoMemory) => Err(NoMemory),
+    }
+}
+
+/// Loads the script, and searches.
+fn with_one_file<S: Shelf>(
+    alloc: Global,
+    command: &Command<'_>,
+    shelf: &mut S,
+) -> Result<Answer, NoMemory>
+    requires { command.now.events ≤ 10000 }
+    ensures due { IfOk result (λ answer. DueForFiles (S.files shelf.old) (S.failed shelf.old)
+        (S.failed shelf.new) (said command.now) None answer.status answer.text.items) }
+    ensures told { IfOk result (λ answer. IsOfText answer.status) }
+    ensures files { S.files shelf.new ≡ S.files shelf.old }
+    ensures failed { LosesOneAtMost (Some (command.now.script.now, command.now.script.now))
+        (S.failed shelf.old) (S.failed shelf.new) }
+{
+    match shelf.load(alloc, command.script, MOST) {
+        Ok(bytes) => with_bytes(alloc, command, bytes.as_slice(), None),
+        Err(LoadFault::Failed) => cannot_answer(alloc, command.script),
+        Err(LoadFault::NoMemory) => Err(NoMemory),
+    }
+}
+
+/// Loads the script, and then the schedule that comes first, and searches.
+fn with_both_files<S: Shelf>(
+    alloc: Global,
+    command: &Command<'_>,
+    name: &str,
+    shelf: &mut S,
+) -> Result<Answer, NoMemory>
+    requires { command.now.events ≤ 10000 }
+    ensures due { IfOk result (λ answer. DueForFiles (S.files shelf.old) (S.failed shelf.old)
+        (S.failed shelf.new) (said command.now) (Some name.now) answer.status answer.text.items) }
+    ensures told { IfOk result (λ answer. IsOfText answer.status) }
+    ensures files { S.files shelf.new ≡ S.files shelf.old }
+    ensures failed { LosesOneAtMost (Some (command.now.script.now, name.now))
+        (S.failed shelf.old) (S.failed shelf.new) }
+{
+    let script = match shelf.load(alloc, command.script, MOST) {
+        Ok(bytes) => bytes,
+        Err(LoadFault::Failed) => return cannot_answer(alloc, command.script),
+        Err(LoadFault::NoMemory) => return Err(NoMemory),
+    };
+    let first = match shelf.load(alloc, name, MOST) {
+        Ok(bytes) => bytes,
+        Err(LoadFault::Failed) => return cannot_answer(alloc, name),
+        Err(LoadFault::NoMemory) => return Err(NoMemory),
+    };
+    with_bytes(alloc, command, script.as_slice(), Some(first.as_slice()))
+}
+
+/// Loads the files of a command, and searches.
+fn with_files<S: Shelf>(
+    alloc: Global,
+    command: &Command<'_>,
+    shelf: &mut S,
+) -> Result<Answer, NoMemory>
+    requires { command.now.events ≤ 10000 }
+    ensures due { IfOk result (λ answer. DueForFiles (S.files shelf.old) (S.failed shelf.old)
+        (S.failed shelf.new) (said command.now) (said command.now).from
+        answer.status answer.text.items) }
+    ensures told { IfOk result (λ answer. IsOfText answer.status) }
+    ensures files { S.files shelf.new ≡ S.files shelf.old }
+    ensures failed { LosesOneAtMost (Some (loaded_by (said command.now)))
+        (S.failed shelf.old) (S.failed shelf.new) }
+{
+    match command.from {
+        None => with_one_file(alloc, command, shelf),
+        Some(name) => with_both_files(alloc, command, name, shelf),
+    }
+}
+
+/// What is answered for the words of a command line.
+fn answer_of<S: Shelf>(alloc: Global, words: &[String], shelf: &mut S) -> Result<Answer, NoMemory>
+    ensures due { IfOk result (λ answer. Due (texts words.now) (S.files shelf.old)
+        (S.failed shelf.old) (S.failed shelf.new) answer.status answer.text.items) }
+    ensures told { IfOk result (λ answer. IsOfText answer.status) }
+    ensures files { S.files shelf.new ≡ S.files shelf.old }
+    ensures failed { LosesOneAtMost (files_of (texts words.now))
+        (S.failed shelf.old) (S.failed shelf.new) }
+{
+    match command_of(words) {
+        Some(command) => with_files(alloc, &command, shelf),
+        None => usage_answer(alloc),
+    }
+}
+
+/// Writes a text, and answers the status; or `WriteFailed` if the text was not written whole.
+fn tell<K: Sink>(status: Status, text: &[u8], sink: &mut K) -> Status
+    requires { IsOfText status }
+    ensures ok { result ≢ WriteFailed →
+        (result ≡ status) × Appends (K.written sink.old) (K.written sink.new) text.now }
+    ensures part { result ≡ WriteFailed →
+        AppendsStart (K.written sink.old) (K.written sink.new) text.now }
+    ensures cause { result ≡ WriteFailed → Rose (K.faults sink.old) (K.faults sink.new) }
+    ensures risen { K.faults sink.old < K.faults sink.new → result ≡ WriteFailed }
+    ensures later { K.faults sink.old ≤ K.faults sink.new }
+{
+    match sink.put(text) {
+        Ok(()) => status,
+        Err(PutFailed) => Status::WriteFailed,
+    }
+}
+
+/// Does what the words of a command line ask: loads the script, and the schedule that comes first,
+/// from the shelf, searches, and writes the schedule that was found, the line of why there is none,
+/// or the line of what is wrong.
+pub fn run<S: Shelf, K: Sink>(
+    alloc: Global,
+    words: &[String],
+    shelf: &mut S,
+    sink: &mut K,
+) -> Status
+    // But for WriteFailed and NoMemory, the status is the one that is due, its text written whole.
+    ensures whole { Whole
+        (Due (texts words.now) (S.files shelf.old) (S.failed shelf.old) (S.failed shelf.new))
+        (K.written sink.old) (K.written sink.new) result }
+    // Else a prefix of a text that is due was written; after want of memory nothing.
+    ensures part { result ≡ WriteFailed → Part
+        (Due (texts words.now) (S.files shelf.old) (S.failed shelf.old) (S.failed shelf.new))
+        (K.written sink.old) (K.written sink.new) }
+    ensures memory { result ≡ Memory → Keeps (K.written sink.old) (K.written sink.new) }
+    // Where the sink's count of faults rose, it is WriteFailed; and WriteFailed comes only there, or
+    // from a sink that was spent before the call.
+    ensures write_failed { result ≡ WriteFailed → Rose (K.faults sink.old) (K.faults sink.new) }
+    ensures risen { K.faults sink.old < K.faults sink.new → result ≡ WriteFailed }
+    ensures later { K.faults sink.old ≤ K.faults sink.new }
+    // The shelf keeps its files, and no name but that of a file of the command comes to those that
+    // failed.
+    ensures files { S.files shelf.new ≡ S.files shelf.old }
+    ensures failed { LosesOneAtMost (files_of (texts words.now))
+        (S.failed shelf.old) (S.failed shelf.new) }
+{
+    match answer_of(alloc, words, shelf) {
+        Ok(answer) => tell(answer.status, answer.text.as_slice(), sink),
+        Err(NoMemory) => Status::NoMemory,
+    }
+}

@@ -1,0 +1,76 @@
+//! What is asked of a script: a goal, and the events that come first.
+ghost use Rattle.std.specs.Prelude.{◌≡◌, ◌≤◌, true, Ok, IfOk, length};
+ghost use Rattle.std.specs.List.{list_all};
+ghost use Rattle.script_lines.specs.Names.{task_names};
+ghost use Rattle.script_lines.specs.Text.{is_allowed};
+ghost use Rattle.script_reader.specs.Reading.{schedule_of, events_in, fault_in_schedule, Agrees};
+ghost use Rattle.script_reader.specs.Schedule.{MayAllCome};
+ghost use Rattle.search_goals.specs.GoalText.{said as said_goal, Answers};
+ghost use Rattle.schedule_search.specs.Search.{IsLookedFor};
+ghost use Rattle.hipc_search.specs.Asking.{first_events, has_conditions, goal_for};
+
+use ipc_ids::Event;
+use script_reader::{Reason, ScheduleFault, Script, read_schedule};
+use search_goals::{Goal, GoalFault, read_goal};
+use std::alloc::Global;
+
+const MOST_FIRST_BYTES: usize = 524_288;
+
+const MOST_FIRST_EVENTS: usize = 32_768;
+
+/// Whether conditions on a state are asked for.
+fn has_conditions(goal: &Goal) -> bool
+    ensures { result ≡ has_conditions (said_goal goal.now) }
+{
+    match goal {
+        Goal::When(_) => true,
+        Goal::Rest | Goal::Stuck(_) | Goal::Line { .. } => false,
+    }
+}
+
+/// What is looked for in a script.
+#[tactic(auto, using(crate::proofs::Looking::is_looked_for, crate::proofs::Looking::is_allowed_text))]
+pub(crate) fn goal_for(alloc: Global, script: &Script, text: &str) -> Result<Goal, GoalFault>
+    ensures value { Answers said_goal result (goal_for (task_names script.now.tasks) text.now) }
+    ensures looked { IfOk result (λ goal. IsLookedFor (said_goal goal)) }
+    ensures allowed { IfOk result (λ _. list_all is_allowed text.now ≡ true) }
+{
+    let goal = read_goal(alloc, script, text.as_bytes())?;
+    if has_conditions(&goal) {
+        return Err(GoalFault::Bad {
+            word: 1,
+            reason: Reason::BadWord,
+        });
+    }
+    Ok(goal)
+}
+
+/// The events of a schedule that comes first.
+#[tactic(auto, unfolding(crate::specs::Asking::first_events))]
+pub(crate) fn first_events(
+    alloc: Global,
+    script: &Script,
+    bytes: &[u8],
+) -> Result<Vec<Event>, ScheduleFault>
+    ensures value { Agrees fault_in_schedule (events_in result) (first_events script.now bytes.now) }
+    ensures spelled { IfOk result (λ events. schedule_of script.now bytes.now ≡ Ok events.items) }
+    ensures short { IfOk result (λ _. length bytes.now ≤ 524288) }
+    ensures few { IfOk result (λ events. length events.items ≤ 32768) }
+    ensures may { IfOk result (λ events. MayAllCome (length script.now.tasks)
+        (length script.now.templates) events.items) }
+{
+    if bytes.len() > MOST_FIRST_BYTES {
+        return Err(ScheduleFault::Bad {
+            line: 0,
+            reason: Reason::TooLong,
+        });
+    }
+    let events = read_schedule(alloc, bytes, script)?;
+    if events.len() > MOST_FIRST_EVENTS {
+        return Err(ScheduleFault::Bad {
+            line: 0,
+            reason: Reason::TooManyEvents,
+        });
+    }
+    Ok(events)
+}

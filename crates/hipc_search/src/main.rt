@@ -1,0 +1,76 @@
+//! Searches the schedules of a script of tasks that call each other for one that leads to what is asked,
+//! and writes it, or says that there is none.
+#![tactic(auto)]
+
+ghost use Rattle.std.specs.Prelude.{◌≡◌, ◌≤◌, ◌<◌};
+ghost use Rattle.std.specs.Io.KnownBytes.{Keeps};
+ghost use Rattle.std.specs.Process.{exit_status};
+ghost use Rattle.io_edge.specs.Edge.{Rose};
+ghost use Rattle.command_line.specs.Command.{texts};
+ghost use Rattle.command_line.specs.Due.{LosesOneAtMost};
+ghost use Rattle.hipc_search.specs.declared.status.Status.{Status};
+ghost use Rattle.hipc_search.specs.declared.status.Status.TheVariants.{WriteFailed, NoMemory as Memory};
+ghost use Rattle.hipc_search.specs.Due.{files_of, Due, Whole, Part};
+ghost use Rattle.hipc_search.specs.Status.{number_of};
+
+mod answer;
+mod command;
+mod due;
+mod goal;
+mod moves;
+mod schedule;
+mod status;
+#[cfg(test)]
+mod tests;
+
+use crate::due::run;
+use crate::status::Status;
+use io_edge::{FileShelf, OutSink, Shelf, Sink, words_behind_name};
+use ipc_ids::NoMemory;
+use std::alloc::Global;
+use std::process::ExitCode;
+use std::rt::Env;
+
+// Does what the words of a command line ask, and says how the process ends.
+#[tactic(auto, using(crate::proofs::Numbers::same_status))]
+fn answer_with<S: Shelf, K: Sink>(
+    alloc: Global,
+    words: &[String],
+    shelf: &mut S,
+    sink: &mut K,
+) -> ExitCode
+    // It ends with the number of a status. But for WriteFailed and NoMemory, that status is the one
+    // that is due, its text written whole.
+    ensures whole { (status : Status) × (exit_status result ≡ number_of status) × Whole
+        (Due (texts words.now) (S.files shelf.old) (S.failed shelf.old) (S.failed shelf.new))
+        (K.written sink.old) (K.written sink.new) status }
+    // Else a prefix of a text that is due was written; after want of memory nothing.
+    ensures part { exit_status result ≡ number_of WriteFailed → Part
+        (Due (texts words.now) (S.files shelf.old) (S.failed shelf.old) (S.failed shelf.new))
+        (K.written sink.old) (K.written sink.new) }
+    ensures memory { exit_status result ≡ number_of Memory →
+        Keeps (K.written sink.old) (K.written sink.new) }
+    // Where the sink's count of faults rose, it is the number of WriteFailed; and that comes only
+    // there, or from a sink that was spent before the call.
+    ensures write_failed { exit_status result ≡ number_of WriteFailed →
+        Rose (K.faults sink.old) (K.faults sink.new) }
+    ensures risen { K.faults sink.old < K.faults sink.new →
+        exit_status result ≡ number_of WriteFailed }
+    ensures later { K.faults sink.old ≤ K.faults sink.new }
+    ensures files { S.files shelf.new ≡ S.files shelf.old }
+    ensures failed { LosesOneAtMost (files_of (texts words.now))
+        (S.failed shelf.old) (S.failed shelf.new) }
+{
+    run(alloc, words, shelf, sink).exit_code()
+}
+
+fn main(rt: HostRuntime) -> ExitCode {
+    match words_behind_name(&rt, rt.alloc()) {
+        Ok(words) => {
+            let mut shelf = FileShelf::new(&rt, rt.alloc());
+            let mut sink = OutSink::new(rt.stdout());
+            answer_with(rt.alloc(), &words, &mut shelf, &mut sink)
+        }
+        Err(NoMemory) => Status::NoMemory.exit_code(),
+    }
+}

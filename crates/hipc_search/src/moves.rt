@@ -1,0 +1,244 @@
+//! The moves of a search: a step of each task, and the kills and hangups that are listed.
+ghost use Rattle.std.specs.Prelude.{◌≡◌, ◌≤◌, ◌<◌, ◌==◌, ◌++◌, ◌∷◌, [], cond, All, IfOk, OnOk, IfSome, length, position};
+ghost use Rattle.std.specs.List.{position_or_len};
+ghost use Rattle.std.specs.Option.{option_map};
+ghost use Rattle.script_lines.specs.Names.{task_names};
+ghost use Rattle.search_goals.specs.GoalText.{Answers};
+ghost use Rattle.search_goals.specs.Writing.{IsOnTask};
+ghost use Rattle.hipc_search.specs.Moves.{kill_in, dot_place, phone_in, hangup_in, event_in, is_comma, words_of, words_left, listed_of, listed_in};
+ghost use Rattle.hipc_search.specs.Moves.{kills_task, is_killed, is_living, step_by, kill_of, for_chosen, living_steps, moves_of};
+
+use ipc_ids::{Event, NoMemory, TaskNo};
+use script_lines::Names;
+use script_reader::{Reason, number};
+use search_goals::GoalFault;
+use std::alloc::Global;
+
+const MOST_LISTED: usize = 4096;
+
+/// What the words of a list say.
+#[derive(Clone, Copy)]
+pub(crate) enum Listed {
+    /// `NAME`: a kill of that task.
+    Kills,
+    /// `NAME.NUMBER`: a hangup of that phone of that task.
+    Hangups,
+}
+
+/// The kill of the task of this name.
+#[tactic(auto, unfolding(crate::specs::Moves::kill_in))]
+fn kill_in(names: &Names, word: &[u8]) -> Result<Event, Reason>
+    ensures { result ≡ kill_in names.now word.now }
+{
+    let task = names.task_named(word).ok_or(Reason::UnknownName)?;
+    Ok(Event::Kill(task))
+}
+
+/// Where the first `.` stands.
+fn dot_at(word: &[u8]) -> Option<usize>
+    ensures { result ≡ position (λ b. b == 46) word.now }
+{
+    word.iter().position(|byte| *byte == b'.')
+}
+
+/// Where `.` stands in a word; its length where it has none.
+#[tactic(auto, using(search_goals::proofs::GoalWords::none_found, search_goals::proofs::GoalWords::found_at))]
+fn dot_place(word: &[u8]) -> usize
+    ensures value { result ≡ dot_place word.now }
+    ensures within { result ≤ length word.now }
+{
+    match dot_at(word) {
+        Some(at) => at,
+        None => word.len(),
+    }
+}
+
+/// The number behind a `.` at the front.
+fn phone_in(word: &[u8]) -> Option<u64>
+    ensures { result ≡ phone_in word.now }
+{
+    match word {
+        [b'.', digits @ ..] => number(digits),
+        _ => None,
+    }
+}
+
+/// The hangup that a word says.
+#[tactic(auto, unfolding(crate::specs::Moves::hangup_in))]
+fn hangup_in(names: &Names, word: &[u8]) -> Result<Event, Reason>
+    ensures { result ≡ hangup_in names.now word.now }
+{
+    let (name, behind) = word.split_at(dot_place(word));
+    let phone = phone_in(behind).ok_or(Reason::BadWord)?;
+    let task = names.task_named(name).ok_or(Reason::UnknownName)?;
+    Ok(Event::Hangup(task, phone))
+}
+
+/// The event that a word of a list says.
+fn event_in(kind: Listed, names: &Names, word: &[u8]) -> Result<Event, Reason>
+    ensures { result ≡ event_in kind names.now word.now }
+{
+    match kind {
+        Listed::Kills => kill_in(names, word),
+        Listed::Hangups => hangup_in(names, word),
+    }
+}
+
+/// Where the first comma stands.
+fn comma_at(text: &[u8]) -> Option<usize>
+    ensures { result ≡ position is_comma text.now }
+{
+    text.iter().position(|byte| *byte == b',')
+}
+
+/// The first word of a list, and what stands behind its comma; `None` where it has none.
+#[tactic(auto, using(crate::proofs::Lists::last_piece))]
+fn first_word(text: &[u8]) -> (&[u8], Option<&[u8]>)
+    ensures cut { words_of text.now
+        ≡ result.0.now ∷ words_left (option_map (λ others. others.now) result.1) }
+    ensures shorter { IfSome result.1 (λ others. length others.now < length text.now) }
+{
+    match comma_at(text) {
+        Some(at) => {
+            let (word, _) = text.split_at(at);
+            (word, Some(&text[at + 1..]))
+        }
+        None => (text, None),
+    }
+}
+
+/// The events that a list says.
+fn listed_of(
+    alloc: Global,
+    kind: Listed,
+    names: &Names,
+    text: &[u8],
+) -> Result<Vec<Event>, GoalFault>
+    ensures value { Answers (λ events. events.items) result (listed_of kind names.now text.now) }
+    ensures few { IfOk result (λ events. length events.items ≤ 4096) }
+{
+    let mut events = Vec::new(alloc);
+    let mut left = Some(text);
+    let mut place = 1;
+    while let Some(rest) = left {
+        if events.len() >= MOST_LISTED {
+            return Err(GoalFault::Bad {
+                word: place,
+                reason: Reason::TooMany,
+            });
+        }
+        let (word, others) = first_word(rest);
+        match event_in(kind, names, word) {
+            Ok(event) => events.push(event)?,
+            Err(reason) => return Err(GoalFault::Bad {
+                word: place,
+                reason,
+            }),
+        }
+        left = others;
+        place += 1;
+    }
+    Ok(events)
+}
+
+/// The events of a list that may be missing. Each is on a task with one of the names.
+pub(crate) fn listed_in(
+    alloc: Global,
+    kind: Listed,
+    names: &Names,
+    text: Option<&str>,
+) -> Result<Vec<Event>, GoalFault>
+    ensures value { Answers (λ events. events.items) result
+        (listed_in kind names.now (option_map (λ text. text.now) text.entry)) }
+    ensures few { IfOk result (λ events. length events.items ≤ 4096) }
+{
+    match text {
+        None => Ok(Vec::new(alloc)),
+        Some(text) => listed_of(alloc, kind, names, text.as_bytes()),
+    }
+}
+
+/// Whether an event is a kill of a task.
+fn kills_task(task: u64, event: Event) -> bool
+    ensures { result ≡ kills_task task event }
+{
+    match event {
+        Event::Kill(killed) => killed.0 == task,
+        Event::Step(_) | Event::Hangup(_, _) | Event::Spawn(_) => false,
+    }
+}
+
+/// Whether one of the events kills a task.
+fn is_killed(events: &[Event], task: u64) -> bool
+    ensures { result ≡ is_killed events.now task }
+{
+    events.iter().any(|event| kills_task(task, *event))
+}
+
+/// Whether no event kills a task.
+fn is_living(first: &[Event], later: &[Event], task: u64) -> bool
+    ensures { result ≡ is_living first.now later.now task }
+{
+    !is_killed(first, task) && !is_killed(later, task)
+}
+
+/// Adds an event where it is chosen.
+fn push_chosen(chosen: bool, event: Event, events: &mut Vec<Event>) -> Result<(), NoMemory>
+    ensures { OnOk result (events.new.items ≡ events.old.items ++ cond chosen (event ∷ []) []) }
+{
+    if chosen {
+        events.push(event)?;
+    }
+    Ok(())
+}
+
+/// Adds a step of each of so many tasks that none of the events kills.
+pub(crate) fn push_living(
+    first: &[Event],
+    later: &[Event],
+    tasks: u64,
+    events: &mut Vec<Event>,
+) -> Result<(), NoMemory>
+    requires { tasks ≤ 64 }
+    ensures { OnOk result (events.new.items
+        ≡ events.old.items ++ living_steps first.now later.now tasks) }
+{
+    for place in 0..tasks {
+        let task = place + 1;
+        let living = is_living(first, later, task);
+        push_chosen(living, Event::Step(TaskNo(task)), events)?;
+    }
+    Ok(())
+}
+
+/// Adds a kill of each of so many tasks that one of the events kills.
+fn push_kills(killed: &[Event], tasks: u64, events: &mut Vec<Event>) -> Result<(), NoMemory>
+    requires { tasks ≤ 64 }
+    ensures { OnOk result (events.new.items
+        ≡ events.old.items ++ for_chosen kill_of (is_killed killed.now) tasks) }
+{
+    for place in 0..tasks {
+        let task = place + 1;
+        let chosen = is_killed(killed, task);
+        push_chosen(chosen, Event::Kill(TaskNo(task)), events)?;
+    }
+    Ok(())
+}
+
+/// The moves of a search over so many tasks: a step of each, a kill of each that is killed, and the
+/// hangups.
+pub(crate) fn moves_of(
+    alloc: Global,
+    tasks: u64,
+    killed: &[Event],
+    hangups: &[Event],
+) -> Result<Vec<Event>, NoMemory>
+    requires { tasks ≤ 64 }
+    ensures { IfOk result (λ moves. moves.items ≡ moves_of tasks killed.now hangups.now) }
+{
+    let mut moves = Vec::new(alloc);
+    push_living(&[], &[], tasks, &mut moves)?;
+    push_kills(killed, tasks, &mut moves)?;
+    moves.extend_from_slice(hangups)?;
+    Ok(moves)
+}
