@@ -103,7 +103,9 @@ def is_idle(event: Event, place: Place) -> bool:
 
 def follow(script: str, schedule: str, trace: str) -> list[Behind]:
     """What is known behind each event of a run; the script and the schedule are texts."""
-    events, calls, found = events_of(trace), dict[str, str](), []
+    events = events_of(trace)
+    calls: dict[str, str] = {}
+    found: list[Behind] = []
     for event, place in zip(events, places_of(script, schedule, events)):
         for it in event.effects:
             if it.kind == "accepted" and it.method != "0":
