@@ -65,7 +65,13 @@ def goal_of(text: str, numbers: dict[str, str]) -> Goal:
         return Goal(first, numbers[others[0]] if others else "")
     owner = numbers[first[:-1]] if first.endswith(":") else ""
     words = others if owner else [first, *others]
-    return Goal("line", owner, tuple(re.sub(r"^@([a-z0-9_]*)", lambda it: numbers[it[1]], word) for word in words))
+    return Goal("line", owner, tuple(word_of(word, numbers) for word in words))
+
+
+def word_of(word: str, numbers: dict[str, str]) -> str:
+    """A word of a goal as it stands in a line: for @ and the name of a task the task's word."""
+    named = re.match(r"@([a-z0-9_]*)", word)
+    return numbers[named[1]] + word[named.end():] if named else word
 
 
 def begins(asked: Tuple[str, ...], line: str) -> bool:
