@@ -1,31 +1,33 @@
-"""Finds the program and runs it over a script and a schedule, for the tools beside it."""
+"""Finds the programs and runs them over scripts and schedules, for the tools beside it."""
 from __future__ import annotations
 
 import os
 import subprocess
 import sys
+from concurrent.futures import Executor, ProcessPoolExecutor, ThreadPoolExecutor
 from itertools import groupby
 
 TOP = os.path.dirname(os.path.dirname(os.path.realpath(__file__)))
 MOST_EVENTS = 65_536
+NAMED_BY = {"hipc": "HIPC", "hipc_search": "HIPC_SEARCH"}  # the variable that names another program, by its crate
 
 
 class Refused(Exception):
     """What the program says instead of a trace."""
 
 
-def is_fresh() -> bool:
-    """Whether the proved program is built, of the sources as they are."""
-    return not subprocess.run([os.path.join(TOP, "tools", "is-fresh")], check=False).returncode
+def is_fresh(crate: str = "hipc") -> bool:
+    """Whether the proved program of a crate is built, of the sources as they are."""
+    return not subprocess.run([os.path.join(TOP, "tools", "is-fresh"), crate], check=False).returncode
 
 
-def program_of(tool: str) -> str:
-    """The program that the variable HIPC names, else the proved one, else what ./hipc keeps of the sources before their
-    proof, which is said; ends the tool where there is none."""
-    named = os.environ.get("HIPC")
-    if named or is_fresh():
-        return named or os.path.join(TOP, "crates", "hipc", "out", "hipc")
-    kept = os.path.join(TOP, "crates", "hipc", "out", "unproved")
+def program_of(tool: str, crate: str = "hipc") -> str:
+    """The program that the variable HIPC names, or HIPC_SEARCH that of the search, else the proved one, else what ./hipc or
+    ./hipc-search keeps of the sources before their proof, which is said; ends the tool where there is none."""
+    named, called = os.environ.get(NAMED_BY[crate]), crate.replace("_", "-")
+    if named or is_fresh(crate):
+        return named or os.path.join(TOP, "crates", crate, "out", crate)
+    kept = os.path.join(TOP, "crates", crate, "out", "unproved")
     sums = subprocess.run([os.path.join(TOP, "tools", "sums")], stdout=subprocess.PIPE, text=True, check=True).stdout
     try:
         with open(os.path.join(kept, "sources"), encoding="ascii") as file:
@@ -33,9 +35,18 @@ def program_of(tool: str) -> str:
     except OSError:
         is_kept = False
     if not is_kept:
-        sys.exit(f"{tool}: there is no program of the sources as they are: run ./build, or ./hipc, or name one in HIPC")
+        sys.exit(f"{tool}: there is no {called} of the sources as they are: run ./build, or ./{called}, or name one in {NAMED_BY[crate]}")
     print(f"{tool}: these runs are of the sources before their proof; ./build proves and builds them", file=sys.stderr)
-    return os.path.join(kept, "hipc")
+    return os.path.join(kept, crate)
+
+
+def workers() -> Executor:
+    """Processes, as many as there are processors; threads where processes have no memory to share, as in some containers."""
+    count = len(os.sched_getaffinity(0))
+    try:
+        return ProcessPoolExecutor(count)
+    except (OSError, ImportError):
+        return ThreadPoolExecutor(count)
 
 
 def schedule_of(steps: list[str]) -> str:

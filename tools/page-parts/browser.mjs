@@ -440,6 +440,27 @@ async function edit(browser, address) {
   await browser.shot("edited");
 }
 
+/** Searches in a lesson: a goal at fault, one that no schedule meets, and one that is met, whose run is opened.
+ * @param {Browser} browser @param {string} address */
+async function search(browser, address) {
+  await browser.go(`${address}lesson/mutex-order`);
+  await browser.click("#edit");
+  const ask = (/** @type {string} */ goal) => browser.run(`document.querySelector("#goal").value = ${JSON.stringify(goal)}`);
+  for (const [goal, due] of [["stuck nobody", "goal word 2: unknown name"], ["b: = answer * EPERM", "none, of any length"]]) {
+    await ask(goal);
+    await browser.click("#search");
+    await until(browser, `document.querySelector("#told b")`);
+    const told = await browser.run(`document.querySelector("#told").innerText`);
+    expect(told.startsWith(due), `the goal ${goal} is told as ${told}`);
+  }
+  await ask("b: = answer");
+  await browser.click("#search");
+  await until(browser, `document.querySelector("#editor").hidden`);
+  await browser.press("End");
+  const shown = await browser.run(LINES);
+  expect(shown.includes("= answer 1 EOK 0 0 0 0 0"), `the last event of what was found is shown as ${shown}`);
+}
+
 /** Predicts in a lesson: what is to come is hidden, a task is named, and the answer opens by a second click.
  * @param {Browser} browser @param {string} address */
 async function predict(browser, address) {
@@ -676,6 +697,7 @@ async function tryServer(browser) {
     const found = line.match(/http:\/\/127\.0\.0\.1:\d+\//);
     if (!found) throw new Error(`tools/serve says ${line}`);
     await edit(browser, found[0]);
+    if (hasSearch()) await search(browser, found[0]);
     await predict(browser, found[0]);
     await driveByHand(browser, found[0]);
     await keepEdit(browser, found[0]);
@@ -688,15 +710,24 @@ async function tryServer(browser) {
   }
 }
 
-/** Whether there is a program: one that is named, or the built one, as new as its sources. */
-function isBuilt() {
+/** Whether there is a program: one that is named, or the built one, as new as its sources.
+ * @param {string | undefined} named @param {string} crate */
+function isThere(named, crate) {
   try {
-    if (process.env.HIPC) return true;
-    execFileSync(path.join(TOP, "tools/is-fresh"));
+    if (named) return true;
+    execFileSync(path.join(TOP, "tools/is-fresh"), [crate]);
     return true;
   } catch (error) {
     return false;
   }
+}
+
+function isBuilt() {
+  return isThere(process.env.HIPC, "hipc");
+}
+
+function hasSearch() {
+  return isThere(process.env.HIPC_SEARCH, "hipc_search");
 }
 
 async function main() {

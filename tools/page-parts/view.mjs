@@ -901,6 +901,7 @@ function tellFault(fault) {
   const parts = [fault.meaning ? `<p>${escaped(fault.meaning)}</p>` : "", ...fault.hints.map(hint => `<p>${escaped(hint)}</p>`)];
   $("told").innerHTML = `<b>${escaped(fault.text)}</b>${parts.join("").replace(/`([^`]*)`/g, "<code>$1</code>")}`;
   if (!fault.file) return;
+  if (["goal", "kill"].includes(fault.file)) return markWord($(fault.file), fault.file === "goal" ? /[^ ]+/g : /[^,]+/g, fault.line);
   drawNumbers(fault.file, fault.line);
   const box = $("new" + fault.file), lines = box.value.split("\n");
   const from = lines.slice(0, fault.line - 1).join("\n").length + (fault.line > 1 ? 1 : 0);
@@ -909,25 +910,52 @@ function tellFault(fault) {
   box.scrollTop = Math.max(0, (fault.line - 8) * 19);
 }
 
-/** What the server says of a script and a schedule: a trace, or a text that says why there is none.
- * @param {string} script @param {string} schedule @returns {Promise<any>} */
-async function answerTo(script, schedule) {
-  const bytes = new TextEncoder(), first = bytes.encode(script), body = new Blob([first, bytes.encode(schedule)]);
+/** Selects one of the words of a field, counted from 1, or all of it.
+ * @param {HTMLInputElement} field @param {RegExp} form of a word @param {number} number */
+function markWord(field, form, number) {
+  const found = [...field.value.matchAll(form)][number - 1];
+  field.focus();
+  field.setSelectionRange(found ? found.index || 0 : 0, found ? (found.index || 0) + found[0].length : field.value.length);
+}
+
+/** What the server says of a script and a schedule, or of a script and the two lines of a search: a trace, or a text that says
+ * why there is none.
+ * @param {string} script @param {string} more @param {string} [what] @returns {Promise<any>} */
+async function answerTo(script, more, what = "run") {
+  const bytes = new TextEncoder(), first = bytes.encode(script), body = new Blob([first, bytes.encode(more)]);
   try {
-    const answer = await fetch(`/run?script=${first.length}`, {method: "POST", headers: {"Content-Type": "application/octet-stream"}, body});
+    const answer = await fetch(`/${what}?script=${first.length}`, {method: "POST", headers: {"Content-Type": "application/octet-stream"}, body});
     return await answer.json();
   } catch (error) {
     return {text: `the server does not answer: ${error}`, file: "", line: 0, meaning: "", hints: []};
   }
 }
 
-/** Runs the texts of the editor, and opens the run or marks the fault. */
+/** Runs the texts of the editor. */
 async function runTexts() {
   const script = $("newscript").value, schedule = $("newschedule").value;
-  $("told").textContent = "runs ..";
+  begin("runs ..");
+  openAnswer(script, schedule, await answerTo(script, schedule));
+}
+
+/** Looks for a schedule of the script in the editor under which the goal is met. */
+async function searchTexts() {
+  const script = $("newscript").value, kills = $("kill").value.replace(/[ ,]+/g, ",").replace(/^,|,$/g, "");
+  begin("searches ..");
+  const told = await answerTo(script, `${$("goal").value.trim() || "stuck"}\n${kills}`, "search");
+  openAnswer(script, told.schedule, told);
+}
+
+/** @param {string} text what is under way */
+function begin(text) {
+  $("told").textContent = text;
   drawNumbers("script", 0);
   drawNumbers("schedule", 0);
-  const told = await answerTo(script, schedule);
+}
+
+/** Opens the run that the server tells, or marks the fault.
+ * @param {string} script @param {string} schedule @param {any} told */
+function openAnswer(script, schedule, told) {
   if (told.text) return tellFault(told);
   $("told").textContent = "";
   $("editor").hidden = true;
@@ -1030,6 +1058,7 @@ function serve() {
   $("edit").onclick = openEditor;
   $("close").onclick = openEditor;
   $("run").onclick = runTexts;
+  $("search").onclick = searchTexts;
   $("revert").onclick = revert;
   for (const which of ["script", "schedule"]) {
     $("new" + which).oninput = () => {
@@ -1040,6 +1069,7 @@ function serve() {
   }
   $("editor").onkeydown = (/** @type {KeyboardEvent} */ press) => {
     if (press.key === "Enter" && press.ctrlKey) runTexts();
+    else if (press.key === "Enter" && press.target instanceof HTMLInputElement) searchTexts();
   };
 }
 
