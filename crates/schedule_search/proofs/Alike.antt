@@ -17,7 +17,7 @@ use Rattle.search_goals.specs.GoalText.{Asked, IsRest, IsStuck, HoldAll, HasLine
 use Rattle.search_goals.specs.Goals.{meets_line}
 use Rattle.schedule_search.specs.Search.{Search, IsSound, AreOf, kills_in, is_within, first_state, state_behind, last_told, event_at, events_of}
 use Rattle.schedule_search.specs.Meeting.{changes_nothing, is_at_rest, has_open_call, is_met, meets}
-use Rattle.schedule_search.specs.Code.{counted, code_by, code_behind, finds}
+use Rattle.schedule_search.specs.Code.{counted, code_by, code_behind, finds, Fits}
 use Rattle.schedule_search.proofs.Words.{WordsTell, words_tell}
 use Rattle.schedule_search.proofs.Behind.{after_both, told_more, kills_more, moves_are_of, reached}
 
@@ -141,3 +141,7 @@ module _ (s : Search) (sound : IsSound s) where
       finds_alike (events_of s.moves p) (events_of s.moves q) (event_at s.moves m)
       (moves_are_of s.moves p h.1) (moves_are_of s.moves q k.1) (moves_are_of s.moves (m ∷ p) h) (moves_are_of s.moves (m ∷ q) k)
       (alike_by s.kills _ _ _ _ e)
+
+-- so a search may rest on it
+pub fits : (s : Search) → IsSound s → Fits s
+fits s sound = record { sound = sound; code_goes_on = code_goes_on s sound; goal_goes_on = goal_goes_on s sound }

@@ -2,3 +2,8 @@ pub mod Words
 pub mod Behind
 pub mod Alike
 pub mod Resting
+pub mod Paths
+pub mod Doing
+pub mod Ranges
+pub mod Visits
+pub mod Rights

@@ -16,7 +16,7 @@ use Rattle.run_words.proofs.RunSplits.{alike_words}
 use Rattle.run_words.proofs.GoingOn.{told_apart}
 use Rattle.schedule_search.specs.Meeting.{changes_nothing, is_at_rest}
 
-both_true : (a b : Bool) → (a && b) ≡ true → (a ≡ true) × (b ≡ true)
+pub both_true : (a b : Bool) → (a && b) ≡ true → (a ≡ true) × (b ≡ true)
 both_true true b e = (refl, e)
 both_true false b e = absurd (cc e)
 

@@ -1,0 +1,22 @@
+use Rattle.std.proofs.Common.{◌≡◌, ◌∙◌, List, subst}
+use Rattle.std.specs.Prelude.{IfOk}
+use Rattle.ipc_ids.specs.declared.message.Event.{Event}
+use Rattle.schedule_search.specs.Code.{code_behind, finds}
+use Rattle.schedule_search.specs.Problem.{search_of}
+use Rattle.schedule_search.proofs.Paths.{can_do}
+use Rattle.schedule_search.proofs.problem.ProblemMaze.visit.Goals as goal
+
+pub visit_behind-requires-clause-can : goal.visit_behind-requires-clause-can
+visit_behind-requires-clause-can c =
+    can_do (search_of c.args.self.now) c.args.path.now c.as_slice.result.now c.requires.fits.sound c.requires.moves c.requires.few
+    (c.as_slice.ensures.value ∙ c.in_ok-events.ensures)
+
+pub returns-clause-met : goal.returns-clause-met
+returns-clause-met c =
+    subst (λ (z : List Event). IfOk c.visit_behind.result (λ visit. visit.met ≡ finds (search_of c.args.self.now) z))
+    (c.as_slice.ensures.value ∙ c.in_ok-events.ensures) c.visit_behind.ensures.met
+
+pub returns-clause-code : goal.returns-clause-code
+returns-clause-code c =
+    subst (λ (z : List Event). IfOk c.visit_behind.result (λ visit. visit.code.items ≡ code_behind (search_of c.args.self.now) z))
+    (c.as_slice.ensures.value ∙ c.in_ok-events.ensures) c.visit_behind.ensures.code

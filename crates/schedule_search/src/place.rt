@@ -1,0 +1,111 @@
+//! The tasks of a problem behind events, made anew each time.
+ghost use Rattle.std.specs.Prelude.{◌≡◌, ◌+◌, ◌^◌, ◌<◌, ◌≤◌, [], length, IfOk, OnOk};
+ghost use Rattle.task_system.specs.Run.{start, turn, state_after, MayHappen, MayAllHappen};
+ghost use Rattle.run_words.specs.RunWords.{run_words};
+ghost use Rattle.schedule_search.specs.Search.{first_state, state_behind, last_told};
+ghost use Rattle.schedule_search.specs.Problem.{search_of, CanDo};
+
+use crate::problem::Problem;
+use answerbox::Boxes;
+use ipc_ids::{Event, NoMemory, Trace};
+use run_words::push_run;
+use schedule_replay::Replay;
+use script_reader::Script;
+use std::alloc::{AllocError, Global};
+
+/// The tasks of a script before the first event.
+fn started(alloc: Global, script: &Script) -> Result<Replay, AllocError>
+    ensures state { IfOk result (λ replay. replay.state ≡ start script.now) }
+    ensures count { IfOk result (λ replay. replay.state.kernel.events ≡ 0) }
+{
+    match Replay::new(alloc, script) {
+        Ok(replay) => Ok(replay),
+        Err(NoMemory) => Err(AllocError),
+    }
+}
+
+/// One event, whose entries take the place of those in `out`.
+pub(crate) fn do_event(
+    replay: &mut Replay,
+    out: &mut Trace,
+    event: &Event,
+) -> Result<(), AllocError>
+    requires few { replay.old.state.kernel.events < 2 ^ 24 }
+    requires may { MayHappen replay.old.state event.now }
+    ensures state { OnOk result (replay.new.state ≡ (turn replay.old.state event.now).state) }
+    ensures entries { OnOk result (out.new.entries
+        ≡ (turn replay.old.state event.now).entries) }
+    ensures count { replay.new.state.kernel.events ≤ replay.old.state.kernel.events + 1 }
+{
+    out.clear();
+    match replay.step(event, out) {
+        Ok(()) => Ok(()),
+        Err(NoMemory) => Err(AllocError),
+    }
+}
+
+/// One event after the other, where the entries of the last stay.
+fn do_events(
+    replay: &mut Replay,
+    told: &mut Trace,
+    events: &[Event],
+) -> Result<(), AllocError>
+    requires few { replay.old.state.kernel.events + length events.now ≤ 2 ^ 24 }
+    requires may { MayAllHappen replay.old.state events.now }
+    ensures state { OnOk result (replay.new.state ≡ state_after replay.old.state events.now) }
+    ensures entries { OnOk result (told.new.entries
+        ≡ last_told told.old.entries replay.old.state events.now) }
+    ensures count { OnOk result (replay.new.state.kernel.events
+        ≤ replay.old.state.kernel.events + length events.now) }
+{
+    for event in events {
+        do_event(replay, told, event)?;
+    }
+    Ok(())
+}
+
+/// The tasks of a problem behind these events, which come behind those that come first. The entries
+/// of the last of these events are told, and none where there is no such event.
+pub(crate) fn replayed(
+    alloc: Global,
+    problem: &Problem<'_>,
+    events: &[Event],
+    told: &mut Trace,
+) -> Result<Replay, AllocError>
+    requires can { CanDo (search_of problem.now) events.now }
+    ensures state { IfOk result (λ replay. replay.state
+        ≡ state_behind (search_of problem.now) events.now) }
+    ensures entries { OnOk result (told.new.entries
+        ≡ last_told [] (first_state (search_of problem.now)) events.now) }
+    ensures count { IfOk result (λ replay. replay.state.kernel.events
+        ≤ 65536 + length events.now) }
+{
+    let mut replay = started(alloc, problem.script)?;
+    do_events(&mut replay, told, problem.from)?;
+    told.clear();
+    do_events(&mut replay, told, events)?;
+    Ok(replay)
+}
+
+/// How many tasks there are.
+pub(crate) fn tasks(replay: &Replay) -> usize
+    ensures { result ≡ length replay.now.state.kernel.tasks.alive }
+{
+    replay.system().kernel().board().alive().len()
+}
+
+/// The calls of all tasks.
+pub(crate) fn boxes(replay: &Replay) -> &Boxes
+    ensures { result.now.calls ≡ replay.now.state.kernel.calls }
+{
+    replay.system().kernel().board().boxes()
+}
+
+/// The words of the state.
+pub(crate) fn words_of(alloc: Global, replay: &Replay) -> Result<Vec<u64>, AllocError>
+    ensures { IfOk result (λ words. words.items ≡ run_words replay.now.state) }
+{
+    let mut words = Vec::new(alloc);
+    push_run(replay.system(), &mut words)?;
+    Ok(words)
+}

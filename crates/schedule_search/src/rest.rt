@@ -1,0 +1,80 @@
+//! Whether nothing moves behind events.
+ghost use Rattle.std.specs.Prelude.{◌≡◌, ◌&&◌, length, IfOk};
+ghost use Rattle.script_lines.specs.Sound.{IsTask};
+ghost use Rattle.run_words.specs.RunWords.{run_words};
+ghost use Rattle.schedule_search.specs.Search.{state_behind};
+ghost use Rattle.schedule_search.specs.Meeting.{changes_nothing, is_at_rest, has_open_call};
+ghost use Rattle.schedule_search.specs.Problem.{search_of, CanDo};
+
+use crate::open_calls::has_open_call;
+use crate::place::{boxes, do_event, replayed, tasks, words_of};
+use crate::problem::Problem;
+use ipc_ids::{Event, TaskNo, Trace};
+use schedule_replay::Replay;
+use std::alloc::{AllocError, Global};
+
+/// Whether one more step of a task changes nothing but counters behind these events, where `words`
+/// are those of the state.
+fn changes_nothing(
+    alloc: Global,
+    problem: &Problem<'_>,
+    events: &[Event],
+    words: &[u64],
+    task: TaskNo,
+) -> Result<bool, AllocError>
+    requires can { CanDo (search_of problem.now) events.now }
+    requires here { words.now ≡ run_words (state_behind (search_of problem.now) events.now) }
+    requires there { let here = state_behind (search_of problem.now) events.now in
+        IsTask (length here.kernel.tasks.alive) task.0 }
+    ensures { IfOk result (λ same. same
+        ≡ changes_nothing (state_behind (search_of problem.now) events.now) task.0) }
+{
+    let mut told = Trace::new(alloc);
+    let mut replay = replayed(alloc, problem, events, &mut told)?;
+    do_event(&mut replay, &mut told, &Event::Step(task))?;
+    let after = words_of(alloc, &replay)?;
+    Ok(after.as_slice() == words)
+}
+
+/// Whether no step of any task does. `replay` stands behind these events.
+pub(crate) fn is_at_rest(
+    alloc: Global,
+    problem: &Problem<'_>,
+    events: &[Event],
+    replay: &Replay,
+) -> Result<bool, AllocError>
+    requires can { CanDo (search_of problem.now) events.now }
+    requires here { replay.now.state ≡ state_behind (search_of problem.now) events.now }
+    ensures { IfOk result (λ rests. rests ≡ is_at_rest replay.now.state) }
+{
+    let words = words_of(alloc, replay)?;
+    let count = tasks(replay);
+    for t in 0..count {
+        let task = TaskNo(t as u64 + 1);
+        let same = changes_nothing(alloc, problem, events, words.as_slice(), task)?;
+        if !same {
+            return Ok(false);
+        }
+    }
+    Ok(true)
+}
+
+/// Whether a call is not answered besides: of this task, or of any.
+pub(crate) fn is_stuck(
+    alloc: Global,
+    problem: &Problem<'_>,
+    events: &[Event],
+    replay: &Replay,
+    task: Option<TaskNo>,
+) -> Result<bool, AllocError>
+    requires can { CanDo (search_of problem.now) events.now }
+    requires here { replay.now.state ≡ state_behind (search_of problem.now) events.now }
+    ensures { IfOk result (λ stuck. stuck
+        ≡ (has_open_call task replay.now.state.kernel.calls && is_at_rest replay.now.state)) }
+{
+    let open = has_open_call(task, boxes(replay));
+    if !open {
+        return Ok(false);
+    }
+    is_at_rest(alloc, problem, events, replay)
+}

@@ -1,0 +1,135 @@
+//! Searches over the schedules of two tasks that call each other and wait. The outcomes are those of
+//! the lesson `deadlock`, and of a count of its states by another implementation: 13.
+ghost use Rattle.std.specs.Prelude.{◌<◌, ◌^◌};
+ghost use Rattle.search_goals.specs.GoalText.{said};
+ghost use Rattle.schedule_search.specs.Search.{IsLookedFor};
+
+use crate::{Outcome, Problem, search_schedules};
+use ipc_ids::{Event, TaskNo};
+use script_reader::{Script, read_script};
+use search_goals::{Goal, read_goal};
+use std::alloc::{AllocError, Global};
+
+/// Each task calls the other, and waits for its own answer.
+const SCRIPT: &[u8] = b"task a raw\n\
+call 0 512\n\
+receive\n\
+receive\n\
+task b raw\n\
+call 0 512\n\
+receive\n\
+receive\n\
+wire a 0 b\n\
+wire b 0 a\n";
+
+const A: TaskNo = TaskNo(1);
+
+const B: TaskNo = TaskNo(2);
+
+/// What a search comes to, over steps of both tasks and at most so many kills of the second.
+fn outcome(
+    alloc: Global,
+    script: &Script,
+    goal: &Goal,
+    kills: u32,
+    most: u32,
+    room: u32,
+) -> Option<Outcome>
+    requires asked { IsLookedFor (said goal.now) }
+    requires few { most < 2 ^ 20 }
+{
+    if script.tasks.as_slice().len() < 2 {
+        return None;
+    }
+    let moves = [Event::Step(A), Event::Step(B), Event::Kill(B)];
+    let problem = Problem {
+        script,
+        from: &[],
+        moves: moves.as_slice(),
+        kills: Some(kills),
+        goal,
+    };
+    match search_schedules(alloc, &problem, most, room) {
+        Ok(outcome) => Some(outcome),
+        Err(AllocError) => None,
+    }
+}
+
+/// The same of a line, within ten events.
+fn line_outcome(
+    alloc: Global,
+    script: &Script,
+    text: &[u8],
+    kills: u32,
+    room: u32,
+) -> Option<Outcome> {
+    match read_goal(alloc, script, text) {
+        Ok(Goal::Line { head, asked }) => outcome(
+            alloc,
+            script,
+            &Goal::Line { head, asked },
+            kills,
+            10,
+            room,
+        ),
+        _ => None,
+    }
+}
+
+/// Whether these events were found.
+fn is_found(outcome: Option<Outcome>, events: &[Event]) -> bool {
+    match outcome {
+        Some(Outcome::Found(found)) => found.as_slice() == events,
+        _ => false,
+    }
+}
+
+/// How many states were seen, where there is no such schedule at all.
+fn none_at_all(outcome: Option<Outcome>) -> Option<u64> {
+    match outcome {
+        Some(Outcome::NoneAtAll(states)) => Some(states),
+        _ => None,
+    }
+}
+
+/// Whether the deadlock is found, and not within three events.
+fn finds_the_deadlock(alloc: Global, script: &Script) -> bool {
+    let goal = Goal::Stuck(Some(B));
+    let events = [
+        Event::Step(A),
+        Event::Step(B),
+        Event::Step(A),
+        Event::Step(B),
+    ];
+    is_found(outcome(alloc, script, &goal, 0, 10, 100), events.as_slice())
+        && matches!(outcome(alloc, script, &goal, 0, 3, 100), Some(Outcome::NoneWithin(_)))
+}
+
+/// Whether a line is found, and one that a kill alone makes only with a kill. Without, all 13 states
+/// are seen, and one that stands for more kills than there may be.
+fn finds_lines(alloc: Global, script: &Script) -> bool {
+    let received = [Event::Step(A), Event::Step(B), Event::Step(B)];
+    let killed = [Event::Step(A), Event::Kill(B), Event::Step(A)];
+    let delivered = b"a: call 1 delivered @a".as_slice();
+    is_found(
+        line_outcome(alloc, script, b"call 1 received @b".as_slice(), 0, 100),
+        received.as_slice(),
+    ) && is_found(
+        line_outcome(alloc, script, delivered, 1, 100),
+        killed.as_slice(),
+    ) && none_at_all(line_outcome(alloc, script, delivered, 0, 100)) == Some(14)
+        && matches!(line_outcome(alloc, script, delivered, 0, 5), Some(Outcome::NoRoom))
+}
+
+/// Whether the searches over the script come to what they are to.
+fn searches(alloc: Global) -> bool {
+    match read_script(alloc, SCRIPT) {
+        Ok(script) => finds_the_deadlock(alloc, &script) && finds_lines(alloc, &script),
+        Err(_) => false,
+    }
+}
+
+#[test]
+fn schedules_are_found_or_there_are_none(rt: HostRuntime) {
+    assert!(rt; searches(rt.alloc()));
+}
