@@ -107,7 +107,7 @@ fn goes_on(bodies: &[Body], body: usize, place: usize) -> bool
 }
 
 /// Whether a condition holds of a raw task with these bodies; not where it names a fibril.
-#[tactic(auto, using(crate::proofs::Plans::first_goes_on))]
+#[tactic(auto, using(crate::proofs::Bodies::first_body))]
 fn holds_of_raw(
     condition: &Condition,
     fibril: Option<FibrilNo>,
@@ -134,7 +134,12 @@ fn holds_kept(condition: &Condition, bodies: &[Body], context: Option<&Context>)
     match context {
         Some(context) => {
             let going = goes_on(bodies, context.body, context.place);
-            holds_at(condition, going, context.place, context.registers.as_slice())
+            holds_at(
+                condition,
+                going,
+                context.place,
+                context.registers.as_slice(),
+            )
         }
         None => holds_of_ended(condition),
     }
@@ -231,12 +236,7 @@ pub fn holds(condition: &Condition, script: &Script, from: &[Event], system: &Sy
 }
 
 /// Whether each of these holds there. Takes no memory.
-pub fn all_hold(
-    conditions: &[Condition],
-    script: &Script,
-    from: &[Event],
-    system: &System,
-) -> bool
+pub fn all_hold(conditions: &[Condition], script: &Script, from: &[Event], system: &System) -> bool
     requires reached { IsReached script.now (spawns_of from.now) system.now }
     ensures { result ≡ all_hold conditions.now system.now }
 {

@@ -18,12 +18,8 @@ fn template_of<'a>(templates: &'a [TaskPlan], event: &Event) -> Option<&'a TaskP
 }
 
 /// The template of a task that these events made, before which they made so many.
-#[tactic(auto, using(crate::proofs::Plans::one_spawned))]
-fn spawned_plan<'a>(
-    templates: &'a [TaskPlan],
-    from: &[Event],
-    place: usize,
-) -> Option<&'a TaskPlan>
+#[tactic(auto, using(crate::proofs::Bodies::one_spawned))]
+fn spawned_plan<'a>(templates: &'a [TaskPlan], from: &[Event], place: usize) -> Option<&'a TaskPlan>
     ensures { option_copied result
         ≡ slice_get (spawned_plans templates.now (spawns_of from.now)) place }
 {
@@ -42,12 +38,8 @@ fn spawned_plan<'a>(
 }
 
 /// The plan of a task: of the script, or of those that the spawns among these events made.
-#[tactic(auto, using(crate::proofs::Plans::of_script, crate::proofs::Plans::of_spawn))]
-fn plan_of<'a>(
-    script: &'a Script,
-    from: &[Event],
-    task: TaskNo,
-) -> Option<&'a TaskPlan>
+#[tactic(auto, using(crate::proofs::Bodies::of_script, crate::proofs::Bodies::of_spawn))]
+fn plan_of<'a>(script: &'a Script, from: &[Event], task: TaskNo) -> Option<&'a TaskPlan>
     ensures { option_copied result ≡ plan_at script.now (spawns_of from.now) task }
 {
     let tasks = script.tasks.as_slice();

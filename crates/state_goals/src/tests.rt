@@ -11,7 +11,8 @@ use search_goals::{Condition, Subject};
 use std::alloc::Global;
 use task_system::System;
 
-const SCRIPT: &[u8] = b"task client raw\nset r5 7\nset r6 r5\ntask server async\nfibril\nset r1 7\nyield\nfibril\nset r2 9\n";
+const SCRIPT: &[u8] =
+    b"task client raw\nset r5 7\nset r6 r5\ntask server async\nfibril\nset r1 7\nyield\nfibril\nset r2 9\n";
 
 const CLIENT: TaskNo = TaskNo(1);
 
@@ -50,7 +51,8 @@ fn turn(
     ensures reached { OnOk result (IsReached script.now [] system.new) }
     ensures few { system.new.kernel.events ≤ system.old.kernel.events + 1 }
 {
-    if !is_on_task(event, script.tasks.as_slice().len()) {
+    let tasks = script.tasks.as_slice().len();
+    if !is_on_task(event, tasks) {
         return Err(NoMemory);
     }
     match system.turn(event, out) {
@@ -71,7 +73,29 @@ fn none_holds(conditions: &[Condition], script: &Script, system: &System) -> boo
     true
 }
 
-/// Whether behind these events each of the first conditions holds, and none of the others.
+/// Whether all these events can be done, behind which each of the first conditions holds, and none of
+/// the others.
+fn meet_behind(
+    script: &Script,
+    system: &mut System,
+    out: &mut Trace,
+    events: &[Event],
+    hold: &[Condition],
+    others: &[Condition],
+) -> bool
+    requires reached { IsReached script.now [] system.old }
+    requires no_event { system.old.kernel.events ≡ 0 }
+    requires few { length events.now ≤ 1000 }
+{
+    for event in events {
+        if turn(script, system, event, out).is_err() {
+            return false;
+        }
+    }
+    all_hold(hold, script, &[], system) && none_holds(others, script, system)
+}
+
+/// The same of the tasks of the script, before which no event came.
 fn meets(
     alloc: Global,
     script: &Script,
@@ -81,16 +105,11 @@ fn meets(
 ) -> bool
     requires { length events.now ≤ 1000 }
 {
-    let Ok(mut system) = System::new(alloc, script) else {
-        return false;
-    };
     let mut out = Trace::new(alloc);
-    for event in events {
-        if turn(script, &mut system, event, &mut out).is_err() {
-            return false;
-        }
+    match System::new(alloc, script) {
+        Ok(mut system) => meet_behind(script, &mut system, &mut out, events, hold, others),
+        Err(NoMemory) => false,
     }
-    all_hold(hold, script, &[], &system) && none_holds(others, script, &system)
 }
 
 /// Whether a raw task stands where its steps lead, and stays there once it was killed.

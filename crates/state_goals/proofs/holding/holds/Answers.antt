@@ -2,7 +2,7 @@ use Rattle.std.proofs.Common.{sym, subst}
 use Rattle.turn_counts.specs.Constants.{constant}
 use Rattle.run_words.specs.Reached.{spawns_of}
 use Rattle.state_goals.specs.Plans.{DoesBodies}
-use Rattle.state_goals.proofs.Plans.{task_does}
+use Rattle.state_goals.proofs.Bodies.{task_does}
 use Rattle.state_goals.proofs.holding.holds.Goals as goal
 
 pub holds_of-requires : goal.holds_of-requires

@@ -1,6 +1,6 @@
 use Rattle.std.proofs.Common.{◌≤◌, []}
 use Rattle.run_words.specs.Reached.{IsReached}
-use Rattle.state_goals.proofs.tests.meets.Given as goal
+use Rattle.state_goals.proofs.tests.meet_behind.Given as goal
 
 abbrev pub invariant-loop-event : goal.invariant-loop-event
 invariant-loop-event l =

@@ -1,12 +1,11 @@
 -- Each program of a run does the bodies of its task's plan.
 use Rattle.std.proofs.Common.{ℕ, zero, suc, ◌≡◌, ◌≤◌, ◌<◌, ◌+◌, ◌-◌, Bool, true, false, cond, List, [], ◌∷◌, ◌++◌, map, length, Option, None, Some, refl, sym, ◌∙◌, ap, subst, arith, slice_get}
-use Rattle.std.specs.Prelude.{⊤, nat_lt, is_some}
+use Rattle.std.specs.Prelude.{⊤, nat_lt}
 use Rattle.std.specs.List.{cons_option}
 use Rattle.std.specs.Option.{option_map}
 use Rattle.std.proofs.lemmas.Option.{slice_get-map, same_Some}
 use Rattle.ipc_ids.specs.declared.numbers.TaskNo.{TaskNo}
 use Rattle.ipc_ids.specs.declared.op.Body.{Body}
-use Rattle.ipc_ids.specs.declared.op.Op.{Op}
 use Rattle.ipc_ids.specs.declared.message.Event.{Event}
 use Rattle.ipc_ids.specs.declared.message.Event.TheVariants.{Step, Kill, Hangup, Spawn}
 use Rattle.script_lines.specs.declared.plan.Kind.{Kind}
@@ -17,8 +16,8 @@ use Rattle.kernel_core.specs.Kernel.{next_task}
 use Rattle.async_task.specs.AsyncState.{AsyncState, op_in}
 use Rattle.async_task.specs.Steps.{bare_task, start_in, start_at, start_bodies}
 use Rattle.task_system.specs.declared.any.AnyProgram.{AnyProgram}
-use Rattle.task_system.specs.Run.{RunState, ops_of, program_by, program_of, programs_from, start, turn, state_after}
-use Rattle.turn_counts.specs.Constants.{Constant, constant, Constants, constants, made_from, made_by_all}
+use Rattle.task_system.specs.Run.{RunState, ops_of, program_by, program_of, programs_from, start, turn}
+use Rattle.turn_counts.specs.Constants.{Constant, constant, Constants, made_from, made_by_all}
 use Rattle.turn_counts.proofs.KeptConstants.{turn_keeps, events_keep}
 use Rattle.run_words.specs.Reached.{IsReached, spawns_of}
 use Rattle.state_goals.specs.Plans.{template_of, spawned_plans, plans_of, bodies_in, bodies_of, DoesBodies}
@@ -156,10 +155,7 @@ one_spawned templates (Kill task) events = refl
 one_spawned templates (Hangup task phone) events = refl
 one_spawned templates (Spawn place) events = refl
 
--- the operations of the first body
-pub first_goes_on : (ops : List Op) (bodies : List Body) (place : ℕ) → ops ≡ ops_of bodies
-    → is_some (op_in (slice_get bodies 0) place) ≡ is_some (slice_get ops place)
-first_goes_on ops bodies place e = in_first bodies ∙ ap (λ (z : List Op). is_some (slice_get z place)) (sym e) where
-  in_first : (bs : List Body) → is_some (op_in (slice_get bs 0) place) ≡ is_some (slice_get (ops_of bs) place)
-  in_first [] = refl
-  in_first (body ∷ bs) = refl
+-- the operations of a raw task are those of the first body
+pub first_body : (bodies : List Body) (place : ℕ) → op_in (slice_get bodies 0) place ≡ slice_get (ops_of bodies) place
+first_body [] place = refl
+first_body (body ∷ bodies) place = refl
