@@ -5,5 +5,5 @@ pub mod Resting
 pub mod Paths
 pub mod Doing
 pub mod Ranges
-pub mod Visits
+pub mod Visiting
 pub mod Rights

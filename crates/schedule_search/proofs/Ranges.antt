@@ -4,29 +4,29 @@ use Rattle.std.specs.Prelude.{◌||◌}
 use Rattle.std.specs.List.{list_all, list_any, range_with_len}
 
 -- k numbers are left from a on, of which the first is a; `whole` is what the whole range comes to
-module _ (f : ℕ → Bool) (a k j : ℕ) (whole : Bool) (some : k ≡ suc j) where
+module _ (f : ℕ → Bool) (a k j : ℕ) (whole : Bool) (one : k ≡ suc j) where
   pub all_on : f a ≡ true → list_all f (range_with_len a k) ≡ whole → list_all f (range_with_len (a + 1) j) ≡ whole
-  all_on yes h =
-      ap (λ (b : Bool). b && list_all f (range_with_len (a + 1) j)) (sym yes)
-      ∙ ap (λ (n : ℕ). list_all f (range_with_len a n)) (sym some)
+  all_on holds h =
+      ap (λ (b : Bool). b && list_all f (range_with_len (a + 1) j)) (sym holds)
+      ∙ ap (λ (n : ℕ). list_all f (range_with_len a n)) (sym one)
       ∙ h
 
   pub not_all : f a ≡ false → list_all f (range_with_len a k) ≡ whole → false ≡ whole
-  not_all no h =
-      ap (λ (b : Bool). b && list_all f (range_with_len (a + 1) j)) (sym no)
-      ∙ ap (λ (n : ℕ). list_all f (range_with_len a n)) (sym some)
+  not_all fails h =
+      ap (λ (b : Bool). b && list_all f (range_with_len (a + 1) j)) (sym fails)
+      ∙ ap (λ (n : ℕ). list_all f (range_with_len a n)) (sym one)
       ∙ h
 
   pub any_on : f a ≡ false → list_any f (range_with_len a k) ≡ whole → list_any f (range_with_len (a + 1) j) ≡ whole
-  any_on no h =
-      ap (λ (b : Bool). b || list_any f (range_with_len (a + 1) j)) (sym no)
-      ∙ ap (λ (n : ℕ). list_any f (range_with_len a n)) (sym some)
+  any_on fails h =
+      ap (λ (b : Bool). b || list_any f (range_with_len (a + 1) j)) (sym fails)
+      ∙ ap (λ (n : ℕ). list_any f (range_with_len a n)) (sym one)
       ∙ h
 
   pub any_here : f a ≡ true → list_any f (range_with_len a k) ≡ whole → true ≡ whole
-  any_here yes h =
-      ap (λ (b : Bool). b || list_any f (range_with_len (a + 1) j)) (sym yes)
-      ∙ ap (λ (n : ℕ). list_any f (range_with_len a n)) (sym some)
+  any_here holds h =
+      ap (λ (b : Bool). b || list_any f (range_with_len (a + 1) j)) (sym holds)
+      ∙ ap (λ (n : ℕ). list_any f (range_with_len a n)) (sym one)
       ∙ h
 
 -- none is left

@@ -1,7 +1,7 @@
-//! The search for a schedule of a script, and which states it may take for one.
+//! Which schedules of a script a search tries, what it looks for, and which states it may take for one.
 //!
-//! `search_schedules` answers the first schedule that leads to what a goal says, or that there is none.
-//! A `Problem` says which schedules there are; contracts see it as a `Search`.
+//! `search_schedules` answers the first schedule that leads to what is looked for, or that there is
+//! none. A `Problem` says which schedules there are; definitions see a `Search` in it.
 //!
 //! The code of a state is its words (`run_words`) and the number of kills so far. The laws here say that
 //! states of one code go on alike, for each move and each goal, and what it is that a state is at rest.

@@ -45,11 +45,7 @@ pub(crate) fn do_event(
 }
 
 /// One event after the other, where the entries of the last stay.
-fn do_events(
-    replay: &mut Replay,
-    told: &mut Trace,
-    events: &[Event],
-) -> Result<(), AllocError>
+fn do_events(replay: &mut Replay, told: &mut Trace, events: &[Event]) -> Result<(), AllocError>
     requires few { replay.old.state.kernel.events + length events.now ≤ 2 ^ 24 }
     requires may { MayAllHappen replay.old.state events.now }
     ensures state { OnOk result (replay.new.state ≡ state_after replay.old.state events.now) }
@@ -95,7 +91,7 @@ pub(crate) fn tasks(replay: &Replay) -> usize
 }
 
 /// The calls of all tasks.
-pub(crate) fn boxes(replay: &Replay) -> &Boxes
+pub(crate) fn all_calls(replay: &Replay) -> &Boxes
     ensures { result.now.calls ≡ replay.now.state.kernel.calls }
 {
     replay.system().kernel().board().boxes()

@@ -7,7 +7,7 @@ ghost use Rattle.schedule_search.specs.Meeting.{changes_nothing, is_at_rest, has
 ghost use Rattle.schedule_search.specs.Problem.{search_of, CanDo};
 
 use crate::open_calls::has_open_call;
-use crate::place::{boxes, do_event, replayed, tasks, words_of};
+use crate::place::{all_calls, do_event, replayed, tasks, words_of};
 use crate::problem::Problem;
 use ipc_ids::{Event, TaskNo, Trace};
 use schedule_replay::Replay;
@@ -72,8 +72,8 @@ pub(crate) fn is_stuck(
     ensures { IfOk result (λ stuck. stuck
         ≡ (has_open_call task replay.now.state.kernel.calls && is_at_rest replay.now.state)) }
 {
-    let open = has_open_call(task, boxes(replay));
-    if !open {
+    let waits = has_open_call(task, all_calls(replay));
+    if !waits {
         return Ok(false);
     }
     is_at_rest(alloc, problem, events, replay)

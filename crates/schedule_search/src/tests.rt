@@ -6,7 +6,7 @@ use crate::{Outcome, Problem, search_schedules};
 use ipc_ids::{Event, TaskNo};
 use script_reader::{Script, read_script};
 use search_goals::{Goal, read_goal};
-use std::alloc::{AllocError, Global};
+use std::alloc::Global;
 
 /// Each task calls the other, and waits for its own answer.
 const SCRIPT: &[u8] = b"task a raw\n\
@@ -25,7 +25,7 @@ const A: TaskNo = TaskNo(1);
 const B: TaskNo = TaskNo(2);
 
 /// What a search comes to, over steps of both tasks and at most so many kills of the second.
-fn outcome(
+fn outcome_of(
     alloc: Global,
     script: &Script,
     goal: &Goal,
@@ -48,7 +48,7 @@ fn outcome(
     };
     match search_schedules(alloc, &problem, most, room) {
         Ok(outcome) => Some(outcome),
-        Err(AllocError) => None,
+        Err(_) => None,
     }
 }
 
@@ -61,7 +61,7 @@ fn text_outcome(
     room: u32,
 ) -> Option<Outcome> {
     match read_goal(alloc, script, text) {
-        Ok(goal) => outcome(alloc, script, &goal, kills, 10, room),
+        Ok(goal) => outcome_of(alloc, script, &goal, kills, 10, room),
         Err(_) => None,
     }
 }
@@ -91,8 +91,13 @@ fn finds_the_deadlock(alloc: Global, script: &Script) -> bool {
         Event::Step(A),
         Event::Step(B),
     ];
-    is_found(outcome(alloc, script, &goal, 0, 10, 100), events.as_slice())
-        && matches!(outcome(alloc, script, &goal, 0, 3, 100), Some(Outcome::NoneWithin(_)))
+    is_found(
+        outcome_of(alloc, script, &goal, 0, 10, 100),
+        events.as_slice(),
+    ) && matches!(
+        outcome_of(alloc, script, &goal, 0, 3, 100),
+        Some(Outcome::NoneWithin(_))
+    )
 }
 
 /// Whether a line is found, and one that a kill alone makes only with a kill. Without, all 13 states
@@ -108,7 +113,10 @@ fn finds_lines(alloc: Global, script: &Script) -> bool {
         text_outcome(alloc, script, delivered, 1, 100),
         killed.as_slice(),
     ) && none_at_all(text_outcome(alloc, script, delivered, 0, 100)) == Some(14)
-        && matches!(text_outcome(alloc, script, delivered, 0, 5), Some(Outcome::NoRoom))
+        && matches!(
+            text_outcome(alloc, script, delivered, 0, 5),
+            Some(Outcome::NoRoom)
+        )
 }
 
 /// Whether a state is found by what holds there, with a kill where one is asked for, and none in which

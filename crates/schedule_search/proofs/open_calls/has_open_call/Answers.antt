@@ -9,18 +9,18 @@ loop-n-preserved c =
     let calls = c.args.boxes.now.calls in
     let n : ℕ = c.loop-n.n in
     let l : n < calls.next_number = subst (λ (z : ℕ). n < z) c.next_number-next.ensures.number c.loop-n-test.true in
-    let no : is_open c.args.asked (call_at calls n) ≡ false = ap (is_open c.args.asked) (sym c.get.ensures.call) ∙ sym c.is_open.ensures ∙ c.if-is_open.false in
+    let fails : is_open c.args.asked (call_at calls n) ≡ false = ap (is_open c.args.asked) (sym c.get.ensures.call) ∙ sym c.is_open.ensures ∙ c.if-is_open.false in
     any_on (λ (k : ℕ). is_open c.args.asked (call_at calls k)) n (calls.next_number - n) (calls.next_number - (n + 1)) (has_open_call c.args.asked calls)
-    (omega arith) no c.loop-n.invariant
+    (omega arith) fails c.loop-n.invariant
 
 pub returns-then-is_open : goal.returns-then-is_open
 returns-then-is_open c =
     let calls = c.args.boxes.now.calls in
     let n : ℕ = c.loop-n.n in
     let l : n < calls.next_number = subst (λ (z : ℕ). n < z) c.next_number-next.ensures.number c.loop-n-test.true in
-    let yes : is_open c.args.asked (call_at calls n) ≡ true = ap (is_open c.args.asked) (sym c.get.ensures.call) ∙ sym c.is_open.ensures ∙ c.if-is_open.true in
+    let holds : is_open c.args.asked (call_at calls n) ≡ true = ap (is_open c.args.asked) (sym c.get.ensures.call) ∙ sym c.is_open.ensures ∙ c.if-is_open.true in
     any_here (λ (k : ℕ). is_open c.args.asked (call_at calls k)) n (calls.next_number - n) (calls.next_number - (n + 1)) (has_open_call c.args.asked calls)
-    (omega arith) yes c.loop-n.invariant
+    (omega arith) holds c.loop-n.invariant
 
 pub returns : goal.returns
 returns c =

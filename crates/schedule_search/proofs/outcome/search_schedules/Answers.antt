@@ -14,11 +14,11 @@ events_by-requires c =
     let h = rw c.in-Found.is at c.in_ok-answer.ensures in
     subst (λ (z : List ℕ). AreMoves (length c.args.problem.now.moves.now) (reverse z)) (sym c.as_slice.ensures.value) h.are_moves
 
-pub returns-in-Found : goal.returns-in-Found
-returns-in-Found c =
+pub returns-in_ok-events-in-Found : goal.returns-in_ok-events-in-Found
+returns-in_ok-events-in-Found c =
     let h = rw c.in-Found.is at c.in_ok-answer.ensures in
-    first_is (search_of c.args.problem.now) c.args.most (reverse c.in-Found.path.items) c.in_ok-events.events.items h
-    (c.in_ok-events.ensures ∙ ap (λ (z : List ℕ). events_of c.args.problem.now.moves.now (reverse z)) c.as_slice.ensures.value)
+    first_is (search_of c.args.problem.now) c.args.most (reverse c.in-Found.path.items) c.in_ok-events-in-Found.events.items h
+    (c.in_ok-events-in-Found.ensures ∙ ap (λ (z : List ℕ). events_of c.args.problem.now.moves.now (reverse z)) c.as_slice.ensures.value)
 
 pub returns-in-NoneWithin : goal.returns-in-NoneWithin
 returns-in-NoneWithin c =

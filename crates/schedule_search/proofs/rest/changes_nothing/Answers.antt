@@ -3,7 +3,7 @@ use Rattle.script_lines.specs.Sound.{IsTask}
 use Rattle.task_system.specs.Run.{RunState}
 use Rattle.schedule_search.specs.Search.{state_behind}
 use Rattle.schedule_search.specs.Problem.{search_of}
-use Rattle.schedule_search.proofs.Visits.{step_compared}
+use Rattle.schedule_search.proofs.Visiting.{step_compared}
 use Rattle.schedule_search.proofs.rest.changes_nothing.Goals as goal
 
 pub do_event-requires-clause-may : goal.do_event-requires-clause-may

@@ -7,8 +7,8 @@ use Rattle.schedule_search.specs.Problem.{search_of}
 use Rattle.schedule_search.proofs.Ranges.{all_on, not_all, all_seen}
 use Rattle.schedule_search.proofs.rest.is_at_rest.Goals as goal
 
-pub changes_nothing-same-requires-clause-there : goal.changes_nothing-same-requires-clause-there
-changes_nothing-same-requires-clause-there c =
+pub changes_nothing-requires-clause-there : goal.changes_nothing-requires-clause-there
+changes_nothing-requires-clause-there c =
     let t : ℕ = c.loop-t.t in
     let n : ℕ = length c.args.replay.now.state.kernel.tasks.alive in
     let l : t < n = subst (λ (z : ℕ). t < z) c.tasks-count.ensures c.loop-t-test.true in
@@ -21,8 +21,8 @@ loop-t-preserved c =
     let t : ℕ = c.loop-t.t in
     let n : ℕ = length now.kernel.tasks.alive in
     let l : t < n = subst (λ (z : ℕ). t < z) c.tasks-count.ensures c.loop-t-test.true in
-    let yes : changes_nothing now (t + 1) ≡ true = ap (λ (z : RunState). changes_nothing z (t + 1)) c.requires.here ∙ sym c.in_ok-same.ensures ∙ c.if-not-same.false in
-    all_on (changes_nothing now) (t + 1) (n - t) (n - (t + 1)) (is_at_rest now) (omega arith) yes c.loop-t.invariant
+    let holds : changes_nothing now (t + 1) ≡ true = ap (λ (z : RunState). changes_nothing z (t + 1)) c.requires.here ∙ sym c.in_ok-same.ensures ∙ c.if-not-same.false in
+    all_on (changes_nothing now) (t + 1) (n - t) (n - (t + 1)) (is_at_rest now) (omega arith) holds c.loop-t.invariant
 
 pub returns-then-not-same : goal.returns-then-not-same
 returns-then-not-same c =
@@ -30,8 +30,8 @@ returns-then-not-same c =
     let t : ℕ = c.loop-t.t in
     let n : ℕ = length now.kernel.tasks.alive in
     let l : t < n = subst (λ (z : ℕ). t < z) c.tasks-count.ensures c.loop-t-test.true in
-    let no : changes_nothing now (t + 1) ≡ false = ap (λ (z : RunState). changes_nothing z (t + 1)) c.requires.here ∙ sym c.in_ok-same.ensures ∙ c.if-not-same.true in
-    not_all (changes_nothing now) (t + 1) (n - t) (n - (t + 1)) (is_at_rest now) (omega arith) no c.loop-t.invariant
+    let fails : changes_nothing now (t + 1) ≡ false = ap (λ (z : RunState). changes_nothing z (t + 1)) c.requires.here ∙ sym c.in_ok-same.ensures ∙ c.if-not-same.true in
+    not_all (changes_nothing now) (t + 1) (n - t) (n - (t + 1)) (is_at_rest now) (omega arith) fails c.loop-t.invariant
 
 pub returns : goal.returns
 returns c =

@@ -6,10 +6,12 @@ use Rattle.schedule_search.specs.Problem.{search_of}
 use Rattle.schedule_search.proofs.Paths.{can_do}
 use Rattle.schedule_search.proofs.problem.ProblemMaze.code.Goals as goal
 
-pub code_behind-requires-clause-can : goal.code_behind-requires-clause-can
-code_behind-requires-clause-can c =
-    can_do (search_of c.args.self.now) c.args.path.now c.as_slice.result.now c.requires.fits.sound c.requires.moves c.requires.few
-    (c.as_slice.ensures.value ∙ c.in_ok-events.ensures)
+pub code_behind-requires : goal.code_behind-requires
+code_behind-requires c =
+    record {
+      can = can_do (search_of c.args.self.now) c.args.path.now c.as_slice.result.now c.requires.fits.sound c.requires.moves c.requires.few
+          (c.as_slice.ensures.value ∙ c.in_ok-events.ensures);
+    }
 
 pub returns : goal.returns
 returns c =

@@ -6,10 +6,12 @@ use Rattle.schedule_search.specs.Problem.{search_of}
 use Rattle.schedule_search.proofs.Paths.{can_do}
 use Rattle.schedule_search.proofs.problem.ProblemMaze.visit.Goals as goal
 
-pub visit_behind-requires-clause-can : goal.visit_behind-requires-clause-can
-visit_behind-requires-clause-can c =
-    can_do (search_of c.args.self.now) c.args.path.now c.as_slice.result.now c.requires.fits.sound c.requires.moves c.requires.few
-    (c.as_slice.ensures.value ∙ c.in_ok-events.ensures)
+pub visit_behind-requires : goal.visit_behind-requires
+visit_behind-requires c =
+    record {
+      can = can_do (search_of c.args.self.now) c.args.path.now c.as_slice.result.now c.requires.fits.sound c.requires.moves c.requires.few
+          (c.as_slice.ensures.value ∙ c.in_ok-events.ensures);
+    }
 
 pub returns-clause-met : goal.returns-clause-met
 returns-clause-met c =

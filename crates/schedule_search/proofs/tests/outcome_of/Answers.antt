@@ -4,7 +4,7 @@ use Rattle.ipc_ids.specs.declared.message.Event.{Event}
 use Rattle.script_lines.specs.Plan.{Plan}
 use Rattle.script_lines.specs.Sound as script
 use Rattle.search_goals.specs.Writing.{IsOnTask}
-use Rattle.schedule_search.proofs.tests.outcome.Goals as goal
+use Rattle.schedule_search.proofs.tests.outcome_of.Goals as goal
 
 pub search_schedules-requires-clause-sound : goal.search_schedules-requires-clause-sound
 search_schedules-requires-clause-sound c =
