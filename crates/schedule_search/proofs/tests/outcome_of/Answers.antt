@@ -15,5 +15,4 @@ search_schedules-requires-clause-sound c =
       few = omega arith;
       on = All-from_recursion (IsOnTask (length c.args.script.now.tasks)) _ ((omega arith, omega arith), ((omega arith, omega arith), ((omega arith, omega arith), tt)));
       few_moves = omega arith;
-      goal = c.requires.asked;
     }
