@@ -119,8 +119,8 @@ fn finds_lines(alloc: Global, script: &Script) -> bool {
         )
 }
 
-/// Whether a state is found by what holds there, with a kill where one is asked for, and none in which
-/// the first task is at its end.
+/// Whether a state is found by what holds there, with a kill where one is asked for, and without a
+/// kill none in which the first task is at its end.
 fn finds_states(alloc: Global, script: &Script) -> bool {
     let received = [Event::Step(A), Event::Step(B), Event::Step(B)];
     let killed = [Event::Step(A), Event::Kill(B), Event::Step(A)];
@@ -130,7 +130,7 @@ fn finds_states(alloc: Global, script: &Script) -> bool {
     ) && is_found(
         text_outcome(alloc, script, b"when a@2 b!".as_slice(), 1, 100),
         killed.as_slice(),
-    ) && none_at_all(text_outcome(alloc, script, b"when a$".as_slice(), 1, 100)).is_some()
+    ) && none_at_all(text_outcome(alloc, script, b"when a$".as_slice(), 0, 100)) == Some(14)
 }
 
 /// Whether the searches over the script come to what they are to.
