@@ -1,4 +1,4 @@
-use Rattle.std.proofs.Common.{ℕ, ◌≤◌, [], length, sym, ap, subst, arith}
+use Rattle.std.proofs.Common.{ℕ, ◌≤◌, [], length, sym, ◌∙◌, ap, subst, arith}
 use Rattle.ipc_ids.specs.declared.message.Event.{Event}
 use Rattle.ipc_ids.specs.declared.message.Event.TheVariants.{Step, Kill, Hangup, Spawn}
 use Rattle.script_lines.specs.Plan.{Plan}
@@ -39,11 +39,11 @@ pub turn-requires-clause-may : goal.turn-requires-clause-may
 turn-requires-clause-may c =
     let on : IsOnTask (length c.as_slice-tasks.result.now) c.args.event.now = c.is_on_task.ensures c.if-not-is_on_task.false in
     may c.args.script.now c.args.system.now c.args.event.now c.requires.reached
-    (subst (λ (n : ℕ). IsOnTask n c.args.event.now) (ap length c.as_slice-tasks.ensures) on)
+    (subst (λ (n : ℕ). IsOnTask n c.args.event.now) (ap length c.as_slice-tasks.ensures ∙ ap (λ (p : Plan). length p.tasks) c.script.view_is) on)
 
 pub returns-in-Ok-clause-reached : goal.returns-in-Ok-clause-reached
 returns-in-Ok-clause-reached c =
     let on : IsOnTask (length c.as_slice-tasks.result.now) c.args.event.now = c.is_on_task.ensures c.if-not-is_on_task.false in
     subst (IsReached c.args.script.now []) (sym c.in-Ok.ensures.state)
     (leads c.args.script.now c.args.system.now c.args.event.now c.requires.reached
-    (subst (λ (n : ℕ). IsOnTask n c.args.event.now) (ap length c.as_slice-tasks.ensures) on))
+    (subst (λ (n : ℕ). IsOnTask n c.args.event.now) (ap length c.as_slice-tasks.ensures ∙ ap (λ (p : Plan). length p.tasks) c.script.view_is) on))
