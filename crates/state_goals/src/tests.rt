@@ -88,8 +88,9 @@ fn meet_behind(
     requires few { length events.now ≤ 1000 }
 {
     for event in events {
-        if turn(script, system, event, out).is_err() {
-            return false;
+        match turn(script, system, event, out) {
+            Ok(()) => {}
+            Err(NoMemory) => return false,
         }
     }
     all_hold(hold, script, &[], system) && none_holds(others, script, system)
