@@ -8,7 +8,7 @@ use Rattle.schedule_search.proofs.tests.outcome_of.Goals as goal
 
 pub search_schedules-requires-clause-sound : goal.search_schedules-requires-clause-sound
 search_schedules-requires-clause-sound c =
-    let two : 2 ≤ length c.args.script.now.tasks = omega (arith, c.if-len-lt2.false, c.len.ensures, ap length c.as_slice.ensures, ap (λ (p : Plan). length p.tasks) c.script.view_is) in
+    let two : 2 ≤ length c.args.script.now.tasks = omega (arith, c.if-as_slice-lt2.false, ap length c.as_slice.ensures, ap (λ (p : Plan). length p.tasks) c.script.view_is) in
     record {
       script = subst script.IsSound c.script.view_is c.script.invariant;
       may = tt;
