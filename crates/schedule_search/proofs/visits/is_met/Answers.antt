@@ -1,5 +1,4 @@
 use Rattle.std.proofs.Common.{◌∙◌, sym, subst}
-use Rattle.task_system.specs.Run.{RunState}
 use Rattle.run_words.specs.Reached.{IsReached, spawns_of}
 use Rattle.schedule_search.specs.Problem.{search_of}
 use Rattle.schedule_search.proofs.Behind.{reached}
@@ -7,6 +6,9 @@ use Rattle.schedule_search.proofs.visits.is_met.Goals as goal
 
 pub all_hold-requires : goal.all_hold-requires
 all_hold-requires c =
-    subst (IsReached c.args.problem.now.script.now (spawns_of c.args.problem.now.from.now))
-    (sym (c.system.ensures ∙ c.requires.here))
-    (reached (search_of c.args.problem.now) c.requires.can.sound c.args.events.now c.requires.can.of_moves)
+    record {
+      reached =
+          subst (IsReached c.args.problem.now.script.now (spawns_of c.args.problem.now.from.now))
+          (sym (c.system.ensures ∙ c.requires.here))
+          (reached (search_of c.args.problem.now) c.requires.can.sound c.args.events.now c.requires.can.of_moves);
+    }
