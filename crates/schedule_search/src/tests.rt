@@ -42,7 +42,7 @@ fn outcome_of(
     let problem = Problem {
         script,
         from: &[],
-        moves: moves.as_slice(),
+        moves: &moves,
         kills: Some(kills),
         goal,
     };
