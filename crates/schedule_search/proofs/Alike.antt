@@ -15,6 +15,7 @@ use Rattle.run_words.specs.Reached.{IsReached, spawns_of}
 use Rattle.run_words.specs.RunWords.{run_words}
 use Rattle.search_goals.specs.GoalText.{Asked, IsRest, IsStuck, HoldAll, HasLine}
 use Rattle.search_goals.specs.Goals.{meets_line}
+use Rattle.state_goals.proofs.Alike.{all_alike}
 use Rattle.schedule_search.specs.Search.{Search, IsSound, AreOf, kills_in, is_within, first_state, state_behind, last_told, event_at, events_of}
 use Rattle.schedule_search.specs.Meeting.{changes_nothing, is_at_rest, has_open_call, is_met, meets}
 use Rattle.schedule_search.specs.Code.{counted, code_by, code_behind, finds, rest_words, Fits}
@@ -43,7 +44,7 @@ module _ (plan : Plan) (spawned : List ℕ) (tell : WordsTell plan spawned) (a b
   met_alike (IsStuck task) told other e =
       ap (λ (z : CallTable). has_open_call task z && is_at_rest a) (tell.calls a b h k same)
       ∙ ap (λ (z : Bool). has_open_call task b.kernel.calls && z) rest_alike
-  met_alike (HoldAll conditions) told other e = refl
+  met_alike (HoldAll conditions) told other e = all_alike a b (tell.alike a b h k same) conditions
   met_alike (HasLine head asked) told other e = ap (meets_line head asked) e
 
 -- ---- codes

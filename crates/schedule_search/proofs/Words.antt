@@ -4,6 +4,7 @@ use Rattle.ipc_ids.specs.declared.message.Event.{Event}
 use Rattle.script_lines.specs.Plan.{Plan}
 use Rattle.script_lines.specs.Sound.{IsSound}
 use Rattle.task_system.specs.Run.{RunState, turn}
+use Rattle.turn_counts.specs.Alike.{AreAlikeStates}
 use Rattle.run_words.specs.Reached.{IsReached}
 use Rattle.run_words.specs.RunWords.{run_words}
 use Rattle.run_words.proofs.Reaching.{reached_tasks}
@@ -13,6 +14,8 @@ use Rattle.run_words.proofs.GoingOn.{told_apart, same_entries, same_words}
 pub record WordsTell (plan : Plan) (spawned : List ℕ) : Type 0 where
   pub tasks : (a b : RunState) → IsReached plan spawned a → IsReached plan spawned b
       → length a.kernel.tasks.alive ≡ length b.kernel.tasks.alive
+  pub alike : (a b : RunState) → IsReached plan spawned a → IsReached plan spawned b → run_words a ≡ run_words b
+      → AreAlikeStates a b
   pub calls : (a b : RunState) → IsReached plan spawned a → IsReached plan spawned b → run_words a ≡ run_words b
       → a.kernel.calls ≡ b.kernel.calls
   pub entries : (a b : RunState) (e : Event) → IsReached plan spawned a → IsReached plan spawned b
@@ -25,6 +28,8 @@ words_tell plan spawned sound =
     record {
       tasks = λ (a b : RunState) (h : IsReached plan spawned a) (k : IsReached plan spawned b).
           reached_tasks plan spawned a h ∙ sym (reached_tasks plan spawned b k);
+      alike = λ (a b : RunState) (h : IsReached plan spawned a) (k : IsReached plan spawned b) (e : run_words a ≡ run_words b).
+          (told_apart plan spawned a b [] [] sound h k (ap (λ (z : List ℕ). z ++ []) e)).0;
       calls = λ (a b : RunState) (h : IsReached plan spawned a) (k : IsReached plan spawned b) (e : run_words a ≡ run_words b).
           ap (λ (z : RunState). z.kernel.calls) (told_apart plan spawned a b [] [] sound h k (ap (λ (z : List ℕ). z ++ []) e)).0;
       entries = λ (a b : RunState) (x : Event) (h : IsReached plan spawned a) (k : IsReached plan spawned b) (e : run_words a ≡ run_words b).

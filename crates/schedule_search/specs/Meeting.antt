@@ -14,6 +14,7 @@ use Rattle.task_system.specs.Run.{RunState, turn}
 use Rattle.run_words.specs.RunWords.{run_words}
 use Rattle.search_goals.specs.Goals.{meets_line}
 use Rattle.search_goals.specs.GoalText.{Asked, IsRest, IsStuck, HoldAll, HasLine}
+use Rattle.state_goals.specs.Holding.{all_hold}
 use Rattle.schedule_search.specs.Search.{Search, first_state, state_behind, last_told}
 
 -- a step of this task changes nothing but counters: the words of the state are the same
@@ -49,7 +50,7 @@ has_open_call asked calls = list_any (λ n. is_open asked (call_at calls n)) (ra
 abbrev pub is_met : Asked → RunState → List Entry → Bool
 is_met IsRest now told = is_at_rest now
 is_met (IsStuck task) now told = has_open_call task now.kernel.calls && is_at_rest now
-is_met (HoldAll conditions) now told = false
+is_met (HoldAll conditions) now told = all_hold conditions now
 is_met (HasLine head asked) now told = meets_line head asked told
 
 -- these events lead to what is looked for

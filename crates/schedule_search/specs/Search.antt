@@ -9,7 +9,7 @@ use Rattle.script_lines.specs.Plan.{Plan}
 use Rattle.script_lines.specs.Sound as script
 use Rattle.script_reader.specs.Schedule.{MayAllCome}
 use Rattle.task_system.specs.Run.{RunState, start, turn, state_after}
-use Rattle.search_goals.specs.GoalText.{Asked, IsRest, IsStuck, HoldAll, HasLine}
+use Rattle.search_goals.specs.GoalText.{Asked}
 use Rattle.search_goals.specs.Writing.{IsOnTask}
 
 -- the script, the events that come first, those of which the others are made, how many of these may be kills, where
@@ -21,13 +21,6 @@ pub record Search : Type 0 where
   pub kills : Option ℕ
   pub asked : Asked
 
--- it is a state at rest, or one with a call that is not answered besides, or a line
-abbrev pub IsLookedFor : Asked → Type 0
-IsLookedFor IsRest = ⊤
-IsLookedFor (IsStuck task) = ⊤
-IsLookedFor (HoldAll conditions) = ⊥
-IsLookedFor (HasLine head asked) = ⊤
-
 -- the script is sound, the first events may come, and each move is on a task of the script
 pub record IsSound (s : Search) : Type 0 where
   pub script : script.IsSound s.plan
@@ -35,7 +28,6 @@ pub record IsSound (s : Search) : Type 0 where
   pub few : length s.from ≤ most_events
   pub on : All (IsOnTask (length s.plan.tasks)) s.moves
   pub few_moves : length s.moves < 2 ^ 16
-  pub goal : IsLookedFor s.asked
 
 abbrev pub is_kill : Event → Bool
 is_kill (Step task) = false

@@ -1,8 +1,6 @@
 //! Searches over the schedules of two tasks that call each other and wait. The outcomes are those of
 //! the lesson `deadlock`, and of a count of its states by another implementation: 13.
 ghost use Rattle.std.specs.Prelude.{◌<◌, ◌^◌};
-ghost use Rattle.search_goals.specs.GoalText.{said};
-ghost use Rattle.schedule_search.specs.Search.{IsLookedFor};
 
 use crate::{Outcome, Problem, RestingStates, search_schedules, survey_schedules};
 use ipc_ids::{Event, TaskNo};
@@ -35,8 +33,7 @@ fn outcome_of(
     most: u32,
     room: u32,
 ) -> Option<Outcome>
-    requires asked { IsLookedFor (said goal.now) }
-    requires few { most < 2 ^ 20 }
+    requires { most < 2 ^ 20 }
 {
     if script.tasks.as_slice().len() < 2 {
         return None;
@@ -45,7 +42,7 @@ fn outcome_of(
     let problem = Problem {
         script,
         from: &[],
-        moves: &moves,
+        moves: moves.as_slice(),
         kills: Some(kills),
         goal,
     };
@@ -55,8 +52,8 @@ fn outcome_of(
     }
 }
 
-/// The same of a line, within ten events.
-fn line_outcome(
+/// The same of a goal in words, within ten events.
+fn text_outcome(
     alloc: Global,
     script: &Script,
     text: &[u8],
@@ -64,15 +61,8 @@ fn line_outcome(
     room: u32,
 ) -> Option<Outcome> {
     match read_goal(alloc, script, text) {
-        Ok(Goal::Line { head, asked }) => outcome_of(
-            alloc,
-            script,
-            &Goal::Line { head, asked },
-            kills,
-            10,
-            room,
-        ),
-        _ => None,
+        Ok(goal) => outcome_of(alloc, script, &goal, kills, 10, room),
+        Err(_) => None,
     }
 }
 
@@ -117,14 +107,14 @@ fn finds_lines(alloc: Global, script: &Script) -> bool {
     let killed = [Event::Step(A), Event::Kill(B), Event::Step(A)];
     let delivered = b"a: call 1 delivered @a".as_slice();
     is_found(
-        line_outcome(alloc, script, b"call 1 received @b".as_slice(), 0, 100),
+        text_outcome(alloc, script, b"call 1 received @b".as_slice(), 0, 100),
         received.as_slice(),
     ) && is_found(
-        line_outcome(alloc, script, delivered, 1, 100),
+        text_outcome(alloc, script, delivered, 1, 100),
         killed.as_slice(),
-    ) && none_at_all(line_outcome(alloc, script, delivered, 0, 100)) == Some(14)
+    ) && none_at_all(text_outcome(alloc, script, delivered, 0, 100)) == Some(14)
         && matches!(
-            line_outcome(alloc, script, delivered, 0, 5),
+            text_outcome(alloc, script, delivered, 0, 5),
             Some(Outcome::NoRoom)
         )
 }
@@ -200,6 +190,20 @@ fn lists_none_at_first(alloc: Global, script: &Script) -> bool {
     }
 }
 
+/// Whether a state is found by what holds there, with a kill where one is asked for, and without a
+/// kill none in which the first task is at its end.
+fn finds_states(alloc: Global, script: &Script) -> bool {
+    let received = [Event::Step(A), Event::Step(B), Event::Step(B)];
+    let killed = [Event::Step(A), Event::Kill(B), Event::Step(A)];
+    is_found(
+        text_outcome(alloc, script, b"when b@2 b.r2=1".as_slice(), 0, 100),
+        received.as_slice(),
+    ) && is_found(
+        text_outcome(alloc, script, b"when a@2 b!".as_slice(), 1, 100),
+        killed.as_slice(),
+    ) && none_at_all(text_outcome(alloc, script, b"when a$".as_slice(), 0, 100)) == Some(14)
+}
+
 /// Whether the searches over the script come to what they are to.
 fn searches(alloc: Global) -> bool {
     match read_script(alloc, SCRIPT) {
@@ -207,6 +211,7 @@ fn searches(alloc: Global) -> bool {
             finds_the_deadlock(alloc, &script)
                 && finds_lines(alloc, &script)
                 && lists_states_at_rest(alloc, &script)
+                && finds_states(alloc, &script)
         }
         Err(_) => false,
     }

@@ -16,6 +16,7 @@ use run_words::push_run;
 use schedule_replay::Replay;
 use search_core::Visit;
 use search_goals::{Goal, meets_line};
+use state_goals::all_hold;
 use std::alloc::{AllocError, Global};
 
 /// Whether what is looked for is in the state behind these events, where `replay` stands, or in the
@@ -35,7 +36,12 @@ fn is_met(
     match problem.goal {
         Goal::Rest => is_at_rest(alloc, problem, events, replay),
         Goal::Stuck(task) => is_stuck(alloc, problem, events, replay, *task),
-        Goal::When(_) => Ok(false),
+        Goal::When(conditions) => Ok(all_hold(
+            conditions.as_slice(),
+            problem.script,
+            problem.from,
+            replay.system(),
+        )),
         Goal::Line { head, asked } => Ok(meets_line(
             head.as_slice(),
             asked.as_slice(),
