@@ -24,5 +24,4 @@ survey_schedules-requires-clause-sound c =
       few = omega arith;
       on = subst (λ (es : List Event). All (IsOnTask n) es) (sym are) (All-from_recursion (IsOnTask n) moves each);
       few_moves = subst (λ (es : List Event). length es < 2 ^ 16) (sym are) (omega arith);
-      goal = tt;
     }
