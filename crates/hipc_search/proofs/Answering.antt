@@ -13,7 +13,7 @@ use Rattle.std.proofs.lemmas.List.{length-map}
 use Rattle.script_lines.specs.declared.plan.TaskPlan.{TaskPlan}
 use Rattle.search_goals.specs.GoalText.{Asked}
 use Rattle.search_goals.specs.Writing.{IsOnTask}
-use Rattle.schedule_search.specs.Search.{Search, IsLookedFor, IsSound}
+use Rattle.schedule_search.specs.Search.{Search, IsSound}
 use Rattle.hipc_search.specs.declared.moves.Listed.TheVariants.{Kills, Hangups}
 use Rattle.hipc_search.specs.declared.status.Status.{Status}
 use Rattle.hipc_search.specs.declared.status.Status.TheVariants as statuses
@@ -86,10 +86,10 @@ module _ (c : Command) (plan : Plan) (from : List Event) (asked : Asked) where
 -- the search that is asked is sound
 pub search_sound : (plan : Plan) (from moves : List Event) (kills : Option ℕ) (asked : Asked) (killed hangups : List Event)
     (text : Option (List ℕ)) → script.IsSound plan → MayAllCome (length plan.tasks) (length plan.templates) from
-    → length from ≤ 32768 → IsLookedFor asked → listed_in Hangups (task_names plan.tasks) text ≡ Ok hangups
+    → length from ≤ 32768 → listed_in Hangups (task_names plan.tasks) text ≡ Ok hangups
     → length hangups ≤ 4096 → moves ≡ moves_of (length plan.tasks) killed hangups
     → IsSound (record { plan = plan; from = from; moves = moves; kills = kills; asked = asked })
-search_sound plan from moves kills asked killed hangups text sound may few looked listed few_hangups is =
+search_sound plan from moves kills asked killed hangups text sound may few listed few_hangups is =
     let n : ℕ = length plan.tasks in
     let tasks : n ≤ 64 = sound.few in
     let names : length (task_names plan.tasks) ≡ n = length-map plan.tasks (λ (t : TaskPlan). t.name) in
@@ -103,5 +103,4 @@ search_sound plan from moves kills asked killed hangups text sound may few looke
       few = omega (arith, few);
       on = subst (All (IsOnTask n)) (sym is) (moves_on n killed hangups on);
       few_moves = omega (arith, tasks, few_hangups, all, long);
-      goal = looked;
     }

@@ -7,15 +7,7 @@ use Rattle.script_lines.specs.declared.fault.Reason.{Reason}
 use Rattle.script_lines.specs.declared.fault.Reason.TheVariants.{TooLong, BadByte}
 use Rattle.script_lines.specs.Text.{is_allowed}
 use Rattle.search_goals.specs.Goals.{text_words}
-use Rattle.search_goals.specs.GoalText.{Asked, IsRest, IsStuck, HoldAll, HasLine, goal_of_words, goal_of}
-use Rattle.schedule_search.specs.Search.{IsLookedFor}
-use Rattle.hipc_search.specs.Asking.{has_conditions}
-
-pub is_looked_for : (asked : Asked) → has_conditions asked ≡ false → IsLookedFor asked
-is_looked_for IsRest e = tt
-is_looked_for (IsStuck task) e = tt
-is_looked_for (HoldAll conditions) e = cc
-is_looked_for (HasLine head asked) e = tt
+use Rattle.search_goals.specs.GoalText.{Asked, goal_of_words, goal_of}
 
 allowed_by : (long allowed : Bool) (r : Result Asked (ℕ × Reason)) (asked : Asked)
     → cond long (Err (0, TooLong)) (cond allowed r (Err (0, BadByte))) ≡ Ok asked → allowed ≡ true

@@ -1,12 +1,12 @@
 -- What the words of a command ask of a script, and of the events that come first.
-use Rattle.std.specs.Prelude.{ℕ, List, length, Bool, true, false, nat_lt, Option, Result, Ok, Err, codes, if◌then◌else◌}
+use Rattle.std.specs.Prelude.{ℕ, List, length, nat_lt, Option, Result, Ok, Err, codes, if◌then◌else◌}
 use Rattle.ipc_ids.specs.declared.message.Event.{Event}
 use Rattle.script_lines.specs.declared.fault.Reason.{Reason}
-use Rattle.script_lines.specs.declared.fault.Reason.TheVariants.{BadWord, TooLong, TooManyEvents}
+use Rattle.script_lines.specs.declared.fault.Reason.TheVariants.{TooLong, TooManyEvents}
 use Rattle.script_lines.specs.Names.{task_names}
 use Rattle.script_lines.specs.Plan.{Plan}
 use Rattle.script_reader.specs.Reading.{schedule_of}
-use Rattle.search_goals.specs.GoalText.{Asked, IsRest, IsStuck, HoldAll, HasLine, goal_of}
+use Rattle.search_goals.specs.GoalText.{Asked, goal_of}
 use Rattle.schedule_search.specs.Search.{Search}
 use Rattle.hipc_search.specs.declared.moves.Listed.TheVariants.{Kills, Hangups}
 use Rattle.hipc_search.specs.Command.{Command}
@@ -31,23 +31,6 @@ few_first (Err fault) = Err fault
 unfoldable pub first_events : Plan → List ℕ → Result (List Event) (ℕ × Reason)
 first_events plan bytes =
     if nat_lt most_first_bytes (length bytes) then Err (0, TooLong) else few_first (schedule_of plan bytes)
-
--- ---- the goal
-
--- conditions on a state, which are not looked for yet
-abbrev pub has_conditions : Asked → Bool
-has_conditions IsRest = false
-has_conditions (IsStuck task) = false
-has_conditions (HoldAll conditions) = true
-has_conditions (HasLine head asked) = false
-
-abbrev pub looked_for : Result Asked (ℕ × Reason) → Result Asked (ℕ × Reason)
-looked_for (Ok asked) = if has_conditions asked then Err (1, BadWord) else Ok asked
-looked_for (Err fault) = Err fault
-
--- what is looked for, or the first fault
-abbrev pub goal_for : (names : List (List ℕ)) → List ℕ → Result Asked (ℕ × Reason)
-goal_for names text = looked_for (goal_of names text)
 
 -- ---- the search
 
@@ -74,4 +57,4 @@ search_with command plan from (Ok asked) =
 
 -- the search that is asked for behind these events, or the line of the first fault: of the goal, or of a list
 abbrev pub search_for : Command → Plan → List Event → Result Search (List ℕ)
-search_for command plan from = search_with command plan from (goal_for (task_names plan.tasks) command.goal)
+search_for command plan from = search_with command plan from (goal_of (task_names plan.tasks) command.goal)

@@ -12,7 +12,6 @@ ghost use Rattle.search_goals.specs.GoalText.{said as said_goal};
 ghost use Rattle.search_goals.specs.Writing.{AreNamed};
 ghost use Rattle.command_line.specs.Command.{texts};
 ghost use Rattle.command_line.specs.Due.{LosesOneAtMost};
-ghost use Rattle.schedule_search.specs.Search.{IsLookedFor};
 ghost use Rattle.hipc_search.specs.Asking.{search_with};
 ghost use Rattle.hipc_search.specs.Command.{said};
 ghost use Rattle.hipc_search.specs.Schedule.{Precedes};
@@ -67,7 +66,6 @@ fn with_goal(
     requires short { length before.now ≤ 524289 }
     requires first { Precedes script.now before.now from.now }
     requires allowed { list_all is_allowed command.now.goal.now ≡ true }
-    requires looked { IsLookedFor (said_goal goal.now) }
     ensures due { IfOk result (λ answer. DueForAsked (said command.now) before.now
         (search_with (said command.now) script.now from.now (Ok (said_goal goal.now)))
         answer.status answer.text.items) }

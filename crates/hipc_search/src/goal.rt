@@ -5,9 +5,8 @@ ghost use Rattle.script_lines.specs.Names.{task_names};
 ghost use Rattle.script_lines.specs.Text.{is_allowed};
 ghost use Rattle.script_reader.specs.Reading.{schedule_of, events_in, fault_in_schedule, Agrees};
 ghost use Rattle.script_reader.specs.Schedule.{MayAllCome};
-ghost use Rattle.search_goals.specs.GoalText.{said as said_goal, Answers};
-ghost use Rattle.schedule_search.specs.Search.{IsLookedFor};
-ghost use Rattle.hipc_search.specs.Asking.{first_events, has_conditions, goal_for};
+ghost use Rattle.search_goals.specs.GoalText.{said as said_goal, goal_of, Answers};
+ghost use Rattle.hipc_search.specs.Asking.{first_events};
 
 use ipc_ids::Event;
 use script_reader::{Reason, ScheduleFault, Script, read_schedule};
@@ -18,31 +17,16 @@ const MOST_FIRST_BYTES: usize = 524_288;
 
 const MOST_FIRST_EVENTS: usize = 32_768;
 
-/// Whether conditions on a state are asked for.
-fn has_conditions(goal: &Goal) -> bool
-    ensures { result ≡ has_conditions (said_goal goal.now) }
-{
-    match goal {
-        Goal::When(_) => true,
-        Goal::Rest | Goal::Stuck(_) | Goal::Line { .. } => false,
-    }
-}
-
 /// What is looked for in a script.
-#[tactic(auto, using(crate::proofs::Looking::is_looked_for, crate::proofs::Looking::is_allowed_text))]
+#[tactic(auto, using(crate::proofs::Looking::is_allowed_text))]
 pub(crate) fn goal_for(alloc: Global, script: &Script, text: &str) -> Result<Goal, GoalFault>
-    ensures value { Answers said_goal result (goal_for (task_names script.now.tasks) text.now) }
-    ensures looked { IfOk result (λ goal. IsLookedFor (said_goal goal)) }
+    ensures value { Answers said_goal result (goal_of (task_names script.now.tasks) text.now) }
     ensures allowed { IfOk result (λ _. list_all is_allowed text.now ≡ true) }
 {
-    let goal = read_goal(alloc, script, text.as_bytes())?;
-    if has_conditions(&goal) {
-        return Err(GoalFault::Bad {
-            word: 1,
-            reason: Reason::BadWord,
-        });
+    match read_goal(alloc, script, text.as_bytes()) {
+        Ok(goal) => Ok(goal),
+        Err(fault) => Err(fault),
     }
-    Ok(goal)
 }
 
 /// The events of a schedule that comes first.

@@ -31,7 +31,7 @@ const USAGE: &[u8] = b"usage: hipc-search SCRIPT [GOAL] [--kill NAME,..] [--kill
 type Line = (&'static [&'static str], Status, &'static [u8]);
 
 /// Searches that end with a schedule, or with the reason why there is none.
-const SEARCHES: [Line; 11] = [
+const SEARCHES: [Line; 12] = [
     (
         &["crossed"],
         Status::Found,
@@ -46,6 +46,11 @@ const SEARCHES: [Line; 11] = [
         &["call", "a: = answer", "--from", "begun"],
         Status::Found,
         b"step a\n\n# a: = answer: 3 events\nstep b x 2\nstep a\n",
+    ),
+    (
+        &["call", "when b.r4=7 a@1"],
+        Status::Found,
+        b"# when b.r4=7 a@1: 2 events\nstep a\nstep b\n",
     ),
     (
         &["call", "rest", "--kill", "b,a"],
@@ -124,9 +129,9 @@ const FAULTS: [Line; 16] = [
         b"goal word 1: unknown name\n",
     ),
     (
-        &["call", "when a@1"],
+        &["call", "when a"],
         Status::BadGoal,
-        b"goal word 1: bad word\n",
+        b"goal word 2: bad word\n",
     ),
     (
         &["call", "--kill", "a,c", "--hangup", "a"],

@@ -35,7 +35,7 @@ search_answer-requires-clause-sound c =
     let command = said c.args.command.now in
     search_sound c.args.script.now c.args.from.now c.as_slice-3.result.now command.kills (said_goal c.args.goal.now)
     c.in-Ok.killed.items c.in-Ok-listed_in.hangups.items command.hangup c.count_tasks-tasks.ensures.sound c.requires.may
-    c.requires.few c.requires.looked (rw c.in_ok-names.ensures at c.in-Ok-listed_in.ensures.value) c.in-Ok-listed_in.ensures.few
+    c.requires.few (rw c.in_ok-names.ensures at c.in-Ok-listed_in.ensures.value) c.in-Ok-listed_in.ensures.few
     (c.as_slice-3.ensures.value ∙ rw (c.count_tasks-tasks.ensures.count, c.as_slice.ensures.value, c.as_slice-2.ensures.value) at c.in_ok-moves.ensures)
 
 pub returns-clause-due : goal.returns-clause-due
