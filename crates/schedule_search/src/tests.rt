@@ -140,28 +140,29 @@ fn resting(alloc: Global, script: &Script, most: u32) -> Option<RestingStates>
     }
 }
 
-/// Whether these two schedules are listed.
-fn are_both(schedules: &[Vec<Event>], first: &[Event], second: &[Event]) -> bool {
-    schedules.len() == 2 && schedules[0].as_slice() == first && schedules[1].as_slice() == second
+/// Whether a schedule has a step of each of these tasks.
+fn has_steps(schedule: &[Event], tasks: [TaskNo; 4]) -> bool {
+    let [first, second, third, last] = tasks;
+    let steps = [
+        Event::Step(first),
+        Event::Step(second),
+        Event::Step(third),
+        Event::Step(last),
+    ];
+    schedule == steps.as_slice()
 }
 
-/// Whether both states at rest are listed, of all 13: who calls first makes the first call.
+/// Whether the four states at rest are listed, of all 13: they differ in who calls first, and in who
+/// receives first.
 fn are_all_listed(resting: &RestingStates) -> bool {
-    let first = [
-        Event::Step(A),
-        Event::Step(B),
-        Event::Step(A),
-        Event::Step(B),
-    ];
-    let second = [
-        Event::Step(B),
-        Event::Step(A),
-        Event::Step(A),
-        Event::Step(B),
-    ];
     match resting {
         RestingStates::All { schedules, states } => {
-            *states == 13 && are_both(schedules.as_slice(), first.as_slice(), second.as_slice())
+            *states == 13
+                && schedules.len() == 4
+                && has_steps(schedules[0].as_slice(), [A, B, A, B])
+                && has_steps(schedules[1].as_slice(), [A, B, B, A])
+                && has_steps(schedules[2].as_slice(), [B, A, A, B])
+                && has_steps(schedules[3].as_slice(), [B, A, B, A])
         }
         RestingStates::Within { .. } | RestingStates::NoRoom => false,
     }
