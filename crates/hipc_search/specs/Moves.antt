@@ -100,7 +100,8 @@ for_chosen event chosen tasks = map event (filter chosen (range_with_len 1 tasks
 abbrev pub living_steps : (first later : List Event) → ℕ → List Event
 living_steps first later tasks = for_chosen step_by (is_living first later) tasks
 
--- a step of each task, a kill of each that is listed, both in the order of the tasks, and the hangups as they are listed
+-- a step of each task, a kill of each that is listed, both in the order of the tasks, and the hangups in the order of
+-- their list
 abbrev pub moves_of : ℕ → (killed hangups : List Event) → List Event
 moves_of tasks killed hangups =
     living_steps [] [] tasks ++ for_chosen kill_of (is_killed killed) tasks ++ hangups

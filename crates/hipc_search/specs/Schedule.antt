@@ -27,8 +27,8 @@ asks_for_rest (HasLine head asked) = false
 abbrev pub closing : Search → List Event → List Event
 closing s es = if asks_for_rest s.asked then living_steps s.from es (length s.plan.tasks) else []
 
--- the text begins with these bytes and the comment, and as a schedule it has the events that come first, those that were
--- found, and the closing steps
+-- the text begins with these bytes and the comment, and as a schedule it has the events that come first, those that
+-- were found, and the closing steps
 pub record IsSchedule (s : Search) (before goal : List ℕ) (es : List Event) (text : List ℕ) : Type 0 where
   pub lines : List ℕ
   pub begins : text ≡ before ++ (comment_text (found_comment goal (length es)) ++ lines)

@@ -319,8 +319,8 @@ pub fn run<S: Shelf, K: Sink>(
         (Due (texts words.now) (S.files shelf.old) (S.failed shelf.old) (S.failed shelf.new))
         (K.written sink.old) (K.written sink.new) }
     ensures memory { result ≡ Memory → Keeps (K.written sink.old) (K.written sink.new) }
-    // Where the sink's count of faults rose, it is WriteFailed; and WriteFailed comes only there, or
-    // from a sink that was spent before the call.
+    // Where the sink's count of faults rose, it is WriteFailed; and WriteFailed comes only there,
+    // or from a sink that was spent before the call.
     ensures write_failed { result ≡ WriteFailed → Rose (K.faults sink.old) (K.faults sink.new) }
     ensures risen { K.faults sink.old < K.faults sink.new → result ≡ WriteFailed }
     ensures later { K.faults sink.old ≤ K.faults sink.new }

@@ -1,5 +1,5 @@
-//! Searches the schedules of a script of tasks that call each other for one that leads to what is asked,
-//! and writes it, or says that there is none.
+//! Searches the schedules of a script of tasks that call each other for one that leads to what is
+//! asked, and writes it, or says that there is none.
 #![tactic(auto)]
 
 ghost use Rattle.std.specs.Prelude.{◌≡◌, ◌≤◌, ◌<◌};

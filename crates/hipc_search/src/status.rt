@@ -22,8 +22,8 @@ pub enum Status {
     CannotRead,
     /// The script is outside its grammar; a line with its first fault was written.
     BadScript,
-    /// The schedule that comes first is outside its grammar, or too long; a line with its first fault
-    /// was written.
+    /// The schedule that comes first is outside its grammar, or too long; a line with its first
+    /// fault was written.
     BadSchedule,
     /// The goal, or a list of kills or of hangups, is outside its grammar; a line with the first
     /// fault was written.

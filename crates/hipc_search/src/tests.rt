@@ -30,8 +30,8 @@ const USAGE: &[u8] = b"usage: hipc-search SCRIPT [GOAL] [--kill NAME,..] [--kill
 /// The words of a command line, and the status and the text that they come to.
 type Line = (&'static [&'static str], Status, &'static [u8]);
 
-/// Searches that end with a schedule, or with the reason why there is none. Five states are those of
-/// the call; a sixth stands for more kills than there may be.
+/// Searches that end with a schedule, or with the reason why there is none. Five states are those
+/// of the call; a sixth stands for more kills than there may be.
 const SEARCHES: [Line; 11] = [
     (
         &["crossed"],
