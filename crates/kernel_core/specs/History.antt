@@ -1,5 +1,5 @@
 -- What a list of entries, the history so far, tells of the state of the kernel between two events.
-use Rattle.std.specs.Prelude.{ℕ, suc, ◌≤◌, length, ◌-◌, ◌==◌, ◌≡◌, ⊤, Bool, true, false, not, if◌then◌else◌, is_none, slice_get, List, [], ◌∷◌, ◌++◌, Option, None, Some}
+use Rattle.std.specs.Prelude.{ℕ, suc, length, ◌-◌, ◌==◌, ◌≡◌, ⊤, Bool, true, false, not, if◌then◌else◌, is_none, slice_get, List, [], ◌∷◌, ◌++◌, Option, None, Some}
 use Rattle.std.specs.Option.{option_map_or}
 use Rattle.ipc_ids.specs.declared.numbers.TaskNo.{TaskNo}
 use Rattle.ipc_ids.specs.declared.message.Request.{Request}
@@ -10,6 +10,7 @@ use Rattle.ipc_ids.specs.Life.{Life, Nowhere, Back, Incoming, Dispatched, Answer
 use Rattle.ipc_ids.specs.Lawful.{Lawful, IsRound, IsCleared}
 use Rattle.ipc_ids.specs.Origins.{origin, is_forgotten}
 use Rattle.ipc_ids.specs.Holdings.{newest_first}
+use Rattle.ipc_ids.specs.Actors.{AreOfTasks}
 use Rattle.call_slab.specs.declared.call.Call.{Call}
 use Rattle.call_slab.specs.declared.call.Place.{Place}
 use Rattle.call_slab.specs.declared.call.Place.TheVariants as place
@@ -63,33 +64,6 @@ pub record PastFits (p : List Tale) (k : KernelState) : Type 0 where
   -- the tasks that were killed have ended, and no other
   pub ended : (t : ℕ) → is_killed t p ≡ is_ended k.tasks.alive t
   pub calls : (n : ℕ) → TellsOf p n (call_at k.calls n)
-
--- whose head it is, or whose fibril's entry
-abbrev pub actor : Entry → Option TaskNo
-actor (entry.Head t asked) = Some t
-actor (entry.Kill t) = Some t
-actor (entry.Gone t) = Some t
-actor (entry.Spawn t) = Some t
-actor (entry.Sent t f n slot) = Some t
-actor (entry.Gets t f n slot reply) = Some t
-actor (entry.Blocks t f why) = Some t
-actor (entry.Starts t f label) = Some t
-actor (entry.Ends t f) = Some t
-actor (entry.Begins t f e mode session phone) = Some t
-actor (entry.ExchangeEnds t f e) = Some t
-actor (entry.Drops t f e) = Some t
-actor (entry.RefusedOp t f code) = Some t
-actor _ = None
-
--- one of so many tasks, where there is one
-abbrev pub IsOneOf : ℕ → Option TaskNo → Type 0
-IsOneOf n None = ⊤
-IsOneOf n (Some t) = (1 ≤ t.0) × (t.0 ≤ n)
-
--- each head, and each entry of a fibril, is of one of so many tasks
-abbrev pub AreOfTasks : ℕ → List Entry → Type 0
-AreOfTasks n [] = ⊤
-AreOfTasks n (e ∷ es) = IsOneOf n (actor e) × AreOfTasks n es
 
 -- the state is sound, its phones are within their limits, and the entries so far fit it and are of its tasks
 pub record HistoryFits (h : List Entry) (k : KernelState) : Type 0 where

@@ -10,7 +10,7 @@ ghost use Rattle.cleanup.specs.Sound.{IsSound};
 ghost use Rattle.cleanup.specs.Kill.{kill};
 ghost use Rattle.kernel_core.specs.Calling.{call};
 ghost use Rattle.kernel_core.specs.Kernel.{serve, kill_event, spawn_event};
-ghost use Rattle.kernel_core.specs.Effects.{AreEffects, has_delivery, IsHonest};
+ghost use Rattle.ipc_ids.specs.Effects.{AreEffects, has_delivery, IsHonest};
 ghost use Rattle.kernel_laws.specs.KillLaws.{EndsTask, LeavesNothingOf, EndsWaitingFirst, ClosesPhones, ClosesCalls, ClosesAreas, TellsWhereItLed};
 ghost use Rattle.kernel_laws.specs.PoolLaws.{pool, bytes_asked, HasAnswer, IsFullFor, IsBalanced, IsGivenBack};
 

@@ -36,7 +36,7 @@ use Rattle.ipc_ids.proofs.LawfulAreas.{on_top-append, newest_first-append}
 use Rattle.answerbox.specs.Calls.{CallTable, used, active_calls}
 use Rattle.cleanup.specs.State.{KernelState, phone_at, label_of, is_alive, with_task}
 use Rattle.cleanup.specs.Serving.{Served}
-use Rattle.kernel_core.specs.Effects.{is_effect, AreEffects}
+use Rattle.ipc_ids.specs.Effects.{is_effect, AreEffects}
 use Rattle.kernel_core.specs.HangingUp.{hangup_over}
 use Rattle.kernel_core.specs.Request.{serve_request}
 use Rattle.kernel_core.specs.Kernel.{serve, kill_event, next_task, named, spawning, spawn_event}

@@ -17,7 +17,7 @@ use Rattle.ipc_ids.specs.Facts.{Fact, if_mine, outcome_fact, facts_onto, facts}
 use Rattle.ipc_ids.specs.Replies.{Waiter, is_mine, sent}
 use Rattle.ipc_ids.specs.Holdings.{on_top, newest_first, present, Making, making}
 use Rattle.ipc_ids.proofs.LawfulAreas.{on_top-append, newest_first-append}
-use Rattle.kernel_core.specs.Effects.{is_effect, AreEffects, is_delivery, has_delivery, IsAnswerOf, IsHonest}
+use Rattle.ipc_ids.specs.Effects.{is_effect, AreEffects, is_delivery, has_delivery, IsAnswerOf, IsHonest}
 use Rattle.async_laws.specs.Links.{is_own, AreOwn}
 use Rattle.async_laws.specs.KeptAnswers.{given}
 use Rattle.async_laws.proofs.EventsFit.{facts_append}

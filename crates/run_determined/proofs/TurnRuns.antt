@@ -21,9 +21,10 @@ use Rattle.script_lines.specs.Sound.{has_service}
 use Rattle.script_reader.specs.Schedule.{MayAllCome}
 use Rattle.cleanup.specs.State.{is_alive}
 use Rattle.cleanup.specs.Serving.{Served}
-use Rattle.kernel_core.specs.Effects.{is_effect, AreEffects}
+use Rattle.ipc_ids.specs.Effects.{is_effect, AreEffects}
 use Rattle.kernel_core.specs.Kernel.{serve, kill_event, next_task, named, spawning}
-use Rattle.kernel_core.specs.History.{AreOfTasks, served_entries}
+use Rattle.ipc_ids.specs.Actors.{AreOfTasks}
+use Rattle.kernel_core.specs.History.{served_entries}
 use Rattle.kernel_core.proofs.HonestEvents.{serve_is_honest, kill_is_honest}
 use Rattle.async_task.specs.Steps.{step}
 use Rattle.async_laws.specs.Links.{is_own, AreOwn}

@@ -15,8 +15,8 @@ use Rattle.ipc_ids.specs.Life.{Life, Nowhere, Back, Incoming, Dispatched, Answer
 use Rattle.ipc_ids.specs.Life as lives
 use Rattle.ipc_ids.specs.Lawful.{Lawful}
 use Rattle.ipc_ids.specs.Holdings.{present}
-use Rattle.kernel_core.specs.History as history
-use Rattle.kernel_core.specs.History.{actor}
+use Rattle.ipc_ids.specs.Actors as actors
+use Rattle.ipc_ids.specs.Actors.{actor}
 use Rattle.route_laws.specs.Leads.{Lead, Beginning, is_phone, wired, phone_in}
 use Rattle.run_determined.specs.PhoneCauses.{is_sent, is_received, asked_for, lent_for, IsKept, AnswersFor, IsConnected, IsMadeLeading, IsLetGo, IsCause, HasItsCause}
 use Rattle.run_determined.specs.TasksInTurn.{IsOf, count_after, IsOneOf, IsInTurn, CameInTurn}
@@ -293,7 +293,7 @@ module _ (b : Beginning) (n : ℕ) (begins : BeginAt n b.wires) where
   caused_in_turn l q came Slammed new is h = not_free l q Slammed came is (λ e. cc e)
 
   pub in_turn : (q : List Entry) (e : Entry) → CameInTurn n q → IsNoSpawn e → Lawful (tales (e ∷ q))
-      → HasItsCause b q e → history.IsOneOf (count_after n q) (actor e) → IsInTurn n q e
+      → HasItsCause b q e → actors.IsOneOf (count_after n q) (actor e) → IsInTurn n q e
   in_turn q (entry.Spawn t) came plain l had known = absurd plain
   in_turn q (entry.Accepted k from method to) came plain l had known = λ t it.
       subst (IsOneOf (count_after n q)) it

@@ -26,8 +26,9 @@ use Rattle.ipc_ids.specs.Program.{fits}
 use Rattle.ipc_ids.specs.Lawful.{Lawful}
 use Rattle.ipc_ids.specs.Tales.{past}
 use Rattle.kernel_core.specs.Kernel.{serve, kill_event, next_task, named, spawning, spawn_event}
-use Rattle.kernel_core.specs.History.{actor, IsOneOf, AreOfTasks, HistoryFits, served_entries, killed_entries, gone_entries}
-use Rattle.kernel_core.specs.Effects.{AreEffects}
+use Rattle.ipc_ids.specs.Actors.{actor, IsOneOf, AreOfTasks}
+use Rattle.kernel_core.specs.History.{HistoryFits, served_entries, killed_entries, gone_entries}
+use Rattle.ipc_ids.specs.Effects.{AreEffects}
 use Rattle.kernel_core.proofs.FittingOutcomes.{outcome_fits}
 use Rattle.kernel_core.proofs.HonestEvents.{serve_is_honest, kill_is_honest}
 use Rattle.kernel_core.proofs.ServedHistories.{serve_fits}
