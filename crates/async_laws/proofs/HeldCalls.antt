@@ -48,7 +48,7 @@ use Rattle.async_task.specs.declared.context.Context.{Context}
 use Rattle.async_task.specs.Turns.{Turn}
 use Rattle.async_task.specs.Turns as turn
 use Rattle.async_task.specs.Contexts.{slot_at, handle_at, value_of, at_next, with_received}
-use Rattle.async_laws.proofs.NoLostWakes.{context_set}
+use Rattle.async_laws.proofs.WakeSlots.{context_set}
 use Rattle.async_task.specs.AsyncState.{AsyncState, without_entries, context_at, present_op}
 use Rattle.async_task.specs.Turns.{turn_now, work_turn}
 use Rattle.async_task.specs.Wanted.{plan_begin, plan_close, phone_by}

@@ -46,7 +46,7 @@ use Rattle.async_laws.specs.HeldCalls.{IsHanded}
 use Rattle.async_laws.specs.KeptOnce.{once, times_in, times_closing, times_held, times_owed, times_kept}
 use Rattle.async_laws.specs.KeptOnce.{IsUnkept, StartKeepsOnce, EachKeepsOnce, ComesOnce}
 use Rattle.async_laws.specs.KeptOnce.{ReceivedCallsComeOnce, KeptCallsGoOnce}
-use Rattle.async_laws.proofs.NoLostWakes.{context_set}
+use Rattle.async_laws.proofs.WakeSlots.{context_set}
 use Rattle.async_laws.proofs.HeldCalls.{IsSame, does_same_but_next, answers_same, next_same, hand_conns}
 
 once_self : (n : CallNo) → once n n ≡ 1

@@ -5,6 +5,11 @@ pub mod FibrilFacts
 pub mod WakeOrders
 pub mod WakePools
 pub mod WakeConns
+pub mod WakeSlots
+pub mod WakeCalls
+pub mod WakeSessions
+pub mod WakeAnswers
+pub mod WakeFibrils
 pub mod NoLostWakes
 pub mod OrderLaws
 pub mod HeldCalls

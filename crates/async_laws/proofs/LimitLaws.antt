@@ -74,8 +74,10 @@ use Rattle.async_laws.specs.LimitLaws.{Remembers, IsToConnect, RefusalsAreRememb
 use Rattle.async_laws.specs.LimitLaws.{AnswersAreRemembered, TheShortDoNotConnect, WasRefused, WasAnswered}
 use Rattle.async_laws.specs.LimitLaws.{OnlyTheLimitMakesShort, TellsNoLimit, NobodyIsToldTheLimit}
 use Rattle.async_laws.proofs.AnswerFacts.{waiter_of, find_waiting}
-use Rattle.async_laws.proofs.NoLostWakes.{IsPresent, present_is, context_get, context_set, context_push, kept_left}
-use Rattle.async_laws.proofs.NoLostWakes.{unless_is, answers_as}
+use Rattle.async_laws.proofs.WakeCalls.{IsPresent}
+use Rattle.async_laws.proofs.WakeFibrils.{present_is, context_push}
+use Rattle.async_laws.proofs.WakeSlots.{context_get, context_set, kept_left}
+use Rattle.async_laws.proofs.WakeSessions.{unless_is, answers_as}
 use Rattle.async_laws.proofs.TakenCalls.{context_apart, present_number, waiting_number}
 
 -- ---- a begin that met the limit sends no connect call

@@ -37,7 +37,10 @@ use Rattle.async_task.specs.Connections.{route_call}
 use Rattle.async_task.specs.Steps.{step_in, step}
 use Rattle.async_laws.specs.OrderLaws.{YieldsGoBehind, IsLast, RoutesGoLast, FirstIsTaken}
 use Rattle.async_laws.specs.OrderLaws.{StrayCallsAreRefused, LimitsAreHeeded}
-use Rattle.async_laws.proofs.NoLostWakes.{IsPresent, present_is, unless_is, answers_as, context_now}
+use Rattle.async_laws.proofs.WakeCalls.{IsPresent}
+use Rattle.async_laws.proofs.WakeFibrils.{present_is}
+use Rattle.async_laws.proofs.WakeSessions.{unless_is, answers_as}
+use Rattle.async_laws.proofs.WakeSlots.{context_now}
 
 pub yields_go_behind : YieldsGoBehind
 yields_go_behind a o f t kept is =

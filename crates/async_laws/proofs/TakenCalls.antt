@@ -45,7 +45,9 @@ use Rattle.async_laws.specs.NoLostWakes.{IsQuiet, KeepsWakes}
 use Rattle.async_laws.specs.TakenCalls.{KnowsItsCall, StartedOnesKnowTheirCall}
 use Rattle.async_laws.specs.TakenCalls.{IsUntold, TellCall, Takes, closing, no_call, Serves, NextTakesTheFirst}
 use Rattle.async_laws.specs.TakenCalls.{NextTellsTheClosing, WaitsAt, WaitersTakeAtOnce, WaitersHearHangups}
-use Rattle.async_laws.proofs.NoLostWakes.{IsPresent, present_is, context_set}
+use Rattle.async_laws.proofs.WakeCalls.{IsPresent}
+use Rattle.async_laws.proofs.WakeFibrils.{present_is}
+use Rattle.async_laws.proofs.WakeSlots.{context_set}
 
 -- a register that tells of the call
 abbrev IsTold : ℕ → Type 0
