@@ -96,7 +96,7 @@ MayLead e alive s = (v : TaskNo) → s ≡ phone.Connected v → is_ended alive 
 pub and_then-append : (xs ys : List Entry) (p : List Tale) → and_then (xs ++ ys) p ≡ and_then ys (and_then xs p)
 and_then-append xs ys p = ap (λ l. onto l p) (tales-append xs ys) ∙ onto-append (tales xs) (tales ys) p
 
-same_task : (t u : TaskNo) → t.0 ≡ u.0 → t ≡ u
+pub same_task : (t u : TaskNo) → t.0 ≡ u.0 → t ≡ u
 same_task t u e = ap (λ n. let r : TaskNo = record { 0 = n } in r) e
 
 pub same_place-true : (a b : Place) → same_place a b ≡ true → a ≡ b

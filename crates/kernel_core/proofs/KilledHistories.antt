@@ -38,7 +38,7 @@ use Rattle.kernel_core.proofs.ServedLimits.{within_event}
 use Rattle.kernel_core.specs.Kernel.{kill_event}
 use Rattle.kernel_core.proofs.AreaKills.{areas_kill}
 use Rattle.kernel_core.specs.History.{is_ended, life_at, IsGone, PastFits, HistoryFits, killed_entries}
-use Rattle.kernel_core.proofs.InEvent.{and_then, and_then-append, IsTask, CallerFits, IsHome, Agrees, InEvent, by_test, noted, memory_told, is_told, front_at, phone_told, settled, dropped}
+use Rattle.kernel_core.proofs.InEvent.{same_task, and_then, and_then-append, IsTask, CallerFits, IsHome, Agrees, InEvent, by_test, noted, memory_told, is_told, front_at, phone_told, settled, dropped}
 use Rattle.kernel_core.proofs.ServedHistories.{hang_up_told, alive_is, core_of, leads_to_alive, fits_of, fits_later}
 
 -- who has ended, where the mark of task t is taken away
@@ -153,9 +153,6 @@ answers_told t p k inside =
 
 -- the calls of t elsewhere are forgotten
 
-same_no : (t u : TaskNo) → u.0 ≡ t.0 → u ≡ t
-same_no t u e = ap (λ n. let r : TaskNo = record { 0 = n } in r) e
-
 forgotten_at : (t : TaskNo) (from : ℕ) (p : List Tale) (n : ℕ) (place' : Place) → event p ≡ Some (Kill t.0) → t.0 ≡ from → IsHome from place' → same_place place' (place.Incoming t) ≡ false → same_place place' (place.Dispatched t) ≡ false → same_place place' (place.Answers t) ≡ false → Allowed p n Forgotten (life_at from place')
 forgotten_at t from p n (place.Incoming s) now e home i d a = (now ∙ ap (λ x. Some (Kill x)) e, λ same. false≢true (sym i ∙ eq-eqb s.0 t.0 (same ∙ sym e)))
 forgotten_at t from p n (place.Dispatched s) now e home i d a = (now ∙ ap (λ x. Some (Kill x)) e, λ same. false≢true (sym d ∙ eq-eqb s.0 t.0 (same ∙ sym e)))
@@ -163,7 +160,7 @@ forgotten_at t from p n (place.Answers s) now e home i d a = absurd (false≢tru
 
 caller_is : (t : TaskNo) (o : Option TaskNo) → is_caller t o ≡ true → o ≡ Some t
 caller_is t None h = absurd (cc h)
-caller_is t (Some u) h = ap Some (same_no t u (eqb-true u.0 t.0 h))
+caller_is t (Some u) h = ap Some (same_task u t (eqb-true u.0 t.0 h))
 
 module _ (marks : List Bool) (t : TaskNo) where
   -- what is told, and what is left of t

@@ -1,6 +1,5 @@
 -- The pool after a request is the pool before, with what came and without what went.
-use Rattle.std.proofs.Common.{◌≡◌, ℕ, ◌+◌, Bool, true, false, not, List, [], ◌∷◌, ◌++◌, length, Option, None, Some, Result, Ok, Err, refl, ap, ◌∙◌, arith, nat_le}
-use Rattle.std.specs.Prelude.{⊤}
+use Rattle.std.proofs.Common.{◌≡◌, ℕ, ◌+◌, inl, inr, sym, subst, List, [], ◌∷◌, ◌++◌, length, Option, None, Some, Result, Ok, Err, refl, ap, ◌∙◌, arith}
 use Rattle.std.specs.Option.{option_to_list}
 use Rattle.ipc_ids.specs.declared.numbers.Code.{Code}
 use Rattle.ipc_ids.specs.declared.numbers.CallNo.{CallNo}
@@ -8,52 +7,42 @@ use Rattle.ipc_ids.specs.declared.numbers.Label.{Label}
 use Rattle.ipc_ids.specs.declared.numbers.StoreNo.{StoreNo}
 use Rattle.ipc_ids.specs.declared.numbers.TaskNo.{TaskNo}
 use Rattle.ipc_ids.specs.declared.message.Msg.{Msg}
-use Rattle.ipc_ids.specs.declared.message.Mode.{Mode}
 use Rattle.ipc_ids.specs.declared.message.Reply.{Reply}
-use Rattle.ipc_ids.specs.declared.message.PhoneState.{PhoneState}
-use Rattle.ipc_ids.specs.declared.message.PhoneState.TheVariants.{Free, Connecting, Connected, HungUp, Slammed}
+use Rattle.ipc_ids.specs.declared.message.PhoneState.TheVariants.{Free, Connecting, Connected, HungUp}
 use Rattle.ipc_ids.specs.declared.message.Request.{Request}
-use Rattle.ipc_ids.specs.declared.message.Request.TheVariants as request
 use Rattle.ipc_ids.specs.declared.entry.Entry.{Entry}
 use Rattle.ipc_ids.specs.declared.entry.Entry.TheVariants as entry
 use Rattle.ipc_ids.specs.declared.methods.MethodKind.{MethodKind}
 use Rattle.ipc_ids.specs.declared.methods.MethodKind.TheVariants.{ConnectToMe, ConnectMeTo, DataWrite, DataRead, ShareOut, ShareIn}
-use Rattle.ipc_ids.specs.Codes.{ehangup, enoent, eforward}
+use Rattle.ipc_ids.specs.Codes.{eforward}
 use Rattle.ipc_ids.specs.Methods.{phone_hungup, kind_of}
-use Rattle.ipc_ids.specs.Tables.{most_active}
 use Rattle.call_slab.specs.declared.call.Call.{Call}
 use Rattle.call_slab.specs.declared.call.Place.{Place}
 use Rattle.call_slab.specs.declared.call.Place.TheVariants.{Incoming, Dispatched, Answers}
-use Rattle.answerbox.specs.Calls.{CallTable, call_at, calls_at, front, enqueue, put_at, without_call, active_calls, used}
+use Rattle.answerbox.specs.Calls.{CallTable, call_at, front, enqueue, put_at, without_call, used}
 use Rattle.answerbox.proofs.Used.{used-enqueue, used-without_call, used-put_at}
 use Rattle.forwarding.specs.declared.passing.Forwarded.{Forwarded}
-use Rattle.forwarding.specs.declared.passing.ForwardFault.{ForwardFault}
-use Rattle.forwarding.specs.declared.passing.ForwardFault.TheVariants.{NotHeld, NotForwardable, NotConnected}
-use Rattle.forwarding.specs.Forwarding.{is_held, msg_after, label_after}
-use Rattle.forwarding.specs.Routes.{forward_answer}
+use Rattle.forwarding.specs.Forwarding.{msg_after, label_after}
 use Rattle.address_space.specs.Memory as spaces
-use Rattle.data_hooks.specs.DataMoments.{address_of, count_of, write_before_send, read_before_send, write_accept, read_deliver}
-use Rattle.share_hooks.specs.ShareMoments.{pages_of, rights_of, base_of, out_before_send, in_before_send, out_accept, in_accept}
+use Rattle.data_hooks.specs.DataMoments.{address_of, count_of, write_accept, read_deliver}
+use Rattle.share_hooks.specs.ShareMoments.{pages_of, rights_of, base_of, out_accept, in_accept}
 use Rattle.cleanup.specs.declared.sharing.Share.TheVariants.{Out, In}
-use Rattle.cleanup.specs.State.{KernelState, Transition, phone_at, label_of}
+use Rattle.cleanup.specs.State.{KernelState, Transition, label_of}
 use Rattle.cleanup.specs.Sound.{IsSound}
-use Rattle.cleanup.specs.Kept.{accepts, kept_phone, lent_phone, kept_note, first_usable_of}
-use Rattle.cleanup.specs.Areas.{made_note, gone_note}
+use Rattle.cleanup.specs.Kept.{kept_phone, lent_phone, kept_note, first_usable_of}
+use Rattle.cleanup.specs.Areas.{made_note, gone_note, make_area, drop_area, poke}
 use Rattle.cleanup.specs.Sharing.{shared_note, accepted_share}
 use Rattle.cleanup.specs.Data.{accepted_write, accepted_read, delivered_read}
 use Rattle.cleanup.specs.Serving.{Handed, Served, as_it_is}
-use Rattle.cleanup.specs.Joins.{bare_reply, new_call, acceptance, answer_at_once, reception, delivery, with_delivery, answer_to, declined, accepted_to_me, accepted_me_to, lives, settle_for, settle, settle_live, passed_call, passage, drop_answer, hangup_call}
-use Rattle.cleanup.proofs.Histories.{told_after, none_after, both_after, drain_tells}
+use Rattle.cleanup.specs.Joins.{bare_reply, new_call, acceptance, answer_at_once, reception, delivery, with_delivery, answer_to, declined, accepted_to_me, accepted_me_to, vanishing, passed_call, passage, drop_answer, hang_up, hangup_call}
+use Rattle.cleanup.proofs.Histories.{told_after, none_after, both_after}
 use Rattle.cleanup.proofs.Lookups.{put_here}
 use Rattle.cleanup.proofs.Repeats.{by_test}
-use Rattle.kernel_core.specs.Moments.{keeping_to_send, carrying, bringing, asking, before_send_of, before_send, on_receive_of, on_accept_of, brings_bytes, reply_of, on_delivery}
-use Rattle.kernel_core.specs.Calling.{is_callable, sent_to, call_through, call_tested, call_over}
-use Rattle.kernel_core.specs.Receiving.{unawaited, next_unawaited, drop_unawaited, receive_first, receive}
-use Rattle.kernel_core.specs.Answering.{held_call, accept_for, answer_call, answer_held}
-use Rattle.kernel_core.specs.Forward.{forward_told}
-use Rattle.kernel_core.specs.HangingUp.{hangup_over}
+use Rattle.kernel_core.specs.Moments.{on_receive_of, on_accept_of, brings_bytes, reply_of, cut_call}
+use Rattle.kernel_core.specs.Receiving.{drop_unawaited, receive_first, receive}
 use Rattle.kernel_core.specs.Request.{serve_request}
 use Rattle.kernel_core.specs.Kernel.{serve}
+use Rattle.kernel_core.proofs.ByRequest as join
 use Rattle.kernel_laws.specs.PoolLaws.{bytes_of, carried, accepted_by, answered_by, total, IsBalanced}
 use Rattle.kernel_laws.proofs.PoolChanges.{pool-used, total-append, IsAccounted, accounted_first, accounted_put, accounted_gone, next_is_free}
 use Rattle.kernel_laws.proofs.PoolSteps.{IsSilent, none_silent, more_silent, kept_silent, wrote_silent, Accounts, live_front, dropped}
@@ -170,59 +159,13 @@ module _ (k : KernelState) (sound : IsSound k) where
       let has : carried j.calls c.number ≡ length c.buffer = ap bytes_of (put_here k.calls c.number.0 c.number.0 (record d { stamp = k.calls.next_stamp }) refl) in
       omega (arith, one, two, sum, size, had, has)
 
-  -- what is handed on before a call is sent
-  abbrev IsHandedOn : Result Handed Code → Type 0
-  IsHandedOn (Ok h) = (h.state.calls ≡ k.calls) × (h.call.number.0 ≡ k.calls.next_number) × IsSilent (option_to_list h.note)
-  IsHandedOn (Err code) = ⊤
-
-  sent_as : (u : TaskNo) (c : Call) (r : Result Handed Code) → c.number.0 ≡ k.calls.next_number → c.buffer ≡ [] → IsHandedOn r → Balances k (sent_to u k c r)
-  sent_as u c (Ok h) next empty on = come (acceptance h (Some u)).state h.call h.call.from h.call.request.method (Some u) (option_to_list h.note) (ap (λ (q : CallTable). enqueue q h.call) on.0) on.1 on.2
-  sent_as u c (Err code) next empty on = at_once (record c { place = Answers c.from.task }) code next empty
-
-  module _ (c : Call) (next : c.number.0 ≡ k.calls.next_number) where
-    keeping : (o : Option Label) → IsHandedOn (keeping_to_send k c o)
-    keeping None = tt
-    keeping (Some l) = (refl, next, kept_silent (Some l) Connecting)
-
-    carries : (told : Result (List ℕ) Code) → IsHandedOn (carrying k c told)
-    carries (Ok bytes) = (refl, next, none_silent)
-    carries (Err code) = tt
-
-    brings : (told : Result ℕ Code) → IsHandedOn (bringing k c told)
-    brings (Ok count) = (refl, next, none_silent)
-    brings (Err code) = tt
-
-    asks : (told : Result Unit Code) → IsHandedOn (asking k c told)
-    asks (Ok done) = (refl, next, none_silent)
-    asks (Err code) = tt
-
-    handed_on : (kind : MethodKind) → IsHandedOn (before_send_of kind k c)
-    handed_on ConnectMeTo = keeping (first_usable_of k c.from.task)
-    handed_on DataWrite = carries (write_before_send k.memory c.from.task c.request.args (used k.calls))
-    handed_on DataRead = brings (read_before_send c.request.args)
-    handed_on ShareOut = asks (out_before_send k.memory c.from.task c.request.args)
-    handed_on ShareIn = asks (in_before_send c.request.args)
-    handed_on _ = (refl, next, none_silent)
-
-  module _ (t : TaskNo) (p : ℕ) (msg : Msg) where
-    through : (s : PhoneState) → Balances k (call_through k t p msg s)
-    through Free = refl
-    through Connecting = refl
-    through (Connected u) =
-        let c : Call = new_call k t p msg (Incoming u) in sent_as u c (before_send k c) refl refl (handed_on c refl (kind_of msg.method))
-    through HungUp = at_once (new_call k t p msg (Answers t)) ehangup refl refl
-    through Slammed = at_once (new_call k t p msg (Answers t)) enoent refl refl
-
-    tested : (s : PhoneState) → Balances k (call_tested k t p msg s)
-    tested s = by_test (Balances k) (not (is_callable (kind_of msg.method))) _ _ (λ _. refl) (λ _. by_test (Balances k) (nat_le most_active (active_calls k.calls (label_of t p))) _ _ (λ _. refl) (λ _. through s))
-
-    called : (o : Option PhoneState) → Balances k (call_over k t p msg o)
-    called None = refl
-    called (Some Free) = refl
-    called (Some Connecting) = refl
-    called (Some (Connected u)) = tested (Connected u)
-    called (Some HungUp) = tested HungUp
-    called (Some Slammed) = tested Slammed
+  -- one that is sent, as it is handed on
+  sent :
+      (h : Handed) (u : TaskNo) → h.state.calls ≡ k.calls → h.call.number.0 ≡ k.calls.next_number
+          → IsSilent (option_to_list h.note) → Balances k (acceptance h (Some u))
+  sent h u calls next silent =
+      come (acceptance h (Some u)).state h.call h.call.from h.call.request.method (Some u) (option_to_list h.note)
+      (ap (λ (q : CallTable). enqueue q h.call) calls) next silent
 
   -- a receive: answers that nobody waits for are dropped, and then one call is told
 
@@ -231,22 +174,29 @@ module _ (k : KernelState) (sound : IsSound k) where
     pub accepted : (q : CallTable) → total (accepted_by q) es ≡ 0
     pub answers : (q : CallTable) → total (answered_by q) es ≡ 0
 
-  unawaited_is : (o : Option Call) (c : Call) → unawaited o ≡ Some c → o ≡ Some c
-  unawaited_is None c e = absurd (cc e)
-  unawaited_is (Some d) c e = by_test (λ (x : Option Call). x ≡ Some c → Some d ≡ Some c) d.discard (Some d) None (λ _ h. h) (λ _ h. absurd (cc h)) e
+  begun : IsReceiving [] k
+  begun = record { accounts = accounted_first k sound; accepted = λ q. refl; answers = λ q. refl }
 
-  drops : (t : TaskNo) (es : List Entry) (j : KernelState) (c : Call) → IsReceiving es j → next_unawaited t j ≡ Some c → IsReceiving (told_after (drop_answer t j c).entries es) (drop_answer t j c).state
-  drops t es j c r is =
-      let live = live_front k sound es j (Answers t) c r.accounts (unawaited_is (front j.calls (Answers t)) c is) in
+  rest : (t : TaskNo) → IsReceiving (drop_unawaited t k).entries (drop_unawaited t k).state
+  rest t =
+      join.drops_tell (List Entry) told_after none_after both_after t IsReceiving
+      (λ es j n c r at _.
+      let live : call_at j.calls c.number.0 ≡ Some c = ap (call_at j.calls) (r.accounts.named n c at.live) ∙ at.live in
       let note = kept_silent (kept_phone c) Free in
       record {
         accounts = dropped k sound es j t c r.accounts live;
-        accepted = λ q. let a = r.accepted q in let n = note.accepted q in let s = total-append (accepted_by q) es (drop_answer t j c).entries in omega (arith, a, n, s);
-        answers = λ q. let a = r.answers q in let n = note.answered q in let s = total-append (answered_by q) es (drop_answer t j c).entries in omega (arith, a, n, s);
-      }
-
-  rest : (t : TaskNo) → IsReceiving (drop_unawaited t k).entries (drop_unawaited t k).state
-  rest t = drain_tells (List Entry) told_after none_after both_after (next_unawaited t) (drop_answer t) IsReceiving (drops t) (calls_at k.calls (Answers t)) [] k (record { accounts = accounted_first k sound; accepted = λ q. refl; answers = λ q. refl })
+        accepted = λ q.
+            let a = r.accepted q in
+            let n = note.accepted q in
+            let s = total-append (accepted_by q) es (drop_answer t j c).entries in
+            omega (arith, a, n, s);
+        answers = λ q.
+            let a = r.answers q in
+            let n = note.answered q in
+            let s = total-append (answered_by q) es (drop_answer t j c).entries in
+            omega (arith, a, n, s);
+      })
+      [] k begun
 
   -- what is told at last
   told_last : (es new : List Entry) (j i : KernelState) → IsReceiving es j → IsAccounted k sound (es ++ new) i.calls → ((q : CallTable) → total (accepted_by q) new ≡ 0) → ((q : CallTable) → total (answered_by q) new ≡ 0) → IsBalanced k (es ++ new) i
@@ -273,11 +223,21 @@ module _ (k : KernelState) (sound : IsSound k) where
         (λ q. let none = silent.accepted q in omega (arith, none))
         (λ q. let none = silent.answered q in omega (arith, none))
 
-    delivered : (c : Call) → call_at j.calls c.number.0 ≡ Some c → IsBalanced k (es ++ (delivery t (on_delivery j c t)).entries) (delivery t (on_delivery j c t)).state
-    delivered c live =
-        by_test (λ (h : Handed). IsBalanced k (es ++ (delivery t h).entries) (delivery t h).state) (brings_bytes c) _ _
-        (λ _. delivered_as c (delivered_read j c t) live refl refl (wrote_silent t (address_of c.request.args) (length c.buffer) (read_deliver j.memory t c.request.args c.buffer).told))
-        (λ _. delivered_as c (with_delivery j c (reply_of (kind_of c.request.method) c)) live refl refl (kept_silent (kept_phone c) Free))
+    given :
+        (c : Call) → call_at j.calls c.number.0 ≡ Some c
+            → IsBalanced k (es ++ (delivery t (with_delivery j c (reply_of (kind_of c.request.method) c))).entries)
+            (delivery t (with_delivery j c (reply_of (kind_of c.request.method) c))).state
+    given c live =
+        delivered_as c (with_delivery j c (reply_of (kind_of c.request.method) c)) live refl refl
+        (kept_silent (kept_phone c) Free)
+
+    brought :
+        (c : Call) → call_at j.calls c.number.0 ≡ Some c
+            → IsBalanced k (es ++ (delivery t (delivered_read j c t)).entries) (delivery t (delivered_read j c t)).state
+    brought c live =
+        delivered_as c (delivered_read j c t) live refl refl
+        (wrote_silent t (address_of c.request.args) (length c.buffer)
+        (read_deliver j.memory t c.request.args c.buffer).told)
 
     received_with : (c : Call) (h : Handed) → call_at j.calls c.number.0 ≡ Some c → h.state.calls ≡ j.calls → h.call.number ≡ c.number → h.call.buffer ≡ c.buffer → IsSilent (option_to_list h.note) → IsBalanced k (es ++ (reception t h).entries) (reception t h).state
     received_with c h live calls number bytes silent =
@@ -290,9 +250,15 @@ module _ (k : KernelState) (sound : IsSound k) where
     received_as c ConnectToMe live = received_with c (on_receive_of ConnectToMe j c t) live refl refl refl (kept_silent (first_usable_of j t) Connecting)
     received_as c _ live = received_with c (as_it_is j c) live refl refl refl none_silent
 
-    received_first : (answer incoming : Option Call) → front j.calls (Answers t) ≡ answer → front j.calls (Incoming t) ≡ incoming → IsBalanced k (es ++ (receive_first j t answer incoming).entries) (receive_first j t answer incoming).state
-    received_first (Some c) incoming one two = delivered c (live_front k sound es j (Answers t) c r.accounts one)
-    received_first None (Some c) one two = received_as c (kind_of c.request.method) (live_front k sound es j (Incoming t) c r.accounts two)
+    received_first :
+        (answer incoming : Option Call) → front j.calls (Answers t) ≡ answer → front j.calls (Incoming t) ≡ incoming
+            → IsBalanced k (es ++ (receive_first j t answer incoming).entries) (receive_first j t answer incoming).state
+    received_first (Some c) incoming one two =
+        let live = live_front k sound es j (Answers t) c r.accounts one in
+        by_test (λ (h : Handed). IsBalanced k (es ++ (delivery t h).entries) (delivery t h).state) (brings_bytes c) _ _
+        (λ _. brought c live) (λ _. given c live)
+    received_first None (Some c) one two =
+        received_as c (kind_of c.request.method) (live_front k sound es j (Incoming t) c r.accounts two)
     received_first None None one two = told_last es [] j j r (rw (none_after es) r.accounts) (λ q. refl) (λ q. refl)
 
   received : (t : TaskNo) → Balances k (receive k t)
@@ -300,13 +266,11 @@ module _ (k : KernelState) (sound : IsSound k) where
 
   -- an answer, and a forward, of a live call
   module _ (c : Call) (live : call_at k.calls c.number.0 ≡ Some c) where
-    settled_for : (reply : Reply) (by o : Option TaskNo) (b : Bool) → StepBalances k (settle_for k c reply by o b)
-    settled_for reply by None b = vanished k (settle_for k c reply by None b).state c (kept_note (kept_phone c) Free) refl live (kept_silent (kept_phone c) Free)
-    settled_for reply by (Some u) false = vanished k (settle_for k c reply by (Some u) false).state c (kept_note (kept_phone c) Free) refl live (kept_silent (kept_phone c) Free)
-    settled_for reply by (Some u) true = answered_as k c (declined k c reply) by u refl live (kept_silent (lent_phone c) Free)
+    gone : StepBalances k (vanishing k c)
+    gone = vanished k (vanishing k c).state c (kept_note (kept_phone c) Free) refl live (kept_silent (kept_phone c) Free)
 
-    settled : (reply : Reply) (by : Option TaskNo) → StepBalances k (settle k c reply by)
-    settled reply by = settled_for reply by c.caller (lives k c.caller)
+    declines : (reply : Reply) (by : Option TaskNo) (u : TaskNo) → StepBalances k (answer_to (declined k c reply) by u)
+    declines reply by u = answered_as k c (declined k c reply) by u refl live (kept_silent (lent_phone c) Free)
 
     accepted : (t : TaskNo) (reply : Reply) (u : TaskNo) (kind : MethodKind) → StepBalances k (answer_to (on_accept_of kind k c reply t u) (Some t) u)
     accepted t reply u ConnectToMe = answered_as k c (accepted_to_me k c reply u) (Some t) u refl live (kept_silent (kept_phone c) (Connected u))
@@ -317,58 +281,58 @@ module _ (k : KernelState) (sound : IsSound k) where
     accepted t reply u ShareIn = answered_as k c (accepted_share In k c reply t u) (Some t) u refl live (shared_silent u (base_of c.request.args) (pages_of c.request.args) (rights_of c.request.args) (in_accept k.memory u t c.request.args reply).told)
     accepted t reply u _ = answered_as k c (as_it_is k (record c { reply = reply })) (Some t) u refl live none_silent
 
-    accepted_for : (t : TaskNo) (reply : Reply) (o : Option TaskNo) (b : Bool) → StepBalances k (accept_for k t reply c o b)
-    accepted_for t reply None b = vanished k (accept_for k t reply c None b).state c (kept_note (kept_phone c) Free) refl live (kept_silent (kept_phone c) Free)
-    accepted_for t reply (Some u) false = vanished k (accept_for k t reply c (Some u) false).state c (kept_note (kept_phone c) Free) refl live (kept_silent (kept_phone c) Free)
-    accepted_for t reply (Some u) true = accepted t reply u (kind_of c.request.method)
-
-    replied : (t : TaskNo) (reply : Reply) → StepBalances k (answer_call k t reply c)
-    replied t reply = by_test (StepBalances k) (accepts reply.code) _ _ (λ _. accepted_for t reply c.caller (lives k c.caller)) (λ _. settled reply (Some t))
-
-    passed : (t : TaskNo) (p : ℕ) (mode : Mode) (change : Option Msg) (f : Forwarded) → StepBalances k (passage (msg_after change c) (label_after t p mode c) t f.to k c)
-    passed t p mode change f =
-        let step : Transition = passage (msg_after change c) (label_after t p mode c) t f.to k c in
-        let silent = more_silent (entry.Forwarded c.number t f.to (label_after t p mode c)) (option_to_list (kept_note (lent_phone c) Free)) (λ q. refl) (λ q. refl) (λ q. refl) (kept_silent (lent_phone c) Free) in
-        moved k step.entries step.state c (passed_call (msg_after change c) (label_after t p mode c) c) (Incoming f.to) refl live refl silent
+    passed : (msg : Msg) (label : Label) (t to : TaskNo) → StepBalances k (passage msg label t to k c)
+    passed msg label t to =
+        let step : Transition = passage msg label t to k c in
+        let silent =
+            more_silent (entry.Forwarded c.number t to label) (option_to_list (kept_note (lent_phone c) Free))
+            (λ q. refl) (λ q. refl) (λ q. refl) (kept_silent (lent_phone c) Free) in
+        moved k step.entries step.state c (passed_call msg label c) (Incoming to) refl live refl silent
 
   own : (n : ℕ) (c : Call) → call_at k.calls n ≡ Some c → call_at k.calls c.number.0 ≡ Some c
   own n c is = ap (call_at k.calls) (sound.calls.each n c is).number ∙ is
 
-  held : (t : TaskNo) (reply : Reply) (n : ℕ) (o : Option Call) → call_at k.calls n ≡ o → Balances k (answer_held k t reply (held_call t o))
-  held t reply n None is = refl
-  held t reply n (Some c) is = by_test (λ (x : Option Call). Balances k (answer_held k t reply x)) (is_held t c) (Some c) None (λ _. replied c (own n c is) t reply) (λ _. refl)
+  -- each join
+  joined : (t : TaskNo) (asked : Request) (s : Served) → join.Joins t asked k s → Balances k s
+  joined t asked s (join.plain o _) = refl
+  joined t asked s (join.back p msg _ code _ _ _) = at_once (new_call k t p msg (Answers t)) code refl refl
+  joined t asked s (join.sent p msg u _ _ _ _) =
+      sent (as_it_is k (new_call k t p msg (Incoming u))) u refl refl none_silent
+  joined t asked s (join.sent_keeping p msg u l _ _ _ _) =
+      sent (join.kept_to_send k (new_call k t p msg (Incoming u)) l) u refl refl (kept_silent (Some l) Connecting)
+  joined t asked s (join.sent_carrying p msg u bytes _ _ _ _) =
+      sent (as_it_is k (record (cut_call (new_call k t p msg (Incoming u))) { buffer = bytes })) u refl refl none_silent
+  joined t asked s (join.sent_cut p msg u _ _ _) =
+      sent (as_it_is k (cut_call (new_call k t p msg (Incoming u)))) u refl refl none_silent
+  joined t asked s (join.taken n c kind _ at _) = received_as t [] k begun c kind (own n c at.live)
+  joined t asked s (join.delivered n c _ at _) = given t [] k begun c (own n c at.live)
+  joined t asked s (join.brought n c _ at _) = brought t [] k begun c (own n c at.live)
+  joined t asked s (join.vanished n c o _ at _ _) = gone c (own n c at.live)
+  joined t asked s (join.turned_down n c reply u _ at _ _ _) = declines c (own n c at.live) reply (Some t) u
+  joined t asked s (join.bounced n p mode change c u code _ at _ _) =
+      declines c (own n c at.live) (bare_reply eforward) None u
+  joined t asked s (join.accepted n c reply u kind _ at _ _ _ _) = accepted c (own n c at.live) t reply u kind
+  joined t asked s (join.passed n p mode change c u _ at _ _) =
+      passed c (own n c at.live) (msg_after change c) (label_after t p mode c) t u
+  joined t asked s (join.hung_up p u _ _) =
+      come (hang_up k t p (Some (Connected u))).state (hangup_call k t p u) (label_of t p) phone_hungup (Some u)
+      (entry.PhoneIs (label_of t p) HungUp ∷ []) refl refl
+      (record { ended = λ q. refl; accepted = λ q. refl; answered = λ q. refl })
+  joined t asked s (join.hung_up_slammed p _ _) = refl
+  joined t asked s (join.made base pages rights _) =
+      let step : Served = make_area k t base pages rights in
+      quiet k step.entries step.state refl (made_silent t base pages rights (spaces.make k.memory t base pages rights).told)
+  joined t asked s (join.dropped base _) =
+      let step : Served = drop_area k t base in
+      quiet k step.entries step.state refl (gone_silent t base (spaces.drop_area k.memory t base).told)
+  joined t asked s (join.poked at bytes _) =
+      let step : Served = poke k t at bytes in
+      quiet k step.entries step.state refl (wrote_silent t at (length bytes) (spaces.write k.memory t at bytes).told)
 
-  live_settled : (n : ℕ) (o : Option Call) → call_at k.calls n ≡ o → StepBalances k (settle_live k (bare_reply eforward) None o)
-  live_settled n None is = refl
-  live_settled n (Some c) is = settled c (own n c is) (bare_reply eforward) None
-
-  forwarded : (t : TaskNo) (n p : ℕ) (mode : Mode) (change : Option Msg) (o : Option Call) (r : Result Forwarded ForwardFault) → call_at k.calls n ≡ o → Balances k (forward_told k t p mode change o r)
-  forwarded t n p mode change None (Ok f) is = refl
-  forwarded t n p mode change (Some c) (Ok f) is = passed c (own n c is) t p mode change f
-  forwarded t n p mode change o (Err NotHeld) is = refl
-  forwarded t n p mode change o (Err NotForwardable) is = live_settled n o is
-  forwarded t n p mode change o (Err NotConnected) is = live_settled n o is
-
-  hung_up : (t : TaskNo) (p : ℕ) (s : Option PhoneState) → Balances k (hangup_over k t p s)
-  hung_up t p None = refl
-  hung_up t p (Some Free) = refl
-  hung_up t p (Some Connecting) = refl
-  hung_up t p (Some HungUp) = refl
-  hung_up t p (Some Slammed) = refl
-  hung_up t p (Some (Connected u)) =
-      come (hangup_over k t p (Some (Connected u))).state (hangup_call k t p u) (label_of t p) phone_hungup (Some u) (entry.PhoneIs (label_of t p) HungUp ∷ []) refl refl (record { ended = λ q. refl; accepted = λ q. refl; answered = λ q. refl })
-
-  balanced : (t : TaskNo) (asked : Request) → Balances k (serve_request k t asked)
-  balanced t (request.Call p msg) = called t p msg (phone_at k t p)
-  balanced t request.Receive = received t
-  balanced t (request.Answer n reply) = held t reply n (call_at k.calls n) refl
-  balanced t (request.Forward n p mode change) = forwarded t n p mode change (call_at k.calls n) (forward_answer k.calls t (phone_at k t p) n change) refl
-  balanced t (request.Hangup p) = hung_up t p (phone_at k t p)
-  balanced t (request.AreaMake base pages rights) = let s : Served = serve_request k t (request.AreaMake base pages rights) in quiet k s.entries s.state refl (made_silent t base pages rights (spaces.make k.memory t base pages rights).told)
-  balanced t (request.AreaDrop base) = let s : Served = serve_request k t (request.AreaDrop base) in quiet k s.entries s.state refl (gone_silent t base (spaces.drop_area k.memory t base).told)
-  balanced t (request.Poke at bytes) = let s : Served = serve_request k t (request.Poke at bytes) in quiet k s.entries s.state refl (wrote_silent t at (length bytes) (spaces.write k.memory t at bytes).told)
-  balanced t (request.Peek at count) = refl
-  balanced t request.Nothing = refl
-
-pub serve_balances : (k : KernelState) (t : TaskNo) (asked : Request) → IsSound k → IsBalanced k (serve k t asked).entries (serve k t asked).state
-serve_balances k t asked sound = balanced k sound t asked
+pub serve_balances :
+    (k : KernelState) (t : TaskNo) (asked : Request) → IsSound k
+        → IsBalanced k (serve k t asked).entries (serve k t asked).state
+serve_balances k t asked sound = elim (join.one_join t k asked) [
+  | inl is ↦ subst (λ (a : Request). Balances k (serve_request k t a)) (sym is) (received k sound t)
+  | inr come ↦ joined k sound t asked (serve_request k t asked) come
+]
