@@ -160,7 +160,7 @@ module _ (k : KernelState) (sound : IsSound k) (May : ℕ → Type 0) where
   held_open t c h = dispatched_open c t (same_place-true c.place (Dispatched t) h)
 
   joined : (t : TaskNo) (asked : Request) → ((n : ℕ) → Forwards asked n → May n) → (j : KernelState) (s : Served) → Keeps j → join.Joins t asked j s → Keeps s.state
-  joined t asked may j s a (join.back p msg at code _ _ _) = come j.calls (record (new_call j t p msg (Answers t)) { reply = bare_reply code }) refl a
+  joined t asked may j s a (join.back p msg at code _ _ _ _) = come j.calls (record (new_call j t p msg (Answers t)) { reply = bare_reply code }) refl a
   joined t asked may j s a (join.sent p msg u _ _ _ _) = come j.calls (new_call j t p msg (Incoming u)) refl a
   joined t asked may j s a (join.sent_keeping p msg u l _ _ _ _) = come j.calls (join.kept_to_send j (new_call j t p msg (Incoming u)) l).call refl a
   joined t asked may j s a (join.sent_carrying p msg u bytes _ _ _ _) = come j.calls (record (cut_call (new_call j t p msg (Incoming u))) { buffer = bytes }) refl a
