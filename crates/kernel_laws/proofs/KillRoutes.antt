@@ -10,7 +10,6 @@ use Rattle.ipc_ids.specs.Codes.{ehangup}
 use Rattle.call_slab.specs.declared.call.Call.{Call}
 use Rattle.call_slab.specs.declared.call.Place.{Place}
 use Rattle.call_slab.specs.declared.call.Place.TheVariants.{Incoming, Dispatched, Answers}
-use Rattle.std.proofs.lemmas.Bool.{eqb-true}
 use Rattle.answerbox.specs.Calls.{CallTable, call_at, task_of, same_place, calls_at, calls_by, with_record, without_call, without_caller}
 use Rattle.answerbox.proofs.Fronts.{front_live}
 use Rattle.phone_table.specs.Phones.{state_at}
@@ -25,6 +24,7 @@ use Rattle.cleanup.proofs.Lookups.{at_insert, chosen, same_call}
 use Rattle.cleanup.proofs.Repeats.{by_test, each_keeps, drain_keeps}
 use Rattle.cleanup.proofs.Rows.{state_changed_at}
 use Rattle.kernel_core.specs.Kernel.{kill_event}
+use Rattle.kernel_core.proofs.InEvent.{same_place-true}
 use Rattle.kernel_core.proofs.ByKill as end
 use Rattle.kernel_laws.specs.Routes.{Leads, Stands, IsFarewell, OnlyFarewellsCome, NoneCameToLead}
 use Rattle.kernel_laws.proofs.CallRoutes.{came_by, put_by, gone_by, not_answers, same_queue}
@@ -58,15 +58,7 @@ forgot_by q m n c numbered at = by_call (call_at q m) refl at where
 
 -- the task of two places that are one
 one_task : (p q : Place) → same_place p q ≡ true → task_of p ≡ task_of q
-one_task (Incoming u) (Incoming v) h = eqb-true u.0 v.0 h
-one_task (Dispatched u) (Dispatched v) h = eqb-true u.0 v.0 h
-one_task (Answers u) (Answers v) h = eqb-true u.0 v.0 h
-one_task (Incoming u) (Dispatched v) h = absurd (cc h)
-one_task (Incoming u) (Answers v) h = absurd (cc h)
-one_task (Dispatched u) (Incoming v) h = absurd (cc h)
-one_task (Dispatched u) (Answers v) h = absurd (cc h)
-one_task (Answers u) (Incoming v) h = absurd (cc h)
-one_task (Answers u) (Dispatched v) h = absurd (cc h)
+one_task p q h = ap task_of (same_place-true p q h)
 
 -- what each step of a kill keeps, the kill keeps
 module _ (t : TaskNo) (I : KernelState → Type 0)

@@ -37,7 +37,7 @@ use Rattle.kernel_core.proofs.ByRequest.{own}
 use Rattle.kernel_laws.specs.Routes.{Leads, IsConnected, LeadWhereConnected}
 use Rattle.kernel_laws.proofs.Methods.{to_me_method, me_to_method}
 use Rattle.kernel_laws.proofs.CallRoutes.{at_dispatched, one_task}
-use Rattle.kernel_laws.proofs.KillRoutes.{IsNowhere, is_there}
+use Rattle.kernel_laws.proofs.KillRoutes.{IsNowhere, free_nowhere, is_there}
 
 -- rows of phones after one of them was written
 
@@ -76,9 +76,6 @@ kept_came rows (Some l) s v p x is = elim (state_changed_at rows l.task.0 l.phon
   | inl e ↦ inr (ap Some (same_phone l (label_at v p) (sym e.0) (sym e.1)), e.2)
   | inr e ↦ inl e.1
 ]
-
-free_nowhere : IsNowhere Free
-free_nowhere u e = cc
 
 waiting_nowhere : IsNowhere Connecting
 waiting_nowhere u e = cc

@@ -21,7 +21,6 @@ use Rattle.call_slab.specs.declared.call.Place.{Place}
 use Rattle.call_slab.specs.declared.call.Place.TheVariants.{Incoming, Dispatched, Answers}
 use Rattle.answerbox.specs.Calls.{CallTable, call_at, front, enqueue, put_at, without_call, used}
 use Rattle.answerbox.proofs.Used.{used-enqueue, used-without_call, used-put_at}
-use Rattle.forwarding.specs.declared.passing.Forwarded.{Forwarded}
 use Rattle.forwarding.specs.Forwarding.{msg_after, label_after}
 use Rattle.address_space.specs.Memory as spaces
 use Rattle.data_hooks.specs.DataMoments.{address_of, count_of, write_accept, read_deliver}

@@ -27,7 +27,6 @@ use Rattle.ipc_ids.proofs.LawfulAreas.{on_top-append}
 use Rattle.call_slab.specs.declared.call.Call.{Call}
 use Rattle.call_slab.specs.declared.call.Place.TheVariants.{Incoming, Dispatched, Answers}
 use Rattle.answerbox.specs.Calls.{CallTable, call_at, enqueue, put_at, without_call}
-use Rattle.forwarding.specs.declared.passing.Forwarded.{Forwarded}
 use Rattle.forwarding.specs.Forwarding.{msg_after, label_after}
 use Rattle.address_space.specs.Memory as spaces
 use Rattle.data_hooks.specs.DataMoments.{address_of, count_of, cut_args, write_accept, read_deliver}
@@ -35,7 +34,7 @@ use Rattle.share_hooks.specs.ShareMoments.{base_of, pages_of, rights_of, out_acc
 use Rattle.cleanup.specs.declared.sharing.Share.TheVariants.{Out, In}
 use Rattle.cleanup.specs.State.{KernelState, Transition, phone_at, label_of}
 use Rattle.cleanup.specs.Sound.{IsSound}
-use Rattle.cleanup.specs.Kept.{AreKept, WaitsIn, phone_of, kept_phone, lent_phone, kept_note, kept_rows, first_usable_of}
+use Rattle.cleanup.specs.Kept.{AreKept, WaitsIn, kept_phone, lent_phone, kept_note, kept_rows, first_usable_of}
 use Rattle.cleanup.specs.Joins.{bare_reply, new_call, acceptance, answer_at_once, reception, delivery, answer_to, declined_call, code_of, settle_for, passage, passed_call, hang_up, hangup_call}
 use Rattle.cleanup.specs.Areas.{done_or_refused, made_note, gone_note, wrote_note}
 use Rattle.cleanup.specs.Data.{accepted_write, accepted_read, delivered_read}
