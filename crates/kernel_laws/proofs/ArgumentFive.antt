@@ -41,7 +41,10 @@ use Rattle.kernel_laws.specs.Connecting.{TellsPhone, TellPhones, HasFive}
 use Rattle.kernel_laws.proofs.CallRoutes.{came_by, put_by, gone_by}
 
 -- a call that no task holds, at its place
-away : (c : Call) (place : Place) → c.place ≡ place → ((t : TaskNo) → place ≡ Dispatched t → ⊥) → length c.msg.args ≡ 5 → ((l : Label) → c.request.method ≡ connect_me_to → c.reserved ≡ Some l → slice_index c.msg.args 4 ≡ 64 * l.task.0 + l.phone.0) → TellsPhone c
+away : (c : Call) (place : Place) → c.place ≡ place → ((t : TaskNo) → place ≡ Dispatched t → ⊥) → length c.msg.args ≡ 5
+    → ((l : Label) → c.request.method ≡ connect_me_to → c.reserved ≡ Some l
+    → slice_index c.msg.args 4 ≡ 64 * l.task.0 + l.phone.0)
+    → TellsPhone c
 away c place at unheld five tells = record {
   five = five;
   me_to = tells;
@@ -60,36 +63,52 @@ unless_is None o l h = h
 unless_is (Some m) o l h = absurd (cc h)
 
 -- an answered call
-answered : (c d : Call) (u : TaskNo) (stamp : ℕ) → d.msg ≡ c.msg → d.request ≡ c.request → ((l : Label) → d.reserved ≡ Some l → c.reserved ≡ Some l) → TellsPhone c → TellsPhone (record d { place = Answers u; stamp = stamp })
-answered c d u stamp msg request reserved h = away (record d { place = Answers u; stamp = stamp }) (Answers u) refl (answers_unheld u)
+answered : (c d : Call) (u : TaskNo) (stamp : ℕ) → d.msg ≡ c.msg → d.request ≡ c.request
+    → ((l : Label) → d.reserved ≡ Some l → c.reserved ≡ Some l) → TellsPhone c
+    → TellsPhone (record d { place = Answers u; stamp = stamp })
+answered c d u stamp msg request reserved h =
+    away (record d { place = Answers u; stamp = stamp }) (Answers u) refl (answers_unheld u)
     (ap (λ (m : Msg). length m.args) msg ∙ h.five)
-    (λ l asks kept. ap (λ (m : Msg). slice_index m.args 4) msg ∙ h.me_to l (ap (λ (m : Msg). m.method) (sym request) ∙ asks) (reserved l kept))
+    (λ l asks kept.
+    ap (λ (m : Msg). slice_index m.args 4) msg
+    ∙ h.me_to l (ap (λ (m : Msg). m.method) (sym request) ∙ asks) (reserved l kept))
 
 module _ (q : CallTable) (h : TellPhones q) where
   tell_come : (d : Call) → TellsPhone (record d { stamp = q.next_stamp }) → TellPhones (enqueue q d)
   tell_come d tells n c is = elim (came_by q d c n is) [ inl e ↦ subst TellsPhone e.1 tells | inr e ↦ h n c e ]
 
-  tell_put : (d : Call) (place : Place) → TellsPhone (record d { place = place; stamp = q.next_stamp }) → TellPhones (put_at q d place)
-  tell_put d place tells n c is = elim (put_by q d c place n is) [ inl e ↦ subst TellsPhone e.1 tells | inr e ↦ h n c e ]
+  tell_put : (d : Call) (place : Place) → TellsPhone (record d { place = place; stamp = q.next_stamp })
+      → TellPhones (put_at q d place)
+  tell_put d place tells n c is =
+      elim (put_by q d c place n is) [ inl e ↦ subst TellsPhone e.1 tells | inr e ↦ h n c e ]
 
   tell_gone : (m : ℕ) → TellPhones (without_call q m)
   tell_gone m n c is = h n c (gone_by q m n c is)
 
   tell_forgot : (m : ℕ) → TellPhones (without_caller q m)
   tell_forgot m = by_call (call_at q m) refl where
-    by_call : (o : Option Call) → call_at q m ≡ o → TellPhones (option_map_or (λ (d : Call). with_record q (record d { caller = None })) o q)
+    by_call : (o : Option Call) → call_at q m ≡ o
+        → TellPhones (option_map_or (λ (d : Call). with_record q (record d { caller = None })) o q)
     by_call None at n c is = h n c is
-    by_call (Some d) at n c is = elim (chosen d.number.0 n (Some (record d { caller = None })) (call_at q n) (Some c) (sym (at_insert q.records d.number.0 n (record d { caller = None })) ∙ is)) [
-      | inl e ↦ let g = h m d at in subst TellsPhone (same_call (record d { caller = None }) c e.1) (record { five = g.five; me_to = g.me_to; to_me = g.to_me; without = g.without })
-      | inr e ↦ h n c e.1
-    ]
+    by_call (Some d) at n c is =
+        let f : Call = record d { caller = None } in
+        let g = h m d at in
+        let told : TellsPhone f = record { five = g.five; me_to = g.me_to; to_me = g.to_me; without = g.without } in
+        elim (chosen d.number.0 n (Some f) (call_at q n) (Some c) (sym (at_insert q.records d.number.0 n f) ∙ is)) [
+          | inl e ↦ subst TellsPhone (same_call f c e.1) told
+          | inr e ↦ h n c e.1
+        ]
 
   -- a call without a phone comes to a queue
-  tell_bare : (d : Call) (place : Place) → d.place ≡ place → ((t : TaskNo) → place ≡ Dispatched t → ⊥) → length d.msg.args ≡ 5 → d.reserved ≡ None → TellPhones (enqueue q d)
-  tell_bare d place at unheld five none = tell_come d (away (record d { stamp = q.next_stamp }) place at unheld five (λ l asks kept. absurd (let e = sym none ∙ kept in cc)))
+  tell_bare : (d : Call) (place : Place) → d.place ≡ place → ((t : TaskNo) → place ≡ Dispatched t → ⊥)
+      → length d.msg.args ≡ 5 → d.reserved ≡ None → TellPhones (enqueue q d)
+  tell_bare d place at unheld five none =
+      tell_come d (away (record d { stamp = q.next_stamp }) place at unheld five
+      (λ l asks kept. absurd (let e = sym none ∙ kept in cc)))
 
 cut_five : (args : List ℕ) → length args ≡ 5 → length (cut_args args) ≡ 5
-cut_five args five = by_test (λ (xs : List ℕ). length xs ≡ 5) (nat_lt most_data (count_of args)) _ _ (λ _. refl) (λ _. five)
+cut_five args five =
+    by_test (λ (xs : List ℕ). length xs ≡ 5) (nat_lt most_data (count_of args)) _ _ (λ _. refl) (λ _. five)
 
 module _ (k : KernelState) (t : TaskNo) (h : TellPhones k.calls) where
   module _ (p : ℕ) (msg : Msg) (five : length msg.args ≡ 5) (u : TaskNo) where
@@ -175,14 +194,19 @@ module _ (k : KernelState) (t : TaskNo) (h : TellPhones k.calls) where
       same_fifth : slice_index (changed_msg ConnectMeTo change c.msg).args 4 ≡ slice_index c.msg.args 4
       same_fifth = get_or-set_same change.args 4 (slice_index c.msg.args 4) 0 (omega (arith, five))
 
-    passed : (p n : ℕ) (mode : Mode) (change : Option Msg) (to : TaskNo) → HasFive (request.Forward n p mode change) → TellPhones (passage (msg_after change c) (label_after t p mode c) t to k c).state.calls
+    passed : (p n : ℕ) (mode : Mode) (change : Option Msg) (to : TaskNo) → HasFive (request.Forward n p mode change)
+        → TellPhones (passage (msg_after change c) (label_after t p mode c) t to k c).state.calls
     passed p n mode None to five = tell_put k.calls h (passed_call c.msg (label_after t p mode c) c) (Incoming to)
-        (away (record (passed_call c.msg (label_after t p mode c) c) { place = Incoming to; stamp = k.calls.next_stamp }) (Incoming to) refl (queue_unheld to) g.five (λ l asks kept. g.me_to l asks (unless_is (lent_phone c) c.reserved l kept)))
+        (away (record (passed_call c.msg (label_after t p mode c) c) { place = Incoming to; stamp = k.calls.next_stamp })
+        (Incoming to) refl (queue_unheld to) g.five
+        (λ l asks kept. g.me_to l asks (unless_is (lent_phone c) c.reserved l kept)))
     passed p n mode (Some change) to five =
         let msg : Msg = changed_msg (kind_of c.request.method) change c.msg in
         tell_put k.calls h (passed_call msg (label_after t p mode c) c) (Incoming to)
-        (away (record (passed_call msg (label_after t p mode c) c) { place = Incoming to; stamp = k.calls.next_stamp }) (Incoming to) refl (queue_unheld to) (still_five change five (kind_of c.request.method)) (λ l asks kept.
-        ap (λ (x : MethodKind). slice_index (changed_msg x change c.msg).args 4) (ap kind_of asks) ∙ same_fifth change five ∙ g.me_to l asks (unless_is (lent_phone c) c.reserved l kept)))
+        (away (record (passed_call msg (label_after t p mode c) c) { place = Incoming to; stamp = k.calls.next_stamp })
+        (Incoming to) refl (queue_unheld to) (still_five change five (kind_of c.request.method)) (λ l asks kept.
+        ap (λ (x : MethodKind). slice_index (changed_msg x change c.msg).args 4) (ap kind_of asks)
+        ∙ same_fifth change five ∙ g.me_to l asks (unless_is (lent_phone c) c.reserved l kept)))
 
   -- a hangup, of a request or of a kill
   hung_up : (p : ℕ) (u : TaskNo) → TellPhones (enqueue k.calls (hangup_call k t p u))
@@ -190,11 +214,12 @@ module _ (k : KernelState) (t : TaskNo) (h : TellPhones k.calls) where
 
   -- each join of a request
   joined : (asked : Request) → HasFive asked → (s : Served) → join.Joins t asked k s → TellPhones s.state.calls
-  joined asked five s (join.back p msg _ code is _ _) =
+  joined asked five s (join.back p msg _ code is _ _ _) =
       tell_bare k.calls h (record (new_call k t p msg (Answers t)) { reply = bare_reply code }) (Answers t) refl
       (answers_unheld t) (subst HasFive is five) refl
   joined asked five s (join.sent p msg u is _ _ _) =
-      tell_bare k.calls h (new_call k t p msg (Incoming u)) (Incoming u) refl (queue_unheld u) (subst HasFive is five) refl
+      tell_bare k.calls h (new_call k t p msg (Incoming u)) (Incoming u) refl (queue_unheld u)
+      (subst HasFive is five) refl
   joined asked five s (join.sent_keeping p msg u l is _ _ first) = keeping p msg (subst HasFive is five) u l first
   joined asked five s (join.sent_carrying p msg u bytes is _ _ _) = cut p msg (subst HasFive is five) u bytes
   joined asked five s (join.sent_cut p msg u is _ _) = cut p msg (subst HasFive is five) u []
@@ -234,7 +259,8 @@ pub kill_tells :
     (k : KernelState) (t : TaskNo) → TellPhones k.calls → TellPhones (kill_event k t).state.calls
 kill_tells k t h = end.states_by_kill t (λ j. TellPhones j.calls) (λ j s g part. ended j t g s part) k h
 
-pub spawn_tells : (k : KernelState) (limit : ℕ) (names : Option TaskNo) → TellPhones k.calls → TellPhones (spawn_event k limit names).state.calls
+pub spawn_tells : (k : KernelState) (limit : ℕ) (names : Option TaskNo) → TellPhones k.calls
+    → TellPhones (spawn_event k limit names).state.calls
 spawn_tells k limit names h = by_name (named k names) where
   by_name : (o : Option TaskNo) → TellPhones (spawning k (next_task k) limit o).state.calls
   by_name None = h

@@ -6,7 +6,6 @@ use Rattle.ipc_ids.specs.declared.numbers.TaskNo.{TaskNo}
 use Rattle.ipc_ids.specs.declared.message.Msg.{Msg}
 use Rattle.ipc_ids.specs.declared.message.Reply.{Reply}
 use Rattle.ipc_ids.specs.declared.message.Request.{Request}
-use Rattle.ipc_ids.specs.declared.message.Request.TheVariants as request
 use Rattle.ipc_ids.specs.declared.methods.MethodKind.{MethodKind}
 use Rattle.ipc_ids.specs.declared.methods.MethodKind.TheVariants.{ConnectToMe, ConnectMeTo, DataWrite, DataRead, ShareOut, ShareIn}
 use Rattle.ipc_ids.specs.Codes.{ehangup, eforward}
@@ -23,7 +22,6 @@ use Rattle.cleanup.specs.Sound.{IsSound}
 use Rattle.cleanup.specs.Data.{accepted_write, accepted_read}
 use Rattle.cleanup.specs.Sharing.{accepted_share}
 use Rattle.cleanup.specs.Joins.{bare_reply, new_call, reception, answer_to, declined_call, accepted_to_me, accepted_me_to, passed_call, forget_call, hangup_call}
-use Rattle.cleanup.specs.Kill.{kill}
 use Rattle.cleanup.specs.Serving.{Handed, Served, as_it_is}
 use Rattle.cleanup.proofs.Lookups.{at_insert, at_remove, chosen, same_call}
 use Rattle.kernel_core.specs.Moments.{on_receive_of, on_accept_of, cut_call}
@@ -160,7 +158,7 @@ module _ (k : KernelState) (sound : IsSound k) (May : ℕ → Type 0) where
   held_open t c h = dispatched_open c t (same_place-true c.place (Dispatched t) h)
 
   joined : (t : TaskNo) (asked : Request) → ((n : ℕ) → Forwards asked n → May n) → (j : KernelState) (s : Served) → Keeps j → join.Joins t asked j s → Keeps s.state
-  joined t asked may j s a (join.back p msg at code _ _ _) = come j.calls (record (new_call j t p msg (Answers t)) { reply = bare_reply code }) refl a
+  joined t asked may j s a (join.back p msg at code _ _ _ _) = come j.calls (record (new_call j t p msg (Answers t)) { reply = bare_reply code }) refl a
   joined t asked may j s a (join.sent p msg u _ _ _ _) = come j.calls (new_call j t p msg (Incoming u)) refl a
   joined t asked may j s a (join.sent_keeping p msg u l _ _ _ _) = come j.calls (join.kept_to_send j (new_call j t p msg (Incoming u)) l).call refl a
   joined t asked may j s a (join.sent_carrying p msg u bytes _ _ _ _) = come j.calls (record (cut_call (new_call j t p msg (Incoming u))) { buffer = bytes }) refl a

@@ -1,30 +1,31 @@
 -- In a kill no phone comes to lead anywhere, and no call comes to a queue but those that tell of its phones.
 use Rattle.std.proofs.Common.{◌≡◌, ℕ, ◌+◌, ◌≤◌, ◌⊎◌, inl, inr, Option, None, Some, length, refl, ap, sym, subst, ◌∙◌, arith}
-use Rattle.std.specs.Prelude.{◌==◌, Bool, true, false, IsSome}
+use Rattle.std.specs.Prelude.{◌==◌, true, IsSome}
 use Rattle.std.specs.Option.{option_map_or}
 use Rattle.ipc_ids.specs.declared.numbers.Label.{Label}
 use Rattle.ipc_ids.specs.declared.numbers.TaskNo.{TaskNo}
 use Rattle.ipc_ids.specs.declared.message.PhoneState.{PhoneState}
-use Rattle.ipc_ids.specs.declared.message.PhoneState.TheVariants.{Free, Connecting, Connected, HungUp, Slammed}
+use Rattle.ipc_ids.specs.declared.message.PhoneState.TheVariants.{Free, Connected, HungUp, Slammed}
 use Rattle.ipc_ids.specs.Codes.{ehangup}
 use Rattle.call_slab.specs.declared.call.Call.{Call}
 use Rattle.call_slab.specs.declared.call.Place.{Place}
 use Rattle.call_slab.specs.declared.call.Place.TheVariants.{Incoming, Dispatched, Answers}
-use Rattle.std.proofs.lemmas.Bool.{eqb-true}
 use Rattle.answerbox.specs.Calls.{CallTable, call_at, task_of, same_place, calls_at, calls_by, with_record, without_call, without_caller}
 use Rattle.answerbox.proofs.Fronts.{front_live}
 use Rattle.phone_table.specs.Phones.{state_at}
 use Rattle.address_space.specs.Memory.{first_area, count_areas}
-use Rattle.cleanup.specs.State.{KernelState, Transition, then_do, phone_at, with_state_at}
+use Rattle.cleanup.specs.State.{KernelState, Transition, then_do, phone_at, with_state_at, with_phone}
 use Rattle.cleanup.specs.Sound.{IsSound}
 use Rattle.cleanup.specs.Kept.{kept_phone, lent_phone, kept_rows, unless_freed}
-use Rattle.cleanup.specs.Joins.{bare_reply, lives, settle_for, drop_answer, forget_call, hang_up, hangup_call}
+use Rattle.cleanup.specs.Joins.{bare_reply, answer_to, declined, drop_answer, forget_call, hang_up, hangup_call}
 use Rattle.cleanup.specs.Areas.{lose_first_area}
-use Rattle.cleanup.specs.Kill.{task_no, width, mark_ended, hang_up_at, hang_up_own_phones, slam, slam_at, slam_other, slam_phones_to, first_at, settle_call, settle_calls_at, drop_answers, first_call_of, forget_calls_elsewhere, drop_first_area, settle_incoming, settle_dispatched, kill}
+use Rattle.cleanup.specs.Kill.{task_no, width, mark_ended, hang_up_at, hang_up_own_phones, slam_at, slam_other, slam_phones_to, first_at, settle_call, settle_calls_at, drop_answers, first_call_of, forget_calls_elsewhere, drop_first_area, settle_incoming, settle_dispatched, kill}
 use Rattle.cleanup.proofs.Lookups.{at_insert, chosen, same_call}
 use Rattle.cleanup.proofs.Repeats.{by_test, each_keeps, drain_keeps}
 use Rattle.cleanup.proofs.Rows.{state_changed_at}
 use Rattle.kernel_core.specs.Kernel.{kill_event}
+use Rattle.kernel_core.proofs.InEvent.{same_place-true}
+use Rattle.kernel_core.proofs.ByKill as end
 use Rattle.kernel_laws.specs.Routes.{Leads, Stands, IsFarewell, OnlyFarewellsCome, NoneCameToLead}
 use Rattle.kernel_laws.proofs.CallRoutes.{came_by, put_by, gone_by, not_answers, same_queue}
 
@@ -57,15 +58,7 @@ forgot_by q m n c numbered at = by_call (call_at q m) refl at where
 
 -- the task of two places that are one
 one_task : (p q : Place) → same_place p q ≡ true → task_of p ≡ task_of q
-one_task (Incoming u) (Incoming v) h = eqb-true u.0 v.0 h
-one_task (Dispatched u) (Dispatched v) h = eqb-true u.0 v.0 h
-one_task (Answers u) (Answers v) h = eqb-true u.0 v.0 h
-one_task (Incoming u) (Dispatched v) h = absurd (cc h)
-one_task (Incoming u) (Answers v) h = absurd (cc h)
-one_task (Dispatched u) (Incoming v) h = absurd (cc h)
-one_task (Dispatched u) (Answers v) h = absurd (cc h)
-one_task (Answers u) (Incoming v) h = absurd (cc h)
-one_task (Answers u) (Dispatched v) h = absurd (cc h)
+one_task p q h = ap task_of (same_place-true p q h)
 
 -- what each step of a kill keeps, the kill keeps
 module _ (t : TaskNo) (I : KernelState → Type 0)
@@ -103,7 +96,8 @@ module _ (k : KernelState) (sound : IsSound k) (t : TaskNo) where
     pub phones : (v : TaskNo) (p : ℕ) (u : TaskNo) → Leads j v p u → Leads k v p u
     pub later : k.calls.next_number ≤ j.calls.next_number
     pub numbered : (n : ℕ) (c : Call) → call_at j.calls n ≡ Some c → c.number.0 ≡ n
-    pub waiting : (n : ℕ) (c : Call) (u : TaskNo) → call_at j.calls n ≡ Some c → c.place ≡ Incoming u → Stands k.calls n (Incoming u) ⊎ IsFarewell t k u c
+    pub waiting : (n : ℕ) (c : Call) (u : TaskNo) → call_at j.calls n ≡ Some c → c.place ≡ Incoming u
+        → Stands k.calls n (Incoming u) ⊎ IsFarewell t k u c
 
   first : IsLeaving (mark_ended k t)
   first = record {
@@ -122,20 +116,26 @@ module _ (k : KernelState) (sound : IsSound k) (t : TaskNo) where
 
   -- phones
 
-  phone_written : (j : KernelState) (a b : ℕ) (s : PhoneState) → IsNowhere s → IsLeaving j → (v : TaskNo) (p : ℕ) (u : TaskNo) → state_at (with_state_at j.tasks.phones a b s) v.0 p ≡ Some (Connected u) → Leads k v p u
+  phone_written : (j : KernelState) (a b : ℕ) (s : PhoneState) → IsNowhere s → IsLeaving j
+      → (v : TaskNo) (p : ℕ) (u : TaskNo) → state_at (with_state_at j.tasks.phones a b s) v.0 p ≡ Some (Connected u)
+      → Leads k v p u
   phone_written j a b s nowhere h v p u leads = elim (state_changed_at j.tasks.phones a b v.0 p s (Connected u) leads) [ inl e ↦ absurd (nowhere u e.2) | inr e ↦ h.phones v p u e.1 ]
 
-  freed : (j : KernelState) (kept : Option Label) → IsLeaving j → (v : TaskNo) (p : ℕ) (u : TaskNo) → state_at (kept_rows j.tasks.phones kept Free) v.0 p ≡ Some (Connected u) → Leads k v p u
+  freed : (j : KernelState) (kept : Option Label) → IsLeaving j → (v : TaskNo) (p : ℕ) (u : TaskNo)
+      → state_at (kept_rows j.tasks.phones kept Free) v.0 p ≡ Some (Connected u) → Leads k v p u
   freed j None h = h.phones
   freed j (Some l) h = phone_written j l.task.0 l.phone.0 Free free_nowhere h
 
-  hung_up : (j : KernelState) (p : ℕ) (o : Option PhoneState) → phone_at j t p ≡ o → IsLeaving j → IsLeaving (hang_up j t p o).state
-  hung_up j p None is h = h
-  hung_up j p (Some Free) is h = h
-  hung_up j p (Some Connecting) is h = h
-  hung_up j p (Some HungUp) is h = h
-  hung_up j p (Some Slammed) is h = record { phones = phone_written j t.0 p HungUp hung_up_nowhere h; later = h.later; numbered = h.numbered; waiting = h.waiting }
-  hung_up j p (Some (Connected u)) is h =
+  written : (j : KernelState) (u : TaskNo) (p : ℕ) (s : PhoneState) → IsNowhere s → IsLeaving j
+      → IsLeaving (with_phone j u p s)
+  written j u p s nowhere h = record {
+    phones = phone_written j u.0 p s nowhere h; later = h.later; numbered = h.numbered; waiting = h.waiting;
+  }
+
+  hung_up :
+      (j : KernelState) (p : ℕ) (u : TaskNo) → phone_at j t p ≡ Some (Connected u) → IsLeaving j
+          → IsLeaving (hang_up j t p (Some (Connected u))).state
+  hung_up j p u is h =
       let d : Call = hangup_call j t p u in
       let e : Call = record d { stamp = j.calls.next_stamp } in
       record {
@@ -155,15 +155,6 @@ module _ (k : KernelState) (sound : IsSound k) (t : TaskNo) where
         ];
       }
 
-  slammed : (u : TaskNo) (j : KernelState) (p : ℕ) (o : Option PhoneState) → IsLeaving j → IsLeaving (slam t u j p o).state
-  slammed u j p None h = h
-  slammed u j p (Some Free) h = h
-  slammed u j p (Some Connecting) h = h
-  slammed u j p (Some HungUp) h = h
-  slammed u j p (Some Slammed) h = h
-  slammed u j p (Some (Connected v)) h =
-      by_test (λ (s : Transition). IsLeaving s.state) (v.0 == t.0) _ _ (λ _. record { phones = phone_written j u.0 p Slammed slammed_nowhere h; later = h.later; numbered = h.numbered; waiting = h.waiting }) (λ _. h)
-
   -- calls
 
   over : (j : KernelState) (m : ℕ) (kept : Option Label) → IsLeaving j → IsLeaving (record { tasks = record { alive = j.tasks.alive; phones = kept_rows j.tasks.phones kept Free }; calls = without_call j.calls m; memory = j.memory; events = j.events })
@@ -174,10 +165,10 @@ module _ (k : KernelState) (sound : IsSound k) (t : TaskNo) where
     waiting = λ n c u there at. h.waiting n c u (gone_by j.calls m n c there) at;
   }
 
-  settled : (j : KernelState) (c : Call) (o : Option TaskNo) (b : Bool) → IsLeaving j → IsLeaving (settle_for j c (bare_reply ehangup) None o b).state
-  settled j c None b h = over j c.number.0 (kept_phone c) h
-  settled j c (Some u) false h = over j c.number.0 (kept_phone c) h
-  settled j c (Some u) true h =
+  bounced :
+      (j : KernelState) (c : Call) (u : TaskNo) → IsLeaving j
+          → IsLeaving (answer_to (declined j c (bare_reply ehangup)) None u).state
+  bounced j c u h =
       let d : Call = record c { reply = bare_reply ehangup; reserved = unless_freed (lent_phone c) c.reserved } in
       record {
         phones = freed j (lent_phone c) h;
@@ -203,15 +194,20 @@ module _ (k : KernelState) (sound : IsSound k) (t : TaskNo) where
     by_call None = h.later
     by_call (Some d) = h.later
 
-  lost : (j : KernelState) (base : Option ℕ) → IsLeaving j → IsLeaving (lose_first_area t j base).state
-  lost j None h = h
-  lost j (Some base) h = record { phones = h.phones; later = h.later; numbered = h.numbered; waiting = h.waiting }
+  -- each part of the kill
+  ended : (j : KernelState) (s : Transition) → IsLeaving j → end.Ends t j s → IsLeaving s.state
+  ended j s h (end.hung_up p u is) = hung_up j p u is h
+  ended j s h (end.hung_up_slammed p _) = written j t p HungUp hung_up_nowhere h
+  ended j s h (end.slammed u v p _ _) = written j u p Slammed slammed_nowhere h
+  ended j s h (end.vanished n c place _ _ _) = over j c.number.0 (kept_phone c) h
+  ended j s h (end.bounced n c u place _ _ _ _) = bounced j c u h
+  ended j s h (end.dropped n c _) = over j c.number.0 (kept_phone c) h
+  ended j s h (end.forgotten c _) = forgotten j c h
+  ended j s h (end.lost base _) =
+      record { phones = h.phones; later = h.later; numbered = h.numbered; waiting = h.waiting }
 
   kill_left : IsLeaving (kill k t).state
-  kill_left = kill_keeps t IsLeaving
-      (λ j p h. hung_up j p (phone_at j t p) refl h) (λ u j p h. slammed u j p (phone_at j u p) h)
-      (λ j m c is at h. settled j c c.caller (lives j c.caller) h) (λ j m c is at h. over j c.number.0 (kept_phone c) h)
-      forgotten lost k first
+  kill_left = end.states_by_kill t IsLeaving ended k first
 
 pub kill_goes : (k : KernelState) (t : TaskNo) → IsSound k → OnlyFarewellsCome t k (kill_event k t).state
 kill_goes k t sound = (kill_left k sound t).waiting

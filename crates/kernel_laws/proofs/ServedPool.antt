@@ -21,7 +21,6 @@ use Rattle.call_slab.specs.declared.call.Place.{Place}
 use Rattle.call_slab.specs.declared.call.Place.TheVariants.{Incoming, Dispatched, Answers}
 use Rattle.answerbox.specs.Calls.{CallTable, call_at, front, enqueue, put_at, without_call, used}
 use Rattle.answerbox.proofs.Used.{used-enqueue, used-without_call, used-put_at}
-use Rattle.forwarding.specs.declared.passing.Forwarded.{Forwarded}
 use Rattle.forwarding.specs.Forwarding.{msg_after, label_after}
 use Rattle.address_space.specs.Memory as spaces
 use Rattle.data_hooks.specs.DataMoments.{address_of, count_of, write_accept, read_deliver}
@@ -79,7 +78,8 @@ module _ (k : KernelState) where
       omega (arith, ended, answered, came, got, one, two, sum)
 
   -- a record that carries as much goes to a place, and nothing is told of it that counts
-  moved : (es : List Entry) (j : KernelState) (c d : Call) (place : Place) → j.calls ≡ put_at k.calls d place → call_at k.calls d.number.0 ≡ Some c → d.buffer ≡ c.buffer → IsSilent es → IsBalanced k es j
+  moved : (es : List Entry) (j : KernelState) (c d : Call) (place : Place) → j.calls ≡ put_at k.calls d place
+      → call_at k.calls d.number.0 ≡ Some c → d.buffer ≡ c.buffer → IsSilent es → IsBalanced k es j
   moved es j c d place is live bytes silent =
       let ended = silent.ended k.calls in
       let before = silent.answered k.calls in
@@ -93,7 +93,9 @@ module _ (k : KernelState) where
       omega (arith, ended, before, came, got, one, two, whole, sum, size)
 
   -- an answer, with what it carries
-  answered : (j : KernelState) (c d : Call) (u : TaskNo) (reply : Reply) (by : Option TaskNo) (told : Option Entry) → j.calls ≡ put_at k.calls d (Answers u) → call_at k.calls d.number.0 ≡ Some c → IsSilent (option_to_list told) → IsBalanced k (entry.Answered d.number reply by ∷ option_to_list told) j
+  answered : (j : KernelState) (c d : Call) (u : TaskNo) (reply : Reply) (by : Option TaskNo) (told : Option Entry)
+      → j.calls ≡ put_at k.calls d (Answers u) → call_at k.calls d.number.0 ≡ Some c → IsSilent (option_to_list told)
+      → IsBalanced k (entry.Answered d.number reply by ∷ option_to_list told) j
   answered j c d u reply by told is live silent =
       let ended = silent.ended k.calls in
       let before = silent.answered k.calls in
@@ -108,11 +110,16 @@ module _ (k : KernelState) where
       let has : carried j.calls d.number ≡ length d.buffer = ap (λ (q : CallTable). bytes_of (call_at q d.number.0)) is ∙ ap bytes_of here in
       omega (arith, ended, before, came, got, one, two, whole, sum, had, has)
 
-  answered_as : (c : Call) (h : Handed) (by : Option TaskNo) (u : TaskNo) → h.state.calls ≡ k.calls → call_at k.calls h.call.number.0 ≡ Some c → IsSilent (option_to_list h.note) → StepBalances (answer_to h by u)
-  answered_as c h by u same live silent = answered (answer_to h by u).state c h.call u h.call.reply by h.note (ap (λ (q : CallTable). put_at q h.call (Answers u)) same) live silent
+  answered_as : (c : Call) (h : Handed) (by : Option TaskNo) (u : TaskNo) → h.state.calls ≡ k.calls
+      → call_at k.calls h.call.number.0 ≡ Some c → IsSilent (option_to_list h.note) → StepBalances (answer_to h by u)
+  answered_as c h by u same live silent =
+      answered (answer_to h by u).state c h.call u h.call.reply by h.note
+      (ap (λ (q : CallTable). put_at q h.call (Answers u)) same) live silent
 
   -- a call vanishes
-  vanished : (j : KernelState) (c : Call) (told : Option Entry) → j.calls ≡ without_call k.calls c.number.0 → call_at k.calls c.number.0 ≡ Some c → IsSilent (option_to_list told) → IsBalanced k (entry.Vanished c.number ∷ option_to_list told) j
+  vanished : (j : KernelState) (c : Call) (told : Option Entry) → j.calls ≡ without_call k.calls c.number.0
+      → call_at k.calls c.number.0 ≡ Some c → IsSilent (option_to_list told)
+      → IsBalanced k (entry.Vanished c.number ∷ option_to_list told) j
   vanished j c told is live silent =
       let ended = silent.ended k.calls in
       let before = silent.answered k.calls in
@@ -130,7 +137,9 @@ module _ (k : KernelState) (sound : IsSound k) where
   free = next_is_free k sound [] k.calls (accounted_first k sound)
 
   -- a call comes, with what it carries
-  come : (j : KernelState) (d : Call) (from : Label) (method : ℕ) (to : Option TaskNo) (told : List Entry) → j.calls ≡ enqueue k.calls d → d.number.0 ≡ k.calls.next_number → IsSilent told → IsBalanced k (entry.Accepted d.number from method to ∷ told) j
+  come : (j : KernelState) (d : Call) (from : Label) (method : ℕ) (to : Option TaskNo) (told : List Entry)
+      → j.calls ≡ enqueue k.calls d → d.number.0 ≡ k.calls.next_number → IsSilent told
+      → IsBalanced k (entry.Accepted d.number from method to ∷ told) j
   come j d from method to told is next silent =
       let ended = silent.ended k.calls in
       let before = silent.answered k.calls in
@@ -199,7 +208,9 @@ module _ (k : KernelState) (sound : IsSound k) where
       [] k begun
 
   -- what is told at last
-  told_last : (es new : List Entry) (j i : KernelState) → IsReceiving es j → IsAccounted k sound (es ++ new) i.calls → ((q : CallTable) → total (accepted_by q) new ≡ 0) → ((q : CallTable) → total (answered_by q) new ≡ 0) → IsBalanced k (es ++ new) i
+  told_last : (es new : List Entry) (j i : KernelState) → IsReceiving es j → IsAccounted k sound (es ++ new) i.calls
+      → ((q : CallTable) → total (accepted_by q) new ≡ 0) → ((q : CallTable) → total (answered_by q) new ≡ 0)
+      → IsBalanced k (es ++ new) i
   told_last es new j i r a accepted answers =
       let given = a.given in
       let before = pool-used k in
@@ -216,10 +227,13 @@ module _ (k : KernelState) (sound : IsSound k) where
       omega (arith, given, before, after, came, came_last, got, got_last, had, had_last, s1, s2, s3)
 
   module _ (t : TaskNo) (es : List Entry) (j : KernelState) (r : IsReceiving es j) where
-    delivered_as : (c : Call) (h : Handed) → call_at j.calls c.number.0 ≡ Some c → h.state.calls ≡ j.calls → h.call.number ≡ c.number → IsSilent (option_to_list h.note) → IsBalanced k (es ++ (delivery t h).entries) (delivery t h).state
+    delivered_as : (c : Call) (h : Handed) → call_at j.calls c.number.0 ≡ Some c → h.state.calls ≡ j.calls
+        → h.call.number ≡ c.number → IsSilent (option_to_list h.note)
+        → IsBalanced k (es ++ (delivery t h).entries) (delivery t h).state
     delivered_as c h live calls number silent =
         told_last es (delivery t h).entries j (delivery t h).state r
-        (rw (calls, number) (accounted_gone k sound es (entry.Delivered c.number t ∷ option_to_list h.note) j.calls c live (let none = silent.ended k.calls in omega (arith, none)) r.accounts))
+        (rw (calls, number) (accounted_gone k sound es (entry.Delivered c.number t ∷ option_to_list h.note) j.calls c
+        live (let none = silent.ended k.calls in omega (arith, none)) r.accounts))
         (λ q. let none = silent.accepted q in omega (arith, none))
         (λ q. let none = silent.answered q in omega (arith, none))
 
@@ -239,14 +253,18 @@ module _ (k : KernelState) (sound : IsSound k) where
         (wrote_silent t (address_of c.request.args) (length c.buffer)
         (read_deliver j.memory t c.request.args c.buffer).told)
 
-    received_with : (c : Call) (h : Handed) → call_at j.calls c.number.0 ≡ Some c → h.state.calls ≡ j.calls → h.call.number ≡ c.number → h.call.buffer ≡ c.buffer → IsSilent (option_to_list h.note) → IsBalanced k (es ++ (reception t h).entries) (reception t h).state
+    received_with : (c : Call) (h : Handed) → call_at j.calls c.number.0 ≡ Some c → h.state.calls ≡ j.calls
+        → h.call.number ≡ c.number → h.call.buffer ≡ c.buffer → IsSilent (option_to_list h.note)
+        → IsBalanced k (es ++ (reception t h).entries) (reception t h).state
     received_with c h live calls number bytes silent =
         let told = more_silent (entry.Received h.call.number t) (option_to_list h.note) (λ q. refl) (λ q. refl) (λ q. refl) silent in
         told_last es (reception t h).entries j (reception t h).state r
-        (rw calls (accounted_put k sound es (reception t h).entries j.calls c h.call (Dispatched t) (ap (λ (n : CallNo). call_at j.calls n.0) number ∙ live) bytes (told.ended k.calls) r.accounts))
+        (rw calls (accounted_put k sound es (reception t h).entries j.calls c h.call (Dispatched t)
+        (ap (λ (n : CallNo). call_at j.calls n.0) number ∙ live) bytes (told.ended k.calls) r.accounts))
         told.accepted told.answered
 
-    received_as : (c : Call) (kind : MethodKind) → call_at j.calls c.number.0 ≡ Some c → IsBalanced k (es ++ (reception t (on_receive_of kind j c t)).entries) (reception t (on_receive_of kind j c t)).state
+    received_as : (c : Call) (kind : MethodKind) → call_at j.calls c.number.0 ≡ Some c
+        → IsBalanced k (es ++ (reception t (on_receive_of kind j c t)).entries) (reception t (on_receive_of kind j c t)).state
     received_as c ConnectToMe live = received_with c (on_receive_of ConnectToMe j c t) live refl refl refl (kept_silent (first_usable_of j t) Connecting)
     received_as c _ live = received_with c (as_it_is j c) live refl refl refl none_silent
 
@@ -262,7 +280,10 @@ module _ (k : KernelState) (sound : IsSound k) where
     received_first None None one two = told_last es [] j j r (rw (none_after es) r.accounts) (λ q. refl) (λ q. refl)
 
   received : (t : TaskNo) → Balances k (receive k t)
-  received t = let d : Transition = drop_unawaited t k in received_first t d.entries d.state (rest t) (front d.state.calls (Answers t)) (front d.state.calls (Incoming t)) refl refl
+  received t =
+      let d : Transition = drop_unawaited t k in
+      received_first t d.entries d.state (rest t) (front d.state.calls (Answers t)) (front d.state.calls (Incoming t))
+      refl refl
 
   -- an answer, and a forward, of a live call
   module _ (c : Call) (live : call_at k.calls c.number.0 ≡ Some c) where
@@ -275,10 +296,16 @@ module _ (k : KernelState) (sound : IsSound k) where
     accepted : (t : TaskNo) (reply : Reply) (u : TaskNo) (kind : MethodKind) → StepBalances k (answer_to (on_accept_of kind k c reply t u) (Some t) u)
     accepted t reply u ConnectToMe = answered_as k c (accepted_to_me k c reply u) (Some t) u refl live (kept_silent (kept_phone c) (Connected u))
     accepted t reply u ConnectMeTo = answered_as k c (accepted_me_to k c reply t) (Some t) u refl live (kept_silent (kept_phone c) (Connected t))
-    accepted t reply u DataWrite = answered_as k c (accepted_write k c reply t) (Some t) u refl live (wrote_silent t (address_of reply.args) (count_of reply.args) (write_accept k.memory t c.buffer reply).told)
+    accepted t reply u DataWrite =
+        answered_as k c (accepted_write k c reply t) (Some t) u refl live
+        (wrote_silent t (address_of reply.args) (count_of reply.args) (write_accept k.memory t c.buffer reply).told)
     accepted t reply u DataRead = answered_as k c (accepted_read k c reply t) (Some t) u refl live none_silent
-    accepted t reply u ShareOut = answered_as k c (accepted_share Out k c reply t u) (Some t) u refl live (shared_silent t (base_of reply.args) (pages_of c.request.args) (rights_of c.request.args) (out_accept k.memory u t c.request.args reply).told)
-    accepted t reply u ShareIn = answered_as k c (accepted_share In k c reply t u) (Some t) u refl live (shared_silent u (base_of c.request.args) (pages_of c.request.args) (rights_of c.request.args) (in_accept k.memory u t c.request.args reply).told)
+    accepted t reply u ShareOut =
+        answered_as k c (accepted_share Out k c reply t u) (Some t) u refl live (shared_silent t (base_of reply.args)
+        (pages_of c.request.args) (rights_of c.request.args) (out_accept k.memory u t c.request.args reply).told)
+    accepted t reply u ShareIn =
+        answered_as k c (accepted_share In k c reply t u) (Some t) u refl live (shared_silent u (base_of c.request.args)
+        (pages_of c.request.args) (rights_of c.request.args) (in_accept k.memory u t c.request.args reply).told)
     accepted t reply u _ = answered_as k c (as_it_is k (record c { reply = reply })) (Some t) u refl live none_silent
 
     passed : (msg : Msg) (label : Label) (t to : TaskNo) → StepBalances k (passage msg label t to k c)
@@ -295,7 +322,7 @@ module _ (k : KernelState) (sound : IsSound k) where
   -- each join
   joined : (t : TaskNo) (asked : Request) (s : Served) → join.Joins t asked k s → Balances k s
   joined t asked s (join.plain o _) = refl
-  joined t asked s (join.back p msg _ code _ _ _) = at_once (new_call k t p msg (Answers t)) code refl refl
+  joined t asked s (join.back p msg _ code _ _ _ _) = at_once (new_call k t p msg (Answers t)) code refl refl
   joined t asked s (join.sent p msg u _ _ _ _) =
       sent (as_it_is k (new_call k t p msg (Incoming u))) u refl refl none_silent
   joined t asked s (join.sent_keeping p msg u l _ _ _ _) =

@@ -1,5 +1,5 @@
 -- A kill keeps what the entries tell of phones.
-use Rattle.std.proofs.Common.{◌≡◌, ℕ, ◌+◌, Bool, true, List, ◌∷◌, length, Option, None, Some, refl, ap, sym, subst, ◌∙◌}
+use Rattle.std.proofs.Common.{◌≡◌, ℕ, ◌+◌, Bool, true, List, ◌∷◌, length, Option, None, Some, refl, sym, subst, ◌∙◌}
 use Rattle.std.specs.Prelude.{◌==◌}
 use Rattle.std.proofs.lemmas.Bool.{eqb-true}
 use Rattle.ipc_ids.specs.declared.numbers.TaskNo.{TaskNo}
@@ -25,6 +25,7 @@ use Rattle.cleanup.proofs.Repeats.{by_test}
 use Rattle.cleanup.proofs.Silence.{IsEnding, IsAlone, own_phones_hung_up, phones_slammed}
 use Rattle.cleanup.proofs.Queues.{IsLive, IsUncalled, IsIdle, IsUnanswered, front_at, call_from, forget_step, incoming_alone, incoming_settled, dispatched_uncalled, dispatched_settled, drop_idle, answers_dropped, forget_unanswered}
 use Rattle.cleanup.proofs.Killing.{after_hangups, after_slams, after_incoming, after_dispatched}
+use Rattle.kernel_core.proofs.InEvent.{same_task}
 use Rattle.route_laws.specs.Leads.{Beginning, leads}
 use Rattle.route_laws.specs.PhoneLaw.{HangsUp, Kills}
 use Rattle.route_laws.specs.PhoneHistory.{PhonesFit}
@@ -57,9 +58,6 @@ hangups_kept b t q k h =
 
 -- the phones that lead to t are slammed
 
-same_no : (a c : TaskNo) → a.0 ≡ c.0 → a ≡ c
-same_no a c e = ap (λ n. let r : TaskNo = record { 0 = n } in r) e
-
 slam_kept : (b : Beginning) (t u : TaskNo) (n : ℕ) (q : List Entry) (k : KernelState) (o : Option PhoneState) → phone_at k u n ≡ o → IsKilling b t q k → IsKilling b t (on_top (slam t u k n o).entries q) (slam t u k n o).state
 slam_kept b t u n q k None is h = h
 slam_kept b t u n q k (Some Free) is h = h
@@ -80,7 +78,7 @@ slam_kept b t u n q k (Some (Connected v)) is h =
     ceases : v.0 ≡ t.0 → (w : TaskNo) → leads b.wires u.0 n q ≡ Some w → Kills w (present q)
     ceases e w led =
         let same : v ≡ w = one v w (sym (target_told b.wires q k.tasks.phones h.fits.phones u.0 n (Connected v) is) ∙ led) in
-        subst (Kills w) (sym h.now) (sym (same_no v t e) ∙ same)
+        subst (Kills w) (sym h.now) (sym (same_task v t e) ∙ same)
 
 slams_of_kept : (b : Beginning) (t u : TaskNo) (q : List Entry) (k : KernelState) → IsKilling b t q k → IsKilling b t (on_top (slam_phones_of t u k).entries q) (slam_phones_of t u k).state
 slams_of_kept b t u q k h =

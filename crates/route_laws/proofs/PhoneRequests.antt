@@ -1,8 +1,7 @@
 -- Each request keeps what the entries tell of phones.
 use Rattle.std.proofs.Common.{◌≡◌, ℕ, Bool, true, false, List, [], ◌∷◌, length, Option, None, Some, Result, Ok, Err, refl, ap, sym, subst, ◌∙◌, inl, inr}
-use Rattle.std.specs.Prelude.{⊤, ◌==◌, if◌then◌else◌, nat_lt}
+use Rattle.std.specs.Prelude.{⊤}
 use Rattle.std.specs.Option.{option_to_list}
-use Rattle.std.proofs.lemmas.Bool.{eqb-true}
 use Rattle.ipc_ids.specs.declared.numbers.TaskNo.{TaskNo}
 use Rattle.ipc_ids.specs.declared.numbers.StoreNo.{StoreNo}
 use Rattle.ipc_ids.specs.declared.numbers.Label.{Label}
@@ -22,35 +21,33 @@ use Rattle.ipc_ids.specs.declared.message.PhoneState.TheVariants.{Free, Connecti
 use Rattle.ipc_ids.specs.declared.entry.Entry.{Entry}
 use Rattle.ipc_ids.specs.declared.entry.Entry.TheVariants as entry
 use Rattle.ipc_ids.specs.Codes.{eok, eforward}
-use Rattle.ipc_ids.specs.Methods.{kind_of, phone_hungup, connect_to_me, connect_me_to, data_write, data_read, share_out, share_in, first_user_method}
+use Rattle.ipc_ids.specs.Methods.{kind_of}
 use Rattle.ipc_ids.specs.Holdings.{on_top, present, making}
 use Rattle.ipc_ids.proofs.LawfulAreas.{on_top-append}
 use Rattle.call_slab.specs.declared.call.Call.{Call}
-use Rattle.call_slab.specs.declared.call.Place.{Place}
 use Rattle.call_slab.specs.declared.call.Place.TheVariants.{Incoming, Dispatched, Answers}
 use Rattle.answerbox.specs.Calls.{CallTable, call_at, enqueue, put_at, without_call}
-use Rattle.forwarding.specs.declared.passing.Forwarded.{Forwarded}
 use Rattle.forwarding.specs.Forwarding.{msg_after, label_after}
 use Rattle.address_space.specs.Memory as spaces
 use Rattle.data_hooks.specs.DataMoments.{address_of, count_of, cut_args, write_accept, read_deliver}
 use Rattle.share_hooks.specs.ShareMoments.{base_of, pages_of, rights_of, out_accept, in_accept}
 use Rattle.cleanup.specs.declared.sharing.Share.TheVariants.{Out, In}
-use Rattle.cleanup.specs.State.{Tasks, KernelState, Transition, phone_at, label_of}
-use Rattle.cleanup.specs.Sound.{IsSound, IsCaller}
-use Rattle.cleanup.specs.Kept.{AreKept, WaitsIn, accepts, phone_of, kept_of, keeper_of, kept_phone, lent_phone, kept_note, kept_rows, first_usable_of}
+use Rattle.cleanup.specs.State.{KernelState, Transition, phone_at, label_of}
+use Rattle.cleanup.specs.Sound.{IsSound}
+use Rattle.cleanup.specs.Kept.{AreKept, WaitsIn, kept_phone, lent_phone, kept_note, kept_rows, first_usable_of}
 use Rattle.cleanup.specs.Joins.{bare_reply, new_call, acceptance, answer_at_once, reception, delivery, answer_to, declined_call, code_of, settle_for, passage, passed_call, hang_up, hangup_call}
 use Rattle.cleanup.specs.Areas.{done_or_refused, made_note, gone_note, wrote_note}
 use Rattle.cleanup.specs.Data.{accepted_write, accepted_read, delivered_read}
 use Rattle.cleanup.specs.Sharing.{shared_note, accepted_share}
 use Rattle.cleanup.specs.Serving.{Handed, Served}
 use Rattle.cleanup.proofs.Lookups.{put_here}
-use Rattle.cleanup.proofs.Repeats.{by_test}
 use Rattle.cleanup.proofs.Usable.{kept_waits, lent_waits}
 use Rattle.cleanup.proofs.Queues.{IsLive, sound_drop}
 use Rattle.kernel_core.specs.Moments.{on_receive_of, on_accept_of, cut_down}
 use Rattle.kernel_core.specs.Request.{serve_request}
 use Rattle.kernel_core.proofs.AreaSteps.{quiet_hand}
-use Rattle.kernel_core.proofs.InEvent.{same_place-true}
+use Rattle.kernel_core.proofs.InEvent.{same_task, same_place-true}
+use Rattle.kernel_core.proofs.KindsOfCalls.{KindSays, kind_says, same_code, kept_to_me, kept_me_to, maker}
 use Rattle.kernel_core.proofs.ByRequest as join
 use Rattle.kernel_core.proofs.ByRequest.{own}
 use Rattle.route_laws.specs.Leads.{Beginning, phone_in}
@@ -71,12 +68,14 @@ AfterServed b q served = After b q served.entries served.state
 
 -- entries that tell of memory alone
 
-wrote_plain : (t : TaskNo) (at count : ℕ) (told : Result (Option StoreNo) Code) → ArePlain (option_to_list (wrote_note t at count told))
+wrote_plain : (t : TaskNo) (at count : ℕ) (told : Result (Option StoreNo) Code)
+    → ArePlain (option_to_list (wrote_note t at count told))
 wrote_plain t at count (Ok (Some store)) = (tt, tt)
 wrote_plain t at count (Ok None) = tt
 wrote_plain t at count (Err code) = tt
 
-made_plain : (t : TaskNo) (base pages rights : ℕ) (told : Result StoreNo Code) → ArePlain (made_note t base pages rights told)
+made_plain : (t : TaskNo) (base pages rights : ℕ) (told : Result StoreNo Code)
+    → ArePlain (made_note t base pages rights told)
 made_plain t base pages rights (Ok store) = (tt, tt)
 made_plain t base pages rights (Err code) = tt
 
@@ -84,83 +83,44 @@ gone_plain : (t : TaskNo) (base : ℕ) (told : Result Unit Code) → ArePlain (g
 gone_plain t base (Ok done) = (tt, tt)
 gone_plain t base (Err code) = tt
 
-shared_plain : (t : TaskNo) (base pages rights : ℕ) (told : Result StoreNo Code) → ArePlain (option_to_list (shared_note t base pages rights told))
+shared_plain : (t : TaskNo) (base pages rights : ℕ) (told : Result StoreNo Code)
+    → ArePlain (option_to_list (shared_note t base pages rights told))
 shared_plain t base pages rights (Ok store) = (tt, tt)
 shared_plain t base pages rights (Err code) = tt
 
--- the connect calls
-
--- what a kind of method says of the method
-abbrev KindSays : MethodKind → ℕ → Type 0
-KindSays ConnectToMe n = n ≡ connect_to_me
-KindSays ConnectMeTo n = n ≡ connect_me_to
-KindSays _ n = ⊤
-
-kind_says : (n : ℕ) → KindSays (kind_of n) n
-kind_says n =
-    by_test (λ (x : MethodKind). KindSays x n) (n == phone_hungup) _ _ (λ _. tt)
-    (λ _. by_test (λ (x : MethodKind). KindSays x n) (n == connect_to_me) _ _ (λ e. eqb-true n connect_to_me e)
-    (λ _. by_test (λ (x : MethodKind). KindSays x n) (n == connect_me_to) _ _ (λ e. eqb-true n connect_me_to e)
-    (λ _. by_test (λ (x : MethodKind). KindSays x n) (n == data_write) _ _ (λ _. tt)
-    (λ _. by_test (λ (x : MethodKind). KindSays x n) (n == data_read) _ _ (λ _. tt)
-    (λ _. by_test (λ (x : MethodKind). KindSays x n) (n == share_out) _ _ (λ _. tt)
-    (λ _. by_test (λ (x : MethodKind). KindSays x n) (n == share_in) _ _ (λ _. tt)
-    (λ _. by_test (λ (x : MethodKind). KindSays x n) (nat_lt n first_user_method) _ _ (λ _. tt) (λ _. tt))))))))
-
-same_no : (a b : TaskNo) → a.0 ≡ b.0 → a ≡ b
-same_no a b e = ap (λ n. let r : TaskNo = record { 0 = n } in r) e
-
-same_code : (a : Code) → accepts a ≡ true → a ≡ eok
-same_code a is = ap (λ n. let r : Code = record { 0 = n } in r) (eqb-true a.0 0 is)
-
--- a phone that a call keeps is one of its keeper
-
-own_phone : (t : TaskNo) (o : Option Label) (l : Label) → phone_of t o ≡ Some l → l.task.0 ≡ t.0
-own_phone t None l h = absurd (cc h)
-own_phone t (Some m) l h = by_owner (m.task.0 == t.0) refl h where
-  by_owner : (b : Bool) → (m.task.0 == t.0) ≡ b → (if b then Some m else None) ≡ Some l → l.task.0 ≡ t.0
-  by_owner true is g = let same : m ≡ l = cc in ap (λ (x : Label). x.task.0) (sym same) ∙ eqb-true m.task.0 t.0 is
-  by_owner false is g = absurd (cc g)
-
-kept_to_me : (t : TaskNo) (c : Call) (l : Label) → kind_of c.request.method ≡ ConnectToMe → c.place ≡ Dispatched t → kept_phone c ≡ Some l → l.task.0 ≡ t.0
-kept_to_me t c l kind place is = own_phone t c.reserved l (
-    sym (ap (λ (x : Place). kept_of (keeper_of ConnectToMe) c.from.task x c.reply.code c.reserved) place)
-    ∙ sym (ap (λ (x : MethodKind). kept_of (keeper_of x) c.from.task c.place c.reply.code c.reserved) kind)
-    ∙ is)
-
-kept_me_to : (t : TaskNo) (c : Call) (l : Label) → kind_of c.request.method ≡ ConnectMeTo → c.place ≡ Dispatched t → kept_phone c ≡ Some l → l.task.0 ≡ c.from.task.0
-kept_me_to t c l kind place is = own_phone c.from.task c.reserved l (
-    sym (ap (λ (x : Place). kept_of (keeper_of ConnectMeTo) c.from.task x c.reply.code c.reserved) place)
-    ∙ sym (ap (λ (x : MethodKind). kept_of (keeper_of x) c.from.task c.place c.reply.code c.reserved) kind)
-    ∙ is)
-
--- a caller that has not ended is the task of the phone that it called over
-maker : (tasks : Tasks) (from : Label) (u : TaskNo) (o : Option TaskNo) → o ≡ Some u → IsCaller tasks from o → u ≡ from.task
-maker tasks from u None is caller = absurd (cc is)
-maker tasks from u (Some w) is caller = let same : w ≡ u = cc in sym same ∙ caller.0
-
 -- the entries tell how each live call was made
 abbrev pub AreMadeSo : List Entry → CallTable → Type 0
-AreMadeSo q calls = (n : ℕ) (c : Call) → call_at calls n ≡ Some c → (asked : Option Entry) × (making n q ≡ Some (record { caller = c.from.task.0; method = c.request.method; asked = asked }))
+AreMadeSo q calls =
+    (n : ℕ) (c : Call) → call_at calls n ≡ Some c → (asked : Option Entry)
+        × (making n q ≡ Some (record { caller = c.from.task.0; method = c.request.method; asked = asked }))
 
 -- a hangup, of a request or of a kill
-pub hung_up : (b : Beginning) (t : TaskNo) (q : List Entry) (k : KernelState) (p : ℕ) (o : Option PhoneState) → phone_at k t p ≡ o → HangsUp (label_of t p) (present q) → PhonesFit b q k.tasks.phones k.calls → AfterStep b q (hang_up k t p o)
+pub hung_up : (b : Beginning) (t : TaskNo) (q : List Entry) (k : KernelState) (p : ℕ) (o : Option PhoneState)
+    → phone_at k t p ≡ o → HangsUp (label_of t p) (present q) → PhonesFit b q k.tasks.phones k.calls
+    → AfterStep b q (hang_up k t p o)
 hung_up b t q k p None is may fits = fits
 hung_up b t q k p (Some Free) is may fits = fits
 hung_up b t q k p (Some Connecting) is may fits = fits
 hung_up b t q k p (Some HungUp) is may fits = fits
-hung_up b t q k p (Some Slammed) is may fits = phone_told b k.tasks.phones k.calls q (label_of t p) HungUp (is_some (phone_at k t p) Slammed is) tt (λ u led. may) fits
+hung_up b t q k p (Some Slammed) is may fits =
+    phone_told b k.tasks.phones k.calls q (label_of t p) HungUp (is_some (phone_at k t p) Slammed is) tt
+    (λ u led. may) fits
 hung_up b t q k p (Some (Connected u)) is may fits =
     let c : Call = hangup_call k t p u in
-    phone_told b k.tasks.phones (enqueue k.calls c) (entry.Accepted c.number c.from c.request.method (Some u) ∷ q) (label_of t p) HungUp (is_some (phone_at k t p) (Connected u) is) tt (λ v led. may)
-    (accepted_told b k.tasks.phones k.calls q c (Some u) refl (target_told b.wires q k.tasks.phones fits.phones t.0 p (Connected u) is) fits)
+    phone_told b k.tasks.phones (enqueue k.calls c) (entry.Accepted c.number c.from c.request.method (Some u) ∷ q)
+    (label_of t p) HungUp (is_some (phone_at k t p) (Connected u) is) tt (λ v led. may)
+    (accepted_told b k.tasks.phones k.calls q c (Some u) refl
+    (target_told b.wires q k.tasks.phones fits.phones t.0 p (Connected u) is) fits)
 
 -- a live call is settled, in a request or in a kill
-pub settled : (b : Beginning) (q : List Entry) (k : KernelState) (c : Call) → IsLive k c → AreKept k.tasks.phones k.calls → (reply : Reply) (by o : Option TaskNo) (x : Bool) → PhonesFit b q k.tasks.phones k.calls → AfterStep b q (settle_for k c reply by o x)
+pub settled : (b : Beginning) (q : List Entry) (k : KernelState) (c : Call) → IsLive k c
+    → AreKept k.tasks.phones k.calls → (reply : Reply) (by o : Option TaskNo) (x : Bool)
+    → PhonesFit b q k.tasks.phones k.calls → AfterStep b q (settle_for k c reply by o x)
 settled b q k c live kept reply by None x fits = over_told b k c live q (entry.Vanished c.number) tt kept fits
 settled b q k c live kept reply by (Some u) false fits = over_told b k c live q (entry.Vanished c.number) tt kept fits
 settled b q k c live kept reply by (Some u) true fits =
-    put_told b k c live q (entry.Answered c.number reply by) (declined_call c reply) (Answers u) (lent_phone c) Free tt refl refl (λ l is. tt)
+    put_told b k c live q (entry.Answered c.number reply by) (declined_call c reply) (Answers u) (lent_phone c) Free
+    tt refl refl (λ l is. tt)
     (waits_idle k.tasks.phones (lent_phone c) (lent_waits k.tasks.phones k.calls c.number.0 c kept live)) fits
 
 module _
@@ -249,12 +209,12 @@ module _
           let given : Reply = record { code = code_of (kept_phone c); args = reply.args } in
           with_reply given c.buffer (kept_phone c) (Connected u) u
           (connected u given (λ l kept. inr (
-              says, same_no l.task t (kept_to_me t c l kind held kept),
+              says, same_task l.task t (kept_to_me t c l kind held kept).1,
               ap (λ (x : TaskNo). x.0) (maker k.tasks c.from u c.caller mine (sound.calls.each n c is).caller))))
           (waits_idle k.tasks.phones (kept_phone c) kept_waits_now)
       by_kind u mine ConnectMeTo kind says =
           with_reply reply c.buffer (kept_phone c) (Connected t) u
-          (connected t reply (λ l kept. inl (says, kept_me_to t c l kind held kept, refl)))
+          (connected t reply (λ l kept. inl (says, (kept_me_to t c l kind held kept).1, refl)))
           (waits_idle k.tasks.phones (kept_phone c) kept_waits_now)
       by_kind u mine DataWrite kind says =
           let h : Handed = accepted_write k c reply t in
@@ -339,14 +299,15 @@ module _
     head r is other =
         subst (λ (a : Request). present q ≡ Some (entry.Head t a)) is (begun (λ e. other (sym is ∙ e))).0
 
-    hangs : (p : ℕ) (s : PhoneState) → asked ≡ request.Hangup p → phone_at k t p ≡ Some s → AfterStep b q (hang_up k t p (Some s))
+    hangs : (p : ℕ) (s : PhoneState) → asked ≡ request.Hangup p → phone_at k t p ≡ Some s
+        → AfterStep b q (hang_up k t p (Some s))
     hangs p s is led =
         hung_up b t q k p (Some s) led
         (subst (HangsUp (label_of t p)) (sym (head (request.Hangup p) is (λ e. cc))) (refl, refl)) fits
 
     joined : (s : Served) → join.Joins t asked k s → AfterServed b q s
     joined s (join.plain o _) = fits
-    joined s (join.back p msg _ code _ _ _) = goes_back p msg code
+    joined s (join.back p msg _ code _ _ _ _) = goes_back p msg code
     joined s (join.sent p msg u _ may _ _) = goes_to p msg u may.phone msg.args msg None [] None tt
     joined s (join.sent_keeping p msg u l _ may _ first) =
         goes_to p msg u may.phone msg.args _ (Some l) [] (Some l) (usable_idle k t (Some l) first)
@@ -385,7 +346,7 @@ module _
 
 -- what a task is told of a call tells the label that it has from then on
 
-plain_tells : (calls : CallTable) (o : Outcome) → join.IsPlain o → TellsLabelOf calls o
+plain_tells : (calls : CallTable) (o : Outcome) → join.TellsNoCall o → TellsLabelOf calls o
 plain_tells calls (outcome.Received n msg label) h = absurd h
 plain_tells calls _ h = tt
 
@@ -396,8 +357,8 @@ done_tells calls (Err code) = tt
 joined_tells :
     (t : TaskNo) (asked : Request) (k : KernelState) (s : Served) → join.Joins t asked k s
         → TellsLabelOf s.state.calls s.outcome
-joined_tells t asked k s (join.plain o is) = plain_tells k.calls o is
-joined_tells t asked k s (join.vanished n c o _ _ _ is) = plain_tells (without_call k.calls c.number.0) o is
+joined_tells t asked k s (join.plain o is) = plain_tells k.calls o is.0
+joined_tells t asked k s (join.vanished n c o _ _ _ is) = plain_tells (without_call k.calls c.number.0) o is.0
 joined_tells t asked k s (join.taken n c kind _ _ _) =
     let h : Handed = on_receive_of kind k c t in
     let d : Call = record h.call { place = Dispatched t; stamp = h.state.calls.next_stamp } in
