@@ -1,6 +1,5 @@
 -- Wrong machines that a field of a law refuses, each on any or on one small state; and two words on the fields.
-use Rattle.std.proofs.Common.{◌≡◌, ℕ, ◌≤◌, true, false, inl, List, [], ◌∷◌, length, Option, None, Some, refl, sym, ap, ◌∙◌, arith, nat_lt}
-use Rattle.std.proofs.lemmas.Bool.Decides.{nat_tests}
+use Rattle.std.proofs.Common.{◌≡◌, ℕ, true, inl, List, [], ◌∷◌, length, Option, None, Some, refl, sym, ap, ◌∙◌, arith}
 use Rattle.ipc_ids.specs.declared.numbers.Label.{Label}
 use Rattle.ipc_ids.specs.declared.numbers.TaskNo.{TaskNo}
 use Rattle.ipc_ids.specs.declared.message.Msg.{Msg}
@@ -14,11 +13,9 @@ use Rattle.cleanup.specs.State.{KernelState, label_of}
 use Rattle.cleanup.specs.Serving.{Served}
 use Rattle.kernel_laws.specs.ActiveCalls.{AreTheActive}
 use Rattle.kernel_laws.specs.CallCodes.{IsCheck}
-use Rattle.kernel_laws.specs.DataLaws.{second, AreCutDown}
 use Rattle.kernel_laws.proofs.ActiveCalls.{active_count}
 use Rattle.kernel_determined.specs.CallLaw.{Content, KeepsPhone, CallsTooMuch, IsAccepted}
 use Rattle.kernel_determined.specs.ReceiveLaw.{ReceivesWithPhone, ReceivesWithout}
-use Rattle.kernel_determined.proofs.ChecksDetermined.{cut_same}
 
 -- ---- the limit
 
@@ -41,17 +38,6 @@ accepts_64 k t p msg done ns count those law =
     let same = as_many k.calls t p ns law.few.0 those law.few.1 in
     let less = law.few.2 in
     omega (arith, count, same, less)
-
--- ---- a call that is not too large is sent as it was made
-
-uncut : (args sent : List ℕ) → AreCutDown args sent → second args ≤ 65536 → sent ≡ args
-uncut args sent cut few = cut_same args sent args cut (record {
-  many = refl;
-  second = rw below refl;
-  others = λ i ne. refl;
-}) where
-  below : nat_lt 65536 (second args) ≡ false
-  below = grind (arith, nat_tests, few)
 
 -- ---- the least phone
 
