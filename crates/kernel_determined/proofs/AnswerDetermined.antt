@@ -174,7 +174,8 @@ module _ (t : TaskNo) (n : ℕ) (reply : Reply) (c : Call) (u : TaskNo) (k : Ker
 -- ---- an answer
 
 -- who holds a call is alive
-pub holder_lives : (k : KernelState) → IsSound k → (t : TaskNo) (n : ℕ) (c : Call) → IsHeld t k n c → is_alive k t ≡ true
+pub holder_lives : (k : KernelState) → IsSound k → (t : TaskNo) (n : ℕ) (c : Call) → IsHeld t k n c
+    → is_alive k t ≡ true
 holder_lives k sound t n c held = subst (IsPlaced k.tasks c.caller) held.1 (sound.calls.each n c held.0).place
 
 module _ (t : TaskNo) (n : ℕ) (reply : Reply) (k : KernelState) (a b : Served) (sound : IsSound k) where
@@ -185,7 +186,8 @@ module _ (t : TaskNo) (n : ℕ) (reply : Reply) (k : KernelState) (a b : Served)
   unwanted : (c : Call) (done : Served) → AnswersAccepting t n reply c k done → IsWanted k c
   unwanted c done x = (x.to, x.caller, x.lives)
 
-  accepting_same : (c : Call) → IsHeld t k n c → AnswersAccepting t n reply c k a → AnswersAccepting t n reply c k b → a ≡ b
+  accepting_same : (c : Call) → IsHeld t k n c → AnswersAccepting t n reply c k a
+      → AnswersAccepting t n reply c k b → a ≡ b
   accepting_same c held x y =
       let same : x.to ≡ y.to = let e : Some x.to ≡ Some y.to = sym x.caller ∙ y.caller in cc in
       accepts_same t n reply c y.to k a b sound (holder_lives k sound t n c held) y.lives

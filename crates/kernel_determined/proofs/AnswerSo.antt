@@ -64,7 +64,7 @@ use Rattle.kernel_determined.proofs.AnswerDetermined.{answer_is_determined, hold
 
 -- ---- what is done to memory
 
-placing_is_whole : (m : Memory) (t : TaskNo) (brought : List ℕ) (reply : Reply) → spaces.IsSound m
+pub placing_is_whole : (m : Memory) (t : TaskNo) (brought : List ℕ) (reply : Reply) → spaces.IsSound m
     → IsWholePlacing m t brought reply (write_accept m t brought reply)
 placing_is_whole m t brought reply sound = by_many (nat_lt (length brought) (second reply.args)) refl where
   by_many : (b : Bool) → nat_lt (length brought) (second reply.args) ≡ b → IsWholePlacing m t brought reply

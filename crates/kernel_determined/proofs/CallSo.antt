@@ -153,7 +153,8 @@ module _ (k : KernelState) (t : TaskNo) (p : ℕ) (msg : Msg) where
 
     module _ where
       by_copy : kind_of msg.method ≡ DataWrite → (told : Result (List ℕ) Code)
-          → (spaces.IsSound k.memory → IsLawfulCopy k.memory t msg.args (pool k) told) → Over (sent_to u k new (carrying k new told))
+          → (spaces.IsSound k.memory → IsLawfulCopy k.memory t msg.args (pool k) told)
+          → Over (sent_to u k new (carrying k new told))
       by_copy is (Ok bytes) law = sent (record {
         request = (cut_call new).request;
         seen =
@@ -197,7 +198,8 @@ module _ (k : KernelState) (t : TaskNo) (p : ℕ) (msg : Msg) where
           (Err code, law, refl))
 
       by_offer : kind_of msg.method ≡ ShareOut → (told : Result Unit Code)
-          → (spaces.IsSound k.memory → IsLawfulOffer k.memory t msg.args told) → Over (sent_to u k new (asking k new told))
+          → (spaces.IsSound k.memory → IsLawfulOffer k.memory t msg.args told)
+          → Over (sent_to u k new (asking k new told))
       by_offer is (Ok done) law = whole ShareOut is (λ f. cc f) (λ f. cc f) (λ f. cc f)
           (check_by k t p msg ShareOut is None (λ sound. (Ok done, law sound, refl)))
       by_offer is (Err code) law = refused_by code (check_by k t p msg ShareOut is (Some code)
@@ -279,7 +281,8 @@ module _ (k : KernelState) (t : TaskNo) (p : ℕ) (msg : Msg) where
 
       over : (kind : MethodKind) → kind_of msg.method ≡ kind → Over (sent_to u k new (before_send_of kind k new))
       over DataWrite is = by_copy is (write_before_send k.memory t msg.args (used k.calls))
-          (λ sound. subst (λ n. IsLawfulCopy k.memory t msg.args n (write_before_send k.memory t msg.args (used k.calls)))
+          (λ sound. subst
+          (λ n. IsLawfulCopy k.memory t msg.args n (write_before_send k.memory t msg.args (used k.calls)))
           (sym (pool-used k)) (copy_is_lawful k.memory t msg.args (used k.calls) sound))
       over DataRead is = by_asking is (read_before_send msg.args) (asking_is_lawful msg.args)
       over ShareOut is = by_offer is (out_before_send k.memory t msg.args)

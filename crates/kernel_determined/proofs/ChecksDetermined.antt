@@ -132,7 +132,8 @@ cut_same args xs ys f g = elim (cases_lt 65536 (second args)) [
       → slice_get xs i ≡ slice_get ys i
   by x y i (inr far) one = past xs i (omega (arith, x, far)) ∙ sym (past ys i (omega (arith, y, far)))
   by x y i (inl few) (inl one) =
-      here xs i (omega (arith, x, few)) ∙ ap (λ (j : ℕ). Some (slice_index xs j)) one ∙ ap Some (f.second ∙ sym g.second)
+      here xs i (omega (arith, x, few)) ∙ ap (λ (j : ℕ). Some (slice_index xs j)) one
+      ∙ ap Some (f.second ∙ sym g.second)
       ∙ ap (λ (j : ℕ). Some (slice_index ys j)) (sym one) ∙ sym (here ys i (omega (arith, y, few)))
   by x y i (inl few) (inr other) =
       here xs i (omega (arith, x, few)) ∙ ap Some (f.others i few other ∙ sym (g.others i few other))

@@ -7,22 +7,17 @@ use Rattle.ipc_ids.specs.declared.message.PhoneState.TheVariants.{Free}
 use Rattle.ipc_ids.specs.Codes.{elimit}
 use Rattle.ipc_ids.specs.Methods.{connect_me_to}
 use Rattle.call_slab.specs.declared.call.Call.{Call}
-use Rattle.answerbox.specs.Calls.{CallTable, no_calls}
+use Rattle.answerbox.specs.Calls.{no_calls}
 use Rattle.address_space.specs.Memory.{no_memory}
 use Rattle.cleanup.specs.State.{KernelState, label_of}
 use Rattle.cleanup.specs.Serving.{Served}
 use Rattle.kernel_laws.specs.ActiveCalls.{AreTheActive}
 use Rattle.kernel_laws.specs.CallCodes.{IsCheck}
-use Rattle.kernel_laws.proofs.ActiveCalls.{active_count}
+use Rattle.kernel_determined.proofs.StateLaws.{as_many}
 use Rattle.kernel_determined.specs.CallLaw.{Content, KeepsPhone, CallsTooMuch, IsAccepted}
 use Rattle.kernel_determined.specs.ReceiveLaw.{ReceivesWithPhone, ReceivesWithout}
 
 -- ---- the limit
-
--- lists of the active calls of a phone are as long as each other: so `many` and `few` say it of each such list
-as_many : (q : CallTable) (t : TaskNo) (p : ℕ) (ns ms : List ℕ) → AreTheActive q t p ns → AreTheActive q t p ms
-    → length ns ≡ length ms
-as_many q t p ns ms a b = sym (active_count q t p ns a) ∙ active_count q t p ms b
 
 -- a machine that refuses a call where 63 are active, and one that accepts it where 64 are
 refuses_63 : (k : KernelState) (t : TaskNo) (p : ℕ) (msg : Msg) (done : Served) (ns : List ℕ) → length ns ≡ 63

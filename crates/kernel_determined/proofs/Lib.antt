@@ -24,5 +24,6 @@ pub mod AnswerSo
 pub mod LeastSo
 pub mod KillDetermined
 pub mod KillSo
+pub mod StateLaws
 pub mod Machines
 pub mod LawExamples

@@ -11,3 +11,4 @@ pub mod MemoryLaw
 pub mod KillLaw
 pub mod KernelLaw
 pub mod Changed
+pub mod StateLaws

@@ -38,8 +38,8 @@ abbrev pub HasUsable : KernelState → TaskNo → Type 0
 HasUsable k t =
     (p : ℕ) × ((phone_at k t p ≡ Some Free) ⊎ ((phone_at k t p ≡ Some HungUp) × (active_calls k.calls (label_of t p) ≡ 0)))
 
--- the code that a call is answered with at once, over a phone that leads to a task; with none it is sent. What is checked
--- of memory is said of a sound one
+-- the code that a call is answered with at once, over a phone that leads to a task; with none it is sent. What is
+-- checked of memory is said of a sound one
 pub record IsCheck (k : KernelState) (t : TaskNo) (msg : Msg) (cause : Option Code) : Type 0 where
   pub write : msg.method ≡ data_write → spaces.IsSound k.memory →
       (told : Result (List ℕ) Code) × IsLawfulCopy k.memory t msg.args (pool k) told × (cause ≡ cause_of told)

@@ -64,8 +64,8 @@ pub record IsLawfulAsking (args : List ℕ) (told : Result ℕ Code) : Type 0 wh
   pub large : told ≡ Err elimit ↔ IsTooLarge args
   pub sent : told ≡ Ok (asked args) ↔ (IsTooLarge args → ⊥)
 
--- the arguments of a data call as it is sent: they are as they were, or, where it asks for too many bytes, five of which
--- a2 is what it may ask for, and the others are as they were
+-- the arguments of a data call as it is sent: they are as they were, or, where it asks for too many bytes, five of
+-- which a2 is what it may ask for, and the others are as they were
 pub record AreCutDown (args sent : List ℕ) : Type 0 where
   pub few : second args ≤ 65536 → sent ≡ args
   pub five : 65536 < second args → length sent ≡ 5

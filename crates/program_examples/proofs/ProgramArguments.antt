@@ -313,6 +313,7 @@ server_asks blocks service told = by (block.first_work (server_after blocks serv
   by None is = tt
   by (Some (work.Offer n)) is = refl
   by (Some (work.Drop base)) is = tt
-  by (Some (work.Answer call reply)) is = at ServesFive _ 0 (work.Answer call reply) (server_owes blocks service told) is
+  by (Some (work.Answer call reply)) is =
+      at ServesFive _ 0 (work.Answer call reply) (server_owes blocks service told) is
   by (Some (work.Show call place b)) is = tt
   by (Some (work.Fetch call place b)) is = tt

@@ -29,7 +29,7 @@ use Rattle.script_lines.specs.Operation.{◌>>=◌, needed, values, padded, argu
 use Rattle.script_lines.specs.Plan.{Plan}
 use Rattle.script_lines.specs.Draft as draft
 use Rattle.script_lines.specs.Line as line
-use Rattle.script_lines.specs.ScriptParts.{ScriptParts, no_parts, part, with_part}
+use Rattle.script_lines.specs.ScriptParts.{ScriptParts, no_parts, part, with_part, with_tasks, with_templates}
 use Rattle.script_reader.specs.Grammar.{Makes, SpellsScript}
 use Rattle.program_examples.specs.FiveArguments.{GivesFive, GiveFive, ScriptGivesFive}
 
@@ -384,7 +384,8 @@ with_new_five others plan head all =
     choice PlanFive (is_some (place_of others head.name)) _ _ (λ _. tt) (λ _.
     choice PlanFive (is_ns head.name || is_some (place_of (task_names plan.tasks) head.name)) _ _ (λ _. tt) (λ _.
     choice PlanFive (nat_le most_tasks (length plan.tasks)) _ _ (λ _. tt) (λ _.
-    All-append TaskFive plan.tasks (draft.new_task head ∷ []) all (one TaskFive (draft.new_task head) (new_five head)))))
+    All-append TaskFive plan.tasks (draft.new_task head ∷ []) all
+    (one TaskFive (draft.new_task head) (new_five head)))))
 
 with_wire_five : (plan : Plan) (from : List ℕ) (phone : ℕ) (to : List ℕ) → PlanFive plan
     → IfGood PlanFive (draft.with_wire plan from phone to)
@@ -422,7 +423,7 @@ module _ (w : ScriptParts) (five : BothFive w) where
 
   with_part_five : (plan : Plan) → PlanFive plan → BothFive (with_part w plan)
   with_part_five plan h = by w.on_template where
-    by : (b : Bool) → BothFive (if b then record { tasks = w.tasks; templates = plan; on_template = true } else record { tasks = plan; templates = w.templates; on_template = false })
+    by : (b : Bool) → BothFive (if b then with_templates w plan else with_tasks w plan)
     by true = record { tasks = five.tasks; templates = h }
     by false = record { tasks = h; templates = five.templates }
 

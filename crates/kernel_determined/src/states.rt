@@ -1,0 +1,22 @@
+//! What holds of states by themselves.
+ghost use Rattle.std.specs.Prelude.{◌≡◌, ℕ, List, length};
+ghost use Rattle.ipc_ids.specs.declared.numbers.TaskNo.{TaskNo};
+ghost use Rattle.answerbox.specs.Calls.{CallTable};
+ghost use Rattle.cleanup.specs.State.{KernelState};
+ghost use Rattle.cleanup.specs.Sound.{IsSound};
+ghost use Rattle.kernel_laws.specs.ActiveCalls.{HasActive, AreTheActive};
+ghost use Rattle.kernel_determined.specs.StateLaws.{KeepTheirPhones};
+
+/// The phone that is kept for a `CONNECT_ME_TO` is one of its caller, and waits for its connection
+/// until the call is accepted. That of a `CONNECT_TO_ME` is one of the task that holds the call.
+pub fn connect_calls_keep_their_phones()
+    ensures { (k : KernelState) → IsSound k → KeepTheirPhones k }
+{}
+
+/// The active calls of a phone can be counted, each once, and there is but one count of them. So the
+/// limit of a phone, of which the law of a call speaks, is one number.
+pub fn active_calls_have_one_count()
+    ensures counted { (calls : CallTable) (t : TaskNo) (p : ℕ) → HasActive calls t p }
+    ensures one { (calls : CallTable) (t : TaskNo) (p : ℕ) (ns ms : List ℕ)
+        → AreTheActive calls t p ns → AreTheActive calls t p ms → length ns ≡ length ms }
+{}
