@@ -351,23 +351,23 @@ with_op_five : (op : Op) → GivesFive op → (plan : Plan) → PlanFive plan �
 unfolding draft.with_op
 with_op_five op five plan all = then_good (All TaskFive) PlanFive (draft.on_last (draft.task_with_op op) plan.tasks) _
     (on_last_keeps TaskFive (draft.task_with_op op) in_task plan.tasks all) (λ tasks h. h) where
-  in_body : (body : Body) → BodyFive body → IfGood BodyFive (draft.body_with_op op body)
-  in_body body h = choice BodyFive (nat_le _ (length body.ops)) _ _ (λ _. tt)
-      (λ _. All-append GivesFive body.ops (op ∷ []) h (one GivesFive op five))
+      in_body : (body : Body) → BodyFive body → IfGood BodyFive (draft.body_with_op op body)
+      in_body body h = choice BodyFive (nat_le _ (length body.ops)) _ _ (λ _. tt)
+          (λ _. All-append GivesFive body.ops (op ∷ []) h (one GivesFive op five))
 
-  in_task : (task : TaskPlan) → TaskFive task → IfGood TaskFive (draft.task_with_op op task)
-  in_task task h = then_good (All BodyFive) TaskFive (draft.on_last (draft.body_with_op op) task.bodies) _
-      (on_last_keeps BodyFive (draft.body_with_op op) in_body task.bodies h) (λ bodies g. g)
+      in_task : (task : TaskPlan) → TaskFive task → IfGood TaskFive (draft.task_with_op op task)
+      in_task task h = then_good (All BodyFive) TaskFive (draft.on_last (draft.body_with_op op) task.bodies) _
+          (on_last_keeps BodyFive (draft.body_with_op op) in_body task.bodies h) (λ bodies g. g)
 
 with_body_five : (plan : Plan) (connection : Bool) → PlanFive plan → IfGood PlanFive (draft.with_body plan connection)
 unfolding draft.with_body draft.task_with_body
 with_body_five plan connection all =
     then_good (All TaskFive) PlanFive (draft.on_last (draft.task_with_body connection) plan.tasks) _
     (on_last_keeps TaskFive (draft.task_with_body connection) in_task plan.tasks all) (λ tasks h. h) where
-  in_task : (task : TaskPlan) → TaskFive task → IfGood TaskFive (draft.task_with_body connection task)
-  in_task task h = choice TaskFive (draft.is_full connection task.bodies) _ _ (λ _. tt)
-      (λ _. All-append BodyFive task.bodies (draft.empty_body connection ∷ []) h
-      (one BodyFive (draft.empty_body connection) (empty connection)))
+      in_task : (task : TaskPlan) → TaskFive task → IfGood TaskFive (draft.task_with_body connection task)
+      in_task task h = choice TaskFive (draft.is_full connection task.bodies) _ _ (λ _. tt)
+          (λ _. All-append BodyFive task.bodies (draft.empty_body connection ∷ []) h
+          (one BodyFive (draft.empty_body connection) (empty connection)))
 
 new_five : (head : TaskHead) → TaskFive (draft.new_task head)
 new_five head = by head.kind where
