@@ -1,5 +1,5 @@
--- Wrong machines that a field of a law refuses, each on any or on one small state; and two words on the fields.
-use Rattle.std.proofs.Common.{◌≡◌, ℕ, true, inl, List, [], ◌∷◌, length, Option, None, Some, refl, sym, ap, ◌∙◌, arith}
+-- Wrong machines that a field of a law refuses, each on any or on one small state.
+use Rattle.std.proofs.Common.{◌≡◌, ℕ, ◌<◌, ◌≤◌, true, inl, List, [], ◌∷◌, length, Option, None, Some, refl, sym, ap, ◌∙◌, arith}
 use Rattle.ipc_ids.specs.declared.numbers.Label.{Label}
 use Rattle.ipc_ids.specs.declared.numbers.TaskNo.{TaskNo}
 use Rattle.ipc_ids.specs.declared.message.Msg.{Msg}
@@ -14,6 +14,7 @@ use Rattle.cleanup.specs.Serving.{Served}
 use Rattle.kernel_laws.specs.ActiveCalls.{AreTheActive}
 use Rattle.kernel_laws.specs.CallCodes.{IsCheck}
 use Rattle.kernel_determined.proofs.StateLaws.{as_many}
+use Rattle.kernel_laws.specs.DataLaws.{second, AreCutDown}
 use Rattle.kernel_determined.specs.CallLaw.{Content, KeepsPhone, CallsTooMuch, IsAccepted}
 use Rattle.kernel_determined.specs.ReceiveLaw.{ReceivesWithPhone, ReceivesWithout}
 
@@ -33,6 +34,15 @@ accepts_64 k t p msg done ns count those law =
     let same = as_many k.calls t p ns law.few.0 those law.few.1 in
     let less = law.few.2 in
     omega (arith, count, same, less)
+
+-- ---- the arguments of a data call
+
+-- a machine that sends four arguments of a call that it cuts down, and one that changes a call which asks for few bytes
+sends_four : (args sent : List ℕ) → 65536 < second args → length sent ≡ 4 → AreCutDown args sent → ⊥
+sends_four args sent large four law = let five = law.five large in omega (arith, four, five)
+
+changes_a_small_one : (args sent : List ℕ) → second args ≤ 65536 → (sent ≡ args → ⊥) → AreCutDown args sent → ⊥
+changes_a_small_one args sent small other law = other (law.few small)
 
 -- ---- the least phone
 

@@ -25,5 +25,6 @@ pub mod LeastSo
 pub mod KillDetermined
 pub mod KillSo
 pub mod StateLaws
+pub mod ForwardCauses
 pub mod Machines
 pub mod LawExamples

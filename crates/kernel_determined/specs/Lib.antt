@@ -12,3 +12,4 @@ pub mod KillLaw
 pub mod KernelLaw
 pub mod Changed
 pub mod StateLaws
+pub mod ForwardCauses

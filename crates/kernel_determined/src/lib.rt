@@ -22,4 +22,7 @@ pub use requests::{
     kills_are_determined, pokes_and_peeks_are_determined, receives_are_determined,
     spawns_are_determined, the_kernel_keeps_its_laws, the_laws_determine_the_kernel,
 };
-pub use states::{active_calls_have_one_count, connect_calls_keep_their_phones};
+pub use states::{
+    active_calls_have_one_count, connect_calls_keep_their_phones,
+    forwards_are_refused_by_the_first_cause,
+};
