@@ -17,10 +17,11 @@ use Rattle.call_slab.specs.declared.call.Call.{Call}
 use Rattle.address_space.specs.Memory.{Memory, Step, IsAdded}
 use Rattle.address_space.specs.Sound as spaces
 use Rattle.cleanup.specs.State.{KernelState, phone_at, is_alive}
-use Rattle.cleanup.specs.Sound.{IsSound}
+use Rattle.cleanup.specs.Sound.{IsPlaced, IsSound}
 use Rattle.cleanup.specs.Serving.{Served}
 use Rattle.cleanup.proofs.Lookups.{same_call}
 use Rattle.kernel_laws.specs.DataLaws.{code_after, first, second, third, AreFirst, IsFull, IsLawfulTaking}
+use Rattle.kernel_laws.specs.HeldCalls.{IsHeld}
 use Rattle.kernel_laws.specs.MemoryRequests.{made, written}
 use Rattle.kernel_laws.specs.PoolLaws.{pool}
 use Rattle.kernel_laws.proofs.LawfulData.{decided_read}
@@ -172,8 +173,12 @@ module _ (t : TaskNo) (n : ℕ) (reply : Reply) (c : Call) (u : TaskNo) (k : Ker
 
 -- ---- an answer
 
-module _ (t : TaskNo) (n : ℕ) (reply : Reply) (k : KernelState) (a b : Served) (sound : IsSound k)
-    (alive : is_alive k t ≡ true) where
+-- who holds a call is alive
+pub holder_lives : (k : KernelState) → IsSound k → (t : TaskNo) (n : ℕ) (c : Call) → IsHeld t k n c
+    → is_alive k t ≡ true
+holder_lives k sound t n c held = subst (IsPlaced k.tasks c.caller) held.1 (sound.calls.each n c held.0).place
+
+module _ (t : TaskNo) (n : ℕ) (reply : Reply) (k : KernelState) (a b : Served) (sound : IsSound k) where
   abbrev Answering : Call → Served → Type 0
   Answering c done = AnswersDeclining t n reply c k done
       ⊎ (AnswersNobody n reply c k done ⊎ AnswersAccepting t n reply c k done)
@@ -181,25 +186,26 @@ module _ (t : TaskNo) (n : ℕ) (reply : Reply) (k : KernelState) (a b : Served)
   unwanted : (c : Call) (done : Served) → AnswersAccepting t n reply c k done → IsWanted k c
   unwanted c done x = (x.to, x.caller, x.lives)
 
-  accepting_same : (c : Call) → AnswersAccepting t n reply c k a → AnswersAccepting t n reply c k b → a ≡ b
-  accepting_same c x y =
+  accepting_same : (c : Call) → IsHeld t k n c → AnswersAccepting t n reply c k a
+      → AnswersAccepting t n reply c k b → a ≡ b
+  accepting_same c held x y =
       let same : x.to ≡ y.to = let e : Some x.to ≡ Some y.to = sym x.caller ∙ y.caller in cc in
-      accepts_same t n reply c y.to k a b sound alive y.lives
+      accepts_same t n reply c y.to k a b sound (holder_lives k sound t n c held) y.lives
       (subst (λ (u : TaskNo). Accepts t n reply c u k a) same x.accepted)
       y.accepted
 
-  answering_same : (c : Call) → Answering c a → Answering c b → a ≡ b
-  answering_same c (inl x) (inl y) = quiet_same outcome.Done k a b x.quiet y.quiet
+  answering_same : (c : Call) → IsHeld t k n c → Answering c a → Answering c b → a ≡ b
+  answering_same c held (inl x) (inl y) = quiet_same outcome.Done k a b x.quiet y.quiet
       (settled_same n c k a.state b.state a.entries b.entries reply (Some t) x.settled y.settled)
-  answering_same c (inl x) (inr (inl y)) = absurd (x.declines y.accepts)
-  answering_same c (inl x) (inr (inr y)) = absurd (x.declines y.accepts)
-  answering_same c (inr (inl x)) (inl y) = absurd (y.declines x.accepts)
-  answering_same c (inr (inl x)) (inr (inl y)) = quiet_same outcome.Done k a b x.quiet y.quiet
+  answering_same c held (inl x) (inr (inl y)) = absurd (x.declines y.accepts)
+  answering_same c held (inl x) (inr (inr y)) = absurd (x.declines y.accepts)
+  answering_same c held (inr (inl x)) (inl y) = absurd (y.declines x.accepts)
+  answering_same c held (inr (inl x)) (inr (inl y)) = quiet_same outcome.Done k a b x.quiet y.quiet
       (ended_same n c k a.state b.state a.entries b.entries x.ended y.ended)
-  answering_same c (inr (inl x)) (inr (inr y)) = absurd (x.unwanted (unwanted c b y))
-  answering_same c (inr (inr x)) (inl y) = absurd (y.declines x.accepts)
-  answering_same c (inr (inr x)) (inr (inl y)) = absurd (y.unwanted (unwanted c a x))
-  answering_same c (inr (inr x)) (inr (inr y)) = accepting_same c x y
+  answering_same c held (inr (inl x)) (inr (inr y)) = absurd (x.unwanted (unwanted c b y))
+  answering_same c held (inr (inr x)) (inl y) = absurd (y.declines x.accepts)
+  answering_same c held (inr (inr x)) (inr (inl y)) = absurd (y.unwanted (unwanted c a x))
+  answering_same c held (inr (inr x)) (inr (inr y)) = accepting_same c held x y
 
   pub answer_is_determined : IsAnswer t n reply k a → IsAnswer t n reply k b → a ≡ b
   answer_is_determined (inl x) (inl y) = refusal_same enoent k a b x.refusal y.refusal
@@ -207,4 +213,4 @@ module _ (t : TaskNo) (n : ℕ) (reply : Reply) (k : KernelState) (a b : Served)
   answer_is_determined (inr x) (inl y) = absurd (y.unheld x.call x.held)
   answer_is_determined (inr x) (inr y) =
       let one : x.call ≡ y.call = same_call x.call y.call (sym x.held.0 ∙ y.held.0) in
-      answering_same y.call (subst (λ (c : Call). Answering c a) one x.answers) y.answers
+      answering_same y.call y.held (subst (λ (c : Call). Answering c a) one x.answers) y.answers

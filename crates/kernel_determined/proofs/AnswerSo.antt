@@ -60,11 +60,11 @@ use Rattle.kernel_determined.proofs.HangupDetermined.{refuses}
 use Rattle.kernel_determined.proofs.TakesSo.{write_is_whole}
 use Rattle.kernel_determined.proofs.ShareDetermined.{share_is_whole}
 use Rattle.kernel_determined.proofs.SettleSo.{may_come, as_many, moves, kept_is, kept_there, ended_is, settle_quiet, vanish_quiet, settled_is}
-use Rattle.kernel_determined.proofs.AnswerDetermined.{answer_is_determined}
+use Rattle.kernel_determined.proofs.AnswerDetermined.{answer_is_determined, holder_lives}
 
 -- ---- what is done to memory
 
-placing_is_whole : (m : Memory) (t : TaskNo) (brought : List ℕ) (reply : Reply) → spaces.IsSound m
+pub placing_is_whole : (m : Memory) (t : TaskNo) (brought : List ℕ) (reply : Reply) → spaces.IsSound m
     → IsWholePlacing m t brought reply (write_accept m t brought reply)
 placing_is_whole m t brought reply sound = by_many (nat_lt (length brought) (second reply.args)) refl where
   by_many : (b : Bool) → nat_lt (length brought) (second reply.args) ≡ b → IsWholePlacing m t brought reply
@@ -125,8 +125,7 @@ in_method m h =
 
 -- ---- a call that task t holds
 
-module _ (k : KernelState) (sound : IsSound k) (t : TaskNo) (alive : is_alive k t ≡ true) (n : ℕ) (reply : Reply)
-    (c : Call)
+module _ (k : KernelState) (sound : IsSound k) (t : TaskNo) (n : ℕ) (reply : Reply) (c : Call)
     (is : call_at k.calls n ≡ Some c) (at : c.place ≡ Dispatched t) where
   pending : IsPendingAt c.place
   pending = subst IsPendingAt (sym at) tt
@@ -328,7 +327,7 @@ module _ (k : KernelState) (sound : IsSound k) (t : TaskNo) (alive : is_alive k 
         record {
           step = step;
           share = share_is_whole k.memory u (first c.request.args) t (first reply.args) pages rights sound.memory.spaces
-              (added k t sound alive);
+              (added k t sound (holder_lives k sound t n c (is, at)));
           phones = λ v q. refl;
           reaches = subst (λ (es : List Entry). Reaches t n reply c u (code_after step.told) c.buffer step.memory es k
               done)
@@ -403,7 +402,7 @@ module _ (k : KernelState) (sound : IsSound k) (t : TaskNo) (alive : is_alive k 
     by_code true e = accepting (same_code reply.code e) c.caller refl (lives k c.caller) refl
     by_code false e = declining e
 
-module _ (k : KernelState) (t : TaskNo) (n : ℕ) (reply : Reply) (sound : IsSound k) (alive : is_alive k t ≡ true) where
+module _ (k : KernelState) (t : TaskNo) (n : ℕ) (reply : Reply) (sound : IsSound k) where
   abbrev Comes : Served → Type 0
   Comes done = IsAnswer t n reply k (and_event done)
 
@@ -415,7 +414,7 @@ module _ (k : KernelState) (t : TaskNo) (n : ℕ) (reply : Reply) (sound : IsSou
   by_held c is true e = inr (record {
     call = c;
     held = (is, at_dispatched t c.place e);
-    answers = answering k sound t alive n reply c is (at_dispatched t c.place e);
+    answers = answering k sound t n reply c is (at_dispatched t c.place e);
   })
   by_held c is false e =
       unheld (λ d h. false≢true (sym e ∙ ap (is_held t) (same_call c d (sym is ∙ h.0)) ∙ holds t d h.1))
@@ -428,7 +427,6 @@ module _ (k : KernelState) (t : TaskNo) (n : ℕ) (reply : Reply) (sound : IsSou
   answer_is_so = by_call (call_at k.calls n) refl
 
 pub answer_is_served : (k : KernelState) (t : TaskNo) (n : ℕ) (reply : Reply) (done : Served) → IsSound k
-    → is_alive k t ≡ true → IsAnswer t n reply k done → done ≡ serve k t (request.Answer n reply)
-answer_is_served k t n reply done sound alive is =
-    answer_is_determined t n reply k done (serve k t (request.Answer n reply)) sound alive is
-    (answer_is_so k t n reply sound alive)
+    → IsAnswer t n reply k done → done ≡ serve k t (request.Answer n reply)
+answer_is_served k t n reply done sound is =
+    answer_is_determined t n reply k done (serve k t (request.Answer n reply)) sound is (answer_is_so k t n reply sound)

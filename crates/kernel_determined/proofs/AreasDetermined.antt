@@ -150,7 +150,7 @@ module _ (m : Memory) (t : TaskNo) (base pages rights : ℕ) (sound : spaces.IsS
 
 -- ---- the definition
 
-make_is_whole : (m : Memory) (t : TaskNo) (base pages rights : ℕ)
+pub make_is_whole : (m : Memory) (t : TaskNo) (base pages rights : ℕ)
     → IsLawfulMake m t base pages rights (make m t base pages rights)
     → IsWholeMake m t base pages rights (make m t base pages rights)
 make_is_whole m t base pages rights law = by (refusal base pages rights (areas_of m t)) law where

@@ -16,7 +16,7 @@ use Rattle.call_slab.specs.declared.call.Call.{Call}
 use Rattle.call_slab.specs.declared.call.Place.{Place}
 use Rattle.call_slab.specs.declared.call.Place.TheVariants.{Incoming, Answers}
 use Rattle.cleanup.specs.State.{KernelState, phone_at, label_of}
-use Rattle.cleanup.specs.Sound.{IsSound}
+use Rattle.address_space.specs.Sound as spaces
 use Rattle.cleanup.specs.Serving.{Served}
 use Rattle.kernel_laws.specs.PoolLaws.{pool}
 use Rattle.kernel_laws.specs.CallCodes.{IsNoWay, IsNoCall}
@@ -48,7 +48,7 @@ content_parts c d request seen bytes kept =
 
 -- ---- what is sent
 
-module _ (k : KernelState) (t : TaskNo) (msg : Msg) (c d : Content) where
+module _ (k : KernelState) (sound : spaces.IsSound k.memory) (t : TaskNo) (msg : Msg) (c d : Content) where
   least_same : (x : KeepsPhone k t msg c) (y : KeepsPhone k t msg d) → x.phone ≡ y.phone
   least_same x y = elim (cases_lt x.phone y.phone) [
     | inl less ↦ absurd (y.least x.phone less x.usable)
@@ -71,7 +71,8 @@ module _ (k : KernelState) (t : TaskNo) (msg : Msg) (c d : Content) where
       let request = msg_same c.request d.request (x.method ∙ sym y.method)
       (cut_same msg.args c.request.args d.request.args x.cut y.cut) in
       content_parts c d request (x.seen ∙ request ∙ sym y.seen)
-      (let e = copy_same k.memory t msg.args (pool k) (Ok c.bytes) (Ok d.bytes) x.copied y.copied in cc)
+      (let e = copy_same k.memory t msg.args (pool k) (Ok c.bytes) (Ok d.bytes) (x.copied sound) (y.copied sound)
+      in cc)
       (x.kept ∙ sym y.kept)
 
   wants_same : WantsBytes k t msg c → WantsBytes k t msg d → c ≡ d
@@ -111,7 +112,7 @@ module _ (k : KernelState) (t : TaskNo) (msg : Msg) (c d : Content) where
 
 -- ---- what is accepted
 
-module _ (k : KernelState) (t : TaskNo) (p : ℕ) (msg : Msg) (a b : Served) where
+module _ (k : KernelState) (t : TaskNo) (p : ℕ) (msg : Msg) (a b : Served) (sound : spaces.IsSound k.memory) where
   number_same : (place : Place) (c d : Call) → IsMade k t p msg false place c → IsMade k t p msg false place d
       → c.number ≡ d.number
   number_same place c d x y = ap (λ n. let r : CallNo = record { 0 = n } in r) (x.number ∙ sym y.number)
@@ -128,7 +129,7 @@ module _ (k : KernelState) (t : TaskNo) (p : ℕ) (msg : Msg) (a b : Served) whe
 
   sent_same : (w : TaskNo) → IsSent k t p msg w a → IsSent k t p msg w b → a ≡ b
   sent_same w x y =
-      let same : x.content ≡ y.content = content_same k t msg x.content y.content x.lawful y.lawful in
+      let same : x.content ≡ y.content = content_same k sound t msg x.content y.content x.lawful y.lawful in
       let u = x.made in let v = y.made in
       let phones = may_come_same y.content.kept Connecting k a.state b.state x.note y.note
       (subst (λ (c : Content). MayCome c.kept Connecting k a.state x.note) same x.phones) y.phones in
@@ -146,10 +147,10 @@ module _ (k : KernelState) (t : TaskNo) (p : ℕ) (msg : Msg) (a b : Served) whe
   goes_same w None x y = sent_same w x y
   goes_same w (Some code) x y = at_once_same code x y
 
-  module _ (sound : IsSound k) where
+  module _ where
     over_same : (w : TaskNo) → (IsNoCall msg.method → ⊥) → GoesOver k t p msg w a → GoesOver k t p msg w b → a ≡ b
     over_same w may x y =
-        let same = check_same k t msg sound.memory.spaces may x.cause y.cause x.check y.check in
+        let same = check_same k t msg sound may x.cause y.cause x.check y.check in
         goes_same w y.cause (subst (λ cause. Goes k t p msg w cause a) same x.goes) y.goes
 
     accepted_same : IsAccepted t p msg k a → IsAccepted t p msg k b → a ≡ b

@@ -23,6 +23,7 @@ use Rattle.answerbox.specs.Calls.{active_calls, used}
 use Rattle.phone_table.specs.Phones.{state_at}
 use Rattle.data_hooks.specs.DataMoments.{write_before_send, read_before_send}
 use Rattle.share_hooks.specs.ShareMoments.{out_before_send, in_before_send}
+use Rattle.address_space.specs.Sound as spaces
 use Rattle.cleanup.specs.State.{KernelState, phone_at, label_of}
 use Rattle.cleanup.specs.Sound.{IsSound}
 use Rattle.cleanup.specs.Kept.{first_usable_of, kept_note}
@@ -150,9 +151,10 @@ module _ (k : KernelState) (t : TaskNo) (p : ℕ) (msg : Msg) where
           kept = refl;
         })))) refl check refl
 
-    module _ (sound : IsSound k) (five : length msg.args ≡ 5) where
+    module _ where
       by_copy : kind_of msg.method ≡ DataWrite → (told : Result (List ℕ) Code)
-          → IsLawfulCopy k.memory t msg.args (pool k) told → Over (sent_to u k new (carrying k new told))
+          → (spaces.IsSound k.memory → IsLawfulCopy k.memory t msg.args (pool k) told)
+          → Over (sent_to u k new (carrying k new told))
       by_copy is (Ok bytes) law = sent (record {
         request = (cut_call new).request;
         seen =
@@ -165,13 +167,13 @@ module _ (k : KernelState) (t : TaskNo) (p : ℕ) (msg : Msg) where
             copied = law;
             method = refl;
             cut =
-                cut_is_lawful msg.args five;
+                cut_is_lawful msg.args;
             seen = refl;
             kept = refl;
           }))) refl
-          (check_by k t p msg sound DataWrite is None (Ok bytes, law, refl)) refl
-      by_copy is (Err code) law = refused_by code (check_by k t p msg sound DataWrite is (Some code)
-          (Err code, law, refl))
+          (check_by k t p msg DataWrite is None (λ sound. (Ok bytes, law sound, refl))) refl
+      by_copy is (Err code) law = refused_by code (check_by k t p msg DataWrite is (Some code)
+          (λ sound. (Err code, law sound, refl)))
 
       by_asking : kind_of msg.method ≡ DataRead → (told : Result ℕ Code) → IsLawfulAsking msg.args told
           → Over (sent_to u k new (bringing k new told))
@@ -187,26 +189,27 @@ module _ (k : KernelState) (t : TaskNo) (p : ℕ) (msg : Msg) where
             bytes = refl;
             method = refl;
             cut =
-                cut_is_lawful msg.args five;
+                cut_is_lawful msg.args;
             seen = refl;
             kept = refl;
           })))) refl
-          (check_by k t p msg sound DataRead is None (Ok count, law, refl)) refl
-      by_asking is (Err code) law = refused_by code (check_by k t p msg sound DataRead is (Some code)
+          (check_by k t p msg DataRead is None (Ok count, law, refl)) refl
+      by_asking is (Err code) law = refused_by code (check_by k t p msg DataRead is (Some code)
           (Err code, law, refl))
 
-      by_offer : kind_of msg.method ≡ ShareOut → (told : Result Unit Code) → IsLawfulOffer k.memory t msg.args told
+      by_offer : kind_of msg.method ≡ ShareOut → (told : Result Unit Code)
+          → (spaces.IsSound k.memory → IsLawfulOffer k.memory t msg.args told)
           → Over (sent_to u k new (asking k new told))
       by_offer is (Ok done) law = whole ShareOut is (λ f. cc f) (λ f. cc f) (λ f. cc f)
-          (check_by k t p msg sound ShareOut is None (Ok done, law, refl))
-      by_offer is (Err code) law = refused_by code (check_by k t p msg sound ShareOut is (Some code)
-          (Err code, law, refl))
+          (check_by k t p msg ShareOut is None (λ sound. (Ok done, law sound, refl)))
+      by_offer is (Err code) law = refused_by code (check_by k t p msg ShareOut is (Some code)
+          (λ sound. (Err code, law sound, refl)))
 
       by_wish : kind_of msg.method ≡ ShareIn → (told : Result Unit Code) → IsLawfulWish msg.args told
           → Over (sent_to u k new (asking k new told))
       by_wish is (Ok done) law = whole ShareIn is (λ f. cc f) (λ f. cc f) (λ f. cc f)
-          (check_by k t p msg sound ShareIn is None (Ok done, law, refl))
-      by_wish is (Err code) law = refused_by code (check_by k t p msg sound ShareIn is (Some code)
+          (check_by k t p msg ShareIn is None (Ok done, law, refl))
+      by_wish is (Err code) law = refused_by code (check_by k t p msg ShareIn is (Some code)
           (Err code, law, refl))
 
       exists : (q : ℕ) → IsUsable k k.calls t q → IsSome (phone_at k t q)
@@ -221,7 +224,7 @@ module _ (k : KernelState) (t : TaskNo) (p : ℕ) (msg : Msg) where
           subst (λ (m : Label). Over (sent_to u k new (keeping_to_send k new (Some m)))) (sym (own k t l e))
           (record {
             cause = None;
-            check = check_by k t p msg sound ConnectMeTo is None
+            check = check_by k t p msg ConnectMeTo is None
                 ((λ _. some, λ _. refl), (λ x. absurd (cc x), λ none. absurd (none some)));
             goes = record {
               told = refl;
@@ -272,30 +275,31 @@ module _ (k : KernelState) (t : TaskNo) (p : ℕ) (msg : Msg) where
 
       by_phone : kind_of msg.method ≡ ConnectMeTo → (o : Option Label) → first_usable_of k t ≡ o
           → Over (sent_to u k new (keeping_to_send k new o))
-      by_phone is None none = refused_by elimit (check_by k t p msg sound ConnectMeTo is (Some elimit)
+      by_phone is None none = refused_by elimit (check_by k t p msg ConnectMeTo is (Some elimit)
           ((λ e. absurd (cc e), λ h. absurd (none_usable k t none h)), (λ _. none_usable k t none, λ _. refl)))
       by_phone is (Some l) usable = kept l is usable
 
       over : (kind : MethodKind) → kind_of msg.method ≡ kind → Over (sent_to u k new (before_send_of kind k new))
       over DataWrite is = by_copy is (write_before_send k.memory t msg.args (used k.calls))
-          (subst (λ n. IsLawfulCopy k.memory t msg.args n (write_before_send k.memory t msg.args (used k.calls)))
-          (sym (pool-used k)) (copy_is_lawful k.memory t msg.args (used k.calls) sound.memory.spaces))
+          (λ sound. subst
+          (λ n. IsLawfulCopy k.memory t msg.args n (write_before_send k.memory t msg.args (used k.calls)))
+          (sym (pool-used k)) (copy_is_lawful k.memory t msg.args (used k.calls) sound))
       over DataRead is = by_asking is (read_before_send msg.args) (asking_is_lawful msg.args)
       over ShareOut is = by_offer is (out_before_send k.memory t msg.args)
-          (offer_is_lawful k.memory t msg.args sound.memory.spaces)
+          (λ sound. offer_is_lawful k.memory t msg.args sound)
       over ShareIn is = by_wish is (in_before_send msg.args) (wish_is_lawful msg.args)
       over ConnectMeTo is = by_phone is (first_usable_of k t) refl
       over ConnectToMe is = whole ConnectToMe is (λ f. cc f) (λ f. cc f) (λ f. cc f)
-          (check_by k t p msg sound ConnectToMe is None refl)
-      over User is = whole User is (λ f. cc f) (λ f. cc f) (λ f. cc f) (check_by k t p msg sound User is None refl)
+          (check_by k t p msg ConnectToMe is None refl)
+      over User is = whole User is (λ f. cc f) (λ f. cc f) (λ f. cc f) (check_by k t p msg User is None refl)
       over PhoneHungUp is = whole PhoneHungUp is (λ f. cc f) (λ f. cc f) (λ f. cc f)
-          (check_by k t p msg sound PhoneHungUp is None tt)
+          (check_by k t p msg PhoneHungUp is None tt)
       over NotBuilt is = whole NotBuilt is (λ f. cc f) (λ f. cc f) (λ f. cc f)
-          (check_by k t p msg sound NotBuilt is None tt)
+          (check_by k t p msg NotBuilt is None tt)
 
   -- ---- the tests
 
-  module _ (sound : IsSound k) (five : length msg.args ≡ 5) where
+  module _ where
     abbrev Comes : Served → Type 0
     Comes done = IsCall t p msg k (and_event done)
 
@@ -344,7 +348,7 @@ module _ (k : KernelState) (t : TaskNo) (p : ℕ) (msg : Msg) where
         slammed = λ f. let g = other (Connected w) Slammed e f in absurd (cc g);
         leads = λ u f. let g : w ≡ u = let h = other (Connected w) (Connected u) e f in cc in
             subst (λ (v : TaskNo). GoesOver k t p msg v (and_event (call_through k t p msg (Connected w)))) g
-            (over w sound five (kind_of msg.method) refl);
+            (over w (kind_of msg.method) refl);
       }
 
     not_true : (b : Bool) → not b ≡ true → b ≡ false
@@ -413,6 +417,6 @@ module _ (k : KernelState) (t : TaskNo) (p : ℕ) (msg : Msg) where
     call_is_so = called (phone_at k t p) refl
 
 pub call_is_served : (k : KernelState) (t : TaskNo) (p : ℕ) (msg : Msg) (done : Served) → IsSound k
-    → length msg.args ≡ 5 → IsCall t p msg k done → done ≡ serve k t (request.Call p msg)
-call_is_served k t p msg done sound five is = call_is_determined k t p msg done (serve k t (request.Call p msg)) sound
-    is (call_is_so k t p msg sound five)
+    → IsCall t p msg k done → done ≡ serve k t (request.Call p msg)
+call_is_served k t p msg done sound is = call_is_determined k t p msg done (serve k t (request.Call p msg))
+    sound.memory.spaces is (call_is_so k t p msg)

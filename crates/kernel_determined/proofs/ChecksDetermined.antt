@@ -15,7 +15,7 @@ use Rattle.cleanup.specs.State.{KernelState}
 use Rattle.cleanup.proofs.Repeats.{by_test}
 use Rattle.kernel_laws.specs.PoolLaws.{pool}
 use Rattle.kernel_laws.specs.MemoryLaws.{IsLawfulRead}
-use Rattle.kernel_laws.specs.DataLaws.{first, asked, IsFull, IsLawfulCopy, IsLawfulAsking, AreCutDown, IsLawfulOffer, IsAreaAsked, IsLawfulWish}
+use Rattle.kernel_laws.specs.DataLaws.{first, second, asked, IsFull, IsLawfulCopy, IsLawfulAsking, AreCutDown, IsLawfulOffer, IsAreaAsked, IsLawfulWish}
 use Rattle.kernel_laws.specs.CallCodes.{IsNoCall, cause_of, IsCheck}
 use Rattle.kernel_laws.proofs.OneArea.{found_readable, none_readable}
 use Rattle.address_space.specs.Sound as spaces
@@ -124,15 +124,20 @@ here (x ∷ xs) zero few = refl
 here (x ∷ xs) (suc i) few = here xs i (omega (arith, few))
 
 pub cut_same : (args xs ys : List ℕ) → AreCutDown args xs → AreCutDown args ys → xs ≡ ys
-cut_same args xs ys f g = list_same xs ys (λ i. by i (cases_eq i 1) (cases_lt 1 (length args))) where
-  by : (i : ℕ) → (i ≡ 1) ⊎ (i ≡ 1 → ⊥) → (1 < length args) ⊎ (length args ≤ 1) → slice_get xs i ≡ slice_get ys i
-  by i (inr ne) h = f.others i ne ∙ sym (g.others i ne)
-  by i (inl e) (inl more) =
-      let x = f.many in let y = g.many in
-      ap (slice_get xs) e ∙ here xs 1 (omega (arith, x, more)) ∙ ap Some (f.second ∙ sym g.second)
-      ∙ sym (here ys 1 (omega (arith, y, more))) ∙ ap (slice_get ys) (sym e)
-  by i (inl e) (inr few) = let x = f.many in let y = g.many in past xs i (omega (arith, x, e, few))
-      ∙ sym (past ys i (omega (arith, y, e, few)))
+cut_same args xs ys f g = elim (cases_lt 65536 (second args)) [
+  | inr few ↦ f.few few ∙ sym (g.few few)
+  | inl large ↦ list_same xs ys (λ i. by (f.five large) (g.five large) i (cases_lt i 5) (cases_eq i 1))
+] where
+  by : length xs ≡ 5 → length ys ≡ 5 → (i : ℕ) → (i < 5) ⊎ (5 ≤ i) → (i ≡ 1) ⊎ (i ≡ 1 → ⊥)
+      → slice_get xs i ≡ slice_get ys i
+  by x y i (inr far) one = past xs i (omega (arith, x, far)) ∙ sym (past ys i (omega (arith, y, far)))
+  by x y i (inl few) (inl one) =
+      here xs i (omega (arith, x, few)) ∙ ap (λ (j : ℕ). Some (slice_index xs j)) one
+      ∙ ap Some (f.second ∙ sym g.second)
+      ∙ ap (λ (j : ℕ). Some (slice_index ys j)) (sym one) ∙ sym (here ys i (omega (arith, y, few)))
+  by x y i (inl few) (inr other) =
+      here xs i (omega (arith, x, few)) ∙ ap Some (f.others i few other ∙ sym (g.others i few other))
+      ∙ sym (here ys i (omega (arith, y, few)))
 
 -- ---- a check
 
@@ -167,13 +172,13 @@ module _ (k : KernelState) (t : TaskNo) (msg : Msg) (sound : spaces.IsSound k.me
       | inr n1 ↦ elim (cases_eq msg.method connect_me_to) [
         | inl e ↦ connected_same e
         | inr n2 ↦ elim (cases_eq msg.method data_write) [
-          | inl e ↦ let x = f.write e in let y = g.write e in x.2
+          | inl e ↦ let x = f.write e sound in let y = g.write e sound in x.2
               ∙ ap cause_of (copy_same k.memory t msg.args (pool k) x.0 y.0 x.1 y.1) ∙ sym y.2
           | inr n3 ↦ elim (cases_eq msg.method data_read) [
             | inl e ↦ let x = f.read e in let y = g.read e in x.2 ∙ ap cause_of (asking_same msg.args x.0 y.0 x.1 y.1)
                 ∙ sym y.2
             | inr n4 ↦ elim (cases_eq msg.method share_out) [
-              | inl e ↦ let x = f.out e in let y = g.out e in x.2
+              | inl e ↦ let x = f.out e sound in let y = g.out e sound in x.2
                   ∙ ap cause_of (offer_same k.memory t msg.args x.0 y.0 sound x.1 y.1) ∙ sym y.2
               | inr n5 ↦ elim (cases_eq msg.method share_in) [
                 | inl e ↦ let x = f.inward e in let y = g.inward e in x.2

@@ -1,6 +1,5 @@
--- Wrong machines that a field of a law refuses, each on any or on one small state; and two words on the fields.
-use Rattle.std.proofs.Common.{◌≡◌, ℕ, ◌≤◌, true, false, inl, List, [], ◌∷◌, length, Option, None, Some, refl, sym, ap, ◌∙◌, arith, nat_lt}
-use Rattle.std.proofs.lemmas.Bool.Decides.{nat_tests}
+-- Wrong machines that a field of a law refuses, each on any or on one small state.
+use Rattle.std.proofs.Common.{◌≡◌, ℕ, ◌<◌, ◌≤◌, true, inl, List, [], ◌∷◌, length, Option, None, Some, refl, sym, ap, ◌∙◌, arith}
 use Rattle.ipc_ids.specs.declared.numbers.Label.{Label}
 use Rattle.ipc_ids.specs.declared.numbers.TaskNo.{TaskNo}
 use Rattle.ipc_ids.specs.declared.message.Msg.{Msg}
@@ -8,24 +7,18 @@ use Rattle.ipc_ids.specs.declared.message.PhoneState.TheVariants.{Free}
 use Rattle.ipc_ids.specs.Codes.{elimit}
 use Rattle.ipc_ids.specs.Methods.{connect_me_to}
 use Rattle.call_slab.specs.declared.call.Call.{Call}
-use Rattle.answerbox.specs.Calls.{CallTable, no_calls}
+use Rattle.answerbox.specs.Calls.{no_calls}
 use Rattle.address_space.specs.Memory.{no_memory}
 use Rattle.cleanup.specs.State.{KernelState, label_of}
 use Rattle.cleanup.specs.Serving.{Served}
 use Rattle.kernel_laws.specs.ActiveCalls.{AreTheActive}
 use Rattle.kernel_laws.specs.CallCodes.{IsCheck}
+use Rattle.kernel_determined.proofs.StateLaws.{as_many}
 use Rattle.kernel_laws.specs.DataLaws.{second, AreCutDown}
-use Rattle.kernel_laws.proofs.ActiveCalls.{active_count}
 use Rattle.kernel_determined.specs.CallLaw.{Content, KeepsPhone, CallsTooMuch, IsAccepted}
 use Rattle.kernel_determined.specs.ReceiveLaw.{ReceivesWithPhone, ReceivesWithout}
-use Rattle.kernel_determined.proofs.ChecksDetermined.{cut_same}
 
 -- ---- the limit
-
--- lists of the active calls of a phone are as long as each other: so `many` and `few` say it of each such list
-as_many : (q : CallTable) (t : TaskNo) (p : ℕ) (ns ms : List ℕ) → AreTheActive q t p ns → AreTheActive q t p ms
-    → length ns ≡ length ms
-as_many q t p ns ms a b = sym (active_count q t p ns a) ∙ active_count q t p ms b
 
 -- a machine that refuses a call where 63 are active, and one that accepts it where 64 are
 refuses_63 : (k : KernelState) (t : TaskNo) (p : ℕ) (msg : Msg) (done : Served) (ns : List ℕ) → length ns ≡ 63
@@ -42,16 +35,14 @@ accepts_64 k t p msg done ns count those law =
     let less = law.few.2 in
     omega (arith, count, same, less)
 
--- ---- a call that is not too large is sent as it was made
+-- ---- the arguments of a data call
 
-uncut : (args sent : List ℕ) → AreCutDown args sent → second args ≤ 65536 → sent ≡ args
-uncut args sent cut few = cut_same args sent args cut (record {
-  many = refl;
-  second = rw below refl;
-  others = λ i ne. refl;
-}) where
-  below : nat_lt 65536 (second args) ≡ false
-  below = grind (arith, nat_tests, few)
+-- a machine that sends four arguments of a call that it cuts down, and one that changes a call which asks for few bytes
+sends_four : (args sent : List ℕ) → 65536 < second args → length sent ≡ 4 → AreCutDown args sent → ⊥
+sends_four args sent large four law = let five = law.five large in omega (arith, four, five)
+
+changes_a_small_one : (args sent : List ℕ) → second args ≤ 65536 → (sent ≡ args → ⊥) → AreCutDown args sent → ⊥
+changes_a_small_one args sent small other law = other (law.few small)
 
 -- ---- the least phone
 

@@ -24,5 +24,7 @@ pub mod AnswerSo
 pub mod LeastSo
 pub mod KillDetermined
 pub mod KillSo
+pub mod StateLaws
+pub mod ForwardCauses
 pub mod Machines
 pub mod LawExamples

@@ -309,7 +309,7 @@ module _ (marks : List Bool) (t : TaskNo) (k : KernelState) (ending : IsEnding m
   owner e l r = own_phone c.from.task l (subst (λ x. IsReservedAt x c.from.task c.place l) (ap keeper_of e)
       ((ending.sound.calls.each c.number.0 c live).reserved.owner l r))
 
-  waits : (l : Label) → IsUnconnected c l → kept_phone c ≡ Some l
+  pub waits : (l : Label) → IsUnconnected c l → kept_phone c ≡ Some l
   waits l x =
       let kind : kind_of c.request.method ≡ ConnectMeTo = ap kind_of x.asks in
       kept_at ConnectMeTo kind

@@ -12,6 +12,7 @@ use Rattle.ipc_ids.specs.Codes.{enoent, eperm, elimit, ehangup}
 use Rattle.ipc_ids.specs.Methods.{connect_me_to, data_write, data_read}
 use Rattle.call_slab.specs.declared.call.Call.{Call}
 use Rattle.call_slab.specs.declared.call.Place.TheVariants.{Incoming, Answers}
+use Rattle.address_space.specs.Sound as spaces
 use Rattle.kernel_laws.specs.ActiveCalls.{AreTheActive}
 use Rattle.cleanup.specs.State.{KernelState, phone_at, label_of}
 use Rattle.cleanup.specs.Serving.{Served}
@@ -54,10 +55,10 @@ pub record KeepsPhone (k : KernelState) (t : TaskNo) (msg : Msg) (c : Content) :
   pub names : HasFifth (64 * t.0 + phone) msg.args c.seen.args
   pub bytes : c.bytes ≡ []
 
--- a DATA_WRITE, which may be cut down, brings the bytes that its caller names
+-- a DATA_WRITE, which may be cut down, brings the bytes that its caller names, of a sound memory
 pub record BringsBytes (k : KernelState) (t : TaskNo) (msg : Msg) (c : Content) : Type 0 where
   pub asks : msg.method ≡ data_write
-  pub copied : IsLawfulCopy k.memory t msg.args (pool k) (Ok c.bytes)
+  pub copied : spaces.IsSound k.memory → IsLawfulCopy k.memory t msg.args (pool k) (Ok c.bytes)
   pub method : c.request.method ≡ msg.method
   pub cut : AreCutDown msg.args c.request.args
   pub seen : c.seen ≡ c.request

@@ -7,7 +7,6 @@ use Rattle.cleanup.specs.State.{KernelState, Transition, phone_at, is_alive}
 use Rattle.cleanup.specs.Sound.{IsSound}
 use Rattle.cleanup.specs.Serving.{Served}
 use Rattle.kernel_core.specs.Kernel.{serve, kill_event, spawn_event}
-use Rattle.kernel_laws.specs.Connecting.{HasFive}
 use Rattle.kernel_determined.specs.HangupLaw.{IsNothing, IsHangup}
 use Rattle.kernel_determined.specs.ReceiveLaw.{IsReceive}
 use Rattle.kernel_determined.specs.ForwardLaw.{IsForward}
@@ -36,10 +35,10 @@ IsServed k t (request.Peek at count) done = IsPeek t at count k done
 IsServed k t request.Nothing done = IsNothing k done
 
 -- A machine keeps the laws of the kernel: on every sound state it does with a request of a task that is alive, with a
--- kill of one, and with a spawn of a task with one phone or more, all that is said of it. A message has five arguments.
+-- kill of one, and with a spawn of a task with one phone or more, all that is said of it.
 pub record IsKernel (serves : KernelState → TaskNo → Request → Served) (kills : KernelState → TaskNo → Transition)
     (spawns : KernelState → ℕ → Option TaskNo → Transition) : Type 0 where
-  pub requests : (k : KernelState) (t : TaskNo) (asked : Request) → MayAct k t → HasFive asked →
+  pub requests : (k : KernelState) (t : TaskNo) (asked : Request) → MayAct k t →
       IsServed k t asked (serves k t asked)
   pub killed : (k : KernelState) (t : TaskNo) → MayAct k t → IsKill t k (kills k t)
   pub spawned : (k : KernelState) (limit : ℕ) (names : Option TaskNo) → IsSound k → 1 ≤ limit →
@@ -48,7 +47,7 @@ pub record IsKernel (serves : KernelState → TaskNo → Request → Served) (ki
 -- a machine does there just what the definitions say, in state, outcome and entries
 pub record IsTheKernel (serves : KernelState → TaskNo → Request → Served) (kills : KernelState → TaskNo → Transition)
     (spawns : KernelState → ℕ → Option TaskNo → Transition) : Type 0 where
-  pub requests : (k : KernelState) (t : TaskNo) (asked : Request) → MayAct k t → HasFive asked →
+  pub requests : (k : KernelState) (t : TaskNo) (asked : Request) → MayAct k t →
       serves k t asked ≡ serve k t asked
   pub killed : (k : KernelState) (t : TaskNo) → MayAct k t → kills k t ≡ kill_event k t
   pub spawned : (k : KernelState) (limit : ℕ) (names : Option TaskNo) → IsSound k → 1 ≤ limit →

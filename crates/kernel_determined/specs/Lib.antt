@@ -11,3 +11,5 @@ pub mod MemoryLaw
 pub mod KillLaw
 pub mod KernelLaw
 pub mod Changed
+pub mod StateLaws
+pub mod ForwardCauses

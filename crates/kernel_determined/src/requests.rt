@@ -16,7 +16,6 @@ ghost use Rattle.kernel_determined.specs.ForwardLaw.{IsForward};
 ghost use Rattle.kernel_determined.specs.HangupLaw.{IsNothing, IsHangup};
 ghost use Rattle.kernel_determined.specs.KernelLaw.{MayAct, IsServed, IsKernel, IsTheKernel};
 ghost use Rattle.kernel_determined.specs.Changed.{served_to, served_telling, ended_in, ended_telling, other_call};
-ghost use Rattle.kernel_laws.specs.Connecting.{HasFive};
 ghost use Rattle.ipc_ids.specs.declared.message.PhoneState.{PhoneState};
 ghost use Rattle.ipc_ids.specs.declared.entry.Entry.{Entry};
 ghost use Rattle.call_slab.specs.declared.call.Call.{Call};
@@ -60,20 +59,18 @@ pub fn forwards_are_determined()
 
 /// A call does what its law says, and whatever does all that it says does the same.
 pub fn calls_are_determined()
-    ensures kept { (k : KernelState) (t : TaskNo) (p : ℕ) (msg : Msg) → IsSound k
-        → length msg.args ≡ 5 → IsCall t p msg k (serve k t (request.Call p msg)) }
+    ensures kept { (k : KernelState) (t : TaskNo) (p : ℕ) (msg : Msg)
+        → IsCall t p msg k (serve k t (request.Call p msg)) }
     ensures determined { (k : KernelState) (t : TaskNo) (p : ℕ) (msg : Msg) (done : Served)
-        → IsSound k → length msg.args ≡ 5 → IsCall t p msg k done
-        → done ≡ serve k t (request.Call p msg) }
+        → IsSound k → IsCall t p msg k done → done ≡ serve k t (request.Call p msg) }
 {}
 
 /// An answer does what its law says, and whatever does all that it says does the same.
 pub fn answers_are_determined()
     ensures kept { (k : KernelState) (t : TaskNo) (n : ℕ) (reply : Reply) → IsSound k
-        → is_alive k t ≡ true → IsAnswer t n reply k (serve k t (request.Answer n reply)) }
+        → IsAnswer t n reply k (serve k t (request.Answer n reply)) }
     ensures determined { (k : KernelState) (t : TaskNo) (n : ℕ) (reply : Reply) (done : Served)
-        → IsSound k → is_alive k t ≡ true → IsAnswer t n reply k done
-        → done ≡ serve k t (request.Answer n reply) }
+        → IsSound k → IsAnswer t n reply k done → done ≡ serve k t (request.Answer n reply) }
 {}
 
 /// A poke and a peek do what their laws say, and whatever does all that these say does the same.
@@ -142,21 +139,21 @@ pub fn the_laws_determine_the_kernel()
 /// phone or caller), or other entries, it is not.
 pub fn changed_requests_break_a_law()
     ensures one { (k : KernelState) (t : TaskNo) (asked : Request) (a b : Served)
-        → MayAct k t → HasFive asked → IsServed k t asked a → IsServed k t asked b → a ≡ b }
+        → MayAct k t → IsServed k t asked a → IsServed k t asked b → a ≡ b }
     ensures memory { (k : KernelState) (t : TaskNo) (asked : Request) (done : Served)
-        → MayAct k t → HasFive asked → IsServed k t asked done → (m : Memory)
+        → MayAct k t → IsServed k t asked done → (m : Memory)
         → IsServed k t asked (served_to done (with_memory done.state m))
         → done.state.memory ≡ m }
     ensures phone { (k : KernelState) (t : TaskNo) (asked : Request) (done : Served)
-        → MayAct k t → HasFive asked → IsServed k t asked done
+        → MayAct k t → IsServed k t asked done
         → (u : TaskNo) (q : ℕ) (old new : PhoneState) → phone_at done.state u q ≡ Some old
         → IsServed k t asked (served_to done (with_phone done.state u q new)) → old ≡ new }
     ensures call { (k : KernelState) (t : TaskNo) (asked : Request) (done : Served)
-        → MayAct k t → HasFive asked → IsServed k t asked done
+        → MayAct k t → IsServed k t asked done
         → (n : ℕ) (c d : Call) → call_at done.state.calls n ≡ Some c
         → IsServed k t asked (served_to done (other_call done.state n d)) → c ≡ d }
     ensures entries { (k : KernelState) (t : TaskNo) (asked : Request) (done : Served)
-        → MayAct k t → HasFive asked → IsServed k t asked done → (told : List Entry)
+        → MayAct k t → IsServed k t asked done → (told : List Entry)
         → IsServed k t asked (served_telling done told) → done.entries ≡ told }
 {}
 

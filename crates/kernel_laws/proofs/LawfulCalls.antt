@@ -14,8 +14,8 @@ use Rattle.ipc_ids.specs.Codes.{elimit}
 use Rattle.ipc_ids.specs.Methods.{kind_of}
 use Rattle.answerbox.specs.Calls.{CallTable, active_calls}
 use Rattle.phone_table.specs.Phones.{row_at, is_usable}
+use Rattle.address_space.specs.Sound as spaces
 use Rattle.cleanup.specs.State.{KernelState, phone_at, label_of}
-use Rattle.cleanup.specs.Sound.{IsSound}
 use Rattle.cleanup.specs.Kept.{first_usable_from, first_usable_of}
 use Rattle.cleanup.proofs.Repeats.{by_test}
 use Rattle.cleanup.proofs.Usable.{usable_is}
@@ -95,12 +95,12 @@ module _ (k : KernelState) (t : TaskNo) where
 
 -- ---- what is checked
 
-module _ (k : KernelState) (t : TaskNo) (p : ℕ) (msg : Msg) (sound : IsSound k) where
+module _ (k : KernelState) (t : TaskNo) (p : ℕ) (msg : Msg) where
   -- what is checked of a call of each kind, and what its record has once it is sent
   abbrev pub CheckOf : MethodKind → Option Code → Type 0
-  CheckOf DataWrite cause = (told : Result (List ℕ) Code) × IsLawfulCopy k.memory t msg.args (pool k) told × (cause ≡ cause_of told)
+  CheckOf DataWrite cause = spaces.IsSound k.memory → (told : Result (List ℕ) Code) × IsLawfulCopy k.memory t msg.args (pool k) told × (cause ≡ cause_of told)
   CheckOf DataRead cause = (told : Result ℕ Code) × IsLawfulAsking msg.args told × (cause ≡ cause_of told)
-  CheckOf ShareOut cause = (told : Result Unit Code) × IsLawfulOffer k.memory t msg.args told × (cause ≡ cause_of told)
+  CheckOf ShareOut cause = spaces.IsSound k.memory → (told : Result Unit Code) × IsLawfulOffer k.memory t msg.args told × (cause ≡ cause_of told)
   CheckOf ShareIn cause = (told : Result Unit Code) × IsLawfulWish msg.args told × (cause ≡ cause_of told)
   CheckOf ConnectMeTo cause = (cause ≡ None ↔ HasUsable k t) × (cause ≡ Some elimit ↔ (HasUsable k t → ⊥))
   CheckOf PhoneHungUp cause = ⊤

@@ -1,6 +1,6 @@
 -- The data methods move the bytes that their calls and answers name, or are refused by the first cause.
 use Rattle.std.proofs.Common.{◌≡◌, ℕ, zero, suc, ◌+◌, ◌<◌, ◌≤◌, ◌==◌, ◌⊎◌, inl, inr, Bool, true, false, List, [], ◌∷◌, length, Option, Some, None, refl, sym, ap, subst, arith, nat_lt}
-use Rattle.std.specs.Prelude.{if◌then◌else◌, Result, Ok, Err, slice_get, take}
+use Rattle.std.specs.Prelude.{if◌then◌else◌, Result, Ok, Err, slice_index, take}
 use Rattle.std.proofs.lemmas.Bool.Decides.{nat_tests}
 use Rattle.std.proofs.lemmas.Grind.{common_steps}
 use Rattle.ipc_ids.specs.Codes.{eperm, elimit, enomem}
@@ -184,22 +184,16 @@ module _ (m : Memory) (answerer : TaskNo) (args : List ℕ) (reply : Reply) (use
 
 -- ---- what is asked for is what is sent
 
-cut_others : (a b x c d e i : ℕ) → (i ≡ 1 → ⊥) → slice_get (a ∷ x ∷ c ∷ d ∷ e ∷ []) i ≡ slice_get (a ∷ b ∷ c ∷ d ∷ e ∷ []) i
-cut_others a b x c d e zero other = refl
-cut_others a b x c d e (suc zero) other = absurd (other refl)
-cut_others a b x c d e (suc (suc i)) other = refl
+cut_others : (args : List ℕ) (x i : ℕ) → i < 5 → (i ≡ 1 → ⊥) → slice_index (first args ∷ x ∷ third args ∷ slice_index args 3 ∷ slice_index args 4 ∷ []) i ≡ slice_index args i
+cut_others args x zero few other = refl
+cut_others args x (suc zero) few other = absurd (other refl)
+cut_others args x (suc (suc zero)) few other = refl
+cut_others args x (suc (suc (suc zero))) few other = refl
+cut_others args x (suc (suc (suc (suc zero)))) few other = refl
+cut_others args x (suc (suc (suc (suc (suc i))))) few other = absurd (omega (arith, few))
 
-cut_five : (a b c d e : ℕ) → AreCutDown (a ∷ b ∷ c ∷ d ∷ e ∷ []) (cut_args (a ∷ b ∷ c ∷ d ∷ e ∷ []))
-cut_five a b c d e = by (nat_lt 65536 b) refl where
-  by : (large : Bool) → nat_lt 65536 b ≡ large → AreCutDown (a ∷ b ∷ c ∷ d ∷ e ∷ []) (if large then a ∷ most_data ∷ c ∷ d ∷ e ∷ [] else a ∷ b ∷ c ∷ d ∷ e ∷ [])
-  by true is = record { many = refl; second = rw is refl; others = λ i other. cut_others a b most_data c d e i other }
-  by false is = record { many = refl; second = rw is refl; others = λ i other. refl }
-
-pub cut_is_lawful : (args : List ℕ) → length args ≡ 5 → AreCutDown args (cut_args args)
-cut_is_lawful [] n = absurd (omega arith)
-cut_is_lawful (a ∷ []) n = absurd (omega arith)
-cut_is_lawful (a ∷ b ∷ []) n = absurd (omega arith)
-cut_is_lawful (a ∷ b ∷ c ∷ []) n = absurd (omega arith)
-cut_is_lawful (a ∷ b ∷ c ∷ d ∷ []) n = absurd (omega arith)
-cut_is_lawful (a ∷ b ∷ c ∷ d ∷ e ∷ []) n = cut_five a b c d e
-cut_is_lawful (a ∷ b ∷ c ∷ d ∷ e ∷ f ∷ args) n = absurd (omega arith)
+pub cut_is_lawful : (args : List ℕ) → AreCutDown args (cut_args args)
+cut_is_lawful args = by (nat_lt 65536 (second args)) refl where
+  by : (large : Bool) → nat_lt 65536 (second args) ≡ large → AreCutDown args (if large then first args ∷ most_data ∷ third args ∷ slice_index args 3 ∷ slice_index args 4 ∷ [] else args)
+  by true is = record { few = λ le. absurd (grind (arith, nat_tests, is, le)); five = λ _. refl; second = rw is refl; others = cut_others args most_data }
+  by false is = record { few = λ _. refl; five = λ large. absurd (grind (arith, nat_tests, is, large)); second = rw is refl; others = λ i few other. refl }

@@ -10,6 +10,7 @@ use Rattle.ipc_ids.specs.declared.message.PhoneState.TheVariants.{Free, Connecti
 use Rattle.ipc_ids.specs.Codes.{elimit}
 use Rattle.ipc_ids.specs.Methods.{phone_hungup, connect_to_me, connect_me_to, data_write, data_read, share_out, share_in, first_user_method}
 use Rattle.answerbox.specs.Calls.{active_calls}
+use Rattle.address_space.specs.Sound as spaces
 use Rattle.cleanup.specs.State.{KernelState, phone_at, label_of}
 use Rattle.kernel_laws.specs.PoolLaws.{pool}
 use Rattle.kernel_laws.specs.DataLaws.{IsLawfulCopy, IsLawfulAsking, IsLawfulOffer, IsLawfulWish}
@@ -37,12 +38,13 @@ abbrev pub HasUsable : KernelState → TaskNo → Type 0
 HasUsable k t =
     (p : ℕ) × ((phone_at k t p ≡ Some Free) ⊎ ((phone_at k t p ≡ Some HungUp) × (active_calls k.calls (label_of t p) ≡ 0)))
 
--- the code that a call is answered with at once, over a phone that leads to a task; with none it is sent
+-- the code that a call is answered with at once, over a phone that leads to a task; with none it is sent. What is
+-- checked of memory is said of a sound one
 pub record IsCheck (k : KernelState) (t : TaskNo) (msg : Msg) (cause : Option Code) : Type 0 where
-  pub write : msg.method ≡ data_write →
+  pub write : msg.method ≡ data_write → spaces.IsSound k.memory →
       (told : Result (List ℕ) Code) × IsLawfulCopy k.memory t msg.args (pool k) told × (cause ≡ cause_of told)
   pub read : msg.method ≡ data_read → (told : Result ℕ Code) × IsLawfulAsking msg.args told × (cause ≡ cause_of told)
-  pub out : msg.method ≡ share_out →
+  pub out : msg.method ≡ share_out → spaces.IsSound k.memory →
       (told : Result Unit Code) × IsLawfulOffer k.memory t msg.args told × (cause ≡ cause_of told)
   pub inward : msg.method ≡ share_in → (told : Result Unit Code) × IsLawfulWish msg.args told × (cause ≡ cause_of told)
   pub connect : msg.method ≡ connect_me_to →

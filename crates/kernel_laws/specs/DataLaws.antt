@@ -64,11 +64,13 @@ pub record IsLawfulAsking (args : List ℕ) (told : Result ℕ Code) : Type 0 wh
   pub large : told ≡ Err elimit ↔ IsTooLarge args
   pub sent : told ≡ Ok (asked args) ↔ (IsTooLarge args → ⊥)
 
--- the arguments of a data call as it is sent: a2 is what it asks for, and the others are as they were
+-- the arguments of a data call as it is sent: they are as they were, or, where it asks for too many bytes, five of
+-- which a2 is what it may ask for, and the others are as they were
 pub record AreCutDown (args sent : List ℕ) : Type 0 where
-  pub many : length sent ≡ length args
+  pub few : second args ≤ 65536 → sent ≡ args
+  pub five : 65536 < second args → length sent ≡ 5
   pub second : slice_index sent 1 ≡ asked args
-  pub others : (i : ℕ) → (i ≡ 1 → ⊥) → slice_get sent i ≡ slice_get args i
+  pub others : (i : ℕ) → i < 5 → (i ≡ 1 → ⊥) → slice_index sent i ≡ slice_index args i
 
 -- what an accepting answer to a DATA_READ takes of the answerer's memory, or why it does not: the first cause
 pub record IsLawfulTaking (m : Memory) (answerer : TaskNo) (args : List ℕ) (reply : Reply) (used : ℕ) (told : Result (List ℕ) Code) : Type 0 where

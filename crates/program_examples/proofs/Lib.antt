@@ -3,3 +3,5 @@ pub mod NamingLaws
 pub mod FibrilLaws
 pub mod RawLaws
 pub mod FibrilRefusals
+pub mod ScriptArguments
+pub mod ProgramArguments

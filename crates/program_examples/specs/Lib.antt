@@ -12,3 +12,4 @@ pub mod FaultRows
 pub mod BlockLaws
 pub mod NamingLaws
 pub mod FibrilLaws
+pub mod FiveArguments

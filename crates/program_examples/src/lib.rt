@@ -5,6 +5,7 @@
 //! written down. The functions have empty bodies; what they promise is computed from the definitions.
 #![tactic(auto)]
 
+mod arguments;
 mod constants;
 mod faults;
 mod fibrils;
@@ -12,6 +13,7 @@ mod laws;
 mod raw;
 mod services;
 
+pub use arguments::{programs_ask_with_five_arguments, scripts_give_five_arguments};
 pub use constants::{codes_and_methods_are_numbers, words_of_services_are_numbers};
 pub use faults::faults_have_the_reason_of_their_row;
 pub use fibrils::{

@@ -11,11 +11,12 @@ mod CauseExamples
 pub mod LiveCalls
 pub mod LiveEvents
 pub mod LiveRuns
-pub mod ToldPhones
 mod LiveExamples
 pub mod ScheduleLines
 mod ScheduleExamples
 pub mod TaskPrograms
+pub mod AskedMessages
+pub mod ToldPhones
 pub mod TurnSteps
 pub mod TurnRuns
 mod TurnExamples

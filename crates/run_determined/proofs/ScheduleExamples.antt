@@ -170,7 +170,7 @@ serves_another_request : IsStepLine one asks_for_the_second
     (serve asks_for_the_second.kernel one (request.Hangup 0))) → ⊥
 serves_another_request line =
     let it = line.living (any.Raw (started (op.Hangup (Number 1) ∷ []))) refl refl in
-    let served = it.lawful tt in
+    let served = it.lawful in
     never (ap (λ (k : kernel.KernelState). kernel.phone_at k one 1) it.kernel ∙ served.hangup.phone.this)
   where
     never : ◌≡◌ {A = Option PhoneState} (Some Slammed) (Some HungUp) → ⊥

@@ -217,7 +217,7 @@ served_for now t p sound alive =
     let laws : IsKernel serve kill_event spawn_event = lawful_kernel in
     record {
       served = serve now.kernel t (wanted p);
-      lawful = λ five. laws.requests now.kernel t (wanted p) (record { sound = sound; alive = alive }) five;
+      lawful = laws.requests now.kernel t (wanted p) (record { sound = sound; alive = alive });
       kernel = refl;
       programs = refl;
       templates = refl;

@@ -60,7 +60,7 @@ operation_ops p (op.JumpDiffer left right to) o =
     choice_ops p (raw.at_next p) (raw.at_place p to) (raw.value_of p left == raw.value_of p right) refl refl
 operation_ops p _ o = outcome_ops p o
 
-raw_ops : (p : RawState) (o : Outcome) → (raw.after p o).ops ≡ p.ops
+pub raw_ops : (p : RawState) (o : Outcome) → (raw.after p o).ops ≡ p.ops
 raw_ops p o = by_next (raw.operation p) where
   by_next : (next : Option Op) → (raw.after_at p o next).ops ≡ p.ops
   by_next None = refl
@@ -101,7 +101,7 @@ new_is t plan kind.Block = tt
 
 -- ---- lists of programs
 
-at_set : (ps : List AnyProgram) (i j : ℕ) (x p : AnyProgram) → slice_get (slice_set ps i x) j ≡ Some p
+pub at_set : (ps : List AnyProgram) (i j : ℕ) (x p : AnyProgram) → slice_get (slice_set ps i x) j ≡ Some p
     → (j ≡ i) × (p ≡ x) × ((q : AnyProgram) × (slice_get ps j ≡ Some q)) ⊎ (slice_get ps j ≡ Some p)
 at_set [] i zero x p h = absurd (cc h)
 at_set [] i (suc j) x p h = absurd (cc h)
@@ -114,7 +114,7 @@ at_set (q ∷ ps) (suc i) (suc j) x p h =
     elim (at_set ps i j x p h) [ inl e ↦ inl (ap suc e.0, e.1, e.2) | inr e ↦ inr e ]
 
 module _ {A : Type 0} where
-  at_last : (xs : List A) (x : A) (j : ℕ) (y : A) → slice_get (xs ++ x ∷ []) j ≡ Some y
+  pub at_last : (xs : List A) (x : A) (j : ℕ) (y : A) → slice_get (xs ++ x ∷ []) j ≡ Some y
       → (slice_get xs j ≡ Some y) ⊎ ((j ≡ length xs) × (x ≡ y))
   at_last [] x zero y h = inr (refl, some_is x y h) where
     some_is : (a b : A) → Some a ≡ Some b → a ≡ b

@@ -1,6 +1,6 @@
 -- After each event of a run argument 5 of a CONNECT_ME_TO tells the phone that is kept for it.
 use Rattle.std.proofs.Common.{◌≡◌, ℕ, ◌+◌, ◌*◌, ◌-◌, Bool, true, false, inr, List, [], ◌∷◌, ◌++◌, length, Option, None, Some, refl, ap, sym, subst, ◌∙◌}
-use Rattle.std.specs.Prelude.{if◌then◌else◌, slice_get, slice_index, IsSome}
+use Rattle.std.specs.Prelude.{All, if◌then◌else◌, slice_get, slice_index, IsSome}
 use Rattle.ipc_ids.specs.declared.numbers.Label.{Label}
 use Rattle.ipc_ids.specs.declared.numbers.TaskNo.{TaskNo}
 use Rattle.ipc_ids.specs.declared.methods.MethodKind.{MethodKind}
@@ -9,7 +9,6 @@ use Rattle.ipc_ids.specs.declared.message.Event.{Event}
 use Rattle.ipc_ids.specs.declared.message.Event.TheVariants.{Step, Kill, Hangup, Spawn}
 use Rattle.ipc_ids.specs.declared.message.Request.TheVariants as request
 use Rattle.ipc_ids.specs.declared.entry.Entry.{Entry}
-use Rattle.ipc_ids.specs.declared.entry.Entry.TheVariants as entry
 use Rattle.ipc_ids.specs.Methods.{kind_of}
 use Rattle.ipc_ids.specs.Holdings.{newest_first, making}
 use Rattle.script_lines.specs.declared.plan.TaskPlan.{TaskPlan}
@@ -27,30 +26,29 @@ use Rattle.kernel_laws.proofs.ArgumentFive.{serve_tells, kill_tells, spawn_tells
 use Rattle.kernel_determined.proofs.SettleSo.{kept_is}
 use Rattle.task_system.specs.declared.any.AnyProgram.{AnyProgram}
 use Rattle.task_system.specs.Any.{wanted}
-use Rattle.task_system.specs.Run.{RunState, start, run, run_from, state_after, turn, step_by, request_served, killed, gone, spawn_by}
+use Rattle.task_system.specs.Run.{RunState, start, run, state_after, turn, step_by, request_served, killed, gone, spawn_by}
 use Rattle.route_laws.specs.Leads.{Beginning}
 use Rattle.schedule_replay.specs.RunHistory.{beginning, RunFits}
 use Rattle.schedule_replay.proofs.RunHistories.{start_told, run_told}
 use Rattle.run_determined.specs.PhoneCauses.{asked_for}
-use Rattle.run_determined.specs.ToldPhones.{AllHaveFive, TellKeptPhones, ConnectCallsTellTheirPhone}
+use Rattle.run_determined.specs.ToldPhones.{TellKeptPhones, ConnectCallsTellTheirPhone}
+use Rattle.program_examples.specs.FiveArguments.{GiveFive, ScriptGivesFive}
+use Rattle.run_determined.proofs.AskedMessages.{AreOfFive, asks_with_five, turn_of_five, turn_gives_five, start_of_five, has_five}
 use Rattle.run_determined.proofs.CauseSteps.{IsKeptAs}
 use Rattle.run_determined.proofs.CauseEvents.{CausesKept}
 use Rattle.run_determined.proofs.CauseRuns.{none_made, run_causes}
 use Rattle.run_determined.proofs.LiveRuns.{may_first}
 
-five_both : (xs ys : List Entry) → AllHaveFive (xs ++ ys) → AllHaveFive xs × AllHaveFive ys
-five_both [] ys h = (tt, h)
-five_both (entry.Head t asked ∷ xs) ys h = let both = five_both xs ys h.1 in ((h.0, both.0), both.1)
-five_both (_ ∷ xs) ys h = five_both xs ys h
-
 -- ---- each event keeps what argument 5 tells
 
 module _ (now : RunState) (tells : TellPhones now.kernel.calls) where
-  stepped : (t : TaskNo) (x : Bool) (o : Option AnyProgram) → AllHaveFive (step_by now t (if x then o else None)).entries
+  stepped : AreOfFive now.programs → (t : TaskNo) (x : Bool) (o : Option AnyProgram)
+      → slice_get now.programs (t.0 - 1) ≡ o
       → TellPhones (step_by now t (if x then o else None)).state.kernel.calls
-  stepped t true None five = tells
-  stepped t true (Some p) five = serve_tells now.kernel t (wanted p) tells five.0
-  stepped t false o five = tells
+  stepped it t true None at = tells
+  stepped it t true (Some p) at =
+      serve_tells now.kernel t (wanted p) tells (has_five (wanted p) (asks_with_five p (it (t.0 - 1) p at)))
+  stepped it t false o at = tells
 
   ended : (t : TaskNo) (x : Bool)
       → TellPhones (if x then killed now t (kill_event now.kernel t) else gone now t).state.kernel.calls
@@ -68,18 +66,19 @@ module _ (now : RunState) (tells : TellPhones now.kernel.calls) where
   made None = tells
   made (Some template) = spawn_tells now.kernel template.limit now.names tells
 
-  turn_tells : (e : Event) → AllHaveFive (turn now e).entries → TellPhones (turn now e).state.kernel.calls
-  turn_tells (Step t) five = stepped t (is_alive now.kernel t) (slice_get now.programs (t.0 - 1)) five
-  turn_tells (Kill t) five = ended t (is_alive now.kernel t)
-  turn_tells (Hangup t phone) five = hung_up t phone (is_alive now.kernel t)
-  turn_tells (Spawn place) five = made (slice_get now.templates place)
+  turn_tells : AreOfFive now.programs → (e : Event) → TellPhones (turn now e).state.kernel.calls
+  turn_tells it (Step t) = stepped it t (is_alive now.kernel t) (slice_get now.programs (t.0 - 1)) refl
+  turn_tells it (Kill t) = ended t (is_alive now.kernel t)
+  turn_tells it (Hangup t phone) = hung_up t phone (is_alive now.kernel t)
+  turn_tells it (Spawn place) = made (slice_get now.templates place)
 
-events_tell : (events : List Event) (now : RunState) → TellPhones now.kernel.calls → AllHaveFive (run_from now events)
+events_tell : (events : List Event) (now : RunState) → TellPhones now.kernel.calls
+    → All (λ (plan : TaskPlan). GiveFive plan.bodies) now.templates → AreOfFive now.programs
     → TellPhones (state_after now events).kernel.calls
-events_tell [] now tells five = tells
-events_tell (e ∷ events) now tells five =
-    let both = five_both (turn now e).entries (run_from (turn now e).state events) five in
-    events_tell events (turn now e).state (turn_tells now tells e both.0) both.1
+events_tell [] now tells five it = tells
+events_tell (e ∷ events) now tells five it =
+    events_tell events (turn now e).state (turn_tells now tells it e) (turn_gives_five now e five)
+    (turn_of_five now it five e)
 
 -- ---- and the entries say which phone that is
 
@@ -111,9 +110,9 @@ told_phones b h now told causes tells n c t l is at asks kept = by_phone c.reser
       one_label : (x y : Label) → Some x ≡ Some y → x ≡ y
       one_label x y e = cc
 
-pub calls_tell_their_phone : (plan : Plan) (events : List Event) → IsSound plan
+pub calls_tell_their_phone : (plan : Plan) (events : List Event) → IsSound plan → ScriptGivesFive plan
     → MayAllCome (length plan.tasks) (length plan.templates) events → ConnectCallsTellTheirPhone plan events
-calls_tell_their_phone plan events sound may done later is five =
+calls_tell_their_phone plan events sound five may done later is =
     let all : MayAllCome (length plan.tasks) (length plan.templates) (done ++ later) =
     subst (λ (es : List Event). MayAllCome (length plan.tasks) (length plan.templates) es) is may in
     let first = may_first (length plan.tasks) (length plan.templates) done later all in
@@ -121,4 +120,5 @@ calls_tell_their_phone plan events sound may done later is five =
     told_phones (beginning plan) (run plan done) (state_after (start plan) done) (run_told plan done sound first)
     (run_causes plan done sound first)
     (events_tell done (start plan)
-    (λ n c at. absurd (none_made (making n []) _ refl (begun.kernel.areas.calls n c at).made)) five)
+    (λ n c at. absurd (none_made (making n []) _ refl (begun.kernel.areas.calls n c at).made)) five.templates
+    (start_of_five plan five))

@@ -1,3 +1,4 @@
+pub mod AskedMessages
 pub mod LiveWaits
 pub mod PhoneCauses
 pub mod ScheduleLines

@@ -14,7 +14,6 @@ use Rattle.script_lines.specs.declared.plan.TaskPlan.{TaskPlan}
 use Rattle.script_lines.specs.Plan.{Plan}
 use Rattle.cleanup.specs.State.{Transition, is_alive, phone_at}
 use Rattle.cleanup.specs.Serving.{Served}
-use Rattle.kernel_laws.specs.Connecting.{HasFive}
 use Rattle.kernel_laws.specs.SpawnLaws.{new_number}
 use Rattle.kernel_determined.specs.SpawnLaw.{IsSpawn}
 use Rattle.kernel_determined.specs.HangupLaw.{IsHangup}
@@ -105,10 +104,10 @@ HangupLinesHangUpTheirPhone plan events =
 -- ---- a task has its turn
 
 -- task t, which is alive and runs this program, asks what the program wants next; the kernel does with it what its law
--- says, where a message has five arguments; and the program hears of the outcome
+-- says; and the program hears of the outcome
 pub record IsServedFor (t : TaskNo) (p : AnyProgram) (before : RunState) (done : RunTransition) : Type 0 where
   pub served : Served
-  pub lawful : HasFive (own.wanted p) → IsServed before.kernel t (own.wanted p) served
+  pub lawful : IsServed before.kernel t (own.wanted p) served
   pub kernel : done.state.kernel ≡ served.state
   pub programs : done.state.programs ≡ slice_set before.programs (t.0 - 1) (own.after p served.outcome)
   pub templates : done.state.templates ≡ before.templates

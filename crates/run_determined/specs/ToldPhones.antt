@@ -1,26 +1,18 @@
 -- Argument 5 of a CONNECT_ME_TO that a task holds tells the phone that the entries of the run say to be kept for it, the
--- one that an answer EOK connects. So it is while all messages that tasks asked with have five arguments.
-use Rattle.std.specs.Prelude.{ℕ, ◌+◌, ◌*◌, ◌≡◌, ⊤, List, [], ◌∷◌, ◌++◌, Some, slice_index}
+-- one that an answer EOK connects.
+use Rattle.std.specs.Prelude.{ℕ, ◌+◌, ◌*◌, ◌≡◌, List, ◌++◌, Some, slice_index}
 use Rattle.ipc_ids.specs.declared.numbers.Label.{Label}
 use Rattle.ipc_ids.specs.declared.numbers.TaskNo.{TaskNo}
 use Rattle.ipc_ids.specs.declared.message.Event.{Event}
 use Rattle.ipc_ids.specs.declared.entry.Entry.{Entry}
-use Rattle.ipc_ids.specs.declared.entry.Entry.TheVariants as entry
 use Rattle.ipc_ids.specs.Methods.{connect_me_to}
 use Rattle.ipc_ids.specs.Holdings.{newest_first}
 use Rattle.script_lines.specs.Plan.{Plan}
 use Rattle.call_slab.specs.declared.call.Call.{Call}
 use Rattle.call_slab.specs.declared.call.Place.TheVariants.{Dispatched}
 use Rattle.answerbox.specs.Calls.{CallTable, call_at}
-use Rattle.kernel_laws.specs.Connecting.{HasFive}
 use Rattle.task_system.specs.Run.{start, run, state_after}
 use Rattle.run_determined.specs.PhoneCauses.{asked_for}
-
--- every message that a task asked with has five arguments
-abbrev pub AllHaveFive : List Entry → Type 0
-AllHaveFive [] = ⊤
-AllHaveFive (entry.Head t asked ∷ es) = HasFive asked × AllHaveFive es
-AllHaveFive (_ ∷ es) = AllHaveFive es
 
 -- of each CONNECT_ME_TO among these calls that a task holds, argument 5 tells caller and phone in one number, for the
 -- phone that is kept by these entries, the newest first
@@ -33,5 +25,5 @@ TellKeptPhones q calls =
 -- so it is after each event of a run
 abbrev pub ConnectCallsTellTheirPhone : Plan → List Event → Type 0
 ConnectCallsTellTheirPhone plan events =
-    (done later : List Event) → events ≡ done ++ later → AllHaveFive (run plan done) →
+    (done later : List Event) → events ≡ done ++ later →
     TellKeptPhones (newest_first (run plan done)) (state_after (start plan) done).kernel.calls

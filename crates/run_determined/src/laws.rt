@@ -6,6 +6,8 @@ ghost use Rattle.script_lines.specs.Sound.{IsSound};
 ghost use Rattle.script_reader.specs.Schedule.{MayAllCome};
 ghost use Rattle.task_system.specs.Run.{run};
 ghost use Rattle.schedule_replay.specs.RunHistory.{beginning};
+ghost use Rattle.program_examples.specs.FiveArguments.{ScriptGivesFive};
+ghost use Rattle.run_determined.specs.AskedMessages.{AskWithFive};
 ghost use Rattle.run_determined.specs.LiveWaits.{WaitsAreForLiveCalls};
 ghost use Rattle.run_determined.specs.PhoneCauses.{PhonesChangeForCause};
 ghost use Rattle.run_determined.specs.ScheduleLines.{SpawnsMakeTheirTemplate, HangupLinesHangUpTheirPhone, StepsServeTheirTask, KillLinesKillTheirTask};
@@ -21,10 +23,16 @@ pub fn phones_change_for_cause()
         → PhonesChangeForCause (beginning plan) (run plan events) }
 {}
 
+/// Each message and each answer that a task asks with has five arguments, whatever came before: so in
+/// the run of a plan whose operations give five, as those of every script do.
+pub fn tasks_ask_with_five_arguments()
+    ensures { (plan : Plan) (events : List Event) → ScriptGivesFive plan → AskWithFive plan events }
+{}
+
 /// Argument 5 of a `CONNECT_ME_TO` that a task holds tells the phone that the entries say to be kept
-/// for it, which is the one that an answer `EOK` connects: so while all messages have five arguments.
+/// for it, which is the one that an answer `EOK` connects.
 pub fn connect_calls_tell_their_phone()
-    ensures { (plan : Plan) (events : List Event) → IsSound plan
+    ensures { (plan : Plan) (events : List Event) → IsSound plan → ScriptGivesFive plan
         → MayAllCome (length plan.tasks) (length plan.templates) events
         → ConnectCallsTellTheirPhone plan events }
 {}
