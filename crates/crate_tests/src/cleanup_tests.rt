@@ -1,7 +1,7 @@
 //! The end of a task that is alone, for who has its phones, calls and areas.
 ghost use Rattle.std.specs.Prelude.{◌≡◌, IfOk};
 ghost use Rattle.answerbox.specs.Calls.{no_calls};
-ghost use Rattle.cleanup.specs.EndStart.{own_phones, no_counts, own_area};
+ghost use Rattle.crate_tests.specs.EndStart.{own_phones, no_counts, own_area};
 
 use cleanup::end_task;
 use address_space::Spaces;

@@ -18,3 +18,5 @@ mod fibril_core_tests;
 mod forwarding_tests;
 #[cfg(test)]
 mod io_edge_tests;
+#[cfg(test)]
+mod trace_check_tests;

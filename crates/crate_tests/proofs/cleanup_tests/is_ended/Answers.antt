@@ -1,5 +1,5 @@
 use Rattle.std.proofs.Common.{arith}
-use Rattle.cleanup.proofs.EndExamples.{alone_ended, alone_sound, alone_few}
+use Rattle.crate_tests.proofs.EndExamples.{alone_ended, alone_sound, alone_few}
 use Rattle.crate_tests.proofs.cleanup_tests.is_ended.Goals as goal
 
 pub end_task-requires : goal.end_task-requires
