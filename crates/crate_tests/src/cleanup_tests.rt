@@ -3,9 +3,9 @@ ghost use Rattle.std.specs.Prelude.{◌≡◌, IfOk};
 ghost use Rattle.answerbox.specs.Calls.{no_calls};
 ghost use Rattle.crate_tests.specs.EndStart.{own_phones, no_counts, own_area};
 
-use cleanup::end_task;
 use address_space::Spaces;
 use answerbox::Boxes;
+use cleanup::end_task;
 use ipc_ids::{CallNo, Entry, NoMemory, PhoneNo, PhoneState, TaskNo, Trace};
 use phone_table::{PhoneRows, Phones};
 use std::alloc::Global;

@@ -2,9 +2,9 @@
 ghost use Rattle.std.specs.Prelude.{◌≡◌, ◌<◌, Option, Some, IfSome, OnOk, []};
 ghost use Rattle.forwarding.specs.Forwarding.{LeadsWithin};
 
-use forwarding::{ForwardFault, Forwarded, route};
 use answerbox::Boxes;
 use call_slab::{Call, Place};
+use forwarding::{ForwardFault, Forwarded, route};
 use ipc_ids::methods::CONNECT_ME_TO;
 use ipc_ids::{Buffer, CallNo, Code, Label, Mode, Msg, PhoneNo, PhoneState, Reply, TaskNo};
 use std::alloc::Global;

@@ -19,4 +19,4 @@ mod forwarding_tests;
 #[cfg(test)]
 mod io_edge_tests;
 #[cfg(test)]
-mod trace_check_tests;
+mod law_check_tests;

@@ -1,6 +1,5 @@
-//! What is found of short traces. `laws/` has one for each sentence of the laws.
+//! Traces that are read and judged, with ample memory. What `check_trace` finds stands in `laws/`.
 
-use trace_check::{check_trace, finding_text};
 use law_check::{Verdict, check_laws};
 use std::alloc::Global;
 use std::test::Fail;
