@@ -6,7 +6,5 @@
 mod boxes;
 mod chains;
 mod moves;
-#[cfg(test)]
-mod tests;
 
 pub use boxes::Boxes;

@@ -16,8 +16,6 @@ mod finding;
 mod groups;
 mod laws;
 mod sessions;
-#[cfg(test)]
-mod tests;
 
 pub use laws::{
     begins_answer_by_the_table, calls_keep_sessions_sound, closes_answer_by_the_table,

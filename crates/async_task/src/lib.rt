@@ -19,8 +19,6 @@ mod machine;
 mod program;
 mod slots;
 mod step;
-#[cfg(test)]
-mod tests;
 mod wanted;
 
 pub use awaited::Awaited;

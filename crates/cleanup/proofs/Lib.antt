@@ -31,4 +31,3 @@ pub mod Turns
 pub mod SoundBoards
 pub mod Live
 pub mod Marks
-pub mod EndExamples

@@ -13,4 +13,3 @@ pub mod Board
 pub mod Rooms
 pub mod KillRoom
 pub mod Ending
-pub mod EndStart

@@ -19,8 +19,6 @@ mod kill_room;
 mod laws;
 mod phones;
 mod sharing;
-#[cfg(test)]
-mod tests;
 
 pub use board::Switchboard;
 pub use counts::label;

@@ -11,8 +11,6 @@ mod fibrils;
 mod laws;
 mod live_fibrils;
 mod owed;
-#[cfg(test)]
-mod tests;
 
 pub use conn::{Conn, Queue, Queued, Routed, Taken};
 pub use conns::Conns;

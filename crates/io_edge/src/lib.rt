@@ -10,8 +10,6 @@ mod out_sink;
 mod shelf;
 mod sink;
 mod stream;
-#[cfg(test)]
-mod tests;
 mod words;
 
 pub use file_shelf::FileShelf;

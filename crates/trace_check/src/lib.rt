@@ -3,7 +3,5 @@
 
 mod finding;
 mod reading;
-#[cfg(test)]
-mod tests;
 
 pub use finding::{Finding, check_trace, finding_text};

@@ -1,5 +1,0 @@
-use Rattle.std.proofs.Common.{false, ◌∷◌, []}
-use Rattle.cleanup.proofs.tests.is_ended.Given as goal
-
-abbrev pub ghost-end_task : goal.ghost-end_task
-ghost-end_task a = false ∷ []
