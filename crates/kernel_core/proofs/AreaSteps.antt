@@ -19,13 +19,12 @@ use Rattle.ipc_ids.specs.AreaLaw.{IsLawfulEntry, WereLawful}
 use Rattle.call_slab.specs.declared.call.Call.{Call}
 use Rattle.call_slab.specs.declared.call.Place.{Place}
 use Rattle.call_slab.specs.declared.call.Place.TheVariants as place
-use Rattle.answerbox.specs.Calls.{CallTable, call_at, put_at, without_call, front}
-use Rattle.answerbox.proofs.Fronts.{front_live}
+use Rattle.answerbox.specs.Calls.{CallTable, call_at, put_at, without_call}
 use Rattle.address_space.specs.Areas.{Area}
 use Rattle.address_space.specs.Memory.{Memory, area_at}
 use Rattle.cleanup.specs.State.{KernelState, with_calls, with_memory}
 use Rattle.cleanup.specs.Kept.{kept_phone, lent_phone, with_kept, kept_note}
-use Rattle.cleanup.specs.Joins.{vanishing, answer_to, settle_for, declined_call, drop_answer, passage, passed_call, reception, delivery}
+use Rattle.cleanup.specs.Joins.{vanishing, answer_to, drop_answer, passage, passed_call, reception, delivery}
 use Rattle.cleanup.specs.Serving.{Handed}
 use Rattle.cleanup.proofs.Lookups.{at_insert, at_remove, chosen}
 use Rattle.kernel_core.specs.AreaHistory.{holding, Asks, IsShare, IsMadeAs, AreasFit}
@@ -143,9 +142,6 @@ IsOwn k c = call_at k.calls c.number.0 ≡ Some c
 pub own_call : (q : List Entry) (k : KernelState) → AreasFit q k → (n : ℕ) (c : Call) → call_at k.calls n ≡ Some c → IsOwn k c
 own_call q k fits n c is = ap (call_at k.calls) (fits.calls n c is).number ∙ is
 
-pub own_front : (q : List Entry) (k : KernelState) → AreasFit q k → (at : Place) (c : Call) → front k.calls at ≡ Some c → IsOwn k c
-own_front q k fits at c is = let f = front_live k.calls at c is in own_call q k fits f.0 c f.1
-
 pub kept_quiet : (kept : Option Label) (s : PhoneState) → AreQuiet (option_to_list (kept_note kept s))
 kept_quiet None s = tt
 kept_quiet (Some l) s = (tt, tt)
@@ -186,11 +182,6 @@ module _ (k : KernelState) (c : Call) (live : IsOwn k c) where
     memory = refl;
     calls = placed (passed_call msg label c) (record { number = refl; from = refl; request = refl }) (place.Incoming to);
   }
-
-  pub quiet_settle : (reply : Reply) (by o : Option TaskNo) (b : Bool) → IsQuietStep k (settle_for k c reply by o b).entries (settle_for k c reply by o b).state
-  quiet_settle reply by None b = quiet_vanishing
-  quiet_settle reply by (Some u) false = quiet_vanishing
-  quiet_settle reply by (Some u) true = quiet_answer (declined_call c reply) (record { number = refl; from = refl; request = refl }) (lent_phone c) phone.Free by u
 
 -- an event begins
 pub begun : (q : List Entry) (k : KernelState) (e : Entry) → ((t base : ℕ) → entries.held t base (e ∷ q) ≡ entries.held t base q) → last_store (e ∷ q) ≡ last_store q → ((n : ℕ) → making n (e ∷ q) ≡ making n q) → IsLawfulEntry q e [] → AreasFit q k → AreasFit (e ∷ q) k
