@@ -28,6 +28,7 @@ use Rattle.fibril_core.specs.Conns as conns
 use Rattle.fibril_core.specs.Conns.{conn_of_fibril, conn_of_label, fibril_of, route_answer, finish}
 use Rattle.fibril_core.specs.Conns.{start, closes}
 use Rattle.fibril_core.proofs.Connections.{sound_routed, sound_taken, sound_started, sound_finished}
+use Rattle.fibril_core.specs.ConnLaws.{IsSound as AreSoundConns}
 use Rattle.async_sessions.specs.Sessions.{ended}
 use Rattle.async_task.specs.declared.awaited.Awaited.{Awaited}
 use Rattle.async_task.specs.declared.context.Slot.{Slot}

@@ -13,6 +13,7 @@ use Rattle.ipc_ids.specs.declared.message.Why.TheVariants as why
 use Rattle.fibril_core.specs.declared.conn.Conn.{Conn}
 use Rattle.fibril_core.specs.Fibrils.{FibrilOrder, current, why_of, block_on}
 use Rattle.fibril_core.specs.FibrilLaws.{IsSound as IsSoundOrder}
+use Rattle.fibril_core.specs.ConnLaws.{IsSound as AreSoundConns}
 use Rattle.async_sessions.specs.Sessions.{Open}
 use Rattle.async_sessions.specs.SessionLaws.{IsSound as AreSoundSessions, HasNoIdle}
 use Rattle.async_task.specs.declared.awaited.Awaited.{Awaited}
