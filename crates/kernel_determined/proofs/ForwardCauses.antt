@@ -57,7 +57,8 @@ module _ (k : KernelState) (t : TaskNo) (n p : ℕ) (mode : Mode) (change : Opti
       answered = λ u made alive. answered c.caller (lives k c.caller) refl u made alive;
     }
 
-    failed_as : (code : Code) (d : Call) → call_at k.calls n ≡ Some d → IsFailed code d k (failed_forward k (Some c) code)
+    failed_as : (code : Code) (d : Call) → call_at k.calls n ≡ Some d
+        → IsFailed code d k (failed_forward k (Some c) code)
     failed_as code d is =
         subst (λ (x : Call). IsFailed code x k (failed_forward k (Some c) code)) (same_live d is) (failed code)
 

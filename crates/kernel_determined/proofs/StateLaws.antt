@@ -39,14 +39,17 @@ module _ (k : KernelState) (sound : IsSound k) (n : ℕ) (c : Call) (is : call_a
       waits k.tasks.alive u k (record { sound = sound }) c
       (ap (call_at k.calls) (sound.calls.each n c is).number ∙ is) at l it
   kept_as (Incoming u) at it =
-      (kept_is k k.tasks refl n c (sound.calls.each n c is) (subst IsPendingAt (sym at) tt)).connect (inr it.asks) ∙ kept
+      (kept_is k k.tasks refl n c (sound.calls.each n c is) (subst IsPendingAt (sym at) tt)).connect (inr it.asks)
+      ∙ kept
   kept_as (Dispatched u) at it =
-      (kept_is k k.tasks refl n c (sound.calls.each n c is) (subst IsPendingAt (sym at) tt)).connect (inr it.asks) ∙ kept
+      (kept_is k k.tasks refl n c (sound.calls.each n c is) (subst IsPendingAt (sym at) tt)).connect (inr it.asks)
+      ∙ kept
 
 pub keep_their_phones : (k : KernelState) → IsSound k → KeepTheirPhones k
 keep_their_phones k sound = record {
   caller = λ n c u l is asks made kept. of_caller k sound n c is l kept u made asks;
-  waits = λ n c l is it. sound.kept.waits n l (kept_of_call k.calls n c is ∙ kept_as k sound n c is l it.kept c.place refl it);
+  waits = λ n c l is it.
+      sound.kept.waits n l (kept_of_call k.calls n c is ∙ kept_as k sound n c is l it.kept c.place refl it);
   holder = λ t n c l held asks kept.
       subst (λ (p : Place). IsLentAt p l) held.1 (owner k sound n c held.0 l kept ConnectToMe (ap kind_of asks));
 }

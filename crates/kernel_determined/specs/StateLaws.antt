@@ -10,11 +10,11 @@ use Rattle.cleanup.specs.State.{KernelState, phone_at}
 use Rattle.kernel_laws.specs.Connecting.{IsUnconnected}
 use Rattle.kernel_laws.specs.HeldCalls.{IsHeld}
 
--- the phones that are kept for connect calls: that of a CONNECT_ME_TO is one of its caller, and waits for its connection
--- until the call is accepted; that of a CONNECT_TO_ME is one of the task that holds it
+-- the phones that are kept for connect calls: that of a CONNECT_ME_TO is one of its caller, and waits for its
+-- connection until the call is accepted; that of a CONNECT_TO_ME is one of the task that holds it
 pub record KeepTheirPhones (k : KernelState) : Type 0 where
-  pub caller : (n : ℕ) (c : Call) (u : TaskNo) (l : Label) → call_at k.calls n ≡ Some c → c.request.method ≡ connect_me_to
-      → c.caller ≡ Some u → c.reserved ≡ Some l → l.task ≡ u
+  pub caller : (n : ℕ) (c : Call) (u : TaskNo) (l : Label) → call_at k.calls n ≡ Some c
+      → c.request.method ≡ connect_me_to → c.caller ≡ Some u → c.reserved ≡ Some l → l.task ≡ u
   pub waits : (n : ℕ) (c : Call) (l : Label) → call_at k.calls n ≡ Some c → IsUnconnected c l
       → phone_at k l.task l.phone.0 ≡ Some Connecting
   pub holder : (t : TaskNo) (n : ℕ) (c : Call) (l : Label) → IsHeld t k n c → c.request.method ≡ connect_to_me

@@ -59,10 +59,6 @@ module _ {A : Type 0} (P : A → Type 0) where
   choice true x y h g = h refl
   choice false x y h g = g refl
 
-  wanted_good : (o : Option A) → IfAny o → IfGood (needed o)
-  wanted_good None h = tt
-  wanted_good (Some x) h = h
-
 module _ {A B : Type 0} (P : A → Type 0) (Q : B → Type 0) where
   then_good : (r : Result A Reason) (f : A → Result B Reason) → IfGood P r → ((x : A) → P x → IfGood Q (f x))
       → IfGood Q (r >>= f)
@@ -126,9 +122,6 @@ answer_five ws = then_good Third GivesFive (operation.two_and_arguments ws) _ (t
 
 forward_five : (ws : List (List ℕ)) → Good (operation.forward_op ws)
 unfolding operation.forward_op
-forward_five [] = tt
-forward_five (call ∷ []) = tt
-forward_five (call ∷ phone ∷ []) = tt
 forward_five (call ∷ phone ∷ mode ∷ []) =
     step GivesFive (needed (value call)) _ (λ a. step GivesFive (needed (value phone)) _
     (λ b. step GivesFive (needed (mode_of mode)) _ (λ c. tt)))
@@ -137,29 +130,26 @@ forward_five (call ∷ phone ∷ mode ∷ method ∷ others) = choice GivesFive 
     (λ b. step GivesFive (needed (mode_of mode)) _ (λ c. step GivesFive (needed (value method)) _
     (λ d. then_good IsFive GivesFive (needed (arguments others)) _ (five_words others few) (λ args h. h))))))
     (λ _. tt)
+forward_five _ = tt
 
 call_slot_five : (ws : List (List ℕ)) → Good (operation.call_slot_op ws)
 unfolding operation.call_slot_op
-call_slot_five [] = tt
-call_slot_five (slot ∷ []) = tt
-call_slot_five (slot ∷ phone ∷ []) = tt
 call_slot_five (slot ∷ phone ∷ method ∷ others) = choice GivesFive (nat_le (length others) 5) _ _
     (λ few. step GivesFive (needed (operation.slot_of slot)) _ (λ a. step GivesFive (needed (value phone)) _
     (λ b. step GivesFive (needed (value method)) _
     (λ c. then_good IsFive GivesFive (needed (arguments others)) _ (five_words others few) (λ args h. h)))))
     (λ _. tt)
+call_slot_five _ = tt
 
 send_five : (ws : List (List ℕ)) → Good (operation.send_op ws)
 unfolding operation.send_op
-send_five [] = tt
-send_five (slot ∷ []) = tt
-send_five (slot ∷ handle ∷ []) = tt
 send_five (slot ∷ handle ∷ method ∷ others) = choice GivesFive (nat_le (length others) 5) _ _
     (λ few. step GivesFive (needed (operation.slot_of slot)) _
     (λ a. step GivesFive (needed (operation.handle_of handle)) _
     (λ b. step GivesFive (needed (value method)) _
     (λ c. then_good IsFive GivesFive (needed (arguments others)) _ (five_words others few) (λ args h. h)))))
     (λ _. tt)
+send_five _ = tt
 
 -- the others give no arguments
 
@@ -170,61 +160,48 @@ receive_five (a ∷ ws) = tt
 
 hangup_five : (ws : List (List ℕ)) → Good (operation.hangup_op ws)
 unfolding operation.hangup_op
-hangup_five [] = tt
 hangup_five (a ∷ []) = step GivesFive (needed (value a)) _ (λ _. tt)
-hangup_five (a ∷ b ∷ ws) = tt
+hangup_five _ = tt
 
 area_five : (ws : List (List ℕ)) → Good (operation.area_op ws)
 unfolding operation.area_op
-area_five [] = tt
-area_five (a ∷ []) = tt
-area_five (a ∷ b ∷ []) = tt
 area_five (a ∷ b ∷ c ∷ []) = step GivesFive (needed (value a)) _
     (λ _. step GivesFive (needed (value b)) _
     (λ _. step GivesFive (needed (value c)) _ (λ _. tt)))
-area_five (a ∷ b ∷ c ∷ d ∷ ws) = tt
+area_five _ = tt
 
 unarea_five : (ws : List (List ℕ)) → Good (operation.unarea_op ws)
 unfolding operation.unarea_op
-unarea_five [] = tt
 unarea_five (a ∷ []) = step GivesFive (needed (value a)) _ (λ _. tt)
-unarea_five (a ∷ b ∷ ws) = tt
+unarea_five _ = tt
 
 poke_five : (ws : List (List ℕ)) → Good (operation.poke_op ws)
 unfolding operation.poke_op
-poke_five [] = tt
-poke_five (a ∷ []) = tt
 poke_five (a ∷ b ∷ []) = step GivesFive (needed (value a)) _
     (λ _. step GivesFive (needed (bytes_of b)) _ (λ _. tt))
-poke_five (a ∷ b ∷ c ∷ ws) = tt
+poke_five _ = tt
 
 peek_five : (ws : List (List ℕ)) → Good (operation.peek_op ws)
 unfolding operation.peek_op
-peek_five [] = tt
-peek_five (a ∷ []) = tt
 peek_five (a ∷ b ∷ []) = step GivesFive (needed (value a)) _
     (λ _. step GivesFive (needed (value b)) _ (λ _. tt))
-peek_five (a ∷ b ∷ c ∷ ws) = tt
+peek_five _ = tt
 
 set_five : (ws : List (List ℕ)) → Good (operation.set_op ws)
 unfolding operation.set_op
-set_five [] = tt
-set_five (a ∷ []) = tt
 set_five (a ∷ b ∷ []) = step GivesFive (needed (register a)) _
     (λ _. step GivesFive (needed (value b)) _ (λ _. tt))
-set_five (a ∷ b ∷ c ∷ ws) = tt
+set_five _ = tt
 
 jump_five : (ws : List (List ℕ)) → Good (operation.jump_op ws)
 unfolding operation.jump_op
-jump_five [] = tt
 jump_five (a ∷ []) = step GivesFive (needed (number_below 65536 a)) _ (λ _. tt)
-jump_five (a ∷ b ∷ ws) = tt
+jump_five _ = tt
 
 wait_five : (ws : List (List ℕ)) → Good (operation.wait_op ws)
 unfolding operation.wait_op
-wait_five [] = tt
 wait_five (a ∷ []) = step GivesFive (needed (operation.slot_of a)) _ (λ _. tt)
-wait_five (a ∷ b ∷ ws) = tt
+wait_five _ = tt
 
 next_five : (ws : List (List ℕ)) → Good (operation.next_op ws)
 unfolding operation.next_op
@@ -238,33 +215,26 @@ yield_five (a ∷ ws) = tt
 
 open_five : (ws : List (List ℕ)) → Good (operation.open_op ws)
 unfolding operation.open_op
-open_five [] = tt
-open_five (a ∷ []) = tt
-open_five (a ∷ b ∷ []) = tt
 open_five (a ∷ b ∷ c ∷ []) = step GivesFive (needed (operation.session_of a)) _
     (λ _. step GivesFive (needed (value b)) _
     (λ _. step GivesFive (needed (exchange_mode_of c)) _ (λ _. tt)))
-open_five (a ∷ b ∷ c ∷ d ∷ ws) = tt
+open_five _ = tt
 
 begin_five : (ws : List (List ℕ)) → Good (operation.begin_op ws)
 unfolding operation.begin_op
-begin_five [] = tt
-begin_five (a ∷ []) = tt
 begin_five (a ∷ b ∷ []) = step GivesFive (needed (operation.handle_of a)) _
     (λ _. step GivesFive (needed (operation.session_of b)) _ (λ _. tt))
-begin_five (a ∷ b ∷ c ∷ ws) = tt
+begin_five _ = tt
 
 end_five : (ws : List (List ℕ)) → Good (operation.end_op ws)
 unfolding operation.end_op
-end_five [] = tt
 end_five (a ∷ []) = step GivesFive (needed (operation.handle_of a)) _ (λ _. tt)
-end_five (a ∷ b ∷ ws) = tt
+end_five _ = tt
 
 close_five : (ws : List (List ℕ)) → Good (operation.close_op ws)
 unfolding operation.close_op
-close_five [] = tt
 close_five (a ∷ []) = step GivesFive (needed (operation.session_of a)) _ (λ _. tt)
-close_five (a ∷ b ∷ ws) = tt
+close_five _ = tt
 
 jump_equal_five : (ws : List (List ℕ)) → Good (operation.jump_equal_op ws)
 unfolding operation.jump_equal_op

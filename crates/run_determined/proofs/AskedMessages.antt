@@ -39,7 +39,8 @@ abbrev pub IsOfFive : AnyProgram → Type 0
 IsOfFive (any.Raw p) = All GivesFive p.ops
 IsOfFive (any.Async p) = GiveFive p.state.bodies
 IsOfFive (any.Naming p) = (told : List Outcome) × (p ≡ naming_after told)
-IsOfFive (any.Block p) = (count : ℕ) × (service : Option ℕ) × (told : List Outcome) × (p ≡ server_after count service told)
+IsOfFive (any.Block p) =
+    (count : ℕ) × (service : Option ℕ) × (told : List Outcome) × (p ≡ server_after count service told)
 
 pub asks_with_five : (p : AnyProgram) → IsOfFive p → CarriesFive (wanted p)
 asks_with_five (any.Raw p) it = raw_asks p it

@@ -1,5 +1,5 @@
--- Argument 5 of a CONNECT_ME_TO that a task holds tells the phone that the entries of the run say to be kept for it, the
--- one that an answer EOK connects.
+-- Argument 5 of a CONNECT_ME_TO that a task holds tells the phone that the entries of the run say to be kept for it,
+-- the one that an answer EOK connects.
 use Rattle.std.specs.Prelude.{ℕ, ◌+◌, ◌*◌, ◌≡◌, List, ◌++◌, Some, slice_index}
 use Rattle.ipc_ids.specs.declared.numbers.Label.{Label}
 use Rattle.ipc_ids.specs.declared.numbers.TaskNo.{TaskNo}

@@ -1,8 +1,9 @@
 //! What holds of the run of every sound script, under every schedule that fits it.
-ghost use Rattle.std.specs.Prelude.{List, length};
+ghost use Rattle.std.specs.Prelude.{ℕ, List, length};
 ghost use Rattle.ipc_ids.specs.declared.message.Event.{Event};
 ghost use Rattle.script_lines.specs.Plan.{Plan};
 ghost use Rattle.script_lines.specs.Sound.{IsSound};
+ghost use Rattle.script_reader.specs.Grammar.{SpellsScript};
 ghost use Rattle.script_reader.specs.Schedule.{MayAllCome};
 ghost use Rattle.task_system.specs.Run.{run};
 ghost use Rattle.schedule_replay.specs.RunHistory.{beginning};
@@ -23,10 +24,13 @@ pub fn phones_change_for_cause()
         → PhonesChangeForCause (beginning plan) (run plan events) }
 {}
 
-/// Each message and each answer that a task asks with has five arguments, whatever came before: so in
-/// the run of a plan whose operations give five, as those of every script do.
+/// Each message and each answer that a task of a script asks with has five arguments, whatever came
+/// before: for the operations of a script give five.
 pub fn tasks_ask_with_five_arguments()
-    ensures { (plan : Plan) (events : List Event) → ScriptGivesFive plan → AskWithFive plan events }
+    ensures scripts { (text : List ℕ) (plan : Plan) (events : List Event) → SpellsScript text plan
+        → AskWithFive plan events }
+    ensures plans { (plan : Plan) (events : List Event) → ScriptGivesFive plan
+        → AskWithFive plan events }
 {}
 
 /// Argument 5 of a `CONNECT_ME_TO` that a task holds tells the phone that the entries say to be kept
