@@ -11,7 +11,7 @@ pub const PAGE: u64 = 4096;
 const RANGE_END: u64 = 1 << 32;
 
 /// What may be done with the bytes of an area.
-#[derive(Clone, Copy, Debug, PartialEq, Eq)]
+#[derive(Clone, Copy, PartialEq, Eq)]
 pub enum Right {
     Read,
     Write,

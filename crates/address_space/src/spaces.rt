@@ -24,7 +24,7 @@ pub enum SpaceFault {
 }
 
 /// Where in a store a byte lies.
-#[derive(Clone, Copy, Debug, PartialEq, Eq)]
+#[derive(Clone, Copy, PartialEq, Eq)]
 struct Spot {
     store: u64,
     offset: usize,

@@ -10,7 +10,7 @@ use ipc_ids::{NoMemory, Steps, TaskNo};
 use std::sync::ledger::Ledger;
 
 /// One of the two lists that a call is linked in.
-#[derive(Clone, Copy, Debug, PartialEq, Eq)]
+#[derive(Clone, Copy, PartialEq, Eq)]
 pub enum Chain {
     /// The calls at its place, by rising stamp.
     Queue,
@@ -19,7 +19,7 @@ pub enum Chain {
 }
 
 /// The first and the last call of a list, both `None` where it is empty, and how many it has.
-#[derive(Clone, Copy, Debug, PartialEq, Eq)]
+#[derive(Clone, Copy, PartialEq, Eq)]
 pub struct Ends {
     pub first: Option<CallKey>,
     pub last: Option<CallKey>,

@@ -21,7 +21,7 @@ pub struct Session {
 }
 
 /// Whether a fibril has begun an exchange.
-#[derive(Clone, Copy, Debug, PartialEq, Eq)]
+#[derive(Clone, Copy, PartialEq, Eq)]
 pub enum Held {
     /// This fibril has begun it, and has not ended it.
     By(FibrilNo),
@@ -42,7 +42,7 @@ pub struct Exchange {
 }
 
 /// What a begin comes to.
-#[derive(Clone, Copy, Debug, PartialEq, Eq)]
+#[derive(Clone, Copy, PartialEq, Eq)]
 pub enum Begin {
     /// This exchange is begun, over this phone.
     Begun(ExchangeNo, u64),
@@ -61,14 +61,14 @@ pub enum Begin {
 }
 
 /// The session and the mode of an exchange that has ended.
-#[derive(Clone, Copy, Debug, PartialEq, Eq)]
+#[derive(Clone, Copy, PartialEq, Eq)]
 pub struct Ended {
     pub session: u32,
     pub mode: ExchangeMode,
 }
 
 /// What a close comes to.
-#[derive(Clone, Copy, Debug, PartialEq, Eq)]
+#[derive(Clone, Copy, PartialEq, Eq)]
 pub enum Close {
     /// This exchange is gone: hang up its phone, then close again.
     HangIdle(ExchangeNo, u64),

@@ -3,7 +3,7 @@
 use ipc_ids::{Buffer, CallNo, Label, Msg, Reply, TaskNo};
 
 /// A queue of a task's answerbox.
-#[derive(Clone, Copy, Debug, PartialEq, Eq)]
+#[derive(Clone, Copy, PartialEq, Eq)]
 pub enum Place {
     /// Calls that the task has not received yet.
     Incoming(TaskNo),

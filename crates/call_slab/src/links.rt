@@ -9,7 +9,7 @@ pub(crate) const NO_KEY: u32 = u32::MAX;
 
 /// The key of a live call: it stays the same until the call is taken out, and may then be given to
 /// another call. A contract sees it as the number. It fits in four bytes, and is not `NO_KEY`.
-#[derive(Clone, Copy, Debug, PartialEq, Eq)]
+#[derive(Clone, Copy, PartialEq, Eq)]
 pub struct CallKey(usize);
 
 impl Model for CallKey {
@@ -45,7 +45,7 @@ impl CallKey {
 }
 
 /// The neighbours of a call in the queue of its place and in the list of its caller's calls.
-#[derive(Clone, Copy, Debug, PartialEq, Eq)]
+#[derive(Clone, Copy, PartialEq, Eq)]
 pub struct Links {
     /// Who came to the place just before it.
     pub before: Option<CallKey>,

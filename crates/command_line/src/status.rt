@@ -6,7 +6,7 @@ ghost use Rattle.command_line.specs.Status.{number_of};
 use std::process::ExitCode;
 
 /// How a command ended. All but the last two say that the text that is due was written whole.
-#[derive(Clone, Copy, Debug, PartialEq, Eq, Drop)]
+#[derive(Clone, Copy, PartialEq, Eq, Drop)]
 pub enum Status {
     /// Both files were read to their end, and the text of the run was written.
     Done,

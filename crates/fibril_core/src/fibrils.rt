@@ -14,7 +14,7 @@ use std::collections::VecDeque;
 use std::marker::Model;
 
 /// Whether a fibril goes on.
-#[derive(Clone, Copy, Debug, PartialEq, Eq)]
+#[derive(Clone, Copy, PartialEq, Eq)]
 pub enum Status {
     Ready,
     Blocked(Why),

@@ -6,21 +6,21 @@ use crate::numbers::{CallNo, Code, Label, TaskNo};
 use crate::short::Short;
 
 /// What a call asks: a method, one of `methods` or a user's own, and five arguments.
-#[derive(Clone, Copy, Debug, PartialEq, Eq)]
+#[derive(Clone, Copy, PartialEq, Eq)]
 pub struct Msg {
     pub method: u64,
     pub args: [u64; 5],
 }
 
 /// What an answer gives.
-#[derive(Clone, Copy, Debug, PartialEq, Eq)]
+#[derive(Clone, Copy, PartialEq, Eq)]
 pub struct Reply {
     pub code: Code,
     pub args: [u64; 5],
 }
 
 /// Where a phone leads.
-#[derive(Clone, Copy, Debug, PartialEq, Eq)]
+#[derive(Clone, Copy, PartialEq, Eq)]
 pub enum PhoneState {
     /// Nowhere; a connection may take it.
     Free,
@@ -35,7 +35,7 @@ pub enum PhoneState {
 }
 
 /// Whether a forwarded call shows its forwarder as the sender (`ROUTE_FROM_ME`).
-#[derive(Clone, Copy, Debug, PartialEq, Eq)]
+#[derive(Clone, Copy, PartialEq, Eq)]
 pub enum Mode {
     /// The sender stays who it was.
     Plain,
@@ -95,7 +95,7 @@ pub enum Request {
 }
 
 /// What the kernel tells the task.
-#[derive(Debug, PartialEq, Eq, Drop)]
+#[derive(PartialEq, Eq, Drop)]
 pub enum Outcome {
     /// The request was done.
     Done,
@@ -121,7 +121,7 @@ pub enum Outcome {
 }
 
 /// How the exchanges of a session share its phone.
-#[derive(Clone, Copy, Debug, PartialEq, Eq)]
+#[derive(Clone, Copy, PartialEq, Eq)]
 pub enum ExchangeMode {
     /// Any number at a time, all over the session's phone.
     Atomic,
@@ -132,7 +132,7 @@ pub enum ExchangeMode {
 }
 
 /// What a fibril waits for.
-#[derive(Clone, Copy, Debug, PartialEq, Eq)]
+#[derive(Clone, Copy, PartialEq, Eq)]
 pub enum Why {
     /// The answer of this call.
     Answer(CallNo),
@@ -145,7 +145,7 @@ pub enum Why {
 }
 
 /// One event of a schedule.
-#[derive(Clone, Copy, Debug, PartialEq, Eq)]
+#[derive(Clone, Copy, PartialEq, Eq)]
 pub enum Event {
     /// The task makes one step.
     Step(TaskNo),

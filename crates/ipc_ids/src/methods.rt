@@ -28,7 +28,7 @@ pub const SHARE_IN: u64 = 6;
 pub const FIRST_USER_METHOD: u64 = 512;
 
 /// The kinds of methods, as far as the kernel tells them apart.
-#[derive(Clone, Copy, Debug, PartialEq, Eq)]
+#[derive(Clone, Copy, PartialEq, Eq)]
 pub enum MethodKind {
     /// Tells that a phone was hung up.
     PhoneHungUp,

@@ -8,7 +8,7 @@ use std::alloc::Global;
 use std::marker::Model;
 
 /// A number, or what a register holds, `r0` to `r31`.
-#[derive(Clone, Copy, Debug, PartialEq, Eq)]
+#[derive(Clone, Copy, PartialEq, Eq)]
 pub enum Value {
     /// This number.
     Number(u64),
@@ -18,7 +18,7 @@ pub enum Value {
 
 /// One operation of a body. An argument that the script leaves out is `Value::Number(0)`. Those from
 /// `CallSlot` on are those of fibrils. Slots and handles have the numbers 0 to 7, sessions 0 to 15.
-#[derive(Debug, PartialEq, Eq, Drop)]
+#[derive(PartialEq, Eq, Drop)]
 pub enum Op {
     /// Sends a call over the phone.
     Call {

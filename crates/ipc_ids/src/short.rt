@@ -7,7 +7,7 @@ use arrayvec::ArrayVec;
 use std::marker::Model;
 
 /// Up to 64 bytes, which take no memory of their own. Contracts see them as a list.
-#[derive(Debug, Drop)]
+#[derive(Drop)]
 pub struct Short {
     bytes: ArrayVec<u8, 64>,
 }

@@ -14,7 +14,7 @@ use ipc_ids::{Entry, NoMemory};
 use std::alloc::Global;
 
 /// What the laws say of a list of entries.
-#[derive(Clone, Copy, Debug, PartialEq, Eq)]
+#[derive(Clone, Copy, PartialEq, Eq)]
 pub enum Verdict {
     /// All four laws hold; so many calls were accepted.
     Lawful { calls: u64 },

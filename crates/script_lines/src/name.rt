@@ -9,7 +9,7 @@ use std::marker::Model;
 
 /// The name of a task: 1 to 15 bytes, each `a` to `z`, `0` to `9` or `_`, the first a letter.
 /// Contracts see it as the list of its bytes.
-#[derive(Debug, Drop)]
+#[derive(Drop)]
 pub struct Name {
     text: ArrayVec<u8, 15>,
 }

@@ -7,7 +7,7 @@ use std::alloc::Global;
 use std::marker::Model;
 
 /// What a task is.
-#[derive(Clone, Copy, Debug, PartialEq, Eq)]
+#[derive(Clone, Copy, PartialEq, Eq)]
 pub enum Kind {
     /// The naming service, the task `ns`.
     Naming,
@@ -33,7 +33,7 @@ pub struct TaskPlan {
 }
 
 /// A phone of a task that leads to a task from the start.
-#[derive(Clone, Copy, Debug, PartialEq, Eq)]
+#[derive(Clone, Copy, PartialEq, Eq)]
 pub struct Wire {
     pub from: TaskNo,
     pub phone: PhoneNo,

@@ -7,7 +7,7 @@ use arrayvec::ArrayVec;
 use ipc_ids::{ExchangeMode, Mode, Short, Value, in_base, methods};
 
 /// An operation's first word.
-#[derive(Clone, Copy, Debug, PartialEq, Eq)]
+#[derive(Clone, Copy, PartialEq, Eq)]
 pub enum OpVerb {
     Call,
     Receive,
@@ -33,7 +33,7 @@ pub enum OpVerb {
 }
 
 /// The first word of a line.
-#[derive(Clone, Copy, Debug, PartialEq, Eq)]
+#[derive(Clone, Copy, PartialEq, Eq)]
 pub enum Verb {
     Ns,
     Task,

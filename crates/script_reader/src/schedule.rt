@@ -28,7 +28,7 @@ use std::alloc::Global;
 const MOST_EVENTS: u64 = 65_536;
 
 /// The first word of a line.
-#[derive(Clone, Copy, Debug, PartialEq, Eq)]
+#[derive(Clone, Copy, PartialEq, Eq)]
 pub enum EventVerb {
     Step,
     Kill,
