@@ -86,9 +86,22 @@ fn tally_run<F: Feed>(alloc: Global, script: &Script, feed: &mut F) -> Result<Ta
     };
     while let Some(event) = feed.next() {
         trace.clear();
-        replay.step(&event, &mut trace)?;
-        tally.add_all(trace.entries())?;
+        match replay.step(&event, &mut trace) {
+            Ok(()) => {}
+            Err(NoMemory) => {
+                replay.close();
+                return Err(NoMemory);
+            }
+        }
+        match tally.add_all(trace.entries()) {
+            Ok(()) => {}
+            Err(NoMemory) => {
+                replay.close();
+                return Err(NoMemory);
+            }
+        }
     }
+    replay.close();
     Ok(tally)
 }
 

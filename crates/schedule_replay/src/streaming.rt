@@ -94,15 +94,20 @@ pub fn replay<F: Feed, K: Sink>(
         match replay.step(&event, &mut trace) {
             Ok(()) => {}
             Err(NoMemory) => {
+                replay.close();
                 buffer.try_flush(sink);
                 return Err(ReplayFault::NoMemory);
             }
         }
         match buffer.write_entries(trace.entries(), sink) {
             Ok(()) => {}
-            Err(PutFailed) => return Err(ReplayFault::Sink),
+            Err(PutFailed) => {
+                replay.close();
+                return Err(ReplayFault::Sink);
+            }
         }
     }
+    replay.close();
     buffer.flush(sink)?;
     Ok(())
 }

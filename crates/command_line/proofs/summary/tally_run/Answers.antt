@@ -19,10 +19,10 @@ loop-event-preserved g c =
     record {
       tally =
           rw
-          (c.in_ok-add_all.ensures, c.entries.ensures, c.in_ok-step.ensures.entries, c.in_ok-step.ensures.state, c.clear.ensures.entries)
+          (c.in-Ok-add_all.ensures, c.entries.ensures, c.in-Ok.ensures.entries, c.in-Ok.ensures.state, c.clear.ensures.entries)
           (one_more_event c.loop-event.replay.state c.in-Some.event (g.F.Feed.left c.loop-event.feed) (g.F.Feed.left c.next.new.self) _ _ c.in-Some.ensures c.loop-event.invariant.tally);
-      may = may_on c.loop-event.replay.state _ c.in-Some.event (g.F.Feed.left c.loop-event.feed) (g.F.Feed.left c.next.new.self) c.in-Some.ensures (ap (λ (r : ReplayState). r.state) c.in_ok-step.ensures.state) c.loop-event.invariant.may;
-      few = omega (arith, c.loop-event.invariant.few, c.in_ok-step.ensures.events);
+      may = may_on c.loop-event.replay.state _ c.in-Some.event (g.F.Feed.left c.loop-event.feed) (g.F.Feed.left c.next.new.self) c.in-Some.ensures (ap (λ (r : ReplayState). r.state) c.in-Ok.ensures.state) c.loop-event.invariant.may;
+      few = omega (arith, c.loop-event.invariant.few, c.in-Ok.ensures.events);
     }
 
 pub step-requires-clause-may : goal.step-requires-clause-may
