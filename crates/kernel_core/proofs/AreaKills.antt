@@ -54,7 +54,7 @@ record IsDropping (t : TaskNo) (q : List Entry) (k : KernelState) : Type 0 where
 -- a step that leaves the memory keeps that
 quietly :
     (t : TaskNo) (q : List Entry) (k : KernelState) (es : List Entry) (j : KernelState) → IsQuietStep k es j
-        → IsDropping t q k → IsDropping t (on_top es q) j
+    → IsDropping t q k → IsDropping t (on_top es q) j
 quietly t q k es j step h = record {
   fits = after_quiet q k es j step h.fits;
   safe = rw step.memory h.safe;
@@ -64,7 +64,7 @@ quietly t q k es j step h = record {
 -- each part of a kill
 ended :
     (t : TaskNo) (q : List Entry) (k : KernelState) (s : Transition) → IsDropping t q k → end.Ends t k s
-        → IsDropping t (on_top s.entries q) s.state
+    → IsDropping t (on_top s.entries q) s.state
 ended t q k s h (end.hung_up p u _) =
     record { fits = hung_up t q k h.fits p (Some (phone.Connected u)); safe = h.safe; row = h.row }
 ended t q k s h (end.hung_up_slammed p _) =
@@ -95,7 +95,7 @@ ended t q k s h (end.lost base is) =
 
 pub areas_kill :
     (t : TaskNo) (q : List Entry) (k : KernelState) → AreasFit q k → IsSound k → is_alive k t ≡ true
-        → After q (killed_entries t (kill_event k t)) (kill_event k t).state
+    → After q (killed_entries t (kill_event k t)) (kill_event k t).state
 areas_kill t q k fits safe alive =
     let p : List Entry = entry.Kill t ∷ q in
     let first : AreasFit p k = begun q k (entry.Kill t) (λ u b. refl) refl (λ m. refl) tt fits in
@@ -105,6 +105,6 @@ areas_kill t q k fits safe alive =
       row = row_in k t safe alive;
     } in
     let done : IsDropping t (on_top (kill k t).entries p) (kill k t).state =
-        end.by_kill (List Entry) on_top (λ _. refl) (λ xs ys r. on_top-append xs ys r) t (IsDropping t)
-        (λ r j s h part. ended t r j s h part) p k marked in
+    end.by_kill (List Entry) on_top (λ _. refl) (λ xs ys r. on_top-append xs ys r) t (IsDropping t)
+    (λ r j s h part. ended t r j s h part) p k marked in
     areas_later (on_top (kill k t).entries p) (kill k t).state done.fits

@@ -48,14 +48,14 @@ phone_of_is t None l h = absurd (cc h)
 phone_of_is t (Some m) l h = by_owner (m.task.0 == t.0) refl h where
   by_owner :
       (b : Bool) → (m.task.0 == t.0) ≡ b → (if b then Some m else None) ≡ Some l
-          → (Some m ≡ Some l) × (l.task.0 ≡ t.0)
+      → (Some m ≡ Some l) × (l.task.0 ≡ t.0)
   by_owner true is g =
       let same : m ≡ l = cc in (g, ap (λ (x : Label). x.task.0) (sym same) ∙ eqb-true m.task.0 t.0 is)
   by_owner false is g = absurd (cc g)
 
 pub kept_to_me :
     (t : TaskNo) (c : Call) (l : Label) → kind_of c.request.method ≡ ConnectToMe → c.place ≡ Dispatched t
-        → kept_phone c ≡ Some l → (c.reserved ≡ Some l) × (l.task.0 ≡ t.0)
+    → kept_phone c ≡ Some l → (c.reserved ≡ Some l) × (l.task.0 ≡ t.0)
 kept_to_me t c l kind place is = phone_of_is t c.reserved l (
     sym (ap (λ (x : Place). kept_of (keeper_of ConnectToMe) c.from.task x c.reply.code c.reserved) place)
     ∙ sym (ap (λ (x : MethodKind). kept_of (keeper_of x) c.from.task c.place c.reply.code c.reserved) kind)
@@ -63,7 +63,7 @@ kept_to_me t c l kind place is = phone_of_is t c.reserved l (
 
 pub kept_me_to :
     (t : TaskNo) (c : Call) (l : Label) → kind_of c.request.method ≡ ConnectMeTo → c.place ≡ Dispatched t
-        → kept_phone c ≡ Some l → (c.reserved ≡ Some l) × (l.task.0 ≡ c.from.task.0)
+    → kept_phone c ≡ Some l → (c.reserved ≡ Some l) × (l.task.0 ≡ c.from.task.0)
 kept_me_to t c l kind place is = phone_of_is c.from.task c.reserved l (
     sym (ap (λ (x : Place). kept_of (keeper_of ConnectMeTo) c.from.task x c.reply.code c.reserved) place)
     ∙ sym (ap (λ (x : MethodKind). kept_of (keeper_of x) c.from.task c.place c.reply.code c.reserved) kind)

@@ -138,15 +138,16 @@ module _ (k : KernelState) (t : TaskNo) (h : TellPhones k.calls) where
 
   received_as :
       (c : Call) (kind : MethodKind) → TellsPhone c → kind_of c.request.method ≡ kind
-          → TellPhones (reception t (on_receive_of kind k c t)).state.calls
+      → TellPhones (reception t (on_receive_of kind k c t)).state.calls
   received_as c ConnectToMe g is =
       let o : Option Label = first_usable_of k t in
       let n : ℕ = number_of o in
       let d : Call = record c {
-        msg = record { method = c.msg.method; args = slice_set c.msg.args 4 n }; reserved = o
+        msg = record { method = c.msg.method; args = slice_set c.msg.args 4 n };
+        reserved = o;
       } in
       let told : slice_index (slice_set c.msg.args 4 n) 4 ≡ n =
-          get_or-set_same c.msg.args 4 n 0 (let five = g.five in omega (arith, five)) in
+      get_or-set_same c.msg.args 4 n 0 (let five = g.five in omega (arith, five)) in
       tell_put k.calls h d (Dispatched t) (record {
         five = length-set c.msg.args 4 n ∙ g.five;
         me_to = λ l asks kept. absurd (let e : ConnectToMe ≡ ConnectMeTo = sym is ∙ ap kind_of asks in cc);
@@ -165,7 +166,7 @@ module _ (k : KernelState) (t : TaskNo) (h : TellPhones k.calls) where
   module _ (c : Call) (g : TellsPhone c) where
     replied_as :
         (d : Call) (u : TaskNo) → d.msg ≡ c.msg → d.request ≡ c.request
-            → ((l : Label) → d.reserved ≡ Some l → c.reserved ≡ Some l) → TellPhones (put_at k.calls d (Answers u))
+        → ((l : Label) → d.reserved ≡ Some l → c.reserved ≡ Some l) → TellPhones (put_at k.calls d (Answers u))
     replied_as d u msg request reserved =
         tell_put k.calls h d (Answers u) (answered c d u k.calls.next_stamp msg request reserved g)
 
@@ -174,7 +175,7 @@ module _ (k : KernelState) (t : TaskNo) (h : TellPhones k.calls) where
 
     accepted_as :
         (reply : Reply) (u : TaskNo) (kind : MethodKind)
-            → TellPhones (answer_to (on_accept_of kind k c reply t u) (Some t) u).state.calls
+        → TellPhones (answer_to (on_accept_of kind k c reply t u) (Some t) u).state.calls
     accepted_as reply u ConnectToMe = replied_as (accepted_to_me k c reply u).call u refl refl (λ l kept. kept)
     accepted_as reply u ConnectMeTo = replied_as (accepted_me_to k c reply t).call u refl refl (λ l kept. kept)
     accepted_as reply u DataWrite = replied_as (accepted_write k c reply t).call u refl refl (λ l kept. kept)
@@ -250,7 +251,7 @@ start_tells n d is = absurd (let e : None ≡ Some d = sym (get-empty nat_cmp n)
 
 pub serve_tells :
     (k : KernelState) (t : TaskNo) (asked : Request) → TellPhones k.calls → HasFive asked
-        → TellPhones (serve k t asked).state.calls
+    → TellPhones (serve k t asked).state.calls
 serve_tells k t asked h five =
     join.states_by_request t asked (λ j. TellPhones j.calls) (λ j. TellPhones j.calls)
     (λ j n c g _ _. tell_gone j.calls g c.number.0) (λ j s g come. joined j t g asked five s come) k h

@@ -133,7 +133,7 @@ module _ (b : KernelState) (a : CallTable) where
 -- what a phone leads to, where one was freed
 freed_leads :
     (rows : List (List PhoneState)) (kept : Option Label) (v p : ℕ) (u : TaskNo)
-        → state_at (kept_rows rows kept Free) v p ≡ Some (Connected u) → state_at rows v p ≡ Some (Connected u)
+    → state_at (kept_rows rows kept Free) v p ≡ Some (Connected u) → state_at rows v p ≡ Some (Connected u)
 freed_leads rows None v p u is = is
 freed_leads rows (Some l) v p u is = elim (state_changed_at rows l.task.0 l.phone.0 v p Free (Connected u) is) [
   | inl e ↦ absurd (let never = e.2 in cc)
@@ -158,7 +158,7 @@ module _ (k : KernelState) where
   abbrev Only : CallTable → (TaskNo → Call → Type 0) → Type 0
   Only q IsSo =
       (n : ℕ) (c : Call) (u : TaskNo) → call_at q n ≡ Some c → c.place ≡ Incoming u
-          → (call_at k.calls n ≡ Some c) ⊎ IsSo u c
+      → (call_at k.calls n ≡ Some c) ⊎ IsSo u c
 
   only_come : (d : Call) (IsSo : TaskNo → Call → Type 0)
       → ((u : TaskNo) → d.place ≡ Incoming u → IsSo u (record d { stamp = k.calls.next_stamp }))
@@ -184,7 +184,7 @@ module _ (k : KernelState) (sound : IsSound k) (t : TaskNo) where
 
     at_once :
         (code : Code) → ((u : TaskNo) → first_user_method ≤ msg.method → Leads k t p u → ⊥)
-            → GoWherePhonesLead t (request.Call p msg) k (answer_at_once k (new_call k t p msg (Answers t)) code)
+        → GoWherePhonesLead t (request.Call p msg) k (answer_at_once k (new_call k t p msg (Answers t)) code)
     at_once code never =
         let d : Call = record (new_call k t p msg (Answers t)) { reply = bare_reply code } in
         let e : Call = record d { stamp = k.calls.next_stamp } in
@@ -196,14 +196,17 @@ module _ (k : KernelState) (sound : IsSound k) (t : TaskNo) where
 
     abbrev sent_to : TaskNo → List ℕ → Msg → Option Label → List ℕ → Call
     sent_to u args seen reserved bytes = record (new_call k t p msg (Incoming u)) {
-      request = record { method = msg.method; args = args }; msg = seen; reserved = reserved; buffer = bytes
+      request = record { method = msg.method; args = args };
+      msg = seen;
+      reserved = reserved;
+      buffer = bytes;
     }
 
     goes_to :
         (u : TaskNo) → phone_at k t p ≡ Some (Connected u)
-            → (args : List ℕ) (seen : Msg) (reserved : Option Label) (bytes : List ℕ) (kept : Option Label)
-            → GoWherePhonesLead t (request.Call p msg) k
-            (acceptance (quiet_hand k (sent_to u args seen reserved bytes) kept Connecting) (Some u))
+        → (args : List ℕ) (seen : Msg) (reserved : Option Label) (bytes : List ℕ) (kept : Option Label)
+        → GoWherePhonesLead t (request.Call p msg) k
+        (acceptance (quiet_hand k (sent_to u args seen reserved bytes) kept Connecting) (Some u))
     goes_to u leads args seen reserved bytes kept =
         let c : Call = sent_to u args seen reserved bytes in
         let d : Call = record c { stamp = k.calls.next_stamp } in
@@ -211,8 +214,12 @@ module _ (k : KernelState) (sound : IsSound k) (t : TaskNo) where
         let here : call_at q c.number.0 ≡ Some d = put_here k.calls c.number.0 c.number.0 d refl in
         record {
           queued = only_come k c IsNew (λ v at. subst (λ (w : TaskNo). IsNew w d) (same_queue u v at) (record {
-            first = next_free k.tasks k.calls sound.calls; leads = leads;
-            caller = refl; from = refl; label = refl; asks = refl;
+            first = next_free k.tasks k.calls sound.calls;
+            leads = leads;
+            caller = refl;
+            from = refl;
+            label = refl;
+            asks = refl;
           }));
           told = ((leads, (d, here, refl, refl)), kept_there k q kept Connecting);
           waits = λ v user there. (d, here, ap Incoming (one_task u v (one_target k t p (Connected u) v leads there)));
@@ -238,7 +245,7 @@ module _ (k : KernelState) (sound : IsSound k) (t : TaskNo) where
 
   quietly :
       (asked : Request) (s : Served) → IsQuiet s.entries s.state.calls → WaitsForNone asked s.outcome
-          → GoWherePhonesLead t asked k s
+      → GoWherePhonesLead t asked k s
   quietly asked s quiet none = record {
     queued = λ n c u is at. elim (quiet.queued n c u is at) [ inl h ↦ inl h | inr x ↦ absurd x ];
     told = quiet.told;
@@ -252,8 +259,8 @@ module _ (k : KernelState) (sound : IsSound k) (t : TaskNo) where
 
   put_away :
       (h : Handed) (by : Option TaskNo) (u : TaskNo) → h.state.calls ≡ k.calls
-          → ((b : KernelState) (a : CallTable) → GoThere b a (option_to_list h.note))
-          → IsQuietStep (answer_to h by u)
+      → ((b : KernelState) (a : CallTable) → GoThere b a (option_to_list h.note))
+      → IsQuietStep (answer_to h by u)
   put_away h by u same note = record {
     queued =
         subst (λ (q : CallTable). Only k (put_at q h.call (Answers u)) (λ v c. ⊥)) (sym same)
@@ -270,7 +277,7 @@ module _ (k : KernelState) (sound : IsSound k) (t : TaskNo) where
 
     accepted_as :
         (reply : Reply) (u : TaskNo) (kind : MethodKind)
-            → IsQuietStep (answer_to (on_accept_of kind k c reply t u) (Some t) u)
+        → IsQuietStep (answer_to (on_accept_of kind k c reply t u) (Some t) u)
     accepted_as reply u ConnectToMe =
         put_away (accepted_to_me k c reply u) (Some t) u refl (λ b a. kept_there b a (kept_phone c) (Connected u))
     accepted_as reply u ConnectMeTo =
@@ -292,7 +299,7 @@ module _ (k : KernelState) (sound : IsSound k) (t : TaskNo) where
 
     taken :
         (kind : MethodKind)
-            → let s : Served = reception t (on_receive_of kind k c t) in IsQuiet s.entries s.state.calls
+        → let s : Served = reception t (on_receive_of kind k c t) in IsQuiet s.entries s.state.calls
     taken ConnectToMe =
         let d : Call = (on_receive_of ConnectToMe k c t).call in
         record {
@@ -308,9 +315,9 @@ module _ (k : KernelState) (sound : IsSound k) (t : TaskNo) where
 
   passed :
       (n p : ℕ) (mode : Mode) (change : Option Msg) (c : Call) (to : TaskNo)
-          → join.Stands k n c (Dispatched t) → phone_at k t p ≡ Some (Connected to)
-          → GoWherePhonesLead t (request.Forward n p mode change) k
-          (telling (passage (msg_after change c) (label_after t p mode c) t to k c) outcome.Done)
+      → join.Stands k n c (Dispatched t) → phone_at k t p ≡ Some (Connected to)
+      → GoWherePhonesLead t (request.Forward n p mode change) k
+      (telling (passage (msg_after change c) (label_after t p mode c) t to k c) outcome.Done)
   passed n p mode change c to stands leads =
       let d : Call = passed_call (msg_after change c) (label_after t p mode c) c in
       let e : Call = record d { place = Incoming to; stamp = k.calls.next_stamp } in
@@ -318,27 +325,38 @@ module _ (k : KernelState) (sound : IsSound k) (t : TaskNo) where
       record {
         queued = only_put k d (Incoming to) (Comes t (request.Forward n p mode change) k) (λ u at.
             subst (λ (v : TaskNo). Comes t (request.Forward n p mode change) k v e) (same_queue to u at) (record {
-              before = c; live = stands.live; held = at_dispatched t c.place stands.here; leads = leads;
-              number = refl; caller = refl; from = refl; label = label_is p c mode;
+              before = c;
+              live = stands.live;
+              held = at_dispatched t c.place stands.here;
+              leads = leads;
+              number = refl;
+              caller = refl;
+              from = refl;
+              label = label_is p c mode;
             }));
         told = (
-            ((p, leads), (e, put_here k.calls c.number.0 c.number.0 e refl, refl, refl)),
-            kept_there k (put_at k.calls d (Incoming to)) (lent_phone c) Free);
+          ((p, leads), (e, put_here k.calls c.number.0 c.number.0 e refl, refl, refl)),
+          kept_there k (put_at k.calls d (Incoming to)) (lent_phone c) Free,
+        );
         waits = (to, leads, (e, put_here k.calls c.number.0 n e number, refl));
       }
 
   -- a hangup
   hung_up :
       (p : ℕ) (u : TaskNo) → phone_at k t p ≡ Some (Connected u)
-          → GoWherePhonesLead t (request.Hangup p) k (telling (hang_up k t p (Some (Connected u))) outcome.Done)
+      → GoWherePhonesLead t (request.Hangup p) k (telling (hang_up k t p (Some (Connected u))) outcome.Done)
   hung_up p u leads =
       let d : Call = hangup_call k t p u in
       let e : Call = record d { stamp = k.calls.next_stamp } in
       record {
         queued = only_come k d (Comes t (request.Hangup p) k) (λ v at.
             subst (λ (w : TaskNo). Comes t (request.Hangup p) k w e) (same_queue u v at) (record {
-              first = next_free k.tasks k.calls sound.calls; leads = leads;
-              caller = refl; from = refl; label = refl; asks = refl;
+              first = next_free k.tasks k.calls sound.calls;
+              leads = leads;
+              caller = refl;
+              from = refl;
+              label = refl;
+              asks = refl;
             }));
         told = ((leads, (e, put_here k.calls d.number.0 d.number.0 e refl, refl, refl)), (tt, tt));
         waits = tt;
@@ -351,7 +369,7 @@ module _ (k : KernelState) (sound : IsSound k) (t : TaskNo) where
 
     of_quiet :
         {r : Request} {s : Served} → asked ≡ r → IsQuiet s.entries s.state.calls → WaitsForNone r s.outcome
-            → GoWherePhonesLead t asked k s
+        → GoWherePhonesLead t asked k s
     of_quiet {r} {s} is quiet none = of is (quietly r s quiet none)
 
     -- each join
@@ -418,7 +436,7 @@ received k t sound =
     let i : IsRest k d.entries d.state = rest k t sound in
     let s : Served = receive_now t d.state in
     let g : GoWherePhonesLead t request.Receive d.state s =
-        joined d.state i.fine t request.Receive s (join.last_join t d.state) in
+    joined d.state i.fine t request.Receive s (join.last_join t d.state) in
     record {
       queued = λ n c u is at. elim (g.queued n c u is at) [ inl h ↦ inl (i.left n c h) | inr h ↦ absurd h ];
       told = there_both k s.state.calls d.entries s.entries (i.told s.state.calls)

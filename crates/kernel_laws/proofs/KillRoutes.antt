@@ -129,12 +129,15 @@ module _ (k : KernelState) (sound : IsSound k) (t : TaskNo) where
   written : (j : KernelState) (u : TaskNo) (p : ℕ) (s : PhoneState) → IsNowhere s → IsLeaving j
       → IsLeaving (with_phone j u p s)
   written j u p s nowhere h = record {
-    phones = phone_written j u.0 p s nowhere h; later = h.later; numbered = h.numbered; waiting = h.waiting;
+    phones = phone_written j u.0 p s nowhere h;
+    later = h.later;
+    numbered = h.numbered;
+    waiting = h.waiting;
   }
 
   hung_up :
       (j : KernelState) (p : ℕ) (u : TaskNo) → phone_at j t p ≡ Some (Connected u) → IsLeaving j
-          → IsLeaving (hang_up j t p (Some (Connected u))).state
+      → IsLeaving (hang_up j t p (Some (Connected u))).state
   hung_up j p u is h =
       let d : Call = hangup_call j t p u in
       let e : Call = record d { stamp = j.calls.next_stamp } in
@@ -167,7 +170,7 @@ module _ (k : KernelState) (sound : IsSound k) (t : TaskNo) where
 
   bounced :
       (j : KernelState) (c : Call) (u : TaskNo) → IsLeaving j
-          → IsLeaving (answer_to (declined j c (bare_reply ehangup)) None u).state
+      → IsLeaving (answer_to (declined j c (bare_reply ehangup)) None u).state
   bounced j c u h =
       let d : Call = record c { reply = bare_reply ehangup; reserved = unless_freed (lent_phone c) c.reserved } in
       record {

@@ -92,7 +92,7 @@ module _ (k : KernelState) where
   -- a phone that led nowhere leads nowhere
   wrote :
       (rows : List (List PhoneState)) (kept : Option Label) (s : PhoneState) → LeadsNowhere rows kept
-          → IsNowhere s → IsAlike rows → IsAlike (kept_rows rows kept s)
+      → IsNowhere s → IsAlike rows → IsAlike (kept_rows rows kept s)
   wrote rows kept s led nowhere h = record {
     came = λ v p u leads. elim (kept_came rows kept s v.0 p (Connected u) leads) [
       | inl e ↦ h.came v p u e
@@ -104,7 +104,7 @@ module _ (k : KernelState) where
   -- nor does the phone that a live call keeps, once it is free
   freed :
       (j : KernelState) (n : ℕ) (c : Call) → IsSound j → call_at j.calls n ≡ Some c → IsAlike j.tasks.phones
-          → IsAlike (kept_rows j.tasks.phones (kept_phone c) Free)
+      → IsAlike (kept_rows j.tasks.phones (kept_phone c) Free)
   freed j n c sound is =
       wrote j.tasks.phones (kept_phone c) Free (waits_nowhere j.tasks.phones (kept_phone c)
       (kept_waits j.tasks.phones j.calls c.number.0 c sound.kept (own j n c sound is))) free_nowhere
@@ -128,9 +128,9 @@ module _ (k : KernelState) (sound : IsSound k) (t : TaskNo) where
     -- t holds it, and accepts it
     connected :
         (reply : Reply) (w : TaskNo) (j : KernelState)
-            → j.tasks.phones ≡ kept_rows k.tasks.phones (kept_phone c) (Connected w)
-            → ((v : TaskNo) (p : ℕ) → kept_phone c ≡ Some (label_of v p) → IsConnected t n reply k v p w)
-            → LeadWhereConnected t (request.Answer n reply) k j
+        → j.tasks.phones ≡ kept_rows k.tasks.phones (kept_phone c) (Connected w)
+        → ((v : TaskNo) (p : ℕ) → kept_phone c ≡ Some (label_of v p) → IsConnected t n reply k v p w)
+        → LeadWhereConnected t (request.Answer n reply) k j
     connected reply w j same two = record {
       came = λ v p u leads.
           let led = sym (ap (λ rows. state_at rows v.0 p) same) ∙ leads in
@@ -147,20 +147,28 @@ module _ (k : KernelState) (sound : IsSound k) (t : TaskNo) where
 
     accepted_as :
         (reply : Reply) (u : TaskNo) (kind : MethodKind) → c.place ≡ Dispatched t → c.caller ≡ Some u
-            → accepts reply.code ≡ true → kind_of c.request.method ≡ kind
-            → LeadWhereConnected t (request.Answer n reply) k
-            (answer_to (on_accept_of kind k c reply t u) (Some t) u).state
+        → accepts reply.code ≡ true → kind_of c.request.method ≡ kind
+        → LeadWhereConnected t (request.Answer n reply) k
+        (answer_to (on_accept_of kind k c reply t u) (Some t) u).state
     accepted_as reply u ConnectToMe held made accepting kind = connected reply u _ refl (λ v p kept.
         let both = kept_to_me t c (label_of v p) kind held kept in
         record {
-          call = c; live = is; held = held; accepted = same_code reply.code accepting; kept = both.0;
+          call = c;
+          live = is;
+          held = held;
+          accepted = same_code reply.code accepting;
+          kept = both.0;
           two = inr (to_me_method c.request.method kind, same_task v t both.1, made);
         })
     accepted_as reply u ConnectMeTo held made accepting kind = connected reply t _ refl (λ v p kept.
         let both = kept_me_to t c (label_of v p) kind held kept in
         let of : u ≡ c.from.task = maker k.tasks c.from u c.caller made (sound.calls.each n c is).caller in
         record {
-          call = c; live = is; held = held; accepted = same_code reply.code accepting; kept = both.0;
+          call = c;
+          live = is;
+          held = held;
+          accepted = same_code reply.code accepting;
+          kept = both.0;
           two =
               inl
               (me_to_method c.request.method kind, made ∙ ap Some (of ∙ sym (same_task v c.from.task both.1)), refl);

@@ -171,7 +171,7 @@ module _ (k : KernelState) (sound : IsSound k) where
   -- one that is sent, as it is handed on
   sent :
       (h : Handed) (u : TaskNo) → h.state.calls ≡ k.calls → h.call.number.0 ≡ k.calls.next_number
-          → IsSilent (option_to_list h.note) → Balances k (acceptance h (Some u))
+      → IsSilent (option_to_list h.note) → Balances k (acceptance h (Some u))
   sent h u calls next silent =
       come (acceptance h (Some u)).state h.call h.call.from h.call.request.method (Some u) (option_to_list h.note)
       (ap (λ (q : CallTable). enqueue q h.call) calls) next silent
@@ -239,15 +239,15 @@ module _ (k : KernelState) (sound : IsSound k) where
 
     given :
         (c : Call) → call_at j.calls c.number.0 ≡ Some c
-            → IsBalanced k (es ++ (delivery t (with_delivery j c (reply_of (kind_of c.request.method) c))).entries)
-            (delivery t (with_delivery j c (reply_of (kind_of c.request.method) c))).state
+        → IsBalanced k (es ++ (delivery t (with_delivery j c (reply_of (kind_of c.request.method) c))).entries)
+        (delivery t (with_delivery j c (reply_of (kind_of c.request.method) c))).state
     given c live =
         delivered_as c (with_delivery j c (reply_of (kind_of c.request.method) c)) live refl refl
         (kept_silent (kept_phone c) Free)
 
     brought :
         (c : Call) → call_at j.calls c.number.0 ≡ Some c
-            → IsBalanced k (es ++ (delivery t (delivered_read j c t)).entries) (delivery t (delivered_read j c t)).state
+        → IsBalanced k (es ++ (delivery t (delivered_read j c t)).entries) (delivery t (delivered_read j c t)).state
     brought c live =
         delivered_as c (delivered_read j c t) live refl refl
         (wrote_silent t (address_of c.request.args) (length c.buffer)
@@ -270,7 +270,7 @@ module _ (k : KernelState) (sound : IsSound k) where
 
     received_first :
         (answer incoming : Option Call) → front j.calls (Answers t) ≡ answer → front j.calls (Incoming t) ≡ incoming
-            → IsBalanced k (es ++ (receive_first j t answer incoming).entries) (receive_first j t answer incoming).state
+        → IsBalanced k (es ++ (receive_first j t answer incoming).entries) (receive_first j t answer incoming).state
     received_first (Some c) incoming one two =
         let live = live_front k sound es j (Answers t) c r.accounts one in
         by_test (λ (h : Handed). IsBalanced k (es ++ (delivery t h).entries) (delivery t h).state) (brings_bytes c) _ _
@@ -312,8 +312,8 @@ module _ (k : KernelState) (sound : IsSound k) where
     passed msg label t to =
         let step : Transition = passage msg label t to k c in
         let silent =
-            more_silent (entry.Forwarded c.number t to label) (option_to_list (kept_note (lent_phone c) Free))
-            (λ q. refl) (λ q. refl) (λ q. refl) (kept_silent (lent_phone c) Free) in
+        more_silent (entry.Forwarded c.number t to label) (option_to_list (kept_note (lent_phone c) Free))
+        (λ q. refl) (λ q. refl) (λ q. refl) (kept_silent (lent_phone c) Free) in
         moved k step.entries step.state c (passed_call msg label c) (Incoming to) refl live refl silent
 
   own : (n : ℕ) (c : Call) → call_at k.calls n ≡ Some c → call_at k.calls c.number.0 ≡ Some c
@@ -358,7 +358,7 @@ module _ (k : KernelState) (sound : IsSound k) where
 
 pub serve_balances :
     (k : KernelState) (t : TaskNo) (asked : Request) → IsSound k
-        → IsBalanced k (serve k t asked).entries (serve k t asked).state
+    → IsBalanced k (serve k t asked).entries (serve k t asked).state
 serve_balances k t asked sound = elim (join.one_join t k asked) [
   | inl is ↦ subst (λ (a : Request). Balances k (serve_request k t a)) (sym is) (received k sound t)
   | inr come ↦ joined k sound t asked (serve_request k t asked) come

@@ -92,7 +92,7 @@ shared_plain t base pages rights (Err code) = tt
 abbrev pub AreMadeSo : List Entry → CallTable → Type 0
 AreMadeSo q calls =
     (n : ℕ) (c : Call) → call_at calls n ≡ Some c → (asked : Option Entry)
-        × (making n q ≡ Some (record { caller = c.from.task.0; method = c.request.method; asked = asked }))
+    × (making n q ≡ Some (record { caller = c.from.task.0; method = c.request.method; asked = asked }))
 
 -- a hangup, of a request or of a kill
 pub hung_up : (b : Beginning) (t : TaskNo) (q : List Entry) (k : KernelState) (p : ℕ) (o : Option PhoneState)
@@ -138,14 +138,20 @@ module _
 
     goes_to :
         (u : TaskNo) → phone_at k t p ≡ Some (Connected u)
-            → (args : List ℕ) (seen : Msg) (reserved : Option Label) (bytes : List ℕ) (kept : Option Label)
-            → AreIdle k.tasks.phones kept
-            → AfterServed b q (acceptance (quiet_hand k (record (new_call k t p msg (Incoming u)) {
-              request = record { method = msg.method; args = args }; msg = seen; reserved = reserved; buffer = bytes
-            }) kept Connecting) (Some u))
+        → (args : List ℕ) (seen : Msg) (reserved : Option Label) (bytes : List ℕ) (kept : Option Label)
+        → AreIdle k.tasks.phones kept
+        → AfterServed b q (acceptance (quiet_hand k (record (new_call k t p msg (Incoming u)) {
+          request = record { method = msg.method; args = args };
+          msg = seen;
+          reserved = reserved;
+          buffer = bytes;
+        }) kept Connecting) (Some u))
     goes_to u led args seen reserved bytes kept idle =
         let c : Call = record (new_call k t p msg (Incoming u)) {
-          request = record { method = msg.method; args = args }; msg = seen; reserved = reserved; buffer = bytes
+          request = record { method = msg.method; args = args };
+          msg = seen;
+          reserved = reserved;
+          buffer = bytes;
         } in
         idle_told b k.tasks.phones (enqueue k.calls c)
         (entry.Accepted c.number c.from c.request.method (Some u) ∷ q) kept Connecting (λ l is. tt) idle
@@ -163,10 +169,10 @@ module _
     -- the call goes to the answers of its caller with this reply and these bytes, and a phone gets this state
     with_reply :
         (given : Reply) (bytes : List ℕ) (kept : Option Label) (s : PhoneState) (u : TaskNo)
-            → ((l : Label) → kept ≡ Some l
-            → ComesToLead b (entry.Answered c.number given (Some t) ∷ q) (entry.PhoneIs l s))
-            → AreIdle k.tasks.phones kept
-            → AfterStep b q (answer_to (quiet_hand k (record c { reply = given; buffer = bytes }) kept s) (Some t) u)
+        → ((l : Label) → kept ≡ Some l
+        → ComesToLead b (entry.Answered c.number given (Some t) ∷ q) (entry.PhoneIs l s))
+        → AreIdle k.tasks.phones kept
+        → AfterStep b q (answer_to (quiet_hand k (record c { reply = given; buffer = bytes }) kept s) (Some t) u)
     with_reply given bytes kept s u came idle =
         put_told b k c live q (entry.Answered c.number given (Some t)) (record c { reply = given; buffer = bytes })
         (Answers u) kept s tt refl refl came idle fits
@@ -174,8 +180,8 @@ module _
     -- likewise, and entries that tell of memory alone come behind
     noted :
         (given : Reply) (bytes : List ℕ) (es : List Entry) (u : TaskNo) → ArePlain es
-            → After b q (entry.Answered c.number given (Some t) ∷ es)
-            (answer_to (quiet_hand k (record c { reply = given; buffer = bytes }) None Free) (Some t) u).state
+        → After b q (entry.Answered c.number given (Some t) ∷ es)
+        (answer_to (quiet_hand k (record c { reply = given; buffer = bytes }) None Free) (Some t) u).state
     noted given bytes es u plain =
         plains_told b k.tasks.phones (put_at k.calls (record c { reply = given; buffer = bytes }) (Answers u)) es
         (entry.Answered c.number given (Some t) ∷ q) plain
@@ -188,29 +194,31 @@ module _
       -- the phone that is kept comes to lead to a task
       connected :
           (w : TaskNo) (given : Reply)
-              → ((l : Label) → kept_phone c ≡ Some l → ConnectsTwo l w t
-              (Some (record { caller = c.from.task.0; method = c.request.method; asked = (made n c is).0 })))
-              → (l : Label) → kept_phone c ≡ Some l
-              → ComesToLead b (entry.Answered c.number given (Some t) ∷ q) (entry.PhoneIs l (Connected w))
+          → ((l : Label) → kept_phone c ≡ Some l → ConnectsTwo l w t
+          (Some (record { caller = c.from.task.0; method = c.request.method; asked = (made n c is).0 })))
+          → (l : Label) → kept_phone c ≡ Some l
+          → ComesToLead b (entry.Answered c.number given (Some t) ∷ q) (entry.PhoneIs l (Connected w))
       connected w given two l kept =
           let r : List Entry = entry.Answered c.number given (Some t) ∷ q in
           let waits : phone_in b.wires l.task.0 l.phone.0 q ≡ Connecting =
-              state_told b.wires q k.tasks.phones fits.phones l.task.0 l.phone.0 Connecting
-              (subst (WaitsIn k.tasks.phones) kept kept_waits_now) in
+          state_told b.wires q k.tasks.phones fits.phones l.task.0 l.phone.0 Connecting
+          (subst (WaitsIn k.tasks.phones) kept kept_waits_now) in
           let two_told : ConnectsTwo l w t (making n q) =
-              subst (ConnectsTwo l w t) (sym (made n c is).1) (two l kept) in
+          subst (ConnectsTwo l w t) (sym (made n c is).1) (two l kept) in
           subst (Connects b r l w) (sym now) (waits, accepted, two_told)
 
       by_kind :
           (u : TaskNo) → c.caller ≡ Some u → (kind : MethodKind) → kind_of c.request.method ≡ kind
-              → KindSays kind c.request.method
-              → AfterStep b q (answer_to (on_accept_of kind k c reply t u) (Some t) u)
+          → KindSays kind c.request.method
+          → AfterStep b q (answer_to (on_accept_of kind k c reply t u) (Some t) u)
       by_kind u mine ConnectToMe kind says =
           let given : Reply = record { code = code_of (kept_phone c); args = reply.args } in
           with_reply given c.buffer (kept_phone c) (Connected u) u
           (connected u given (λ l kept. inr (
-              says, same_task l.task t (kept_to_me t c l kind held kept).1,
-              ap (λ (x : TaskNo). x.0) (maker k.tasks c.from u c.caller mine (sound.calls.each n c is).caller))))
+            says,
+            same_task l.task t (kept_to_me t c l kind held kept).1,
+            ap (λ (x : TaskNo). x.0) (maker k.tasks c.from u c.caller mine (sound.calls.each n c is).caller),
+          )))
           (waits_idle k.tasks.phones (kept_phone c) kept_waits_now)
       by_kind u mine ConnectMeTo kind says =
           with_reply reply c.buffer (kept_phone c) (Connected t) u
@@ -238,15 +246,15 @@ module _
 
   label_is :
       (p : ℕ) (c : Call) (m : Mode) → label_of_call c.number.0 q ≡ Some c.label
-          → label_by m (label_of_call c.number.0 q) (law.phone_of t p) ≡ Some (label_after t p m c)
+      → label_by m (label_of_call c.number.0 q) (law.phone_of t p) ≡ Some (label_after t p m c)
   label_is p c Plain had = had
   label_is p c Route had = refl
 
   passed :
       (n p : ℕ) (mode : Mode) (change : Option Msg) (c : Call) (to : TaskNo)
-          → present q ≡ Some (entry.Head t (request.Forward n p mode change))
-          → call_at k.calls n ≡ Some c → phone_at k t p ≡ Some (Connected to)
-          → AfterStep b q (passage (msg_after change c) (label_after t p mode c) t to k c)
+      → present q ≡ Some (entry.Head t (request.Forward n p mode change))
+      → call_at k.calls n ≡ Some c → phone_at k t p ≡ Some (Connected to)
+      → AfterStep b q (passage (msg_after change c) (label_after t p mode c) t to k c)
   passed n p mode change c to now is led =
       let live : IsLive k c = own k n c sound is in
       let number : c.number.0 ≡ n = (sound.calls.each n c is).number in
@@ -254,8 +262,8 @@ module _
       let d : Call = passed_call (msg_after change c) label c in
       let target = target_told b.wires q k.tasks.phones fits.phones t.0 p (Connected to) led in
       let goes : PassesOn b q c.number.0 t to label (present q) =
-          subst (PassesOn b q c.number.0 t to label) (sym now)
-          (refl, sym number, target, label_is p c mode (fits.labels c.number.0 c live)) in
+      subst (PassesOn b q c.number.0 t to label) (sym now)
+      (refl, sym number, target, label_is p c mode (fits.labels c.number.0 c live)) in
       idle_told b k.tasks.phones (put_at k.calls d (Incoming to)) (entry.Forwarded c.number t to label ∷ q)
       (lent_phone c) Free (λ l e. tt)
       (waits_idle k.tasks.phones (lent_phone c) (lent_waits k.tasks.phones k.calls c.number.0 c sound.kept live))
@@ -265,7 +273,7 @@ module _
 
   taken_as :
       (c : Call) → IsLive k c → (msg : Msg) (reserved kept : Option Label) → AreIdle k.tasks.phones kept
-          → AfterServed b q (reception t (quiet_hand k (record c { msg = msg; reserved = reserved }) kept Connecting))
+      → AfterServed b q (reception t (quiet_hand k (record c { msg = msg; reserved = reserved }) kept Connecting))
   taken_as c live msg reserved kept idle =
       put_told b k c live q (entry.Received c.number t) (record c { msg = msg; reserved = reserved }) (Dispatched t)
       kept Connecting tt refl refl (λ l e. tt) idle fits
@@ -288,7 +296,7 @@ module _
   module _
       (asked : Request)
       (begun : (asked ≡ request.Receive → ⊥)
-          → (present q ≡ Some (entry.Head t asked)) × AreMadeSo q k.calls) where
+      → (present q ≡ Some (entry.Head t asked)) × AreMadeSo q k.calls) where
     over : (n : ℕ) (c : Call) (e : Entry) → call_at k.calls n ≡ Some c → IsPlain e
         → PhonesFit b (on_top (option_to_list (kept_note (kept_phone c) Free)) (e ∷ q))
         (kept_rows k.tasks.phones (kept_phone c) Free) (without_call k.calls c.number.0)
@@ -356,7 +364,7 @@ done_tells calls (Err code) = tt
 
 joined_tells :
     (t : TaskNo) (asked : Request) (k : KernelState) (s : Served) → join.Joins t asked k s
-        → TellsLabelOf s.state.calls s.outcome
+    → TellsLabelOf s.state.calls s.outcome
 joined_tells t asked k s (join.plain o is) = plain_tells k.calls o is.0
 joined_tells t asked k s (join.vanished n c o _ _ _ is) = plain_tells (without_call k.calls c.number.0) o is.0
 joined_tells t asked k s (join.taken n c kind _ _ _) =
@@ -371,7 +379,7 @@ joined_tells t asked k s _ = tt
 
 pub served_tells :
     (t : TaskNo) (asked : Request) (k : KernelState)
-        → TellsLabelOf (serve_request k t asked).state.calls (serve_request k t asked).outcome
+    → TellsLabelOf (serve_request k t asked).state.calls (serve_request k t asked).outcome
 served_tells t asked k =
     join.by_request (Unit {0}) (λ es p. p) (λ p. refl) (λ es fs p. refl) t asked
     (λ p j. ⊤) (λ p o j. TellsLabelOf j.calls o)
@@ -386,8 +394,8 @@ record IsBegun (b : Beginning) (t : TaskNo) (asked : Request) (q : List Entry) (
 -- each request
 pub served :
     (b : Beginning) (t : TaskNo) (asked : Request) (q : List Entry) (k : KernelState) → IsSound k
-        → AreMadeSo q k.calls → present q ≡ Some (entry.Head t asked) → PhonesFit b q k.tasks.phones k.calls
-        → AfterServed b q (serve_request k t asked)
+    → AreMadeSo q k.calls → present q ≡ Some (entry.Head t asked) → PhonesFit b q k.tasks.phones k.calls
+    → AfterServed b q (serve_request k t asked)
 served b t asked q k sound made now fits =
     join.by_request (List Entry) on_top (λ _. refl) (λ xs ys p. on_top-append xs ys p) t asked
     (IsBegun b t asked) (λ r o j. PhonesFit b r j.tasks.phones j.calls)
