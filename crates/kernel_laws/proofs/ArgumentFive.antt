@@ -38,7 +38,7 @@ use Rattle.kernel_core.specs.Kernel.{serve, kill_event, spawn_event, spawning, n
 use Rattle.kernel_core.proofs.ByRequest as join
 use Rattle.kernel_core.proofs.ByKill as end
 use Rattle.kernel_laws.specs.Connecting.{TellsPhone, TellPhones, HasFive}
-use Rattle.kernel_laws.proofs.CallRoutes.{came_by, put_by, gone_by}
+use Rattle.kernel_laws.proofs.Tables.{came_by, put_by, gone_by}
 
 -- a call that no task holds, at its place
 away : (c : Call) (place : Place) → c.place ≡ place → ((t : TaskNo) → place ≡ Dispatched t → ⊥) → length c.msg.args ≡ 5

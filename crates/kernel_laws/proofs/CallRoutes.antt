@@ -1,5 +1,5 @@
 -- By a request calls go where phones lead.
-use Rattle.std.proofs.Common.{◌≡◌, ℕ, ◌≤◌, true, ◌⊎◌, inl, inr, List, [], ◌∷◌, ◌++◌, length, Option, None, Some, Result, Ok, Err, refl, ap, sym, subst, ◌∙◌}
+use Rattle.std.proofs.Common.{◌≡◌, ℕ, ◌≤◌, ◌⊎◌, inl, inr, List, [], ◌∷◌, ◌++◌, length, Option, None, Some, Result, Ok, Err, refl, ap, sym, subst, ◌∙◌}
 use Rattle.std.specs.Option.{option_to_list}
 use Rattle.ipc_ids.specs.declared.numbers.Code.{Code}
 use Rattle.ipc_ids.specs.declared.numbers.Label.{Label}
@@ -24,7 +24,7 @@ use Rattle.ipc_ids.specs.Methods.{first_user_method}
 use Rattle.call_slab.specs.declared.call.Call.{Call}
 use Rattle.call_slab.specs.declared.call.Place.{Place}
 use Rattle.call_slab.specs.declared.call.Place.TheVariants.{Incoming, Dispatched, Answers}
-use Rattle.answerbox.specs.Calls.{CallTable, call_at, same_place, enqueue, put_at, without_call}
+use Rattle.answerbox.specs.Calls.{CallTable, call_at, enqueue, put_at, without_call}
 use Rattle.phone_table.specs.Phones.{state_at}
 use Rattle.forwarding.specs.Forwarding.{msg_after, label_after}
 use Rattle.address_space.specs.Memory as spaces
@@ -40,7 +40,7 @@ use Rattle.cleanup.specs.Data.{accepted_write, accepted_read}
 use Rattle.cleanup.specs.Serving.{Handed, Served, as_it_is, telling}
 use Rattle.cleanup.specs.Joins.{bare_reply, new_call, acceptance, answer_at_once, reception, answer_to, declined, accepted_to_me, accepted_me_to, vanishing, passed_call, passage, drop_answer, hang_up, hangup_call}
 use Rattle.cleanup.proofs.Histories.{told_after, none_after, both_after}
-use Rattle.cleanup.proofs.Lookups.{at_insert, at_remove, chosen, same_call, put_here}
+use Rattle.cleanup.proofs.Lookups.{put_here}
 use Rattle.cleanup.proofs.Rows.{state_changed_at}
 use Rattle.cleanup.proofs.Queues.{sound_drop}
 use Rattle.cleanup.proofs.Soundness.{next_free}
@@ -53,32 +53,7 @@ use Rattle.kernel_core.proofs.AreaSteps.{quiet_hand}
 use Rattle.kernel_core.proofs.ByRequest as join
 use Rattle.kernel_laws.specs.Routes.{Leads, label_by, Comes, GoesThere, GoThere, WaitsThere, GoWherePhonesLead}
 use Rattle.kernel_laws.proofs.Methods.{user_kind}
-
--- what a table has where a record came, was put to a place, or left
-
-pub came_by : (q : CallTable) (d c : Call) (n : ℕ) → call_at (enqueue q d) n ≡ Some c
-    → ((d.number.0 ≡ n) × (record d { stamp = q.next_stamp } ≡ c)) ⊎ (call_at q n ≡ Some c)
-came_by q d c n at =
-    let e : Call = record d { stamp = q.next_stamp } in
-    elim (chosen d.number.0 n (Some e) (call_at q n) (Some c) (sym (at_insert q.records d.number.0 n e) ∙ at)) [
-      | inl h ↦ inl (h.0, same_call e c h.1)
-      | inr h ↦ inr h.1
-    ]
-
-pub put_by : (q : CallTable) (d c : Call) (place : Place) (n : ℕ) → call_at (put_at q d place) n ≡ Some c
-    → ((d.number.0 ≡ n) × (record d { place = place; stamp = q.next_stamp } ≡ c)) ⊎ (call_at q n ≡ Some c)
-put_by q d c place n at =
-    let e : Call = record d { place = place; stamp = q.next_stamp } in
-    elim (chosen d.number.0 n (Some e) (call_at q n) (Some c) (sym (at_insert q.records d.number.0 n e) ∙ at)) [
-      | inl h ↦ inl (h.0, same_call e c h.1)
-      | inr h ↦ inr h.1
-    ]
-
-pub gone_by : (q : CallTable) (m n : ℕ) (c : Call) → call_at (without_call q m) n ≡ Some c → call_at q n ≡ Some c
-gone_by q m n c at = elim (chosen m n None (call_at q n) (Some c) (sym (at_remove q.records m n) ∙ at)) [
-  | inl h ↦ absurd (let e = h.1 in cc)
-  | inr h ↦ h.1
-]
+use Rattle.kernel_laws.proofs.Tables.{came_by, put_by, gone_by}
 
 pub not_answers : (t u : TaskNo) → Answers t ≡ Incoming u → ⊥
 not_answers t u e = cc
@@ -88,9 +63,6 @@ not_dispatched t u e = cc
 
 pub same_queue : (t u : TaskNo) → Incoming t ≡ Incoming u → t ≡ u
 same_queue t u e = cc
-
-pub at_dispatched : (t : TaskNo) (place : Place) → same_place place (Dispatched t) ≡ true → place ≡ Dispatched t
-at_dispatched t place h = same_place-true place (Dispatched t) h
 
 pub one_target : (k : KernelState) (t : TaskNo) (p : ℕ) (s : PhoneState) (u : TaskNo) → phone_at k t p ≡ Some s
     → Leads k t p u → s ≡ Connected u
@@ -327,7 +299,7 @@ module _ (k : KernelState) (sound : IsSound k) (t : TaskNo) where
             subst (λ (v : TaskNo). Comes t (request.Forward n p mode change) k v e) (same_queue to u at) (record {
               before = c;
               live = stands.live;
-              held = at_dispatched t c.place stands.here;
+              held = same_place-true c.place (Dispatched t) stands.here;
               leads = leads;
               number = refl;
               caller = refl;

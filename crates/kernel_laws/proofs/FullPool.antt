@@ -137,12 +137,10 @@ module _ (k : KernelState) (t : TaskNo) (p : ℕ) (msg : Msg) where
   tested s = by_test Fills (not (is_callable (kind_of msg.method))) _ _ (λ _ h. absurd h) (λ _. by_test Fills (nat_le most_active (active_calls k.calls (label_of t p))) _ _ (λ _ h. absurd h) (λ _. through s))
 
   called : (o : Option PhoneState) → Fills (call_over k t p msg o)
-  called None h = absurd h
-  called (Some Free) h = absurd h
-  called (Some Connecting) h = absurd h
   called (Some (Connected u)) h = tested (Connected u) h
   called (Some HungUp) h = tested HungUp h
   called (Some Slammed) h = tested Slammed h
+  called _ h = absurd h
 
 pub call_is_full : (k : KernelState) (t : TaskNo) (p : ℕ) (msg : Msg) → HasAnswer enomem (call k t p msg).entries → IsFullFor k (bytes_asked msg.args)
 call_is_full k t p msg = called k t p msg (phone_at k t p)

@@ -3,13 +3,9 @@ use Rattle.std.proofs.Common.{◌≡◌, ℕ, ◌<◌, ◌≤◌, Bool, true, fa
 use Rattle.std.specs.Prelude.{◌==◌}
 use Rattle.std.proofs.lemmas.Bool.Decides.{nat_tests}
 use Rattle.std.proofs.lemmas.Bool.{eq-eqb, eqb-true, false≢true}
-use Rattle.ipc_ids.specs.declared.numbers.TaskNo.{TaskNo}
 use Rattle.ipc_ids.specs.declared.message.Msg.{Msg}
 use Rattle.call_slab.specs.declared.call.Call.{Call}
-use Rattle.call_slab.specs.declared.call.Place.{Place}
-use Rattle.call_slab.specs.declared.call.Place.TheVariants.{Dispatched}
-use Rattle.answerbox.specs.Calls.{same_place}
-use Rattle.forwarding.specs.Forwarding.{is_held, is_forwardable, has_system_method}
+use Rattle.forwarding.specs.Forwarding.{is_forwardable, has_system_method}
 use Rattle.kernel_laws.specs.HeldCalls.{MayPass}
 
 first_of : (a b : Bool) → (not a && b) ≡ true → a ≡ false
@@ -63,6 +59,3 @@ may_not_pass change c h may = elim (one_of (c.request.method == 0) _ h) [
       let low = is_below msg.method system in
       let high = may.user msg is (at_least c.request.method user) in
       omega (arith, low, high)
-
-pub holds : (t : TaskNo) (c : Call) → c.place ≡ Dispatched t → is_held t c ≡ true
-holds t c is = ap (λ (x : Place). same_place x (Dispatched t)) is ∙ eq-eqb t.0 t.0 refl

@@ -3,7 +3,7 @@ use Rattle.std.proofs.Common.{◌≡◌, true, false, ◌⊎◌, inl, inr, Optio
 use Rattle.std.proofs.lemmas.Bool.{eqb-true, eq-eqb, ne_eqb, false≢true}
 use Rattle.ipc_ids.specs.declared.numbers.TaskNo.{TaskNo}
 use Rattle.ipc_ids.specs.declared.message.PhoneState.{PhoneState}
-use Rattle.ipc_ids.specs.declared.message.PhoneState.TheVariants.{Free, Connecting, Connected, HungUp, Slammed}
+use Rattle.ipc_ids.specs.declared.message.PhoneState.TheVariants.{Connecting, Connected, HungUp, Slammed}
 use Rattle.call_slab.specs.declared.call.Call.{Call}
 use Rattle.call_slab.specs.declared.call.Place.{Place}
 use Rattle.call_slab.specs.declared.call.Place.TheVariants.{Incoming, Dispatched, Answers}
@@ -61,11 +61,9 @@ not_its_caller t (Some u) ne = ne_eqb u.0 t.0 (λ e. ne (ap Some (same_no t u e)
 -- the words of a phone
 
 hung_open : (s : PhoneState) → IsOpen s → hung s ≡ HungUp
-hung_open Free h = absurd h
-hung_open Connecting h = absurd h
 hung_open (Connected u) h = refl
-hung_open HungUp h = absurd h
 hung_open Slammed h = refl
+hung_open _ h = absurd h
 
 -- an open phone does not wait for a connection
 open_waits : (o : Option PhoneState) (s : PhoneState) → o ≡ Some s → IsOpen s → o ≡ Some Connecting → ⊥
@@ -75,11 +73,8 @@ slammed_leading : (t : TaskNo) → slammed t (Connected t) ≡ Slammed
 slammed_leading t = rw (eq-eqb t.0 t.0 refl) refl
 
 slammed_other : (t : TaskNo) (s : PhoneState) → (s ≡ Connected t → ⊥) → slammed t s ≡ s
-slammed_other t Free ne = refl
-slammed_other t Connecting ne = refl
 slammed_other t (Connected u) ne = rw (ne_eqb u.0 t.0 (λ e. ne (ap Connected (same_no t u e)))) refl
-slammed_other t HungUp ne = refl
-slammed_other t Slammed ne = refl
+slammed_other t _ ne = refl
 
 pub kill_ends_task : (k : KernelState) (t : TaskNo) → is_alive k t ≡ true → EndsTask t k (kill k t).state
 kill_ends_task k t alive = record { ended = killed_task k t alive; others = λ u ne. other_task k t u alive ne }

@@ -6,7 +6,7 @@ use Rattle.std.specs.Option.{option_to_list}
 use Rattle.ipc_ids.specs.declared.numbers.TaskNo.{TaskNo}
 use Rattle.ipc_ids.specs.declared.numbers.Label.{Label}
 use Rattle.ipc_ids.specs.declared.message.PhoneState.{PhoneState}
-use Rattle.ipc_ids.specs.declared.message.PhoneState.TheVariants.{Free, Connecting, Connected, HungUp, Slammed}
+use Rattle.ipc_ids.specs.declared.message.PhoneState.TheVariants.{Free, Connected, Slammed}
 use Rattle.ipc_ids.specs.declared.entry.Entry.{Entry}
 use Rattle.ipc_ids.specs.Codes.{ehangup}
 use Rattle.call_slab.specs.declared.call.Call.{Call}
@@ -65,20 +65,13 @@ before_rest m n (x ∷ xs) ys (inr h) g (y ∷ one) two e is ends =
 -- the parts on phones end no call
 
 hang_up_ends_none : (n : ℕ) (t : TaskNo) (k : KernelState) (p : ℕ) (o : Option PhoneState) → HasNoEnd n (hang_up k t p o).entries
-hang_up_ends_none n t k p None h = h
-hang_up_ends_none n t k p (Some Free) h = h
-hang_up_ends_none n t k p (Some Connecting) h = h
-hang_up_ends_none n t k p (Some HungUp) h = h
 hang_up_ends_none n t k p (Some Slammed) h = elim h [ inl x ↦ x | inr x ↦ x ]
 hang_up_ends_none n t k p (Some (Connected u)) h = elim h [ inl x ↦ x | inr y ↦ elim y [ inl x ↦ x | inr x ↦ x ] ]
+hang_up_ends_none n t k p _ h = h
 
 slam_ends_none : (n : ℕ) (t u : TaskNo) (k : KernelState) (p : ℕ) (o : Option PhoneState) → HasNoEnd n (slam t u k p o).entries
-slam_ends_none n t u k p None = λ h. h
-slam_ends_none n t u k p (Some Free) = λ h. h
-slam_ends_none n t u k p (Some Connecting) = λ h. h
-slam_ends_none n t u k p (Some HungUp) = λ h. h
-slam_ends_none n t u k p (Some Slammed) = λ h. h
 slam_ends_none n t u k p (Some (Connected v)) = by_test (λ (d : Transition). HasNoEnd n d.entries) (v.0 == t.0) _ _ (λ _ h. elim h [ inl x ↦ x | inr x ↦ x ]) (λ _ h. h)
+slam_ends_none n t u k p _ = λ h. h
 
 module _ (n : ℕ) where
   abbrev None_so_far : List Entry → KernelState → Type 0

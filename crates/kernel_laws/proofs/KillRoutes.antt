@@ -27,7 +27,8 @@ use Rattle.kernel_core.specs.Kernel.{kill_event}
 use Rattle.kernel_core.proofs.InEvent.{same_place-true}
 use Rattle.kernel_core.proofs.ByKill as end
 use Rattle.kernel_laws.specs.Routes.{Leads, Stands, IsFarewell, OnlyFarewellsCome, NoneCameToLead}
-use Rattle.kernel_laws.proofs.CallRoutes.{came_by, put_by, gone_by, not_answers, same_queue}
+use Rattle.kernel_laws.proofs.CallRoutes.{not_answers, same_queue}
+use Rattle.kernel_laws.proofs.Tables.{came_by, put_by, gone_by}
 
 -- a phone that is written to lead nowhere
 

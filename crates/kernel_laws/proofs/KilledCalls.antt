@@ -4,7 +4,7 @@ use Rattle.std.specs.Prelude.{◌==◌}
 use Rattle.std.proofs.lemmas.Bool.{cases_eq, eqb-true, false≢true}
 use Rattle.ipc_ids.specs.declared.numbers.TaskNo.{TaskNo}
 use Rattle.ipc_ids.specs.declared.message.PhoneState.{PhoneState}
-use Rattle.ipc_ids.specs.declared.message.PhoneState.TheVariants.{Free, Connecting, Connected, HungUp, Slammed}
+use Rattle.ipc_ids.specs.declared.message.PhoneState.TheVariants.{Connected, Slammed}
 use Rattle.ipc_ids.specs.Codes.{ehangup}
 use Rattle.call_slab.specs.declared.call.Call.{Call}
 use Rattle.call_slab.specs.declared.call.Place.{Place}
@@ -171,24 +171,17 @@ module _ (k : KernelState) (t : TaskNo) (sound : IsSound k) (alive : is_alive k 
     pub below : n < j.calls.next_number
 
   hang_up_leaves : (j : KernelState) (p : ℕ) (o : Option PhoneState) → IsBelow j → IsBelow (hang_up j t p o).state
-  hang_up_leaves j p None h = h
-  hang_up_leaves j p (Some Free) h = h
-  hang_up_leaves j p (Some Connecting) h = h
-  hang_up_leaves j p (Some HungUp) h = h
   hang_up_leaves j p (Some Slammed) h = record { there = h.there; below = h.below }
   hang_up_leaves j p (Some (Connected u)) h = let b = h.below in record {
     there = put_other j.calls j.calls.next_number n (record (hangup_call j t p u) { stamp = j.calls.next_stamp }) (λ e. omega arith) ∙ h.there;
     below = omega arith;
   }
+  hang_up_leaves j p _ h = h
 
   -- a fact that a slam does not touch
   slam_calls : (q : CallTable) (u : TaskNo) (j : KernelState) (p : ℕ) (o : Option PhoneState) → j.calls ≡ q → (slam t u j p o).state.calls ≡ q
-  slam_calls q u j p None h = h
-  slam_calls q u j p (Some Free) h = h
-  slam_calls q u j p (Some Connecting) h = h
-  slam_calls q u j p (Some HungUp) h = h
-  slam_calls q u j p (Some Slammed) h = h
   slam_calls q u j p (Some (Connected v)) h = by_test (λ (s : Transition). s.state.calls ≡ q) (v.0 == t.0) _ _ (λ _. h) (λ _. h)
+  slam_calls q u j p _ h = h
 
   pub after_phones : call_at (after_slams t k).calls n ≡ Some c
   after_phones =

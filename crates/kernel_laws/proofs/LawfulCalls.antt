@@ -7,7 +7,7 @@ use Rattle.ipc_ids.specs.declared.numbers.Label.{Label}
 use Rattle.ipc_ids.specs.declared.numbers.TaskNo.{TaskNo}
 use Rattle.ipc_ids.specs.declared.message.Msg.{Msg}
 use Rattle.ipc_ids.specs.declared.message.PhoneState.{PhoneState}
-use Rattle.ipc_ids.specs.declared.message.PhoneState.TheVariants.{Free, Connecting, Connected, HungUp, Slammed}
+use Rattle.ipc_ids.specs.declared.message.PhoneState.TheVariants.{Free, HungUp}
 use Rattle.ipc_ids.specs.declared.methods.MethodKind.{MethodKind}
 use Rattle.ipc_ids.specs.declared.methods.MethodKind.TheVariants.{PhoneHungUp, ConnectToMe, ConnectMeTo, DataWrite, DataRead, ShareOut, ShareIn, NotBuilt, User}
 use Rattle.ipc_ids.specs.Codes.{elimit}
@@ -76,10 +76,8 @@ module _ (k : KernelState) (t : TaskNo) where
       (p, by u.state here (subst (λ (x : Label). is_usable u.state (active_calls k.calls x) ≡ true) same u.usable)) where
         by : (s : PhoneState) → phone_at k t l.phone.0 ≡ Some s → is_usable s (active_calls k.calls (label_of t l.phone.0)) ≡ true → (phone_at k t l.phone.0 ≡ Some Free) ⊎ ((phone_at k t l.phone.0 ≡ Some HungUp) × (active_calls k.calls (label_of t l.phone.0) ≡ 0))
         by Free at usable = inl at
-        by Connecting at usable = absurd (cc usable)
-        by (Connected u) at usable = absurd (cc usable)
         by HungUp at usable = inr (at, grind (arith, nat_tests, usable))
-        by Slammed at usable = absurd (cc usable)
+        by _ at usable = absurd (cc usable)
 
   pub none_usable : first_usable_of k t ≡ None → HasUsable k t → ⊥
   none_usable is h = by_row (row_at k.tasks.phones t.0) refl is h.1 where

@@ -1,3 +1,6 @@
+pub mod Tables
+pub mod Places
+pub mod KillParts
 pub mod KilledCalls
 pub mod KillOrder
 pub mod KilledAreas

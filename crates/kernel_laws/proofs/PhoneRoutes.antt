@@ -35,9 +35,10 @@ use Rattle.kernel_core.proofs.KindsOfCalls.{same_code, kept_to_me, kept_me_to, m
 use Rattle.kernel_core.proofs.ByRequest as join
 use Rattle.kernel_core.proofs.ByRequest.{own}
 use Rattle.kernel_laws.specs.Routes.{Leads, IsConnected, LeadWhereConnected}
-use Rattle.kernel_laws.proofs.Methods.{to_me_method, me_to_method}
-use Rattle.kernel_laws.proofs.CallRoutes.{at_dispatched, one_task}
+use Rattle.kernel_laws.proofs.Methods.{method_of}
+use Rattle.kernel_laws.proofs.CallRoutes.{one_task}
 use Rattle.kernel_laws.proofs.KillRoutes.{IsNowhere, free_nowhere, is_there}
+use Rattle.kernel_core.proofs.InEvent.{same_place-true}
 
 -- rows of phones after one of them was written
 
@@ -158,7 +159,7 @@ module _ (k : KernelState) (sound : IsSound k) (t : TaskNo) where
           held = held;
           accepted = same_code reply.code accepting;
           kept = both.0;
-          two = inr (to_me_method c.request.method kind, same_task v t both.1, made);
+          two = inr (method_of ConnectToMe c.request.method kind, same_task v t both.1, made);
         })
     accepted_as reply u ConnectMeTo held made accepting kind = connected reply t _ refl (λ v p kept.
         let both = kept_me_to t c (label_of v p) kind held kept in
@@ -171,7 +172,7 @@ module _ (k : KernelState) (sound : IsSound k) (t : TaskNo) where
           kept = both.0;
           two =
               inl
-              (me_to_method c.request.method kind, made ∙ ap Some (of ∙ sym (same_task v c.from.task both.1)), refl);
+              (method_of ConnectMeTo c.request.method kind, made ∙ ap Some (of ∙ sym (same_task v c.from.task both.1)), refl);
         })
     accepted_as reply u _ held made accepting kind = by_alike (request.Answer n reply) _ (alike k)
 
@@ -219,7 +220,7 @@ module _ (k : KernelState) (sound : IsSound k) (t : TaskNo) where
   joined asked s (join.accepted n c reply u kind is at made _ accepting same) =
       let step : Transition = answer_to (on_accept_of kind k c reply t u) (Some t) u in
       subst (λ (a : Request). LeadWhereConnected t a k step.state) (sym is)
-      (accepted_as n c at.live reply u kind (at_dispatched t c.place at.here) made accepting same)
+      (accepted_as n c at.live reply u kind (same_place-true c.place (Dispatched t) at.here) made accepting same)
   joined asked s (join.passed n p mode change c u _ at _ _) = by_alike asked _ (returned n c at.live)
   joined asked s (join.hung_up p u is led) =
       subst (λ (a : Request). LeadWhereConnected t a k (hang_up k t p (Some (Connected u))).state) (sym is)

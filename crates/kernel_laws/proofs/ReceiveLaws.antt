@@ -7,8 +7,7 @@ use Rattle.std.specs.FinMap.{entries}
 use Rattle.ipc_ids.specs.declared.numbers.TaskNo.{TaskNo}
 use Rattle.ipc_ids.specs.Methods.{phone_hungup}
 use Rattle.call_slab.specs.declared.call.Call.{Call}
-use Rattle.call_slab.specs.declared.call.Place.{Place}
-use Rattle.call_slab.specs.declared.call.Place.TheVariants.{Incoming, Dispatched, Answers}
+use Rattle.call_slab.specs.declared.call.Place.TheVariants.{Answers}
 use Rattle.answerbox.specs.Calls.{call_at, same_place, front, count_of}
 use Rattle.answerbox.proofs.Fronts.{front_live}
 use Rattle.cleanup.specs.State.{KernelState, Transition, nothing, then_do, drain}
@@ -31,23 +30,7 @@ module _ (next : KernelState → Option Call) (step : KernelState → Call → T
     by_next n k h few None is later = is
     by_next n k h few (Some c) is later = later (step k c).state (keeps k c h is) (let l = less k c h is in omega arith)
 
--- places and tests
-
-pub at_answers : (t : TaskNo) (place : Place) → same_place place (Answers t) ≡ true → place ≡ Answers t
-at_answers t (Incoming u) h = absurd (false≢true h)
-at_answers t (Dispatched u) h = absurd (false≢true h)
-at_answers t (Answers u) h = ap (λ n. let r : TaskNo = record { 0 = n } in Answers r) (eqb-true u.0 t.0 h)
-
-pub at_incoming : (t : TaskNo) (place : Place) → same_place place (Incoming t) ≡ true → place ≡ Incoming t
-at_incoming t (Incoming u) h = ap (λ n. let r : TaskNo = record { 0 = n } in Incoming r) (eqb-true u.0 t.0 h)
-at_incoming t (Dispatched u) h = absurd (false≢true h)
-at_incoming t (Answers u) h = absurd (false≢true h)
-
-pub is_answers : (t : TaskNo) (place : Place) → place ≡ Answers t → same_place place (Answers t) ≡ true
-is_answers t place e = ap (λ (p : Place). same_place p (Answers t)) e ∙ eq-eqb t.0 t.0 refl
-
-pub is_incoming : (t : TaskNo) (place : Place) → place ≡ Incoming t → same_place place (Incoming t) ≡ true
-is_incoming t place e = ap (λ (p : Place). same_place p (Incoming t)) e ∙ eq-eqb t.0 t.0 refl
+-- tests
 
 pub unawaited_is : (o : Option Call) (c : Call) → unawaited o ≡ Some c → (o ≡ Some c) × (c.discard ≡ true)
 unawaited_is None c e = absurd (cc e)

@@ -6,7 +6,7 @@ use Rattle.std.proofs.lemmas.Bool.{cases_eq, eqb-true}
 use Rattle.ipc_ids.specs.declared.numbers.Label.{Label}
 use Rattle.ipc_ids.specs.declared.numbers.TaskNo.{TaskNo}
 use Rattle.ipc_ids.specs.declared.message.PhoneState.{PhoneState}
-use Rattle.ipc_ids.specs.declared.message.PhoneState.TheVariants.{Free, Connecting, Connected, HungUp, Slammed}
+use Rattle.ipc_ids.specs.declared.message.PhoneState.TheVariants.{Free, Connected, HungUp, Slammed}
 use Rattle.ipc_ids.specs.Codes.{ehangup}
 use Rattle.call_slab.specs.declared.call.Call.{Call}
 use Rattle.call_slab.specs.declared.call.Place.{Place}
@@ -24,9 +24,10 @@ use Rattle.cleanup.proofs.Repeats.{by_test}
 use Rattle.cleanup.proofs.Rows.{state_changed_at}
 use Rattle.kernel_laws.specs.KillLaws.{TellsOfHangup, HasCome, TellsWhereItLed}
 use Rattle.kernel_laws.specs.Routes.{Leads}
-use Rattle.kernel_laws.proofs.CallRoutes.{came_by, put_by, gone_by, not_answers}
+use Rattle.kernel_laws.proofs.CallRoutes.{not_answers}
 use Rattle.kernel_laws.proofs.KillLaws.{kill_closes_phones}
 use Rattle.kernel_laws.proofs.KillRoutes.{forgot_by, kill_keeps}
+use Rattle.kernel_laws.proofs.Tables.{came_by, put_by, gone_by}
 
 at_one : (p : Place) (t u : TaskNo) → p ≡ Incoming u → task_of p ≡ t.0 → u.0 ≡ t.0
 at_one p t u at e = ap task_of (sym at) ∙ e
@@ -134,17 +135,13 @@ module _ (k : KernelState) (sound : IsSound k) (t : TaskNo) where
     back n c is = ap (λ (q : CallTable). call_at q n) (sym same) ∙ is
 
   slammed : (u : TaskNo) (j : KernelState) (p : ℕ) (o : Option PhoneState) → phone_at j u p ≡ o → IsTelling j → IsTelling (slam t u j p o).state
-  slammed u j p None is h = h
-  slammed u j p (Some Free) is h = h
-  slammed u j p (Some Connecting) is h = h
-  slammed u j p (Some HungUp) is h = h
-  slammed u j p (Some Slammed) is h = h
   slammed u j p (Some (Connected v)) is h = by_test (λ (s : Transition). IsTelling s.state) (v.0 == t.0) _ _ (λ e. only_phones j (with_phone j u p Slammed) refl h (slams_to (eqb-true v.0 t.0 e))) (λ _. h) where
     slams_to : v.0 ≡ t.0 → (q : ℕ) (s : PhoneState) → phone_at (with_phone j u p Slammed) t q ≡ Some s → (phone_at j t q ≡ Some s) ⊎ ((s ≡ Free) ⊎ ((s ≡ Slammed) × (w : TaskNo) × Leads j t q w × (w.0 ≡ t.0)))
     slams_to own q s at = elim (state_changed_at j.tasks.phones u.0 p t.0 q Slammed s at) [
       | inl e ↦ inr (inr (sym e.2, v, ap (λ i. state_at j.tasks.phones i q) e.0 ∙ ap (state_at j.tasks.phones u.0) e.1 ∙ is, own))
       | inr e ↦ inl e.1
     ]
+  slammed u j p _ is h = h
 
   freed : (j : KernelState) (kept : Option Label) (p : ℕ) (s : PhoneState) → state_at (kept_rows j.tasks.phones kept Free) t.0 p ≡ Some s → (phone_at j t p ≡ Some s) ⊎ ((s ≡ Free) ⊎ ((s ≡ Slammed) × (v : TaskNo) × Leads j t p v × (v.0 ≡ t.0)))
   freed j None p s at = inl at
@@ -281,10 +278,6 @@ module _ (k : KernelState) (sound : IsSound k) (t : TaskNo) where
         (r.0, r.1, (r.2.0, put_other j.calls j.calls.next_number r.0 new_one (λ e. omega (arith, b, e)) ∙ r.2.1), r.3)
 
   hung_up : (j : KernelState) (p : ℕ) (o : Option PhoneState) → phone_at j t p ≡ o → IsTelling j → IsTelling (hang_up j t p o).state
-  hung_up j p None is h = h
-  hung_up j p (Some Free) is h = h
-  hung_up j p (Some Connecting) is h = h
-  hung_up j p (Some HungUp) is h = h
   hung_up j p (Some Slammed) is h = record {
     numbered = h.numbered;
     below = h.below;
@@ -298,6 +291,7 @@ module _ (k : KernelState) (sound : IsSound k) (t : TaskNo) where
     once = h.once;
   }
   hung_up j p (Some (Connected u)) is h = called j p u is h
+  hung_up j p _ is h = h
 
   kill_told : IsTelling (kill k t).state
   kill_told = kill_keeps t IsTelling

@@ -5,7 +5,7 @@ use Rattle.std.proofs.lemmas.Bool.{eq-eqb, eqb-true, false≢true}
 use Rattle.ipc_ids.specs.declared.numbers.Label.{Label}
 use Rattle.ipc_ids.specs.declared.numbers.TaskNo.{TaskNo}
 use Rattle.ipc_ids.specs.declared.message.PhoneState.{PhoneState}
-use Rattle.ipc_ids.specs.declared.message.PhoneState.TheVariants.{Free, Connecting, Connected, HungUp, Slammed}
+use Rattle.ipc_ids.specs.declared.message.PhoneState.TheVariants.{Free, HungUp}
 use Rattle.call_slab.specs.declared.call.Call.{Call}
 use Rattle.answerbox.specs.Calls.{CallTable, call_at, is_active_on, active_calls}
 use Rattle.answerbox.proofs.Counts.{count-none, none_counts}
@@ -60,10 +60,8 @@ module _ (k : KernelState) (t : TaskNo) where
 
   usable_by : (p : ℕ) (s : PhoneState) → phone_at k t p ≡ Some s → is_usable s (active_calls k.calls (label_of t p)) ≡ true → IsUsable k k.calls t p
   usable_by p Free at can = inl at
-  usable_by p Connecting at can = absurd (cc can)
-  usable_by p (Connected u) at can = absurd (cc can)
   usable_by p HungUp at can = inr (at, count_none k.calls t p (eqb-true (active_calls k.calls (label_of t p)) 0 can))
-  usable_by p Slammed at can = absurd (cc can)
+  usable_by p _ at can = absurd (cc can)
 
   -- where the search finds none, none is usable
   pub none_is : first_usable_of k t ≡ None → (p : ℕ) → IsUsable k k.calls t p → ⊥
