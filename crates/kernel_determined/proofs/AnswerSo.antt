@@ -45,14 +45,12 @@ use Rattle.kernel_core.specs.Kernel.{and_event, serve}
 use Rattle.kernel_laws.specs.DataLaws.{code_after, first, second, third, IsLawfulTaking}
 use Rattle.kernel_laws.specs.MemoryRequests.{made}
 use Rattle.kernel_laws.specs.HeldCalls.{IsHeld}
-use Rattle.kernel_laws.proofs.CallRoutes.{at_dispatched}
 use Rattle.kernel_laws.proofs.PoolChanges.{pool-used}
-use Rattle.kernel_laws.proofs.AnswerWords.{same_told, same_code, accepts_eok}
+use Rattle.kernel_laws.proofs.AnswerWords.{same_told, accepts_eok}
 use Rattle.kernel_laws.proofs.LawfulData.{length_taken, taking_is_lawful}
 use Rattle.kernel_laws.proofs.LawfulWrites.{get_taken}
 use Rattle.kernel_laws.proofs.MemoryRequests.{written_is, added}
-use Rattle.kernel_laws.proofs.HeldCalls.{holds}
-use Rattle.kernel_laws.proofs.Methods.{to_me_method, me_to_method, read_method, write_method}
+use Rattle.kernel_laws.proofs.Methods.{method_of}
 use Rattle.kernel_determined.specs.Frames.{PhoneComesTo}
 use Rattle.kernel_determined.specs.SettleLaw.{IsWanted}
 use Rattle.kernel_determined.specs.AnswerLaw.{IsWholePlacing, bytes_after, Reaches, ConnectsTo, ConnectsNothing, WritesBytes, TakesBytes, SharesArea, IsPlain, AnswersPlainly, Accepts, AnswersDeclining, AnswersNobody, AnswersAccepting, IsAnswer}
@@ -61,6 +59,9 @@ use Rattle.kernel_determined.proofs.TakesSo.{write_is_whole}
 use Rattle.kernel_determined.proofs.ShareDetermined.{share_is_whole}
 use Rattle.kernel_determined.proofs.SettleSo.{may_come, as_many, moves, kept_is, kept_there, ended_is, settle_quiet, vanish_quiet, settled_is}
 use Rattle.kernel_determined.proofs.AnswerDetermined.{answer_is_determined, holder_lives}
+use Rattle.kernel_laws.proofs.Places.{stands_true}
+use Rattle.kernel_core.proofs.InEvent.{same_place-true}
+use Rattle.kernel_core.proofs.KindsOfCalls.{same_code}
 
 -- ---- what is done to memory
 
@@ -94,34 +95,6 @@ shared_is : (t : TaskNo) (base pages rights : ℕ) (told : Result StoreNo Code)
     → option_to_list (shared_note t base pages rights told) ≡ made t base pages rights told
 shared_is t base pages rights (Ok store) = refl
 shared_is t base pages rights (Err code) = refl
-
--- ---- methods
-
-out_method : (m : ℕ) → kind_of m ≡ ShareOut → m ≡ share_out
-out_method m h =
-    by_test (λ (kind : MethodKind). kind ≡ ShareOut → m ≡ share_out) (m == 0) _ _ (λ _ e. absurd (cc e)) (λ _.
-    by_test (λ (kind : MethodKind). kind ≡ ShareOut → m ≡ share_out) (m == 1) _ _ (λ _ e. absurd (cc e)) (λ _.
-    by_test (λ (kind : MethodKind). kind ≡ ShareOut → m ≡ share_out) (m == 2) _ _ (λ _ e. absurd (cc e)) (λ _.
-    by_test (λ (kind : MethodKind). kind ≡ ShareOut → m ≡ share_out) (m == 3) _ _ (λ _ e. absurd (cc e)) (λ _.
-    by_test (λ (kind : MethodKind). kind ≡ ShareOut → m ≡ share_out) (m == 4) _ _ (λ _ e. absurd (cc e)) (λ _.
-    by_test (λ (kind : MethodKind). kind ≡ ShareOut → m ≡ share_out) (m == 5) _ _
-    (λ five _. grind (arith, nat_tests, five)) (λ _.
-    by_test (λ (kind : MethodKind). kind ≡ ShareOut → m ≡ share_out) (m == 6) _ _ (λ _ e. absurd (cc e)) (λ _.
-    by_test (λ (kind : MethodKind). kind ≡ ShareOut → m ≡ share_out) (nat_lt m 512) _ _ (λ _ e. absurd (cc e))
-    (λ _ e. absurd (cc e))))))))) h
-
-in_method : (m : ℕ) → kind_of m ≡ ShareIn → m ≡ share_in
-in_method m h =
-    by_test (λ (kind : MethodKind). kind ≡ ShareIn → m ≡ share_in) (m == 0) _ _ (λ _ e. absurd (cc e)) (λ _.
-    by_test (λ (kind : MethodKind). kind ≡ ShareIn → m ≡ share_in) (m == 1) _ _ (λ _ e. absurd (cc e)) (λ _.
-    by_test (λ (kind : MethodKind). kind ≡ ShareIn → m ≡ share_in) (m == 2) _ _ (λ _ e. absurd (cc e)) (λ _.
-    by_test (λ (kind : MethodKind). kind ≡ ShareIn → m ≡ share_in) (m == 3) _ _ (λ _ e. absurd (cc e)) (λ _.
-    by_test (λ (kind : MethodKind). kind ≡ ShareIn → m ≡ share_in) (m == 4) _ _ (λ _ e. absurd (cc e)) (λ _.
-    by_test (λ (kind : MethodKind). kind ≡ ShareIn → m ≡ share_in) (m == 5) _ _ (λ _ e. absurd (cc e)) (λ _.
-    by_test (λ (kind : MethodKind). kind ≡ ShareIn → m ≡ share_in) (m == 6) _ _
-    (λ six _. grind (arith, nat_tests, six)) (λ _.
-    by_test (λ (kind : MethodKind). kind ≡ ShareIn → m ≡ share_in) (nat_lt m 512) _ _ (λ _ e. absurd (cc e))
-    (λ _ e. absurd (cc e))))))))) h
 
 -- ---- a call that task t holds
 
@@ -185,15 +158,13 @@ module _ (k : KernelState) (sound : IsSound k) (t : TaskNo) (n : ℕ) (reply : R
 
     plainly : (kind : MethodKind) → kind_of c.request.method ≡ kind → (done : Served) → AcceptsOf kind done
         → IsPlain c.request.method → AnswersPlainly t n reply c u k done
-    plainly ConnectToMe e done h p = absurd (p.to_me (to_me_method c.request.method e))
-    plainly ConnectMeTo e done h p = absurd (p.me_to (me_to_method c.request.method e))
-    plainly DataWrite e done h p = absurd (p.write (write_method c.request.method e))
-    plainly DataRead e done h p = absurd (p.read (read_method c.request.method e))
-    plainly ShareOut e done h p = absurd (p.out (out_method c.request.method e))
-    plainly ShareIn e done h p = absurd (p.inward (in_method c.request.method e))
-    plainly PhoneHungUp e done h p = h
-    plainly NotBuilt e done h p = h
-    plainly User e done h p = h
+    plainly ConnectToMe e done h p = absurd (p.to_me (method_of ConnectToMe c.request.method e))
+    plainly ConnectMeTo e done h p = absurd (p.me_to (method_of ConnectMeTo c.request.method e))
+    plainly DataWrite e done h p = absurd (p.write (method_of DataWrite c.request.method e))
+    plainly DataRead e done h p = absurd (p.read (method_of DataRead c.request.method e))
+    plainly ShareOut e done h p = absurd (p.out (method_of ShareOut c.request.method e))
+    plainly ShareIn e done h p = absurd (p.inward (method_of ShareIn c.request.method e))
+    plainly _ e done h p = h
 
     accept_by : (kind : MethodKind) → kind_of c.request.method ≡ kind → (done : Served) → AcceptsOf kind done
         → Accepts t n reply c u k done
@@ -221,8 +192,7 @@ module _ (k : KernelState) (sound : IsSound k) (t : TaskNo) (n : ℕ) (reply : R
           call = with_code (code_of o) c.buffer;
           note = kept_note o (Connected u);
         }))
-    by_kept kind None r kept =
-        inr (record { none = r; phones = λ v q. refl; reaches = reaches_with elimit None })
+    by_kept kind None r kept = inr (record { none = r; phones = λ v q. refl; reaches = reaches_with elimit None })
     by_kept kind (Some l) r kept = inl (record {
       phone = l;
       kept = r;
@@ -246,7 +216,7 @@ module _ (k : KernelState) (sound : IsSound k) (t : TaskNo) (n : ℕ) (reply : R
     accepted : reply.code ≡ eok → (kind : MethodKind) → kind_of c.request.method ≡ kind
         → AcceptsOf kind (Answered (on_accept_of kind k c reply t u))
     accepted ok ConnectToMe e =
-        let kept = (kept_is k k.tasks refl n c its pending).connect (inl (to_me_method c.request.method e)) in
+        let kept = (kept_is k k.tasks refl n c its pending).connect (inl (method_of ConnectToMe c.request.method e)) in
         subst (λ (o : Option Label). AcceptsOf ConnectToMe (Answered (record {
           state = with_kept k o (Connected u);
           call = with_code (code_of o) c.buffer;
@@ -254,7 +224,7 @@ module _ (k : KernelState) (sound : IsSound k) (t : TaskNo) (n : ℕ) (reply : R
         }))) (sym kept) (by_kept e c.reserved refl kept)
     accepted ok ConnectMeTo e = me_to (value_of c.reserved some) where
       kept : kept_phone c ≡ c.reserved
-      kept = (kept_is k k.tasks refl n c its pending).connect (inr (me_to_method c.request.method e))
+      kept = (kept_is k k.tasks refl n c its pending).connect (inr (method_of ConnectMeTo c.request.method e))
 
       some : IsSome c.reserved
       some = its.reserved.needed (subst (λ p. NeedsPhone (who_keeps c) p c.reply.code) (sym at)
@@ -281,8 +251,7 @@ module _ (k : KernelState) (sound : IsSound k) (t : TaskNo) (n : ℕ) (reply : R
                   event = record {
                     counted = refl;
                     alive = refl;
-                    tasks =
-                        as_many k.tasks.phones (Some l) (Connected t);
+                    tasks = as_many k.tasks.phones (Some l) (Connected t);
                   };
                   calls = moves k.calls _ n (record c { reply = reply }) (Answers u) its.number refl;
                   memory_after = refl;
@@ -356,9 +325,7 @@ module _ (k : KernelState) (sound : IsSound k) (t : TaskNo) (n : ℕ) (reply : R
               (reaches (code_told step.told) c.buffer step.memory
               (shared_note u (first c.request.args) pages rights step.told)));
         }
-    accepted ok PhoneHungUp e = as_given ok
-    accepted ok NotBuilt e = as_given ok
-    accepted ok User e = as_given ok
+    accepted ok _ e = as_given ok
 
   -- ---- an answer
 
@@ -413,11 +380,11 @@ module _ (k : KernelState) (t : TaskNo) (n : ℕ) (reply : Reply) (sound : IsSou
       → Comes (answer_held k t reply (if b then Some c else None))
   by_held c is true e = inr (record {
     call = c;
-    held = (is, at_dispatched t c.place e);
-    answers = answering k sound t n reply c is (at_dispatched t c.place e);
+    held = (is, same_place-true c.place (Dispatched t) e);
+    answers = answering k sound t n reply c is (same_place-true c.place (Dispatched t) e);
   })
   by_held c is false e =
-      unheld (λ d h. false≢true (sym e ∙ ap (is_held t) (same_call c d (sym is ∙ h.0)) ∙ holds t d h.1))
+      unheld (λ d h. false≢true (sym e ∙ ap (is_held t) (same_call c d (sym is ∙ h.0)) ∙ stands_true (Dispatched t) d.place h.1))
 
   by_call : (o : Option Call) → call_at k.calls n ≡ o → Comes (answer_held k t reply (held_call t o))
   by_call None is = unheld (λ c h. let g : None ≡ Some c = sym is ∙ h.0 in cc)

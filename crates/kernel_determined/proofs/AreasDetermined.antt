@@ -167,8 +167,7 @@ make_is_whole m t base pages rights law = by (refusal base pages rights (areas_o
     next = λ s e. absurd (cc e);
     spaces = refl;
     came = λ n ne h. h;
-    went =
-        λ n ne h. h;
+    went = λ n ne h. h;
   }
   by None law = record {
     lawful = law;
@@ -191,8 +190,7 @@ area_make_is_so k t base pages rights sound alive =
         memory_after = refl;
         entries = made_is t base pages rights step.told;
         tasks = refl;
-        calls =
-            refl;
+        calls = refl;
       };
       events = refl;
     }

@@ -159,12 +159,10 @@ module _ (k : KernelState) (t : TaskNo) (p : ℕ) (msg : Msg) (a b : Served) (so
       dead o e none = x.way (subst IsNoWay (sym e) none)
 
       by_phone : (o : Option PhoneState) → phone_at k t p ≡ o → a ≡ b
-      by_phone None e = absurd (dead None e tt)
-      by_phone (Some Free) e = absurd (dead (Some Free) e tt)
-      by_phone (Some Connecting) e = absurd (dead (Some Connecting) e tt)
       by_phone (Some (Connected w)) e = over_same w x.may (x.leads w e) (y.leads w e)
       by_phone (Some HungUp) e = at_once_same ehangup (x.hung_up e) (y.hung_up e)
       by_phone (Some Slammed) e = at_once_same enoent (x.slammed e) (y.slammed e)
+      by_phone o e = absurd (dead o e tt)
 
     too_many : (ns : List ℕ) × AreTheActive k.calls t p ns × (64 ≤ length ns)
         → (ms : List ℕ) × AreTheActive k.calls t p ms × (length ms < 64) → ⊥

@@ -39,7 +39,7 @@ use Rattle.kernel_laws.specs.PoolLaws.{pool}
 use Rattle.kernel_laws.specs.CallCodes.{IsNoWay, IsNoCall, IsCheck}
 use Rattle.kernel_laws.specs.DataLaws.{IsLawfulCopy, IsLawfulAsking, IsLawfulOffer, IsLawfulWish}
 use Rattle.kernel_laws.specs.UsablePhones.{IsUsable}
-use Rattle.kernel_laws.proofs.Methods.{me_to_method, read_method, write_method}
+use Rattle.kernel_laws.proofs.Methods.{method_of}
 use Rattle.kernel_laws.proofs.KillRoutes.{is_there}
 use Rattle.kernel_laws.proofs.LawfulCalls.{method_test, some_usable, none_usable, check_by}
 use Rattle.kernel_laws.proofs.LawfulData.{copy_is_lawful, asking_is_lawful, cut_is_lawful}
@@ -63,8 +63,7 @@ module _ (k : KernelState) (t : TaskNo) (p : ℕ) (msg : Msg) where
     label = refl;
     request = refl;
     msg = refl;
-    reply =
-        refl;
+    reply = refl;
     discard = refl;
     bytes = refl;
     reserved = refl;
@@ -82,8 +81,7 @@ module _ (k : KernelState) (t : TaskNo) (p : ℕ) (msg : Msg) where
     calls = record {
       made = put_here k.calls k.calls.next_number k.calls.next_number _ refl;
       last = refl;
-      others =
-          λ n ne. put_other k.calls k.calls.next_number n _ (λ e. ne (sym e));
+      others = λ n ne. put_other k.calls k.calls.next_number n _ (λ e. ne (sym e));
       numbers = refl;
       arrivals = refl;
     };
@@ -122,14 +120,12 @@ module _ (k : KernelState) (t : TaskNo) (p : ℕ) (msg : Msg) where
               request = c.request;
               msg = c.seen;
               buffer = c.bytes;
-              reserved =
-                  c.kept;
+              reserved = c.kept;
             })) (Some u))).state []) (sym none) (λ v q. refl, refl);
         calls = record {
           made = put_here k.calls k.calls.next_number k.calls.next_number _ refl;
           last = refl;
-          others =
-              λ n ne. put_other k.calls k.calls.next_number n _ (λ e. ne (sym e));
+          others = λ n ne. put_other k.calls k.calls.next_number n _ (λ e. ne (sym e));
           numbers = refl;
           arrivals = refl;
         };
@@ -157,17 +153,15 @@ module _ (k : KernelState) (t : TaskNo) (p : ℕ) (msg : Msg) where
           → Over (sent_to u k new (carrying k new told))
       by_copy is (Ok bytes) law = sent (record {
         request = (cut_call new).request;
-        seen =
-            (cut_call new).request;
+        seen = (cut_call new).request;
         bytes = bytes;
         kept = None;
       })
           (inr (inl (record {
-            asks = write_method msg.method is;
+            asks = method_of DataWrite msg.method is;
             copied = law;
             method = refl;
-            cut =
-                cut_is_lawful msg.args;
+            cut = cut_is_lawful msg.args;
             seen = refl;
             kept = refl;
           }))) refl
@@ -179,17 +173,15 @@ module _ (k : KernelState) (t : TaskNo) (p : ℕ) (msg : Msg) where
           → Over (sent_to u k new (bringing k new told))
       by_asking is (Ok count) law = sent (record {
         request = (cut_call new).request;
-        seen =
-            (cut_call new).request;
+        seen = (cut_call new).request;
         bytes = [];
         kept = None;
       })
           (inr (inr (inl (record {
-            asks = read_method msg.method is;
+            asks = method_of DataRead msg.method is;
             bytes = refl;
             method = refl;
-            cut =
-                cut_is_lawful msg.args;
+            cut = cut_is_lawful msg.args;
             seen = refl;
             kept = refl;
           })))) refl
@@ -233,34 +225,28 @@ module _ (k : KernelState) (t : TaskNo) (p : ℕ) (msg : Msg) where
               made = made (Incoming u);
               content = record {
                 request = msg;
-                seen =
-                    record { method = msg.method; args = slice_set msg.args 4 (64 * t.0 + q) };
+                seen = record { method = msg.method; args = slice_set msg.args 4 (64 * t.0 + q) };
                 bytes = [];
-                kept =
-                    Some (label_of t q);
+                kept = Some (label_of t q);
               };
               lawful = inl (record {
-                asks = me_to_method msg.method is;
+                asks = method_of ConnectMeTo msg.method is;
                 phone = q;
-                usable =
-                    usable_one k t l e;
+                usable = usable_one k t l e;
                 least = least_one k t l e;
                 kept = refl;
                 request = refl;
                 method = refl;
-                names =
-                    has_fifth (64 * t.0 + q) msg.args;
+                names = has_fifth (64 * t.0 + q) msg.args;
                 bytes = refl;
               });
               note = option_to_list (kept_note (Some (label_of t q)) Connecting);
               phones = may_come k (Some (label_of t q)) Connecting _ refl (λ m x. there m x);
               calls = record {
                 made = put_here k.calls k.calls.next_number k.calls.next_number _ refl;
-                last =
-                    refl;
+                last = refl;
                 others = λ n ne. put_other k.calls k.calls.next_number n _ (λ x. ne (sym x));
-                numbers =
-                    refl;
+                numbers = refl;
                 arrivals = refl;
               };
               memory = refl;
@@ -324,21 +310,17 @@ module _ (k : KernelState) (t : TaskNo) (p : ℕ) (msg : Msg) where
         way = λ h. way (subst IsNoWay e h);
         may = may;
         few = few;
-        hung_up =
-            λ _. at_once ehangup;
+        hung_up = λ _. at_once ehangup;
         slammed = λ f. let g = other HungUp Slammed e f in absurd (cc g);
-        leads =
-            λ u f. let g = other HungUp (Connected u) e f in absurd (cc g);
+        leads = λ u f. let g = other HungUp (Connected u) e f in absurd (cc g);
       }
       by Slammed e way = record {
         way = λ h. way (subst IsNoWay e h);
         may = may;
         few = few;
-        hung_up = λ f. let g =
-            other Slammed HungUp e f in absurd (cc g);
+        hung_up = λ f. let g = other Slammed HungUp e f in absurd (cc g);
         slammed = λ _. at_once enoent;
-        leads = λ u f. let g =
-            other Slammed (Connected u) e f in absurd (cc g);
+        leads = λ u f. let g = other Slammed (Connected u) e f in absurd (cc g);
       }
       by (Connected w) e way = record {
         way = λ h. way (subst IsNoWay e h);
@@ -365,8 +347,7 @@ module _ (k : KernelState) (t : TaskNo) (p : ℕ) (msg : Msg) where
       nothing = record {
         event = record { counted = refl; alive = refl; tasks = refl };
         phones = λ u q. refl;
-        calls =
-            record { each = λ n. refl; numbers = refl; arrivals = refl };
+        calls = record { each = λ n. refl; numbers = refl; arrivals = refl };
         memory = refl;
         entries = refl;
       };
@@ -377,8 +358,7 @@ module _ (k : KernelState) (t : TaskNo) (p : ℕ) (msg : Msg) where
         by_test Comes (not (is_callable (kind_of msg.method))) _ _
         (λ h. inr (inl (record {
           way = λ x. way (subst IsNoWay e x);
-          none =
-              (method_test msg.method).0 (not_true _ h);
+          none = (method_test msg.method).0 (not_true _ h);
           refusal = nothing_so eperm;
         })))
         (λ h.
@@ -406,12 +386,10 @@ module _ (k : KernelState) (t : TaskNo) (p : ℕ) (msg : Msg) where
     none o e h = inl (record { nowhere = subst IsNoWay (sym e) h; refusal = nothing_so enoent })
 
     called : (o : Option PhoneState) → phone_at k t p ≡ o → Comes (call_over k t p msg o)
-    called None e = none None e tt
-    called (Some Free) e = none (Some Free) e tt
-    called (Some Connecting) e = none (Some Connecting) e tt
     called (Some (Connected u)) e = tested (Connected u) e (λ h. h)
     called (Some HungUp) e = tested HungUp e (λ h. h)
     called (Some Slammed) e = tested Slammed e (λ h. h)
+    called o e = none o e tt
 
     pub call_is_so : IsCall t p msg k (serve k t (request.Call p msg))
     call_is_so = called (phone_at k t p) refl

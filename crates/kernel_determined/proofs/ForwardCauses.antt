@@ -11,7 +11,7 @@ use Rattle.ipc_ids.specs.declared.message.PhoneState.{PhoneState}
 use Rattle.ipc_ids.specs.declared.message.PhoneState.TheVariants.{Free, Connecting, Connected, HungUp, Slammed}
 use Rattle.ipc_ids.specs.Codes.{enoent, eperm, eforward}
 use Rattle.call_slab.specs.declared.call.Call.{Call}
-use Rattle.call_slab.specs.declared.call.Place.TheVariants.{Answers}
+use Rattle.call_slab.specs.declared.call.Place.TheVariants.{Dispatched, Answers}
 use Rattle.answerbox.specs.Calls.{CallTable, call_at}
 use Rattle.forwarding.specs.declared.passing.ForwardFault.TheVariants.{NotHeld, NotForwardable}
 use Rattle.forwarding.specs.Forwarding.{is_held, is_forwardable}
@@ -24,9 +24,10 @@ use Rattle.kernel_core.specs.Forward.{failed_forward, forward_told, forward}
 use Rattle.kernel_laws.specs.CallCodes.{own_reply}
 use Rattle.kernel_laws.specs.HeldCalls.{IsHeld, MayPass}
 use Rattle.kernel_laws.specs.Routes.{Leads}
-use Rattle.kernel_laws.proofs.CallRoutes.{at_dispatched}
-use Rattle.kernel_laws.proofs.HeldCalls.{may_pass, may_not_pass, holds}
+use Rattle.kernel_laws.proofs.HeldCalls.{may_pass, may_not_pass}
 use Rattle.kernel_determined.specs.ForwardCauses.{IsFailed, HasFirstCause}
+use Rattle.kernel_laws.proofs.Places.{stands_true}
+use Rattle.kernel_core.proofs.InEvent.{same_place-true}
 
 module _ (k : KernelState) (t : TaskNo) (n p : ℕ) (mode : Mode) (change : Option Msg) where
   abbrev Comes : Served → Type 0
@@ -70,11 +71,11 @@ module _ (k : KernelState) (t : TaskNo) (n p : ℕ) (mode : Mode) (change : Opti
       passed = λ d u h may leads. absurd (not_this d h);
     } where
       not_this : (d : Call) → IsHeld t k n d → ⊥
-      not_this d h = false≢true (sym is ∙ ap (is_held t) (same_live d h.0) ∙ holds t d h.1)
+      not_this d h = false≢true (sym is ∙ ap (is_held t) (same_live d h.0) ∙ stands_true (Dispatched t) d.place h.1)
 
     module _ (held : is_held t c ≡ true) where
       here : IsHeld t k n c
-      here = (live, at_dispatched t c.place held)
+      here = (live, same_place-true c.place (Dispatched t) held)
 
       forbidden : is_forwardable change c ≡ false → Comes (failed_forward k (Some c) eperm)
       forbidden is = record {
@@ -100,17 +101,13 @@ module _ (k : KernelState) (t : TaskNo) (n p : ℕ) (mode : Mode) (change : Opti
 
         by_phone : (o : Option PhoneState) → phone_at k t p ≡ o
             → Comes (forward_told k t p mode change (Some c) (as_forwarded n (callee_of o)))
-        by_phone None is = dead (λ u leads. let e = sym is ∙ leads in cc)
-        by_phone (Some Free) is = dead (λ u leads. let e = sym is ∙ leads in cc)
-        by_phone (Some Connecting) is = dead (λ u leads. let e = sym is ∙ leads in cc)
         by_phone (Some (Connected v)) is = record {
           unheld = λ no. absurd (no c here);
           forbidden = λ d h no. absurd (no (able d h));
           dead = λ d h able none. absurd (none v is);
           passed = λ d u h able leads. refl;
         }
-        by_phone (Some HungUp) is = dead (λ u leads. let e = sym is ∙ leads in cc)
-        by_phone (Some Slammed) is = dead (λ u leads. let e = sym is ∙ leads in cc)
+        by_phone _ is = dead (λ u leads. let e = sym is ∙ leads in cc)
 
     by_tests : (held may : Bool) → is_held t c ≡ held → is_forwardable change c ≡ may
         → Comes (forward_told k t p mode change (Some c) (as_forwarded n

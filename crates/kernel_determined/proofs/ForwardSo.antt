@@ -34,14 +34,15 @@ use Rattle.kernel_core.specs.Forward.{failed_forward, forward_told}
 use Rattle.kernel_core.specs.Kernel.{and_event, serve}
 use Rattle.kernel_laws.specs.HeldCalls.{IsHeld, MayPass}
 use Rattle.kernel_laws.specs.Routes.{label_by}
-use Rattle.kernel_laws.proofs.CallRoutes.{at_dispatched}
-use Rattle.kernel_laws.proofs.HeldCalls.{holds, may_pass, may_not_pass}
-use Rattle.kernel_laws.proofs.Methods.{to_me_method, me_to_method, user_kind}
+use Rattle.kernel_laws.proofs.HeldCalls.{may_pass, may_not_pass}
+use Rattle.kernel_laws.proofs.Methods.{method_of, user_kind}
 use Rattle.kernel_determined.specs.Frames.{HasFifth}
 use Rattle.kernel_determined.specs.ForwardLaw.{IsOther, IsNewMessage, Passes, Fails, IsForward}
 use Rattle.kernel_determined.proofs.SettleSo.{may_come, as_many, moves, lent_is, lent_there, settle_quiet, settled_is}
 use Rattle.kernel_determined.proofs.TakesSo.{has_fifth}
 use Rattle.kernel_determined.proofs.ForwardDetermined.{forward_is_determined}
+use Rattle.kernel_laws.proofs.Places.{stands_true}
+use Rattle.kernel_core.proofs.InEvent.{same_place-true}
 
 -- a call that task t holds
 module _ (k : KernelState) (sound : IsSound k) (t : TaskNo) (n : ℕ) (c : Call) (is : call_at k.calls n ≡ Some c)
@@ -83,21 +84,15 @@ module _ (k : KernelState) (sound : IsSound k) (t : TaskNo) (n : ℕ) (c : Call)
 
     by_kind : (kind : MethodKind) → kind_of m ≡ kind → changed_msg kind change msg ≡ msg
     by_kind User e = absurd (user_method e)
-    by_kind ConnectToMe e = absurd (other.to_me (to_me_method m e))
-    by_kind ConnectMeTo e = absurd (other.me_to (me_to_method m e))
-    by_kind PhoneHungUp e = refl
-    by_kind DataWrite e = refl
-    by_kind DataRead e = refl
-    by_kind ShareOut e = refl
-    by_kind ShareIn e = refl
-    by_kind NotBuilt e = refl
+    by_kind ConnectToMe e = absurd (other.to_me (method_of ConnectToMe m e))
+    by_kind ConnectMeTo e = absurd (other.me_to (method_of ConnectMeTo m e))
+    by_kind _ e = refl
 
   message : (change : Option Msg) → IsNewMessage change c (msg_after change c)
   message None = record {
     unchanged = λ _. refl;
     user = λ new e. absurd (cc e);
-    connect =
-        λ new e. absurd (cc e);
+    connect = λ new e. absurd (cc e);
     others = λ new e. absurd (cc e);
   }
   message (Some change) = record {
@@ -165,11 +160,9 @@ module _ (k : KernelState) (sound : IsSound k) (t : TaskNo) (n p : ℕ) (mode : 
     refusal = record {
       told = refl;
       nothing = record {
-        event =
-            record { counted = refl; alive = refl; tasks = refl };
+        event = record { counted = refl; alive = refl; tasks = refl };
         phones = λ u q. refl;
-        calls =
-            record { each = λ m. refl; numbers = refl; arrivals = refl };
+        calls = record { each = λ m. refl; numbers = refl; arrivals = refl };
         memory = refl;
         entries = refl;
       };
@@ -184,8 +177,7 @@ module _ (k : KernelState) (sound : IsSound k) (t : TaskNo) (n p : ℕ) (mode : 
         held = (is, at);
         may = may;
         nowhere = none;
-        fails =
-            fails k sound t n c is at enoent;
+        fails = fails k sound t n c is at enoent;
       })))
 
       by_phone : (o : Option PhoneState) → phone_at k t p ≡ o
@@ -201,23 +193,21 @@ module _ (k : KernelState) (sound : IsSound k) (t : TaskNo) (n p : ℕ) (mode : 
         may = may;
         to = u;
         leads = e;
-        passes =
-            passed k sound t n c is at p mode change u;
+        passes = passed k sound t n c is at p mode change u;
       })))
 
     by_tests : (held may : Bool) → is_held t c ≡ held → is_forwardable change c ≡ may
         → Comes (forward_told k t p mode change (Some c) (as_forwarded n
         (if held then (if may then callee_of (phone_at k t p) else Err NotForwardable) else Err NotHeld)))
-    by_tests true true e f = by_phone (at_dispatched t c.place e) (may_pass change c f) (phone_at k t p) refl
+    by_tests true true e f = by_phone (same_place-true c.place (Dispatched t) e) (may_pass change c f) (phone_at k t p) refl
     by_tests true false e f = inr (inl (record {
       call = c;
-      held = (is, at_dispatched t c.place e);
-      forbidden =
-          may_not_pass change c f;
-      fails = fails k sound t n c is (at_dispatched t c.place e) eperm;
+      held = (is, same_place-true c.place (Dispatched t) e);
+      forbidden = may_not_pass change c f;
+      fails = fails k sound t n c is (same_place-true c.place (Dispatched t) e) eperm;
     }))
     by_tests false may e f = unheld (λ d h. false≢true
-        (sym e ∙ ap (is_held t) (same_call c d (sym is ∙ h.0)) ∙ holds t d h.1))
+        (sym e ∙ ap (is_held t) (same_call c d (sym is ∙ h.0)) ∙ stands_true (Dispatched t) d.place h.1))
 
   by_call : (o : Option Call) → call_at k.calls n ≡ o
       → Comes (forward_told k t p mode change o

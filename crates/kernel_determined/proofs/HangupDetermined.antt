@@ -150,15 +150,13 @@ pub hangup_is_determined : (o : Option PhoneState) (t : TaskNo) (p : ℕ) (k : K
     → IsHangup o t p k a
     → IsHangup o t p k b → a ≡ b
 hangup_is_determined None t p k a b x y = refusal_same enoent k a b x y
-hangup_is_determined (Some Free) t p k a b x y = refusal_same einval k a b x y
-hangup_is_determined (Some Connecting) t p k a b x y = refusal_same einval k a b x y
-hangup_is_determined (Some HungUp) t p k a b x y = refusal_same einval k a b x y
 hangup_is_determined (Some (Connected u)) t p k a b x y =
     quiet_same outcome.Done k a b x.quiet y.quiet (tells_same t p k a.state b.state a.entries b.entries u x.hangup
     y.hangup)
 hangup_is_determined (Some Slammed) t p k a b x y =
     quiet_same outcome.Done k a b x.quiet y.quiet (nobody_same t p k a.state b.state a.entries b.entries x.hangup
     y.hangup)
+hangup_is_determined _ t p k a b x y = refusal_same einval k a b x y
 
 -- what the definitions do
 
@@ -254,9 +252,6 @@ module _ (k : KernelState) (t : TaskNo) (p : ℕ) (after : KernelState)
 hangs_up : (o : Option PhoneState) (k : KernelState) (t : TaskNo) (p : ℕ) → phone_at k t p ≡ o
     → IsHangup o t p k (and_event (hangup_over k t p o))
 hangs_up None k t p is = refuses k enoent
-hangs_up (Some Free) k t p is = refuses k einval
-hangs_up (Some Connecting) k t p is = refuses k einval
-hangs_up (Some HungUp) k t p is = refuses k einval
 hangs_up (Some (Connected u)) k t p is = record {
   quiet = record {
     answer = refl;
@@ -273,6 +268,7 @@ hangs_up (Some Slammed) k t p is = record {
   };
   hangup = tells_nobody k t p _ refl is refl;
 }
+hangs_up _ k t p is = refuses k einval
 
 pub hangup_is_so : (k : KernelState) (t : TaskNo) (p : ℕ)
     → IsHangup (phone_at k t p) t p k (serve k t (request.Hangup p))

@@ -57,6 +57,7 @@ use Rattle.kernel_determined.proofs.SettleSo.{as_many, settled_is, drops}
 use Rattle.kernel_determined.proofs.DropDetermined.{drop_is_whole, one_place}
 use Rattle.kernel_determined.proofs.LeastSo.{least_number, least_area}
 use Rattle.kernel_determined.proofs.KillDetermined.{kill_is_determined}
+use Rattle.kernel_laws.proofs.Places.{stands_true}
 
 none_some : {A : Type 0} (o : Option A) (x : A) → o ≡ None → o ≡ Some x → ⊥
 none_some o x a b = cc
@@ -84,10 +85,6 @@ module _ (t : TaskNo) where
   quiet k p o is leads led (inr x) = led (sym is ∙ x)
 
   hangs : (k : KernelState) (p : ℕ) (o : Option PhoneState) → phone_at k t p ≡ o → Hangs k p (hang_up k t p o)
-  hangs k p None is = inr (quiet k p None is (λ u e. cc e) (λ e. cc e), refl)
-  hangs k p (Some Free) is = inr (quiet k p (Some Free) is (λ u e. cc e) (λ e. cc e), refl)
-  hangs k p (Some Connecting) is = inr (quiet k p (Some Connecting) is (λ u e. cc e) (λ e. cc e), refl)
-  hangs k p (Some HungUp) is = inr (quiet k p (Some HungUp) is (λ u e. cc e) (λ e. cc e), refl)
   hangs k p (Some (Connected u)) is = inl (record {
     so = inl (u, is);
     back = λ q ne x. to_hang_up (hang_up k t p (Some (Connected u))).state k q
@@ -107,6 +104,7 @@ module _ (t : TaskNo) where
       hangs_up = inr (is, tells_nobody k t p _ refl is refl);
     };
   })
+  hangs k p o is = inr (quiet k p o is (λ u e. cc e) (λ e. cc e), refl)
 
   pub hangs_up_own : (k : KernelState) → HangsUpOwn t k (hang_up_own_phones t k).state (hang_up_own_phones t k).entries
   hangs_up_own k = same_turns _ (IsToHangUp t k) ◌<◌ (HangsUpPhone t) k _ _ (λ p f. f.3)
@@ -170,14 +168,10 @@ module _ (t : TaskNo) where
   -- there are as many tasks
   slam_many : (n : ℕ) (u : TaskNo) (k : KernelState) (p : ℕ) (o : Option PhoneState) → length k.tasks.phones ≡ n
       → length (slam t u k p o).state.tasks.phones ≡ n
-  slam_many n u k p None h = h
-  slam_many n u k p (Some Free) h = h
-  slam_many n u k p (Some Connecting) h = h
-  slam_many n u k p (Some HungUp) h = h
-  slam_many n u k p (Some Slammed) h = h
   slam_many n u k p (Some (Connected v)) h =
       repeats.by_test (λ (s : Transition). length s.state.tasks.phones ≡ n) (v.0 == t.0) _ _
       (λ _. length_rows k.tasks.phones u.0 p Slammed ∙ h) (λ _. h)
+  slam_many n u k p _ h = h
 
   of_many : (u : TaskNo) (k : KernelState) → length (slam_phones_of t u k).state.tasks.phones ≡ length k.tasks.phones
   of_many u k = repeats.each_keeps (slam_at t u) (λ j. length j.tasks.phones ≡ length k.tasks.phones)
@@ -239,11 +233,6 @@ module _ (t : TaskNo) where
 
 -- ---- calls leave a place
 
-stands_true : (place p : Place) → p ≡ place → same_place p place ≡ true
-stands_true (Incoming t) p e = ap (λ (q : Place). same_place q (Incoming t)) e ∙ eq-eqb t.0 t.0 refl
-stands_true (Dispatched t) p e = ap (λ (q : Place). same_place q (Dispatched t)) e ∙ eq-eqb t.0 t.0 refl
-stands_true (Answers t) p e = ap (λ (q : Place). same_place q (Answers t)) e ∙ eq-eqb t.0 t.0 refl
-
 -- the first call of a place leaves it
 module _ (marks : List Bool) (k : KernelState) (ending : IsEnding marks k) (place : Place) (c : Call)
     (is : front k.calls place ≡ Some c) (after : CallTable)
@@ -294,22 +283,19 @@ module _ (marks : List Bool) (place : Place) (pending : (c : Call) → stands_at
     by_caller None b = record {
       alive = refl;
       tasks = as_many k.tasks.phones (kept_phone c) Free;
-      memory =
-          refl;
+      memory = refl;
       counted = refl;
     }
     by_caller (Some u) false = record {
       alive = refl;
       tasks = as_many k.tasks.phones (kept_phone c) Free;
-      memory =
-          refl;
+      memory = refl;
       counted = refl;
     }
     by_caller (Some u) true = record {
       alive = refl;
       tasks = as_many k.tasks.phones (lent_phone c) Free;
-      memory =
-          refl;
+      memory = refl;
       counted = refl;
     }
 
@@ -538,10 +524,7 @@ module _ (t : TaskNo) (some : 1 ≤ t.0) where
           | inl e ↦ inl e
           | inr ne ↦ inr (
             h.0,
-            record {
-              has = left h.1.has.0 h.0 h.1.has.1 (λ e. ne (sym h.1.begins ∙ e));
-              begins = h.1.begins;
-            },
+            record { has = left h.1.has.0 h.0 h.1.has.1 (λ e. ne (sym h.1.begins ∙ e)); begins = h.1.begins },
           )
         ];
         order = λ x y a b less. less;
@@ -666,10 +649,7 @@ module _ (k : KernelState) (t : TaskNo) (sound : IsSound k) (alive : is_alive k 
   kill_is_so = record {
     marked = dead;
     ended = record {
-      ends = record {
-        ended = ended_here marks t.0 alive;
-        others = λ u ne. alive_elsewhere marks t.0 alive u.0 ne;
-      };
+      ends = record { ended = ended_here marks t.0 alive; others = λ u ne. alive_elsewhere marks t.0 alive u.0 ne };
       many = length-set marks (t.0 - 1) false;
       phones = refl;
       calls = refl;

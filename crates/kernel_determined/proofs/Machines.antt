@@ -34,8 +34,7 @@ served_as : (k : KernelState) (t : TaskNo) (asked : Request) (done : Served) →
 served_as k t (request.Call p msg) done may is = call_is_served k t p msg done may.sound is
 served_as k t request.Receive done may is = receive_is_served k t done may.sound is
 served_as k t (request.Answer n reply) done may is = answer_is_served k t n reply done may.sound is
-served_as k t (request.Forward n p mode change) done may is =
-    forward_is_served k t n p mode change done may.sound is
+served_as k t (request.Forward n p mode change) done may is = forward_is_served k t n p mode change done may.sound is
 served_as k t (request.Hangup p) done may is = hangup_is_served k t p done is
 served_as k t (request.AreaMake base pages rights) done may is =
     area_make_is_determined k t base pages rights done (serve k t (request.AreaMake base pages rights)) may.sound
@@ -70,8 +69,7 @@ serve_is_lawful k t request.Receive may = receive_is_so k t may.sound
 serve_is_lawful k t (request.Answer n reply) may = answer_is_so k t n reply may.sound
 serve_is_lawful k t (request.Forward n p mode change) may = forward_is_so k may.sound t n p mode change
 serve_is_lawful k t (request.Hangup p) may = hangup_is_so k t p
-serve_is_lawful k t (request.AreaMake base pages rights) may =
-    area_make_is_so k t base pages rights may.sound may.alive
+serve_is_lawful k t (request.AreaMake base pages rights) may = area_make_is_so k t base pages rights may.sound may.alive
 serve_is_lawful k t (request.AreaDrop base) may = area_drop_is_so k t base
 serve_is_lawful k t (request.Poke at bytes) may = poke_is_so k t at bytes may.sound
 serve_is_lawful k t (request.Peek at count) may = peek_is_so k t at count may.sound

@@ -86,12 +86,10 @@ poke_is_so k t at new sound =
     record {
       step = step;
       write = write_is_whole k.memory t at new sound.memory.spaces;
-      told =
-          tells step.told;
+      told = tells step.told;
       leaves = record {
         memory_after = refl;
-        entries =
-            written_is t at (length new) step.told;
+        entries = written_is t at (length new) step.told;
         tasks = refl;
         calls = refl;
       };
@@ -105,8 +103,7 @@ peek_is_so k t at count sound =
     record {
       told = told;
       read = peek_is_lawful k.memory t at count sound.memory.spaces;
-      tells =
-          tells_bytes told;
+      tells = tells_bytes told;
       leaves = record { memory_after = refl; entries = refl; tasks = refl; calls = refl };
       events = refl;
     }

@@ -15,13 +15,15 @@ use Rattle.cleanup.proofs.Lookups.{same_call, gone_here, gone_other}
 use Rattle.cleanup.proofs.Queues.{sound_drop, stands_at, over_less}
 use Rattle.kernel_core.specs.Receiving.{unawaited, next_unawaited, drop_unawaited}
 use Rattle.kernel_laws.specs.ReceiveLaws.{IsAwaited}
-use Rattle.kernel_laws.proofs.ReceiveLaws.{at_answers, is_answers, unawaited_is, IsNext, next_is, is_hangup, no_hangup}
+use Rattle.kernel_laws.proofs.ReceiveLaws.{unawaited_is, IsNext, next_is, is_hangup, no_hangup}
 use Rattle.kernel_determined.specs.Frames.{CameBefore}
 use Rattle.kernel_determined.specs.SettleLaw.{DropsAnswer}
 use Rattle.kernel_determined.specs.ReceiveLaw.{IsDropped, DropsHangups}
 use Rattle.kernel_determined.proofs.TurnsKept.{IsNextTurn, IsTurn, all_drained}
 use Rattle.kernel_determined.proofs.SettleSo.{drops}
 use Rattle.cleanup.proofs.Repeats.{drain_keeps}
+use Rattle.kernel_laws.proofs.Places.{stands_true}
+use Rattle.kernel_core.proofs.InEvent.{same_place-true}
 
 -- ---- what is dropped
 
@@ -41,18 +43,17 @@ module _ (t : TaskNo) where
   none_left j sound stop n d = by_front (front j.calls (Answers t)) refl where
     by_front : (o : Option Call) → front j.calls (Answers t) ≡ o → ⊥
     by_front None is = false≢true (sym (no_front-has_no_calls j.calls (Answers t) is n d.call d.live)
-        ∙ is_answers t d.call.place d.answer.place)
+        ∙ stands_true (Answers t) d.call.place d.answer.place)
     by_front (Some x) is =
         let f = front_live j.calls (Answers t) x is in
         let mark : x.discard ≡ false = first_awaited x (ap unawaited (sym is) ∙ stop) in
         let awaited : IsAwaited t x = record {
-          place = at_answers t x.place f.2;
-          wanted =
-              no_hangup j t sound f.0 x f.1 mark;
+          place = same_place-true x.place (Answers t) f.2;
+          wanted = no_hangup j t sound f.0 x f.1 mark;
         } in
         let less = d.early f.0 x f.1 awaited in
         let least = (front-is_front j.calls (Answers t) f.0 x is f.1).least x n d.call f.1 d.live
-        (is_answers t d.call.place d.answer.place) in
+        (stands_true (Answers t) d.call.place d.answer.place) in
         omega (arith, less, least)
 
   -- one is dropped, and then the others
@@ -74,7 +75,7 @@ module _ (t : TaskNo) where
         → x.stamp < d.stamp
     later n d live at ne =
         let least = (front-is_front j.calls (Answers t) x.number.0 x first_is it.live).least x n d it.live live
-        (is_answers t d.place at) in
+        (stands_true (Answers t) d.place at) in
         elim (cases_eq x.stamp d.stamp) [
           | inl e ↦ absurd (ne (sym (sound.calls.stamps_differ x.number.0 n x d it.live live e)))
           | inr other ↦ omega (arith, least, other)
@@ -89,7 +90,7 @@ module _ (t : TaskNo) where
     it_is_dropped = record {
       call = x;
       live = it.live;
-      answer = record { place = at_answers t x.place it.at; hangup = hangup };
+      answer = record { place = same_place-true x.place (Answers t) it.at; hangup = hangup };
       early = λ m d live a. later m d live a.place (not_it m d live a);
     }
 
@@ -137,7 +138,7 @@ module _ (t : TaskNo) where
         (drop_answer t j x)
     turn = record {
       next = next_turn;
-      turn = drops j.tasks.alive t j (record { sound = sound }) x it.live (at_answers t x.place it.at);
+      turn = drops j.tasks.alive t j (record { sound = sound }) x it.live (same_place-true x.place (Answers t) it.at);
     }
 
   keeps : (j : KernelState) (x : Call) → IsSound j → next_unawaited t j ≡ Some x → IsSound (drop_answer t j x).state

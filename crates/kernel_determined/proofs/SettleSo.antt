@@ -33,11 +33,12 @@ use Rattle.cleanup.proofs.Silence.{IsEnding}
 use Rattle.cleanup.proofs.Usable.{kept_waits}
 use Rattle.kernel_laws.specs.Connecting.{IsUnconnected}
 use Rattle.kernel_laws.proofs.KillRoutes.{is_there}
-use Rattle.kernel_laws.proofs.AnswerWords.{same_code, accepts_eok}
+use Rattle.kernel_laws.proofs.AnswerWords.{accepts_eok}
 use Rattle.kernel_laws.proofs.UsablePhones.{own_phone}
-use Rattle.kernel_laws.proofs.Methods.{to_me_method, me_to_method}
+use Rattle.kernel_laws.proofs.Methods.{method_of}
 use Rattle.kernel_determined.specs.Frames.{MayCome, Moves, IsOver, IsQuietEvent}
 use Rattle.kernel_determined.specs.SettleLaw.{IsGivenBack, IsKeptFor, IsWanted, IsAnswered, IsEnded, IsSettled, DropsAnswer}
+use Rattle.kernel_core.proofs.KindsOfCalls.{same_code}
 
 -- ---- the parts of a step
 
@@ -179,16 +180,9 @@ module _ (k : KernelState) (tasks : Tasks) (rows : tasks.phones ≡ k.tasks.phon
         let freed = lent_by ConnectToMe e ∙ held e in
         record {
           to_me = λ _. (freed, ap (λ o. unless_freed o c.reserved) freed ∙ freed_all c.reserved);
-          others = λ ne. absurd (ne (to_me_method c.request.method e));
+          others = λ ne. absurd (ne (method_of ConnectToMe c.request.method e));
         }
-    by_kind ConnectMeTo e = plain ConnectMeTo e (λ f. cc f) refl
-    by_kind PhoneHungUp e = plain PhoneHungUp e (λ f. cc f) refl
-    by_kind DataWrite e = plain DataWrite e (λ f. cc f) refl
-    by_kind DataRead e = plain DataRead e (λ f. cc f) refl
-    by_kind ShareOut e = plain ShareOut e (λ f. cc f) refl
-    by_kind ShareIn e = plain ShareIn e (λ f. cc f) refl
-    by_kind NotBuilt e = plain NotBuilt e (λ f. cc f) refl
-    by_kind User e = plain User e (λ f. cc f) refl
+    by_kind kind e = plain kind e (λ f. cc f) refl
 
   pub kept_is : IsKeptFor c (kept_phone c)
   kept_is = by_kind (kind_of c.request.method) refl where
@@ -205,19 +199,13 @@ module _ (k : KernelState) (tasks : Tasks) (rows : tasks.phones ≡ k.tasks.phon
     by_kind : (kind : MethodKind) → kind_of c.request.method ≡ kind → IsKeptFor c (kept_phone c)
     by_kind ConnectToMe e = record {
       connect = λ _. kept_by ConnectToMe e ∙ held e;
-      others = λ ne _. absurd (ne (to_me_method c.request.method e));
+      others = λ ne _. absurd (ne (method_of ConnectToMe c.request.method e));
     }
     by_kind ConnectMeTo e = record {
       connect = λ _. kept_by ConnectMeTo e ∙ asked e;
-      others = λ _ ne. absurd (ne (me_to_method c.request.method e));
+      others = λ _ ne. absurd (ne (method_of ConnectMeTo c.request.method e));
     }
-    by_kind PhoneHungUp e = plain PhoneHungUp e (λ f. cc f) (λ f. cc f) refl
-    by_kind DataWrite e = plain DataWrite e (λ f. cc f) (λ f. cc f) refl
-    by_kind DataRead e = plain DataRead e (λ f. cc f) (λ f. cc f) refl
-    by_kind ShareOut e = plain ShareOut e (λ f. cc f) (λ f. cc f) refl
-    by_kind ShareIn e = plain ShareIn e (λ f. cc f) (λ f. cc f) refl
-    by_kind NotBuilt e = plain NotBuilt e (λ f. cc f) (λ f. cc f) refl
-    by_kind User e = plain User e (λ f. cc f) (λ f. cc f) refl
+    by_kind kind e = plain kind e (λ f. cc f) (λ f. cc f) refl
 
   -- both are phones that are there
   reserved_there : (l : Label) → c.reserved ≡ Some l → IsSome (state_at k.tasks.phones l.task.0 l.phone.0)
@@ -333,18 +321,11 @@ module _ (marks : List Bool) (t : TaskNo) (k : KernelState) (ending : IsEnding m
     by true a o r = refl
     by false a None r = refl
     by false a (Some l) r = absurd (none l (record {
-      asks = me_to_method c.request.method e;
+      asks = method_of ConnectMeTo c.request.method e;
       kept = r;
       unaccepted = λ u p code. false≢true (sym a ∙ accepts_eok c.reply.code code);
     }))
-  none_kept none PhoneHungUp e = nobody PhoneHungUp e refl
-  none_kept none ConnectToMe e = nobody ConnectToMe e refl
-  none_kept none DataWrite e = nobody DataWrite e refl
-  none_kept none DataRead e = nobody DataRead e refl
-  none_kept none ShareOut e = nobody ShareOut e refl
-  none_kept none ShareIn e = nobody ShareIn e refl
-  none_kept none NotBuilt e = nobody NotBuilt e refl
-  none_kept none User e = nobody User e refl
+  none_kept none kind e = nobody kind e refl
 
   is_some : (l : Label) → kept_phone c ≡ Some l → IsSome (state_at k.tasks.phones l.task.0 l.phone.0)
   is_some l e = is_there (state_at k.tasks.phones l.task.0 l.phone.0) Connecting

@@ -141,8 +141,7 @@ module _ (k : KernelState) (limit : ℕ) (names : Option TaskNo) where
   one_more None = record {
     tasks = two_more k.tasks.alive true;
     rows = two_more k.tasks.phones _;
-    spaces =
-        two_more k.memory.areas [];
+    spaces = two_more k.memory.areas [];
     stores = refl;
   }
   one_more (Some u) = record {

@@ -50,19 +50,21 @@ use Rattle.kernel_core.specs.Kernel.{and_event, serve}
 use Rattle.kernel_laws.specs.DataLaws.{code_after, first, IsBrought}
 use Rattle.kernel_laws.specs.ReceiveLaws.{IsFirst, HasNone}
 use Rattle.kernel_laws.specs.UsablePhones.{IsUsable}
-use Rattle.kernel_laws.proofs.AnswerWords.{is_brought, brings, same_reply, same_told, same_code, accepts_eok}
-use Rattle.kernel_laws.proofs.Methods.{me_to_method, to_me_method}
+use Rattle.kernel_laws.proofs.AnswerWords.{is_brought, brings, same_reply, same_told, accepts_eok}
+use Rattle.kernel_laws.proofs.Methods.{method_of}
 use Rattle.kernel_laws.proofs.UsablePhones.{own_phone, own, usable_one, least_one, none_is}
 use Rattle.kernel_laws.proofs.KillRoutes.{is_there}
 use Rattle.kernel_laws.proofs.LawfulWrites.{write_is_lawful}
 use Rattle.kernel_laws.proofs.MemoryRequests.{written_is}
-use Rattle.kernel_laws.proofs.ReceiveLaws.{at_answers, at_incoming, is_answers, is_incoming}
 use Rattle.kernel_determined.specs.Frames.{PhonesStay}
 use Rattle.kernel_determined.specs.Frames.{HasFifth}
 use Rattle.kernel_determined.specs.MemoryLaw.{IsWholeWrite}
 use Rattle.kernel_determined.specs.ReceiveLaw.{Delivers, IsDelivery, IsReception, IsAnswerAt, IsWaitingAt, Takes, IsReceive}
 use Rattle.kernel_determined.proofs.ReceiveSo.{unawaited_dropped, unawaited_sound}
 use Rattle.kernel_determined.proofs.ReceiveDetermined.{receive_is_determined}
+use Rattle.kernel_laws.proofs.Places.{stands_true}
+use Rattle.kernel_core.proofs.InEvent.{same_place-true}
+use Rattle.kernel_core.proofs.KindsOfCalls.{same_code}
 
 -- ---- arguments
 
@@ -151,8 +153,7 @@ module _ (t : TaskNo) (j : KernelState) (sound : IsSound j) (c : Call) (is : cal
       event = record {
         counted = refl;
         alive = refl;
-        tasks =
-            ap (λ (o : Option Label). length (kept_rows j.tasks.phones o Free)) e;
+        tasks = ap (λ (o : Option Label). length (kept_rows j.tasks.phones o Free)) e;
       };
       gone = gone_here j.calls c.number.0 c.number.0 refl;
       others = λ n ne. gone_other j.calls c.number.0 n (λ s. ne (sym s));
@@ -212,7 +213,7 @@ module _ (t : TaskNo) (j : KernelState) (sound : IsSound j) (c : Call) (is : cal
     to_me : kind_of c.request.method ≡ ConnectMeTo → IsDelivery t j c (Given (reply_of ConnectMeTo c))
     to_me kind = by_code (accepts c.reply.code) refl c.reserved refl where
       asks : c.request.method ≡ connect_me_to
-      asks = me_to_method c.request.method kind
+      asks = method_of ConnectMeTo c.request.method kind
 
       kept_by : (b : Bool) (o : Option Label) → accepts c.reply.code ≡ b → c.reserved ≡ o
           → kept_phone c ≡ (if b then None else phone_of c.from.task o)
@@ -263,14 +264,7 @@ module _ (t : TaskNo) (j : KernelState) (sound : IsSound j) (c : Call) (is : cal
 
     by_kind : (kind : MethodKind) → kind_of c.request.method ≡ kind → IsDelivery t j c (Given (reply_of kind c))
     by_kind ConnectMeTo e = to_me e
-    by_kind PhoneHungUp e = plain PhoneHungUp e (λ f. cc f) refl
-    by_kind ConnectToMe e = plain ConnectToMe e (λ f. cc f) refl
-    by_kind DataWrite e = plain DataWrite e (λ f. cc f) refl
-    by_kind DataRead e = plain DataRead e (λ f. cc f) refl
-    by_kind ShareOut e = plain ShareOut e (λ f. cc f) refl
-    by_kind ShareIn e = plain ShareIn e (λ f. cc f) refl
-    by_kind NotBuilt e = plain NotBuilt e (λ f. cc f) refl
-    by_kind User e = plain User e (λ f. cc f) refl
+    by_kind kind e = plain kind e (λ f. cc f) refl
 
   -- the bytes of a DATA_READ
   bytes : IsBrought c → IsDelivery t j c (and_event (delivery t (delivered_read j c t)))
@@ -364,8 +358,7 @@ module _ (t : TaskNo) (j : KernelState) (c : Call) where
         names = has_fifth p c.msg.args;
         waits = record {
           this = state_here j.tasks.phones t.0 p Connecting (exists p (usable_one j t l e));
-          others =
-              λ u q ne. written_elsewhere j.tasks.phones t.0 p u.0 q Connecting ne;
+          others = λ u q ne. written_elsewhere j.tasks.phones t.0 p u.0 q Connecting ne;
         };
         receives = record {
           told = refl;
@@ -392,15 +385,8 @@ module _ (t : TaskNo) (j : KernelState) (c : Call) where
 
     by_kind : (kind : MethodKind) → kind_of c.request.method ≡ kind
         → IsReception t j c (Received (on_receive_of kind j c t))
-    by_kind ConnectToMe e = by_phone (first_usable_of j t) refl (to_me_method c.request.method e)
-    by_kind ConnectMeTo e = as_sent (other ConnectMeTo e (λ f. cc f))
-    by_kind PhoneHungUp e = as_sent (other PhoneHungUp e (λ f. cc f))
-    by_kind DataWrite e = as_sent (other DataWrite e (λ f. cc f))
-    by_kind DataRead e = as_sent (other DataRead e (λ f. cc f))
-    by_kind ShareOut e = as_sent (other ShareOut e (λ f. cc f))
-    by_kind ShareIn e = as_sent (other ShareIn e (λ f. cc f))
-    by_kind NotBuilt e = as_sent (other NotBuilt e (λ f. cc f))
-    by_kind User e = as_sent (other User e (λ f. cc f))
+    by_kind ConnectToMe e = by_phone (first_usable_of j t) refl (method_of ConnectToMe c.request.method e)
+    by_kind kind e = as_sent (other kind e (λ f. cc f))
 
 -- ---- the first
 
@@ -420,24 +406,23 @@ module _ (t : TaskNo) (j : KernelState) (sound : IsSound j) where
   none_of place IsSo test e n d live h = false≢true (sym (no_front-has_no_calls j.calls place e n d live) ∙ test d h)
 
   answers : (d : Call) → IsAnswerAt t d → same_place d.place (Answers t) ≡ true
-  answers d h = is_answers t d.place h
+  answers d h = stands_true (Answers t) d.place h
 
   waiting : (d : Call) → IsWaitingAt t d → same_place d.place (Incoming t) ≡ true
-  waiting d h = is_incoming t d.place h
+  waiting d h = stands_true (Incoming t) d.place h
 
   takes : (a i : Option Call) → front j.calls (Answers t) ≡ a → front j.calls (Incoming t) ≡ i
       → Takes t j (and_event (receive_first j t a i))
   takes (Some c) i e f =
-      let place : c.place ≡ Answers t = at_answers t c.place (front_live j.calls (Answers t) c e).2 in
+      let place : c.place ≡ Answers t = same_place-true c.place (Answers t) (front_live j.calls (Answers t) c e).2 in
       let one = first_of (Answers t) (IsAnswerAt t) answers c place e in
       inl (record { call = c; first = one; delivery = delivery_is t j sound c one.live place })
   takes None (Some c) e f =
-      let place : c.place ≡ Incoming t = at_incoming t c.place (front_live j.calls (Incoming t) c f).2 in
+      let place : c.place ≡ Incoming t = same_place-true c.place (Incoming t) (front_live j.calls (Incoming t) c f).2 in
       inr (inl (record {
         none = none_of (Answers t) (IsAnswerAt t) answers e;
         call = c;
-        first =
-            first_of (Incoming t) (IsWaitingAt t) waiting c place f;
+        first = first_of (Incoming t) (IsWaitingAt t) waiting c place f;
         reception = reception_is t j c;
       }))
   takes None None e f = inr (inr (record {

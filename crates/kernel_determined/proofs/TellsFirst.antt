@@ -222,9 +222,4 @@ module _ (t : TaskNo) (k : KernelState) (sound : IsSound k) (done : Served) (x :
     )
 
   pub receive_tells_first : TellsTheFirst t k done
-  receive_tells_first = record {
-    answer = answer_told;
-    call = call_told;
-    nothing = nothing_told;
-    empty = empty_told;
-  }
+  receive_tells_first = record { answer = answer_told; call = call_told; nothing = nothing_told; empty = empty_told }

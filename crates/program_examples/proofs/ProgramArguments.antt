@@ -291,11 +291,9 @@ serves_on : (s : block.BlockState) (o : Outcome) → Serves s → Serves (block.
 serves_on s o owes = by (block.first_work s) where
   by : (w : Option BlockWork) → Serves (block.after_outcome_by s o w)
   by None = hears s o owes
-  by (Some (work.Offer service)) = worked s owes
-  by (Some (work.Drop base)) = worked s owes
-  by (Some (work.Answer call reply)) = worked s owes
   by (Some (work.Show call place b)) = done s call o owes
   by (Some (work.Fetch call place b)) = done (block.with_block s b o) call o owes
+  by _ = worked s owes
 
 first : (service : Option ℕ) → All ServesFive (block.first_offer service)
 first None = All-nil ServesFive
@@ -310,10 +308,7 @@ pub server_asks : (blocks : ℕ) (service : Option ℕ) (told : List Outcome)
 server_asks blocks service told = by (block.first_work (server_after blocks service told)) refl where
   by : (w : Option BlockWork) → block.first_work (server_after blocks service told) ≡ w
       → CarriesFive (block.request_of (server_after blocks service told) w)
-  by None is = tt
   by (Some (work.Offer n)) is = refl
-  by (Some (work.Drop base)) is = tt
   by (Some (work.Answer call reply)) is =
       at ServesFive _ 0 (work.Answer call reply) (server_owes blocks service told) is
-  by (Some (work.Show call place b)) is = tt
-  by (Some (work.Fetch call place b)) is = tt
+  by _ is = tt

@@ -283,11 +283,9 @@ async_five verbs.Close ws = close_five ws
 async_five _ ws = tt
 
 op_five : (k : Option Kind) (v : OpVerb) (ws : List (List ℕ)) → Good (operation.op_in k v ws)
-op_five None v ws = tt
-op_five (Some Naming) v ws = tt
 op_five (Some Raw) v ws = raw_five v ws
 op_five (Some Async) v ws = async_five v ws
-op_five (Some Block) v ws = tt
+op_five _ v ws = tt
 
 -- ---- lines
 
@@ -342,10 +340,8 @@ with_body_five plan connection all =
 new_five : (head : TaskHead) → TaskFive (draft.new_task head)
 new_five head = by head.kind where
   by : (k : Kind) → All BodyFive (draft.if_any (draft.first_body k))
-  by Naming = All-nil BodyFive
   by Raw = one BodyFive (draft.empty_body false) (empty false)
-  by Async = All-nil BodyFive
-  by Block = All-nil BodyFive
+  by _ = All-nil BodyFive
 
 with_new_five : (others : List (List ℕ)) (plan : Plan) (head : TaskHead) → PlanFive plan
     → IfGood PlanFive (draft.with_new others plan head)
