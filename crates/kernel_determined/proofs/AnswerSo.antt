@@ -1,6 +1,6 @@
 -- The definition of an answer does what is said of it.
 use Rattle.std.proofs.Common.{◌≡◌, ℕ, ◌<◌, ◌≤◌, Bool, true, false, ◌⊎◌, inl, inr, List, [], ◌∷◌, length, Option, None, Some, refl, sym, ap, subst, ◌∙◌, arith, nat_lt}
-use Rattle.std.specs.Prelude.{◌==◌, if◌then◌else◌, IsSome, Result, Ok, Err, take}
+use Rattle.std.specs.Prelude.{if◌then◌else◌, IsSome, Result, Ok, Err, take}
 use Rattle.std.specs.Option.{option_to_list}
 use Rattle.std.proofs.lemmas.Bool.{false≢true}
 use Rattle.std.proofs.lemmas.Bool.Decides.{nat_tests}
@@ -17,7 +17,7 @@ use Rattle.ipc_ids.specs.declared.entry.Entry.TheVariants as entry
 use Rattle.ipc_ids.specs.declared.methods.MethodKind.{MethodKind}
 use Rattle.ipc_ids.specs.declared.methods.MethodKind.TheVariants.{PhoneHungUp, ConnectToMe, ConnectMeTo, DataWrite, DataRead, ShareOut, ShareIn, NotBuilt, User}
 use Rattle.ipc_ids.specs.Codes.{eok, enoent, elimit}
-use Rattle.ipc_ids.specs.Methods.{kind_of, share_out, share_in}
+use Rattle.ipc_ids.specs.Methods.{kind_of}
 use Rattle.call_slab.specs.declared.call.Call.{Call}
 use Rattle.call_slab.specs.declared.call.Place.TheVariants.{Dispatched, Answers}
 use Rattle.answerbox.specs.Calls.{call_at, used}
@@ -37,7 +37,6 @@ use Rattle.cleanup.specs.Areas.{wrote_note}
 use Rattle.cleanup.specs.Sharing.{shared_note, accepted_share}
 use Rattle.cleanup.specs.declared.sharing.Share.TheVariants.{Out, In}
 use Rattle.cleanup.proofs.Lookups.{same_call}
-use Rattle.cleanup.proofs.Repeats.{by_test}
 use Rattle.cleanup.proofs.Soundness.{value_of}
 use Rattle.kernel_core.specs.Answering.{accept_for, answer_call, answer_held, held_call}
 use Rattle.kernel_core.specs.Moments.{on_accept_of}

@@ -13,7 +13,7 @@ use Rattle.ipc_ids.specs.declared.op.Body.{Body}
 use Rattle.script_lines.specs.declared.fault.Reason.{Reason}
 use Rattle.script_lines.specs.declared.fault.Reason.TheVariants.{UnknownName}
 use Rattle.script_lines.specs.declared.plan.Kind.{Kind}
-use Rattle.script_lines.specs.declared.plan.Kind.TheVariants.{Naming, Raw, Async, Block}
+use Rattle.script_lines.specs.declared.plan.Kind.TheVariants.{Raw, Async}
 use Rattle.script_lines.specs.declared.plan.TaskPlan.{TaskPlan}
 use Rattle.script_lines.specs.declared.draft.TaskHead.{TaskHead}
 use Rattle.script_lines.specs.declared.word.Verb.{Verb}

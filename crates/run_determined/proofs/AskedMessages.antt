@@ -1,11 +1,9 @@
 -- The programs of a run ask with five arguments.
-use Rattle.std.proofs.Common.{◌≡◌, ℕ, zero, suc, ◌+◌, ◌-◌, Bool, true, false, inl, inr, List, [], ◌∷◌, ◌++◌, Option, None, Some, refl, ap, sym, subst}
-use Rattle.std.specs.Prelude.{All, if◌then◌else◌, length, slice_get, slice_set}
+use Rattle.std.proofs.Common.{◌≡◌, ℕ, zero, suc, ◌+◌, ◌-◌, inl, inr, List, [], ◌∷◌, ◌++◌, Option, None, Some, refl, ap, sym, subst}
+use Rattle.std.specs.Prelude.{All, length, slice_get, slice_set}
 use Rattle.std.proofs.lemmas.List.Elements.{All-nil, All-head, All-tail}
-use Rattle.std.proofs.lemmas.Option.{get_or_from_slice_get, slice_get_within}
-use Rattle.ipc_ids.specs.declared.numbers.TaskNo.{TaskNo}
+use Rattle.std.proofs.lemmas.Option.{same_Some}
 use Rattle.ipc_ids.specs.declared.message.Event.{Event}
-use Rattle.ipc_ids.specs.declared.message.Event.TheVariants.{Step, Kill, Hangup, Spawn}
 use Rattle.ipc_ids.specs.declared.message.Outcome.{Outcome}
 use Rattle.ipc_ids.specs.declared.message.Request.{Request}
 use Rattle.ipc_ids.specs.declared.message.Request.TheVariants as request
@@ -15,8 +13,7 @@ use Rattle.script_lines.specs.declared.plan.Kind.{Kind}
 use Rattle.script_lines.specs.declared.plan.Kind.TheVariants as kind
 use Rattle.script_lines.specs.declared.plan.TaskPlan.{TaskPlan}
 use Rattle.script_lines.specs.Plan.{Plan}
-use Rattle.cleanup.specs.State.{is_alive}
-use Rattle.kernel_core.specs.Kernel.{serve, kill_event, next_task}
+use Rattle.kernel_core.specs.Kernel.{serve, next_task}
 use Rattle.kernel_laws.specs.Connecting.{HasFive}
 use Rattle.naming_service.specs.Naming as naming
 use Rattle.block_server.specs.Blocks as block
@@ -24,12 +21,15 @@ use Rattle.async_task.specs.Steps.{bare_task}
 use Rattle.task_system.specs.declared.any.AnyProgram.{AnyProgram}
 use Rattle.task_system.specs.declared.any.AnyProgram.TheVariants as any
 use Rattle.task_system.specs.Any.{wanted, after}
-use Rattle.task_system.specs.Run.{RunState, program_by, program_of, programs_from, ops_of, start, state_after, turn, step_by, request_served, killed, gone, spawn_by}
+use Rattle.task_system.specs.Run.{RunState, RunTransition, program_by, program_of, programs_from, ops_of, start, turn}
+use Rattle.schedule_replay.proofs.RunHistories.{turn_templates}
 use Rattle.program_examples.specs.FiveArguments.{GivesFive, GiveFive, ScriptGivesFive, CarriesFive, naming_after, server_after}
 use Rattle.program_examples.proofs.ProgramArguments.{raw_asks, fibrils_ask, naming_asks, server_asks}
 use Rattle.run_determined.specs.AskedMessages.{AskWithFive}
-use Rattle.run_determined.proofs.AsyncStays.{step_still}
-use Rattle.run_determined.proofs.ScheduleLines.{bodies_still, turn_keeps}
+use Rattle.run_determined.proofs.AsyncSteps.{step_still}
+use Rattle.run_determined.proofs.ByEvent as happens
+use Rattle.run_determined.proofs.ByEvent.{Happens, what_happens, states_keep, all_at}
+use Rattle.run_determined.proofs.ScheduleLines.{bodies_still}
 use Rattle.run_determined.proofs.TaskPrograms.{raw_ops, at_set, at_last}
 
 -- ---- a program
@@ -94,66 +94,39 @@ one_more ps t plan five it i x is = elim (at_last ps (program_of t plan) i x is)
 from : (t : ℕ) (plans : List TaskPlan) → PlansGiveFive plans → AreOfFive (programs_from t plans)
 from t [] five i p is = absurd (cc is)
 from t (plan ∷ plans) five zero p is =
-    subst IsOfFive (same (program_of t plan) p is)
+    subst IsOfFive (same_Some (program_of t plan) p is)
     (new_is t plan (All-head (λ (x : TaskPlan). GiveFive x.bodies) plan plans five) plan.kind)
-  where
-    same : (a b : AnyProgram) → Some a ≡ Some b → a ≡ b
-    same a b e = cc e
 from t (plan ∷ plans) five (suc i) p is =
     from (t + 1) plans (All-tail (λ (x : TaskPlan). GiveFive x.bodies) plan plans five) i p is
 
 -- ---- each event
 
-module _ (now : RunState) (it : AreOfFive now.programs) where
-  stepped : (u : TaskNo) (x : Bool) (o : Option AnyProgram) → slice_get now.programs (u.0 - 1) ≡ o
-      → AreOfFive (step_by now u (if x then o else None)).state.programs
-  stepped u true None at = it
-  stepped u true (Some p) at =
-      served now.programs (u.0 - 1) p (serve now.kernel u (wanted p)).outcome at it
-  stepped u false o at = it
+-- the templates and the programs of a state give and ask with five
+pub record IsOfFiveNow (now : RunState) : Type 0 where
+  pub templates : PlansGiveFive now.templates
+  pub programs : AreOfFive now.programs
 
-  ended : (u : TaskNo) (x : Bool)
-      → AreOfFive (if x then killed now u (kill_event now.kernel u) else gone now u).state.programs
-  ended u true = it
-  ended u false = it
+turned : (now : RunState) (e : Event) (next : RunTransition) → Happens now e next → IsOfFiveNow now
+    → AreOfFive next.state.programs
+turned now e next (happens.served u p _ at) it =
+    served now.programs (u.0 - 1) p (serve now.kernel u (wanted p)).outcome at it.programs
+turned now e next (happens.spawned place plan _ at) it =
+    one_more now.programs (next_task now.kernel).0 plan
+    (all_at (λ (x : TaskPlan). GiveFive x.bodies) now.templates place plan it.templates at) it.programs
+turned now e next _ it = it.programs
 
-  hung_up : (u : TaskNo) (phone : ℕ) (x : Bool)
-      → AreOfFive
-      (if x then request_served now u (request.Hangup phone)
-      (serve now.kernel u (request.Hangup phone)) else gone now u).state.programs
-  hung_up u phone true = it
-  hung_up u phone false = it
+pub turn_of_five : (now : RunState) (e : Event) → IsOfFiveNow now → IsOfFiveNow (turn now e).state
+turn_of_five now e it = record {
+  templates = subst PlansGiveFive (sym (turn_templates now e)) it.templates;
+  programs = turned now e (turn now e) (what_happens now e) it;
+}
 
-  made : PlansGiveFive now.templates → (place : ℕ) (o : Option TaskPlan) → slice_get now.templates place ≡ o
-      → AreOfFive (spawn_by now o).state.programs
-  made five place None at = it
-  made five place (Some plan) at =
-      one_more now.programs (next_task now.kernel).0 plan
-      (subst (λ (x : TaskPlan). GiveFive x.bodies) (get_or_from_slice_get now.templates place plan plan at)
-      (five place plan (slice_get_within now.templates place plan at))) it
-
-  pub turn_of_five : PlansGiveFive now.templates → (e : Event) → AreOfFive (turn now e).state.programs
-  turn_of_five five (Step u) = stepped u (is_alive now.kernel u) (slice_get now.programs (u.0 - 1)) refl
-  turn_of_five five (Kill u) = ended u (is_alive now.kernel u)
-  turn_of_five five (Hangup u phone) = hung_up u phone (is_alive now.kernel u)
-  turn_of_five five (Spawn place) = made five place (slice_get now.templates place) refl
-
-pub turn_gives_five : (now : RunState) (e : Event) → PlansGiveFive now.templates
-    → PlansGiveFive (turn now e).state.templates
-turn_gives_five now e five = subst PlansGiveFive (sym (turn_keeps now e)) five
-
-events_of_five : (events : List Event) (now : RunState) → PlansGiveFive now.templates → AreOfFive now.programs
-    → AreOfFive (state_after now events).programs
-events_of_five [] now five it = it
-events_of_five (e ∷ events) now five it =
-    events_of_five events (turn now e).state (turn_gives_five now e five) (turn_of_five now it five e)
-
-pub start_of_five : (plan : Plan) → ScriptGivesFive plan → AreOfFive (start plan).programs
-start_of_five plan five = from 1 plan.tasks five.tasks
+pub start_of_five : (plan : Plan) → ScriptGivesFive plan → IsOfFiveNow (start plan)
+start_of_five plan five = record { templates = five.templates; programs = from 1 plan.tasks five.tasks }
 
 pub tasks_ask_with_five : (plan : Plan) (events : List Event) → ScriptGivesFive plan → AskWithFive plan events
 tasks_ask_with_five plan events five i p is =
-    asks_with_five p (events_of_five events (start plan) five.templates (start_of_five plan five) i p is)
+    asks_with_five p ((states_keep IsOfFiveNow turn_of_five (start plan) events (start_of_five plan five)).programs i p is)
 
 -- ---- messages of a request
 

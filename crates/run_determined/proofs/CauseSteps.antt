@@ -9,7 +9,7 @@ use Rattle.ipc_ids.specs.declared.message.Msg.{Msg}
 use Rattle.ipc_ids.specs.declared.methods.MethodKind.{MethodKind}
 use Rattle.ipc_ids.specs.declared.methods.MethodKind.TheVariants.{ConnectToMe, ConnectMeTo}
 use Rattle.ipc_ids.specs.declared.message.PhoneState.{PhoneState}
-use Rattle.ipc_ids.specs.declared.message.PhoneState.TheVariants.{Free, Connecting, Connected, HungUp, Slammed}
+use Rattle.ipc_ids.specs.declared.message.PhoneState.TheVariants.{Free, Connecting}
 use Rattle.ipc_ids.specs.declared.entry.Entry.{Entry}
 use Rattle.ipc_ids.specs.declared.entry.Entry.TheVariants as entry
 use Rattle.ipc_ids.specs.Methods.{kind_of}
@@ -21,11 +21,11 @@ use Rattle.phone_table.specs.Phones.{state_at}
 use Rattle.cleanup.specs.State.{KernelState, with_state_at}
 use Rattle.cleanup.specs.Sound.{HaveKeepers}
 use Rattle.cleanup.specs.Kept.{IsLoosePhone, IsLoose, MayKeep, kept_phone, kept_rows, kept_note}
-use Rattle.cleanup.proofs.Lookups.{at_insert, at_remove, chosen, same_call}
+use Rattle.kernel_laws.proofs.Tables.{came_in, gone_by}
 use Rattle.route_laws.specs.Leads.{Beginning, phone_in}
 use Rattle.route_laws.specs.PhoneHistory.{TellPhones}
 use Rattle.route_laws.proofs.PhoneSteps.{IsLiveIn, is_some, state_told, written}
-use Rattle.run_determined.specs.PhoneCauses.{asked_for, lent_for, IsCause, IsLowest, IsHungUpAtOnce, TellsBack, HasItsCause, IsWhole, HadCause}
+use Rattle.run_determined.specs.PhoneCauses.{asked_for, lent_for, IsCause, IsLowest, ChangesForCause, IsHungUpAtOnce, IsDoneAsTold, GoesItsWay, TellsBack, GoesBackWithCode, TellsItsCall, DropsUnawaited, HasItsCause, IsWhole, HadCause}
 
 -- ---- what the entries tell of the phones that calls keep
 
@@ -84,6 +84,20 @@ whole_code b (entry.Accepted n from method None ∷ q) code w = absurd w
 whole_code b (entry.Accepted n from method (Some u) ∷ q) code w = tt
 whole_code b (_ ∷ q) code w = tt
 
+-- an entry has its cause, by each of the laws in turn
+pub caused : (b : Beginning) (q : List Entry) (e : Entry) → ChangesForCause b q e → IsHungUpAtOnce q e
+    → IsDoneAsTold q e → GoesItsWay b q e → GoesBackWithCode b q e → TellsItsCall q e → DropsUnawaited q e
+    → HasItsCause b q e
+caused b q e changes hung_up done way code told dropped = record {
+  changes = changes;
+  hung_up = hung_up;
+  done = done;
+  way = way;
+  code = code;
+  told = told;
+  dropped = dropped;
+}
+
 -- an entry that tells of no phone, of no call that is accepted, received, passed on, answered or dropped, and of no
 -- outcome
 abbrev pub IsPlain : Entry → Type 0
@@ -100,17 +114,6 @@ abbrev pub ArePlain : List Entry → Type 0
 ArePlain [] = ⊤
 ArePlain (e ∷ es) = IsPlain e × ArePlain es
 
-plain_cause : (b : Beginning) (q : List Entry) (e : Entry) → IsPlain e → IsWhole q → HasItsCause b q e
-plain_cause b q (entry.Accepted n from method to) h w = absurd h
-plain_cause b q (entry.Received n t) h w = absurd h
-plain_cause b q (entry.Forwarded n t to label) h w = absurd h
-plain_cause b q (entry.Answered n reply by) h w = absurd h
-plain_cause b q (entry.Dropped n t) h w = absurd h
-plain_cause b q (entry.PhoneIs label state) h w = absurd h
-plain_cause b q (entry.Outcome told) h w = absurd h
-plain_cause b q _ h w =
-    record { changes = tt; hung_up = whole_next q _ w; done = tt; way = tt; code = tt; told = tt; dropped = tt }
-
 module _ (b : Beginning) (rows : List (List PhoneState)) where
   module _ (calls : CallTable) where
     pub plain_told : (q : List Entry) (e : Entry) → IsPlain e → WholeFit b q rows calls
@@ -122,11 +125,11 @@ module _ (b : Beginning) (rows : List (List PhoneState)) where
     plain_told q (entry.Dropped n t) h f = absurd h
     plain_told q (entry.PhoneIs label state) h f = absurd h
     plain_told q (entry.Outcome told) h f = absurd h
-    plain_told q _ h f = record {
+    plain_told q e h f = record {
       fit = record {
-        had = (f.fit.had, plain_cause b q _ h f.whole);
+        had = (f.fit.had, caused b q e tt (whole_next q e f.whole) tt tt tt tt tt);
         phones = f.fit.phones;
-        kept = same_told q _ calls (λ n. (refl, refl)) f.fit.kept;
+        kept = same_told q (e ∷ q) calls (λ n. (refl, refl)) f.fit.kept;
       };
       whole = tt;
     }
@@ -144,36 +147,19 @@ module _ (b : Beginning) (rows : List (List PhoneState)) where
         (with_state_at rows l.task.0 l.phone.0 s) calls
     phone_told q l s not there cause at_once f = record {
       fit = record {
-        had = (
-          f.had,
-          record {
-            changes = (cause, no_choice s not);
-            hung_up = at_once;
-            done = tt;
-            way = tt;
-            code = tt;
-            told = tt;
-            dropped = tt;
-          },
-        );
+        had = (f.had, caused b q (entry.PhoneIs l s) (cause, no_choice s not) at_once tt tt tt tt tt);
         phones = λ t p. written rows l s there t p (phone_in b.wires t p q) (f.phones t p);
         kept = same_told q (entry.PhoneIs l s ∷ q) calls (λ n. words n s not) f.kept;
       };
       whole = tt;
     } where
       no_choice : (s : PhoneState) → (s ≡ Connecting → ⊥) → IsLowest b l q s
-      no_choice Free other = tt
       no_choice Connecting other = absurd (other refl)
-      no_choice (Connected u) other = tt
-      no_choice HungUp other = tt
-      no_choice Slammed other = tt
+      no_choice _ other = tt
 
       words : (n : ℕ) (s : PhoneState) → (s ≡ Connecting → ⊥) → TellsSame n q (entry.PhoneIs l s ∷ q)
-      words n Free other = (refl, refl)
       words n Connecting other = absurd (other refl)
-      words n (Connected u) other = (refl, refl)
-      words n HungUp other = (refl, refl)
-      words n Slammed other = (refl, refl)
+      words n _ other = (refl, refl)
 
 -- ---- calls
 
@@ -189,41 +175,34 @@ less_told q old new less told n d l is has =
     subst (λ (kind : MethodKind). IsKeptAs kind n l q) (sym back.3) (told n back.0 l back.1 back.2)
 
 pub gone_keeps : (q : CallTable) (m : ℕ) → KeepNoMore q (without_call q m)
-gone_keeps q m n d l is has = elim (chosen m n None (call_at q n) (Some d) (sym (at_remove q.records m n) ∙ is)) [
-  | inl h ↦ absurd (cc h.1)
-  | inr h ↦ (d, h.1, has, refl)
-]
+gone_keeps q m n d l is has = (d, gone_by q m n d is, has, refl)
 
 pub record_keeps : (q : CallTable) (c d : Call) → IsLiveIn q c → d.number ≡ c.number → kept_phone d ≡ kept_phone c
     → kind_by d ≡ kind_by c → KeepNoMore q (with_record q d)
-record_keeps q c d live number same kind n x l is has =
-    elim (chosen d.number.0 n (Some d) (call_at q n) (Some x) (sym (at_insert q.records d.number.0 n d) ∙ is)) [
-      | inl h ↦
-          let it : d ≡ x = same_call d x h.1 in (
-            c,
-            ap (call_at q) (sym (ap (λ (y : CallNo). y.0) (sym number) ∙ h.0)) ∙ live,
-            sym same ∙ ap kept_phone it ∙ has,
-            ap kind_by (sym it) ∙ kind,
-          )
-      | inr h ↦ (x, h.1, has, refl)
-    ]
+record_keeps q c d live number same kind n x l is has = elim (came_in q d.number.0 n d x is) [
+  | inl h ↦ (
+    c,
+    ap (call_at q) (sym (ap (λ (y : CallNo). y.0) (sym number) ∙ h.0)) ∙ live,
+    sym same ∙ ap kept_phone h.1 ∙ has,
+    ap kind_by (sym h.1) ∙ kind,
+  )
+  | inr h ↦ (x, h.1, has, refl)
+]
 
 -- call c goes to another place with this record: what is told of the others stays, and of it what it keeps now
-pub put_kept : (q r : List Entry) (calls : CallTable) (c d : Call) (at : Place) → IsLiveIn calls c
-    → d.number ≡ c.number → d.request ≡ c.request
+pub put_kept : (q r : List Entry) (calls : CallTable) (c d : Call) (at : Place) → d.number ≡ c.number
+    → d.request ≡ c.request
     → ((n : ℕ) → (c.number.0 ≡ n → ⊥) → TellsSame n q r)
     → ((l : Label) → kept_phone (record d { place = at }) ≡ Some l → IsKeptAs (kind_by c) c.number.0 l r)
     → TellKept q calls → TellKept r (put_at calls d at)
-put_kept q r calls c d at live number request others own told n x l is has =
+put_kept q r calls c d at number request others own told n x l is has =
     let e : Call = record d { place = at; stamp = calls.next_stamp } in
-    elim (chosen d.number.0 n (Some e) (call_at calls n) (Some x)
-    (sym (at_insert calls.records d.number.0 n e) ∙ is)) [
+    elim (came_in calls d.number.0 n e x is) [
       | inl h ↦
-          let it : e ≡ x = same_call e x h.1 in
-          let here : c.number.0 ≡ n = ap (λ (y : CallNo). y.0) (sym number) ∙ h.0 in
-          let kind : kind_by c ≡ kind_by x = sym (ap (λ (m : Msg). kind_of m.method) request) ∙ ap kind_by it in
+          let kind : kind_by c ≡ kind_by x = sym (ap (λ (m : Msg). kind_of m.method) request) ∙ ap kind_by h.1 in
           subst (λ (kind : MethodKind). IsKeptAs kind n l r) kind
-          (subst (λ (m : ℕ). IsKeptAs (kind_by c) m l r) here (own l (ap kept_phone it ∙ has)))
+          (subst (λ (m : ℕ). IsKeptAs (kind_by c) m l r) (ap (λ (y : CallNo). y.0) (sym number) ∙ h.0)
+          (own l (ap kept_phone h.1 ∙ has)))
       | inr h ↦
           still_kept (kind_by x) n l q r (others n (λ same. h.0 (ap (λ (y : CallNo). y.0) number ∙ same)))
           (told n x l h.1 has)
@@ -234,13 +213,10 @@ pub new_kept : (q r : List Entry) (calls : CallTable) (d : Call) → ((n : ℕ) 
     → ((l : Label) → kept_phone d ≡ Some l → IsKeptAs (kind_by d) d.number.0 l r)
     → TellKept q calls → TellKept r (enqueue calls d)
 new_kept q r calls d others own told n x l is has =
-    let e : Call = record d { stamp = calls.next_stamp } in
-    elim (chosen d.number.0 n (Some e) (call_at calls n) (Some x)
-    (sym (at_insert calls.records d.number.0 n e) ∙ is)) [
+    elim (came_in calls d.number.0 n (record d { stamp = calls.next_stamp }) x is) [
       | inl h ↦
-          let it : e ≡ x = same_call e x h.1 in
-          subst (λ (kind : MethodKind). IsKeptAs kind n l r) (ap kind_by it)
-          (subst (λ (m : ℕ). IsKeptAs (kind_by d) m l r) h.0 (own l (ap kept_phone it ∙ has)))
+          subst (λ (kind : MethodKind). IsKeptAs kind n l r) (ap kind_by h.1)
+          (subst (λ (m : ℕ). IsKeptAs (kind_by d) m l r) h.0 (own l (ap kept_phone h.1 ∙ has)))
       | inr h ↦ still_kept (kind_by x) n l q r (others n h.0) (told n x l h.1 has)
     ]
 

@@ -1,5 +1,5 @@
-pub mod AsyncSends
-pub mod AsyncStays
+pub mod AsyncSteps
+pub mod ByEvent
 pub mod CauseSteps
 pub mod CauseCodes
 pub mod CauseCalls

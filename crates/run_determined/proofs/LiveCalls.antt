@@ -16,6 +16,10 @@ use Rattle.run_determined.specs.PhoneCauses.{IsMadeWith, DropsUnawaited, HadCaus
 
 -- ---- words
 
+-- these entries, the newest first, keep the law of lives
+abbrev pub AreLawful : List Entry → Type 0
+AreLawful q = Lawful (tales q)
+
 -- the answer of call n was delivered to task t
 abbrev pub is_delivered : ℕ → ℕ → List Entry → Bool
 is_delivered n t [] = false
@@ -38,11 +42,8 @@ IsOwnCall t n q = IsOnItsWay t (life n (tales q)) ⊎ ((life n (tales q) ≡ Ove
 
 caller_is : (t : ℕ) (l : Life) → IsOnItsWay t l → caller_of l ≡ t
 caller_is t Nowhere h = absurd h
-caller_is t (Back u) h = h
-caller_is t (Incoming u s) h = h
-caller_is t (Dispatched u s) h = h
-caller_is t (Answers u) h = h
 caller_is t Over h = absurd h
+caller_is t _ h = h
 
 killed_caller : (t u : ℕ) (p : List Tale) → u ≡ t → is_killed u p ≡ true → is_killed t p ≡ false → ⊥
 killed_caller t u p same killed alive = false≢true (sym alive ∙ sym (ap (λ (x : ℕ). is_killed x p) same) ∙ killed)
@@ -51,46 +52,23 @@ killed_caller t u p same killed alive = false≢true (sym alive ∙ sym (ap (λ 
 on_its_way : (t : ℕ) (p : List Tale) (n : ℕ) (w : Note) (l : Life) → Allowed p n w l → is_killed t p ≡ false
     → IsOnItsWay t l
     → IsOnItsWay t (after w l) ⊎ ((w ≡ Delivered t) ⊎ (w ≡ Dropped t))
-on_its_way t p n (Accepted u phone method way) Nowhere a alive h = absurd h
-on_its_way t p n (Accepted u phone method way) (Back v) a alive h = absurd a
-on_its_way t p n (Accepted u phone method way) (Incoming v s) a alive h = absurd a
-on_its_way t p n (Accepted u phone method way) (Dispatched v s) a alive h = absurd a
-on_its_way t p n (Accepted u phone method way) (Answers v) a alive h = absurd a
-on_its_way t p n (Accepted u phone method way) Over a alive h = absurd h
 on_its_way t p n (Received s) l a alive h = inl (caller_is t l h)
 on_its_way t p n (Forwarded s v) l a alive h = inl (caller_is t l h)
 on_its_way t p n (Answered code by) l a alive h = inl (caller_is t l h)
-on_its_way t p n Vanished Nowhere a alive h = absurd h
-on_its_way t p n Vanished (Back v) a alive h = absurd a
+on_its_way t p n Forgotten l a alive h = inl h
 on_its_way t p n Vanished (Incoming v s) a alive h = absurd (killed_caller t v p h a.0 alive)
 on_its_way t p n Vanished (Dispatched v s) a alive h = absurd (killed_caller t v p h a.0 alive)
-on_its_way t p n Vanished (Answers v) a alive h = absurd a
-on_its_way t p n Vanished Over a alive h = absurd h
-on_its_way t p n Forgotten l a alive h = inl h
-on_its_way t p n (Delivered v) Nowhere a alive h = absurd h
-on_its_way t p n (Delivered v) (Back u) a alive h = absurd a
-on_its_way t p n (Delivered v) (Incoming u s) a alive h = absurd a
-on_its_way t p n (Delivered v) (Dispatched u s) a alive h = absurd a
 on_its_way t p n (Delivered v) (Answers u) a alive h = inr (inl (ap Delivered (a.0 ∙ h)))
-on_its_way t p n (Delivered v) Over a alive h = absurd h
-on_its_way t p n (Dropped v) Nowhere a alive h = absurd h
-on_its_way t p n (Dropped v) (Back u) a alive h = absurd a
-on_its_way t p n (Dropped v) (Incoming u s) a alive h = absurd a
-on_its_way t p n (Dropped v) (Dispatched u s) a alive h = absurd a
 on_its_way t p n (Dropped v) (Answers u) a alive h = inr (inr (ap Dropped (a.0 ∙ h)))
-on_its_way t p n (Dropped v) Over a alive h = absurd h
+on_its_way t p n w Nowhere a alive h = absurd h
+on_its_way t p n w Over a alive h = absurd h
+on_its_way t p n _ _ a alive h = absurd a
 
 -- no note comes on a call that is over
 none_over : (p : List Tale) (n : ℕ) (w : Note) → Allowed p n w Over → ⊥
-none_over p n (Accepted u phone method way) a = a
-none_over p n (Received s) a = a
-none_over p n (Forwarded s v) a = a
 none_over p n (Answered code Kernel) a = a
 none_over p n (Answered code (Task u)) a = a
-none_over p n Vanished a = a
-none_over p n Forgotten a = a
-none_over p n (Delivered v) a = a
-none_over p n (Dropped v) a = a
+none_over p n _ a = a
 
 -- ---- entries
 
@@ -146,10 +124,6 @@ still_delivered t n q (entry.Delivered m u) h = by_test ((m.0 == n) && (u.0 == t
   by_test false = h
 still_delivered t n q _ h = h
 
--- the note of an entry
-one_note : (m n : ℕ) (v w : Note) → On m v ≡ On n w → v ≡ w
-one_note m n v w e = cc
-
 -- an entry that says that an answer is dropped
 drop_of : (t m : ℕ) (q : List Entry) (e : Entry) → tale e ≡ On m (Dropped t) → DropsUnawaited q e
     → is_killed t (tales q) ≡ false → IsMadeWith phone_hungup (making m q)
@@ -161,17 +135,6 @@ drop_of t m q (entry.Dropped k u) is drops alive =
       | inl h ↦ subst (λ (x : ℕ). IsMadeWith phone_hungup (making x q)) number h
       | inr h ↦ absurd (killed_caller t u.0 (tales q) task (killed_now u q h) alive)
     ]
-drop_of t m q (entry.Head u asked) is drops alive = absurd (cc is)
-drop_of t m q (entry.Kill u) is drops alive = absurd (cc is)
-drop_of t m q (entry.Gone u) is drops alive = absurd (cc is)
-drop_of t m q (entry.Spawn u) is drops alive = absurd (cc is)
-drop_of t m q (entry.Accepted k from method to) is drops alive = absurd (cc is)
-drop_of t m q (entry.Received k u) is drops alive = absurd (cc is)
-drop_of t m q (entry.Forwarded k u to label) is drops alive = absurd (cc is)
-drop_of t m q (entry.Answered k reply by) is drops alive = absurd (cc is)
-drop_of t m q (entry.Vanished k) is drops alive = absurd (cc is)
-drop_of t m q (entry.Forgotten k) is drops alive = absurd (cc is)
-drop_of t m q (entry.Delivered k u) is drops alive = absurd (cc is)
 drop_of t m q _ is drops alive = absurd (cc is)
 
 -- one that says that it is delivered
@@ -181,17 +144,6 @@ delivery_of t m q (entry.Delivered k u) is =
     let number : k.0 ≡ m = cc in
     let task : u.0 ≡ t = cc in
     rw (eq-eqb k.0 m number, eq-eqb u.0 t task) refl
-delivery_of t m q (entry.Dropped k u) is = absurd (cc is)
-delivery_of t m q (entry.Head u asked) is = absurd (cc is)
-delivery_of t m q (entry.Kill u) is = absurd (cc is)
-delivery_of t m q (entry.Gone u) is = absurd (cc is)
-delivery_of t m q (entry.Spawn u) is = absurd (cc is)
-delivery_of t m q (entry.Accepted k from method to) is = absurd (cc is)
-delivery_of t m q (entry.Received k u) is = absurd (cc is)
-delivery_of t m q (entry.Forwarded k u to label) is = absurd (cc is)
-delivery_of t m q (entry.Answered k reply by) is = absurd (cc is)
-delivery_of t m q (entry.Vanished k) is = absurd (cc is)
-delivery_of t m q (entry.Forgotten k) is = absurd (cc is)
 delivery_of t m q _ is = absurd (cc is)
 
 -- a call of task t, which is no hangup, after one entry more
@@ -241,13 +193,8 @@ accepted_life u phone method At_once l e = cc
 -- a call on which there is a note is somewhere
 note_life : (w : Note) (l : Life) → (l ≡ Nowhere → ⊥) → after w l ≡ Nowhere → ⊥
 note_life (Accepted u phone method way) l there e = accepted_life u phone method way l e
-note_life (Received s) l there e = cc
-note_life (Forwarded s v) l there e = cc
-note_life (Answered code by) l there e = cc
-note_life Vanished l there e = cc
 note_life Forgotten l there e = there e
-note_life (Delivered v) l there e = cc
-note_life (Dropped v) l there e = cc
+note_life _ l there e = cc
 
 -- a call that was made is somewhere
 made_life : (n : ℕ) (q : List Entry) (m : Making) → making n q ≡ Some m → life n (tales q) ≡ Nowhere → ⊥
@@ -292,20 +239,16 @@ made_next n q (entry.Accepted k from method to) m a how = elim (cases_eq k.0 n) 
 ] where
   only : (l : Life) → Allowed (tales q) k.0 (Accepted from.task.0 from.phone.0 method (way to)) l → l ≡ Nowhere
   only Nowhere a = refl
-  only (Back u) a = absurd a
-  only (Incoming u s) a = absurd a
-  only (Dispatched u s) a = absurd a
-  only (Answers u) a = absurd a
-  only Over a = absurd a
+  only _ a = absurd a
 made_next n q _ m a how = how
 
 -- ---- lists
 
-pub lawful_before : (es q : List Entry) → Lawful (tales (on_top es q)) → Lawful (tales q)
+pub lawful_before : (es q : List Entry) → AreLawful (on_top es q) → AreLawful q
 lawful_before [] q l = l
-lawful_before (e ∷ es) q l = let m : Lawful (tales (e ∷ q)) = lawful_before es (e ∷ q) l in m.0
+lawful_before (e ∷ es) q l = let m : AreLawful (e ∷ q) = lawful_before es (e ∷ q) l in m.0
 
-pub made_stays : (n : ℕ) (es q : List Entry) (m : Making) → Lawful (tales (on_top es q)) → making n q ≡ Some m
+pub made_stays : (n : ℕ) (es q : List Entry) (m : Making) → AreLawful (on_top es q) → making n q ≡ Some m
     → making n (on_top es q) ≡ Some m
 made_stays n [] q m l how = how
 made_stays n (e ∷ es) q m l how =
@@ -316,13 +259,13 @@ caller_in None = 0
 caller_in (Some m) = m.caller
 
 -- a call that task t made, and which is no hangup, is on its way, or was delivered to the task
-pub own_call : (b : Beginning) (t n : ℕ) (q : List Entry) → Lawful (tales q) → HadCause b q
+pub own_call : (b : Beginning) (t n : ℕ) (q : List Entry) → AreLawful q → HadCause b q
     → is_killed t (tales q) ≡ false → IsMadeBy t n (making n q) → IsOwnCall t n q
 own_call b t n [] l had alive it = absurd (let e : None ≡ Some it.made = it.how in cc e)
 own_call b t n (e ∷ q) l had alive it =
     by_entry e l had.1.dropped (alive_before t (tales q) (tale e) alive) it
     (own_call b t n q l.0 had.0 (alive_before t (tales q) (tale e) alive)) where
-      later : (e : Entry) → Lawful (tales (e ∷ q)) → DropsUnawaited q e → is_killed t (tales q) ≡ false
+      later : (e : Entry) → AreLawful (e ∷ q) → DropsUnawaited q e → is_killed t (tales q) ≡ false
           → IsMadeBy t n (making n q) → (IsMadeBy t n (making n q) → IsOwnCall t n q) → IsOwnCall t n (e ∷ q)
       later e l drops before it own =
           own_next t n q e (allowed (tales q) (tale e) l) drops before (no_hangup_made t n (making n q) it) (own it)
@@ -331,7 +274,7 @@ own_call b t n (e ∷ q) l had alive it =
       new u phone method (To v) l same = same
       new u phone method At_once l same = same
 
-      by_entry : (e : Entry) → Lawful (tales (e ∷ q)) → DropsUnawaited q e → is_killed t (tales q) ≡ false
+      by_entry : (e : Entry) → AreLawful (e ∷ q) → DropsUnawaited q e → is_killed t (tales q) ≡ false
           → IsMadeBy t n (making n (e ∷ q)) → (IsMadeBy t n (making n q) → IsOwnCall t n q) → IsOwnCall t n (e ∷ q)
       by_entry (entry.Accepted k from method to) l drops before it own = elim (cases_eq k.0 n) [
         | inl same ↦

@@ -2,6 +2,7 @@
 use Rattle.std.proofs.Common.{◌≡◌, ℕ, Bool, true, false, ◌⊎◌, inl, inr, List, [], ◌∷◌, ◌++◌, Option, None, Some, refl, ap, sym, subst, ◌∙◌}
 use Rattle.std.specs.Prelude.{◌==◌, ◌&&◌, ◌||◌, if◌then◌else◌}
 use Rattle.std.proofs.lemmas.Bool.{cases_eq, eq-eqb, ne_eqb, eqb-true, false≢true}
+use Rattle.std.proofs.lemmas.Option.{same_Some}
 use Rattle.ipc_ids.specs.declared.numbers.TaskNo.{TaskNo}
 use Rattle.ipc_ids.specs.declared.numbers.CallNo.{CallNo}
 use Rattle.ipc_ids.specs.declared.message.Request.{Request}
@@ -10,8 +11,7 @@ use Rattle.ipc_ids.specs.declared.message.Outcome.TheVariants as outcome
 use Rattle.ipc_ids.specs.declared.entry.Entry.{Entry}
 use Rattle.ipc_ids.specs.declared.entry.Entry.TheVariants as entry
 use Rattle.ipc_ids.specs.Tales.{Event, Step, Receive, Delivered, Tale, Head, ask, tale, tales}
-use Rattle.ipc_ids.specs.Life.{Life, Nowhere, Back, Incoming, Dispatched, Answers, Over, life, event, Allowed}
-use Rattle.ipc_ids.specs.Lawful.{Lawful}
+use Rattle.ipc_ids.specs.Life.{Life, Answers, life, event, Allowed}
 use Rattle.ipc_ids.specs.Facts as fact
 use Rattle.ipc_ids.specs.Facts.{Fact, if_mine, outcome_fact, facts_onto, facts}
 use Rattle.ipc_ids.specs.Replies.{Waiter, is_mine, sent}
@@ -23,9 +23,9 @@ use Rattle.async_laws.specs.KeptAnswers.{given}
 use Rattle.async_laws.proofs.EventsFit.{facts_append}
 use Rattle.route_laws.specs.Leads.{Beginning}
 use Rattle.run_determined.specs.PhoneCauses.{IsJustMade, TellsItsCall, HadCause}
-use Rattle.run_determined.proofs.AsyncSends.{IsSentAs, AreSentAs}
+use Rattle.run_determined.proofs.AsyncSteps.{IsSentAs, AreSentAs}
 use Rattle.run_determined.proofs.CauseEvents.{had_before, effects_now}
-use Rattle.run_determined.proofs.LiveCalls.{is_delivered, IsMadeBy, lawful_before, made_stays}
+use Rattle.run_determined.proofs.LiveCalls.{AreLawful, is_delivered, IsMadeBy, lawful_before, made_stays}
 
 -- ---- calls that fibrils send
 
@@ -148,42 +148,25 @@ mine_kept t (e ∷ es) p effects = mine_kept t es (fact.fact t e ∷ p) effects.
 answer_given : (n : ℕ) (o : Outcome) (p : List Fact) → IsAnswerOf n o → is_mine p ≡ true
     → given n (outcome_fact o ∷ p) ≡ true
 answer_given n (outcome.Answered m reply) p is mine = rw (eq-eqb m.0 n is, mine) refl
-answer_given n (outcome.Done) p is mine = absurd is
-answer_given n (outcome.Refused code) p is mine = absurd is
-answer_given n (outcome.Accepted m) p is mine = absurd is
-answer_given n (outcome.Received m msg label) p is mine = absurd is
-answer_given n outcome.Empty p is mine = absurd is
-answer_given n (outcome.Bytes bytes) p is mine = absurd is
+answer_given n _ p is mine = absurd is
 
 -- ---- answers that are delivered
 
 -- an answer is delivered in a receive of its task
-delivered_by : (p : List Tale) (m v : ℕ) (l : Life) → Allowed p m (Delivered v) l → event p ≡ Some (Step v Receive)
+pub delivered_by : (p : List Tale) (m v : ℕ) (l : Life) → Allowed p m (Delivered v) l → event p ≡ Some (Step v Receive)
 delivered_by p m v (Answers u) a = a.1 ∙ ap (λ (x : ℕ). Some (Step x Receive)) (sym a.0)
-delivered_by p m v Nowhere a = absurd a
-delivered_by p m v (Back u) a = absurd a
-delivered_by p m v (Incoming u s) a = absurd a
-delivered_by p m v (Dispatched u s) a = absurd a
-delivered_by p m v Over a = absurd a
+delivered_by p m v _ a = absurd a
 
 event_kept : (q : List Entry) (e : Entry) → is_effect e ≡ true → event (tales (e ∷ q)) ≡ event (tales q)
-event_kept q (entry.Accepted n from method to) is = refl
-event_kept q (entry.Received n u) is = refl
-event_kept q (entry.Forwarded n u to label) is = refl
-event_kept q (entry.Answered n reply by) is = refl
-event_kept q (entry.Vanished n) is = refl
-event_kept q (entry.Delivered n u) is = refl
-event_kept q (entry.Dropped n u) is = refl
-event_kept q (entry.Forgotten n) is = refl
-event_kept q (entry.PhoneIs phone state) is = refl
-event_kept q (entry.AreaMade u base pages rights store) is = refl
-event_kept q (entry.AreaGone u base) is = refl
-event_kept q (entry.Wrote u at count store) is = refl
-event_kept q _ is = absurd (cc is)
+event_kept q (entry.Head t asked) is = absurd (cc is)
+event_kept q (entry.Kill t) is = absurd (cc is)
+event_kept q (entry.Gone t) is = absurd (cc is)
+event_kept q (entry.Spawn t) is = absurd (cc is)
+event_kept q _ is = refl
 
 -- what is delivered among effects
 effects_deliver : (t n : ℕ) (x : Event) (es q : List Entry) → AreEffects es → event (tales q) ≡ Some x
-    → Lawful (tales (on_top es q)) → is_delivered n t (on_top es q) ≡ true
+    → AreLawful (on_top es q) → is_delivered n t (on_top es q) ≡ true
     → (is_delivered n t q ≡ true) ⊎ ((Some x ≡ Some (Step t Receive)) × (has_delivery n es ≡ true))
 effects_deliver t n x [] q effects now l h = inl h
 effects_deliver t n x (e ∷ es) q effects now l h =
@@ -196,7 +179,7 @@ effects_deliver t n x (e ∷ es) q effects now l h =
     later true g = refl
     later false g = g
 
-    by_entry : (e : Entry) → Lawful (tales (e ∷ q)) → is_delivered n t (e ∷ q) ≡ true
+    by_entry : (e : Entry) → AreLawful (e ∷ q) → is_delivered n t (e ∷ q) ≡ true
         → (is_delivered n t q ≡ true) ⊎ ((Some x ≡ Some (Step t Receive)) × (has_delivery n (e ∷ es) ≡ true))
     by_entry (entry.Delivered m v) l g = by_number (cases_eq m.0 n) (cases_eq v.0 t) where
       by_number : (m.0 ≡ n) ⊎ (m.0 ≡ n → ⊥) → (v.0 ≡ t) ⊎ (v.0 ≡ t → ⊥)
@@ -228,7 +211,7 @@ pub record KeepsSends (t : ℕ) (h : List Entry) : Type 0 where
 pub start_sends : (t : ℕ) → KeepsSends t []
 start_sends t = record { sends = λ n d h. absurd (cc h); gives = λ n h. absurd (false≢true h) }
 
-still_made : (t n : ℕ) (es q : List Entry) → Lawful (tales (on_top es q)) → IsMadeBy t n (making n q)
+still_made : (t n : ℕ) (es q : List Entry) → AreLawful (on_top es q) → IsMadeBy t n (making n q)
     → IsMadeBy t n (making n (on_top es q))
 still_made t n es q l it =
     record { made = it.made; how = made_stays n es q it.made l it.how; caller = it.caller; plain = it.plain }
@@ -237,9 +220,6 @@ just_by : (u : TaskNo) (asked : Request) (n : ℕ) (o : Option Making) → IsJus
     → IsMadeBy u.0 n o
 just_by u asked n None it = absurd it
 just_by u asked n (Some made) it = record { made = made; how = refl; caller = it.1; plain = it.2 }
-
-none_step : (x y : Event) → Some x ≡ Some y → x ≡ y
-none_step x y e = cc
 
 module _ (b : Beginning) (t : ℕ) (h : List Entry) (kept : KeepsSends t h) where
   abbrev q : List Entry
@@ -264,7 +244,7 @@ module _ (b : Beginning) (t : ℕ) (h : List Entry) (kept : KeepsSends t h) wher
     facts_in_parts =
         facts_append t h whole [] ∙ facts_append t es (entry.Outcome o ∷ own) (fact.Head (u.0 == t) ∷ facts t h)
 
-    step_sends_kept : Lawful (tales (on_top whole q)) → HadCause b (on_top whole q) → (n : ℕ) (d : Waiter)
+    step_sends_kept : AreLawful (on_top whole q) → HadCause b (on_top whole q) → (n : ℕ) (d : Waiter)
         → sent n (facts t (h ++ whole)) ≡ Some d → IsMadeBy t n (making n (on_top whole q))
     step_sends_kept l had n d g =
         elim (sent_in t n d whole (facts t h)
@@ -284,17 +264,17 @@ module _ (b : Beginning) (t : ℕ) (h : List Entry) (kept : KeepsSends t h) wher
                 just_by u asked n (making n r) (subst (λ (y : Option Entry). IsJustMade y (making n r)) now call) in
                 let later : IsMadeBy u.0 n (making n (on_top own (entry.Outcome o ∷ r))) =
                 still_made u.0 n (entry.Outcome o ∷ own) r
-                (subst (λ (y : List Entry). Lawful (tales y)) in_parts l) made in
+                (subst AreLawful in_parts l) made in
                 subst (λ (y : List Entry). IsMadeBy t n (making n y)) (sym in_parts)
                 (subst (λ (y : ℕ). IsMadeBy y n (making n (on_top own (entry.Outcome o ∷ r)))) is.0 later)
           ]
         ]
 
-    step_gives_kept : Lawful (tales (on_top whole q)) → (n : ℕ) → is_delivered n t (on_top whole q) ≡ true
+    step_gives_kept : AreLawful (on_top whole q) → (n : ℕ) → is_delivered n t (on_top whole q) ≡ true
         → given n (facts t (h ++ whole)) ≡ true
     step_gives_kept l n g =
-        let m : Lawful (tales (entry.Outcome o ∷ r)) =
-        lawful_before own (entry.Outcome o ∷ r) (subst (λ (y : List Entry). Lawful (tales y)) in_parts l) in
+        let m : AreLawful (entry.Outcome o ∷ r) =
+        lawful_before own (entry.Outcome o ∷ r) (subst AreLawful in_parts l) in
         let there : is_delivered n t r ≡ true =
         sym (own_deliver t n u.0 own (entry.Outcome o ∷ r) mine) ∙ sym (ap (is_delivered n t) in_parts) ∙ g in
         elim (effects_deliver t n (Step u.0 (ask asked)) es (entry.Head u asked ∷ q) honest.effects refl m.0 there) [
@@ -302,7 +282,7 @@ module _ (b : Beginning) (t : ℕ) (h : List Entry) (kept : KeepsSends t h) wher
               subst (λ (y : List Fact). given n y ≡ true) (sym (facts_append t h whole []))
               (given_kept t n whole (facts t h) (kept.gives n old))
           | inr new ↦
-              let task : u.0 ≡ t = task_is (none_step (Step u.0 (ask asked)) (Step t Receive) new.0) in
+              let task : u.0 ≡ t = task_is (same_Some (Step u.0 (ask asked)) (Step t Receive) new.0) in
               let own_event : is_mine fs ≡ true =
               mine_kept t es (fact.Head (u.0 == t) ∷ facts t h) honest.effects ∙ eq-eqb u.0 t task in
               subst (λ (y : List Fact). given n y ≡ true) (sym facts_in_parts)
@@ -312,13 +292,13 @@ module _ (b : Beginning) (t : ℕ) (h : List Entry) (kept : KeepsSends t h) wher
         task_is : Step u.0 (ask asked) ≡ Step t Receive → u.0 ≡ t
         task_is e = cc
 
-    pub step_kept : Lawful (tales (newest_first (h ++ whole))) → HadCause b (newest_first (h ++ whole))
+    pub step_kept : AreLawful (newest_first (h ++ whole)) → HadCause b (newest_first (h ++ whole))
         → KeepsSends t (h ++ whole)
     step_kept l had = record {
       sends = λ n d g. subst (λ (y : List Entry). IsMadeBy t n (making n y)) (sym (newest_first-append h whole))
-          (step_sends_kept (subst (λ (y : List Entry). Lawful (tales y)) (newest_first-append h whole) l)
+          (step_sends_kept (subst AreLawful (newest_first-append h whole) l)
           (subst (HadCause b) (newest_first-append h whole) had) n d g);
-      gives = λ n g. step_gives_kept (subst (λ (y : List Entry). Lawful (tales y)) (newest_first-append h whole) l) n
+      gives = λ n g. step_gives_kept (subst AreLawful (newest_first-append h whole) l) n
           (ap (is_delivered n t) (sym (newest_first-append h whole)) ∙ g);
     }
 
@@ -326,11 +306,11 @@ module _ (b : Beginning) (t : ℕ) (h : List Entry) (kept : KeepsSends t h) wher
   pub quiet_kept : (e : Entry) (x : Event) (es : List Entry) → tale e ≡ Head x
       → ((n : ℕ) → sent n (fact.fact t e ∷ facts t h) ≡ sent n (facts t h))
       → ((n : ℕ) → is_delivered n t (e ∷ q) ≡ is_delivered n t q)
-      → ((n : ℕ) → SentIn t n (e ∷ es) → SentIn t n es) → (x ≡ Step t Receive → ⊥) → AreEffects es → Lawful
-      (tales (newest_first (h ++ e ∷ es))) → KeepsSends t (h ++ e ∷ es)
+      → ((n : ℕ) → SentIn t n (e ∷ es) → SentIn t n es) → (x ≡ Step t Receive → ⊥) → AreEffects es
+      → AreLawful (newest_first (h ++ e ∷ es)) → KeepsSends t (h ++ e ∷ es)
   quiet_kept e x es head same delivered sends other effects l =
-      let lawful : Lawful (tales (on_top (e ∷ es) q)) =
-      subst (λ (y : List Entry). Lawful (tales y)) (newest_first-append h (e ∷ es)) l in
+      let lawful : AreLawful (on_top (e ∷ es) q) =
+      subst AreLawful (newest_first-append h (e ∷ es)) l in
       record {
         sends = λ n d g. elim
             (sent_in t n d (e ∷ es) (facts t h)
@@ -346,7 +326,7 @@ module _ (b : Beginning) (t : ℕ) (h : List Entry) (kept : KeepsSends t h) wher
               | inl old ↦
                   subst (λ (y : List Fact). given n y ≡ true) (sym (facts_append t h (e ∷ es) []))
                   (given_kept t n (e ∷ es) (facts t h) (kept.gives n (sym (delivered n) ∙ old)))
-              | inr new ↦ absurd (other (none_step x (Step t Receive) new.0))
+              | inr new ↦ absurd (other (same_Some x (Step t Receive) new.0))
             ];
       }
     where

@@ -9,19 +9,16 @@ use Rattle.ipc_ids.specs.declared.message.Request.TheVariants as request
 use Rattle.ipc_ids.specs.declared.message.Outcome.{Outcome}
 use Rattle.ipc_ids.specs.declared.message.Why.TheVariants as why
 use Rattle.ipc_ids.specs.declared.message.Event.{Event}
-use Rattle.ipc_ids.specs.declared.message.Event.TheVariants.{Step, Kill, Hangup, Spawn}
 use Rattle.ipc_ids.specs.declared.entry.Entry.{Entry}
 use Rattle.ipc_ids.specs.declared.entry.Entry.TheVariants as entry
 use Rattle.ipc_ids.specs.Tales as tale
 use Rattle.ipc_ids.specs.Tales.{Tale, tales, past}
-use Rattle.ipc_ids.specs.Life.{Life, Nowhere, Back, Incoming, Dispatched, Answers, Over, life, is_killed}
-use Rattle.ipc_ids.specs.Lawful.{Lawful}
+use Rattle.ipc_ids.specs.Life.{Life, Back, life, is_killed}
 use Rattle.ipc_ids.specs.Replies.{Waiter}
 use Rattle.ipc_ids.specs.Holdings.{newest_first, making}
-use Rattle.script_lines.specs.declared.plan.TaskPlan.{TaskPlan}
 use Rattle.script_lines.specs.Plan.{Plan}
 use Rattle.script_lines.specs.Sound.{IsSound}
-use Rattle.script_reader.specs.Schedule.{MayAllCome, tasks_after}
+use Rattle.script_reader.specs.Schedule.{MayAllCome}
 use Rattle.call_slab.specs.declared.call.Call.{Call}
 use Rattle.call_slab.specs.declared.call.Place.{Place}
 use Rattle.call_slab.specs.declared.call.Place.TheVariants as place
@@ -38,32 +35,29 @@ use Rattle.async_laws.proofs.OwnEntries.{own_entries}
 use Rattle.task_system.specs.declared.any.AnyProgram.{AnyProgram}
 use Rattle.task_system.specs.declared.any.AnyProgram.TheVariants as any
 use Rattle.task_system.specs.Any.{wanted, entries}
-use Rattle.task_system.specs.Run.{RunState, RunTransition, start, run, run_from, state_after, turn, step_by, step_served, request_served, killed, gone, spawn_by, MayHappen, MayAllHappen}
+use Rattle.task_system.specs.Run.{RunState, RunTransition, start, run, state_after, turn, step_served}
 use Rattle.route_laws.specs.Leads.{Beginning}
 use Rattle.schedule_replay.specs.RunHistory.{beginning, ProgramFits, RunFits}
-use Rattle.schedule_replay.proofs.RunHistories.{turn_fits, start_told, later_may, may_from}
 use Rattle.run_determined.specs.PhoneCauses.{HadCause}
 use Rattle.run_determined.specs.LiveWaits.{IsStillToBeAnswered, WaitsForLiveCalls, WaitsAreForLiveCalls}
-use Rattle.run_determined.proofs.AsyncSends.{AreSentAs, step_sends}
-use Rattle.run_determined.proofs.CauseEvents.{CausesKept, tales_are}
-use Rattle.run_determined.proofs.CauseRuns.{start_caused, turn_kept}
-use Rattle.run_determined.proofs.LiveCalls.{IsOnItsWay, IsMadeBy, own_call}
+use Rattle.run_determined.proofs.AsyncSteps.{AreSentAs, step_sends}
+use Rattle.run_determined.proofs.ByEvent as happens
+use Rattle.run_determined.proofs.ByEvent.{Happens, what_happens, may_part}
+use Rattle.run_determined.proofs.CauseEvents.{tales_are}
+use Rattle.run_determined.proofs.CauseRuns.{IsCaused, lives_told, caused_run_keeps}
+use Rattle.run_determined.proofs.LiveCalls.{AreLawful, IsOnItsWay, IsMadeBy, own_call}
 use Rattle.run_determined.proofs.LiveEvents.{KeepsSends, start_sends, step_kept, quiet_kept}
 
 -- ---- programs
 
 program_sends : (p : AnyProgram) (o : Outcome) → AreSentAs o (entries p o)
-program_sends (any.Raw p) o = tt
-program_sends (any.Naming p) o = tt
-program_sends (any.Block p) o = tt
 program_sends (any.Async p) o = step_sends p.state o
+program_sends _ o = tt
 
 program_owns : (h : List Entry) (u : ℕ) (p : AnyProgram) (o : Outcome) → ProgramFits h u p → AreOwn u (entries p o)
-program_owns h u (any.Raw p) o fits = tt
-program_owns h u (any.Naming p) o fits = tt
-program_owns h u (any.Block p) o fits = tt
 program_owns h u (any.Async p) o fits =
     subst (λ (n : ℕ). AreOwn n (step p.state o).entries) fits.0.me (own_entries p.state o)
+program_owns h u _ o fits = tt
 
 number_of : (alive : List Bool) (t : ℕ) → alive_in alive t ≡ true → suc (t - 1) ≡ t
 number_of alive zero h = absurd (cc h)
@@ -71,113 +65,58 @@ number_of alive (suc t) h = omega arith
 
 -- ---- each event
 
--- what the entries up to here keep
-record AreLawful (b : Beginning) (h : List Entry) : Type 0 where
-  pub lives : Lawful (tales (newest_first h))
-  pub causes : HadCause b (newest_first h)
-
-lawful_told : (b : Beginning) (h : List Entry) (now : RunState) → RunFits b h now → CausesKept b h now.kernel
-    → AreLawful b h
-lawful_told b h now told f =
-    record { lives = subst Lawful (tales_are h []) told.kernel.told.lawful; causes = f.fit.had }
-
 module _ (b : Beginning) (h : List Entry) (now : RunState) (told : RunFits b h now) (t : ℕ)
     (kept : KeepsSends t h) where
   abbrev After : RunTransition → Type 0
-  After next = AreLawful b (h ++ next.entries) → KeepsSends t (h ++ next.entries)
-
-  gone_sends : (u : TaskNo) → After (gone now u)
-  gone_sends u l =
-      quiet_kept b t h kept (entry.Gone u) (tale.Gone u.0) [] refl (λ n. refl) (λ n. refl) (λ n g. g)
-      (λ e. cc e) tt l.lives
+  After next = AreLawful (newest_first (h ++ next.entries)) → HadCause b (newest_first (h ++ next.entries))
+      → KeepsSends t (h ++ next.entries)
 
   served_sends : (u : TaskNo) (p : AnyProgram) → is_alive now.kernel u ≡ true
       → slice_get now.programs (u.0 - 1) ≡ Some p → After (step_served now u p (serve now.kernel u (wanted p)))
-  served_sends u p alive at l =
+  served_sends u p alive at l had =
       let s : Served = serve now.kernel u (wanted p) in
       let own : List Entry = entries p s.outcome in
-      let whole : List Entry = entry.Head u (wanted p) ∷ (s.entries ++ (entry.Outcome s.outcome ∷ own)) in
-      let parts : served_entries u (wanted p) s ++ own ≡ whole =
+      let parts : served_entries u (wanted p) s ++ own
+      ≡ entry.Head u (wanted p) ∷ (s.entries ++ (entry.Outcome s.outcome ∷ own)) =
       ap (λ (es : List Entry). entry.Head u (wanted p) ∷ es)
       (append_assoc s.entries (entry.Outcome s.outcome ∷ []) own) in
-      let m : AreLawful b (h ++ whole) = subst (λ (es : List Entry). AreLawful b (h ++ es)) parts l in
       let fits : ProgramFits h u.0 p =
       subst (λ (n : ℕ). ProgramFits h n p) (number_of now.kernel.tasks.alive u.0 alive)
       (told.programs (u.0 - 1) p at) in
       subst (λ (es : List Entry). KeepsSends t (h ++ es)) (sym parts)
       (step_kept b t h kept u (wanted p) s.entries s.outcome own (serve_is_honest now.kernel u (wanted p))
-      (program_owns h u.0 p s.outcome fits) (program_sends p s.outcome) m.lives m.causes)
+      (program_owns h u.0 p s.outcome fits) (program_sends p s.outcome)
+      (subst (λ (es : List Entry). AreLawful (newest_first (h ++ es))) parts l)
+      (subst (λ (es : List Entry). HadCause b (newest_first (h ++ es))) parts had))
 
-  stepped : (u : TaskNo) (x : Bool) (o : Option AnyProgram) → is_alive now.kernel u ≡ x
-      → slice_get now.programs (u.0 - 1) ≡ o → After (step_by now u (if x then o else None))
-  stepped u true None alive at = gone_sends u
-  stepped u true (Some p) alive at = served_sends u p alive at
-  stepped u false o alive at = gone_sends u
+  made_sends : (o : Option TaskNo) (limit : ℕ)
+      → AreLawful (newest_first (h ++ (spawning now.kernel (next_task now.kernel) limit o).entries))
+      → KeepsSends t (h ++ (spawning now.kernel (next_task now.kernel) limit o).entries)
+  made_sends None limit l =
+      quiet_kept b t h kept (entry.Spawn (next_task now.kernel)) (tale.Spawn (next_task now.kernel).0) [] refl
+      (λ n. refl) (λ n. refl) (λ n g. g) (λ e. cc e) tt l
+  made_sends (Some u) limit l =
+      quiet_kept b t h kept (entry.Spawn (next_task now.kernel)) (tale.Spawn (next_task now.kernel).0) _ refl
+      (λ n. refl) (λ n. refl) (λ n g. g) (λ e. cc e) (refl, tt) l
 
-  ended : (u : TaskNo) (x : Bool) → After (if x then killed now u (kill_event now.kernel u) else gone now u)
-  ended u true l =
+  turned_sends : (e : Event) (next : RunTransition) → Happens now e next → After next
+  turned_sends e next (happens.gone u) = λ l _.
+      quiet_kept b t h kept (entry.Gone u) (tale.Gone u.0) [] refl (λ n. refl) (λ n. refl) (λ n g. g)
+      (λ e. cc e) tt l
+  turned_sends e next (happens.served u p alive at) = served_sends u p alive at
+  turned_sends e next (happens.killed u _) = λ l _.
       quiet_kept b t h kept (entry.Kill u) (tale.Kill u.0) (kill_event now.kernel u).entries refl (λ n. refl)
-      (λ n. refl) (λ n g. g) (λ e. cc e) (kill_is_honest now.kernel u) l.lives
-  ended u false l = gone_sends u l
-
-  hung_up : (u : TaskNo) (phone : ℕ) (x : Bool)
-      → After (if x then request_served now u (request.Hangup phone)
-      (serve now.kernel u (request.Hangup phone)) else gone now u)
-  hung_up u phone true l =
+      (λ n. refl) (λ n g. g) (λ e. cc e) (kill_is_honest now.kernel u) l
+  turned_sends e next (happens.hung_up u phone _) = λ l had.
       let s : Served = serve now.kernel u (request.Hangup phone) in
       step_kept b t h kept u (request.Hangup phone) s.entries s.outcome []
-      (serve_is_honest now.kernel u (request.Hangup phone)) tt tt l.lives l.causes
-  hung_up u phone false l = gone_sends u l
+      (serve_is_honest now.kernel u (request.Hangup phone)) tt tt l had
+  turned_sends e next (happens.nothing _ _) = λ _ _. subst (KeepsSends t) (sym (append-nil h)) kept
+  turned_sends e next (happens.spawned place template _ _) = λ l _.
+      made_sends (named now.kernel now.names) template.limit l
 
-  made_by : (o : Option TaskNo) (plan : TaskPlan)
-      → AreLawful b (h ++ (spawning now.kernel (next_task now.kernel) plan.limit o).entries)
-      → KeepsSends t (h ++ (spawning now.kernel (next_task now.kernel) plan.limit o).entries)
-  made_by None plan l =
-      quiet_kept b t h kept (entry.Spawn (next_task now.kernel)) (tale.Spawn (next_task now.kernel).0) [] refl
-      (λ n. refl) (λ n. refl) (λ n g. g) (λ e. cc e) tt l.lives
-  made_by (Some u) plan l =
-      quiet_kept b t h kept (entry.Spawn (next_task now.kernel)) (tale.Spawn (next_task now.kernel).0) _ refl
-      (λ n. refl) (λ n. refl) (λ n g. g) (λ e. cc e) (refl, tt) l.lives
-
-  made : (o : Option TaskPlan) → After (spawn_by now o)
-  made None l = subst (KeepsSends t) (sym (append-nil h)) kept
-  made (Some plan) l = made_by (named now.kernel now.names) plan l
-
-  turn_sends : (e : Event) → After (turn now e)
-  turn_sends (Step u) = stepped u (is_alive now.kernel u) (slice_get now.programs (u.0 - 1)) refl refl
-  turn_sends (Kill u) = ended u (is_alive now.kernel u)
-  turn_sends (Hangup u phone) = hung_up u phone (is_alive now.kernel u)
-  turn_sends (Spawn place) = made (slice_get now.templates place)
-
--- ---- between two events
-
--- what holds of a run so far
-record Holds (b : Beginning) (h : List Entry) (now : RunState) : Type 0 where
-  pub told : RunFits b h now
-  pub causes : CausesKept b h now.kernel
-  pub sends : (t : ℕ) → KeepsSends t h
-
-holds_next : (b : Beginning) (h : List Entry) (now : RunState) → Holds b h now → (e : Event) → MayHappen now e
-    → Holds b (h ++ (turn now e).entries) (turn now e).state
-holds_next b h now it e may =
-    let next : RunTransition = turn now e in
-    let told : RunFits b (h ++ next.entries) next.state = turn_fits b h now it.told e may in
-    let causes : CausesKept b (h ++ next.entries) next.state.kernel = turn_kept b h now it.told it.causes e in
-    record {
-      told = told;
-      causes = causes;
-      sends = λ t. turn_sends b h now it.told t (it.sends t) e
-          (lawful_told b (h ++ next.entries) next.state told causes);
-    }
-
-holds_after : (b : Beginning) (h : List Entry) (now : RunState) → Holds b h now → (events : List Event)
-    → MayAllHappen now events → Holds b (h ++ run_from now events) (state_after now events)
-holds_after b h now it [] may = subst (λ (es : List Entry). Holds b es now) (sym (append-nil h)) it
-holds_after b h now it (e ∷ events) may =
-    let next : RunTransition = turn now e in
-    subst (λ (es : List Entry). Holds b es (state_after next.state events))
-    (append_assoc h next.entries (run_from next.state events))
-    (holds_after b (h ++ next.entries) next.state (holds_next b h now it e may.0) events (later_may now e events may))
+abbrev AllKeepSends : List Entry → RunState → Type 0
+AllKeepSends h now = (t : ℕ) → KeepsSends t h
 
 -- ---- who waits
 
@@ -191,12 +130,8 @@ not_back p n caller (Some c) told is = never c.from.task.0 c.place (sym is ∙ t
   never u (place.Answers t) e = cc
 
 on_its_way_is : (t : ℕ) (l : Life) → ((caller : ℕ) → l ≡ Back caller → ⊥) → IsOnItsWay t l → IsStillToBeAnswered t l
-on_its_way_is t Nowhere not h = h
 on_its_way_is t (Back u) not h = absurd (not u refl)
-on_its_way_is t (Incoming u s) not h = h
-on_its_way_is t (Dispatched u s) not h = h
-on_its_way_is t (Answers u) not h = h
-on_its_way_is t Over not h = h
+on_its_way_is t _ not h = h
 
 alive_not_ended : (alive : List Bool) (t : ℕ) → alive_in alive t ≡ true → is_ended alive t ≡ false
 alive_not_ended alive t h = by_number (t == 0) h where
@@ -210,46 +145,37 @@ alive_not_ended alive t h = by_number (t == 0) h where
   by_number true g = refl
   by_number false g = by_mark (slice_get alive (t - 1)) g
 
-waits_live : (b : Beginning) (h : List Entry) (now : RunState) → Holds b h now → (i : ℕ) (p : AsyncTask)
-    → slice_get now.programs i ≡ Some (any.Async p) → alive_in now.kernel.tasks.alive (suc i) ≡ true
+waits_live : (b : Beginning) (h : List Entry) (now : RunState) → IsCaused b h now → AllKeepSends h now → (i : ℕ)
+    (p : AsyncTask) → slice_get now.programs i ≡ Some (any.Async p) → alive_in now.kernel.tasks.alive (suc i) ≡ true
     → WaitsForLiveCalls (suc i) (past h) p.state
-waits_live b h now it i p at alive f n blocked =
+waits_live b h now it sends i p at alive f n blocked =
     let t : ℕ = suc i in
     let q : List Entry = newest_first h in
     let fits = (it.told.programs i (any.Async p) at).0 in
     let awaited = fits.wakes.wakes f (why.Answer n) blocked in
     let d : Waiter = record { fibril = f.0; slot = awaited.0 } in
-    let lawful : AreLawful b h = lawful_told b h now it.told it.causes in
     let past_is : past h ≡ tales q = tales_are h [] in
     let lives : is_killed t (tales q) ≡ false =
     ap (is_killed t) (sym past_is) ∙ it.told.kernel.told.ended t
     ∙ alive_not_ended now.kernel.tasks.alive t alive in
     let made : IsMadeBy t n.0 (making n.0 q) =
-    (it.sends t).sends n.0 d (fits.fits.answers.was_sent n.0 d awaited.1) in
-    elim (own_call b t n.0 q lawful.lives lawful.causes lives made) [
+    (sends t).sends n.0 d (fits.fits.answers.was_sent n.0 d awaited.1) in
+    elim (own_call b t n.0 q (lives_told b h now it) it.causes.fit.had lives made) [
       | inl on ↦ on_its_way_is t (life n.0 (past h))
           (λ caller is. not_back (past h) n.0 caller (call_at now.kernel.calls n.0)
           (it.told.kernel.told.calls n.0) is)
           (subst (λ (x : List Tale). IsOnItsWay t (life n.0 x)) (sym past_is) on)
       | inr over ↦
-          absurd (false≢true (sym (fits.fits.answers.not_given n.0 d awaited.1) ∙ (it.sends t).gives n.0 over.1))
+          absurd (false≢true (sym (fits.fits.answers.not_given n.0 d awaited.1) ∙ (sends t).gives n.0 over.1))
     ]
-
--- what a schedule may ask, so may a first part of it
-pub may_first : (tasks templates : ℕ) (done later : List Event) → MayAllCome tasks templates (done ++ later)
-    → MayAllCome tasks templates done
-may_first tasks templates [] later may = tt
-may_first tasks templates (e ∷ done) later may = (may.0, may_first (tasks_after tasks e) templates done later may.1)
 
 pub waits_are_live : (plan : Plan) (events : List Event) → IsSound plan
     → MayAllCome (length plan.tasks) (length plan.templates) events → WaitsAreForLiveCalls plan events
 waits_are_live plan events sound may done later is i p at alive =
     let b : Beginning = beginning plan in
-    let told : RunFits b [] (start plan) = start_told plan sound in
-    let all : MayAllCome (length plan.tasks) (length plan.templates) (done ++ later) =
-    subst (λ (es : List Event). MayAllCome (length plan.tasks) (length plan.templates) es) is may in
-    let it : Holds b (run plan done) (state_after (start plan) done) =
-    holds_after b [] (start plan)
-    (record { told = told; causes = start_caused plan told; sends = λ t. start_sends t }) done
-    (may_from plan done (start plan) refl (may_first (length plan.tasks) (length plan.templates) done later all)) in
-    waits_live b (run plan done) (state_after (start plan) done) it i p at alive
+    let it = caused_run_keeps plan done sound (may_part plan events done later is may) AllKeepSends
+    (λ h now e so comes sends t.
+    turned_sends b h now so.told t (sends t) e (turn now e) (what_happens now e)
+    (lives_told b (h ++ (turn now e).entries) (turn now e).state comes) comes.causes.fit.had)
+    (λ t. start_sends t) in
+    waits_live b (run plan done) (state_after (start plan) done) it.0 it.1 i p at alive

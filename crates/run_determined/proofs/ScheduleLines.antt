@@ -1,7 +1,8 @@
 -- The lines of a schedule do what they name.
-use Rattle.std.proofs.Common.{◌≡◌, ℕ, zero, suc, ◌-◌, ◌<◌, ◌≤◌, Bool, true, false, List, [], ◌∷◌, ◌++◌, length, Option, None, Some, refl, ap, sym, subst, ◌∙◌, arith}
+use Rattle.std.proofs.Common.{◌≡◌, ℕ, zero, suc, ◌-◌, ◌<◌, ◌≤◌, Bool, true, false, inl, inr, List, [], ◌∷◌, ◌++◌, length, Option, None, Some, refl, ap, sym, subst, ◌∙◌, arith}
 use Rattle.std.specs.Prelude.{if◌then◌else◌, slice_get, All, map}
-use Rattle.std.proofs.lemmas.Option.{get_or_from_slice_get, slice_get_within}
+use Rattle.std.specs.Option.{option_map}
+use Rattle.std.proofs.lemmas.Option.{slice_get_cases, slice_get-map}
 use Rattle.ipc_ids.specs.declared.numbers.TaskNo.{TaskNo}
 use Rattle.ipc_ids.specs.declared.message.Request.TheVariants as request
 use Rattle.ipc_ids.specs.declared.message.Event.{Event}
@@ -28,32 +29,8 @@ use Rattle.task_system.specs.Any.{wanted}
 use Rattle.task_system.specs.Run.{RunState, RunTransition, start, run, state_after, turn, step_by, step_served, killed, spawn_by, spawned, request_served, gone, program_by, ops_of, service_of}
 use Rattle.schedule_replay.specs.RunHistory.{beginning, RunFits}
 use Rattle.schedule_replay.proofs.RunHistories.{part_told}
-use Rattle.run_determined.specs.ScheduleLines.{AreFirstOps, IsNewProgram, IsMadeFrom, SpawnsMakeTheirTemplate, IsHungUpFor, IsHangupLine, HangupLinesHangUpTheirPhone, IsServedFor, IsStepLine, StepsServeTheirTask, IsKilledFor, IsKillLine, KillLinesKillTheirTask}
-
--- ---- the templates stay
-
-spawn_keeps : (now : RunState) (o : Option TaskPlan) → (spawn_by now o).state.templates ≡ now.templates
-spawn_keeps now None = refl
-spawn_keeps now (Some plan) = refl
-
-step_keeps : (now : RunState) (t : TaskNo) (o : Option AnyProgram) → (step_by now t o).state.templates ≡ now.templates
-step_keeps now t None = refl
-step_keeps now t (Some p) = refl
-
-choice_keeps : (now : RunState) (b : Bool) (x y : RunTransition) → x.state.templates ≡ now.templates
-    → y.state.templates ≡ now.templates → (if b then x else y).state.templates ≡ now.templates
-choice_keeps now true x y h g = h
-choice_keeps now false x y h g = g
-
-pub turn_keeps : (now : RunState) (e : Event) → (turn now e).state.templates ≡ now.templates
-turn_keeps now (Step t) = step_keeps now t _
-turn_keeps now (Kill t) = choice_keeps now (is_alive now.kernel t) _ _ refl refl
-turn_keeps now (Hangup t phone) = choice_keeps now (is_alive now.kernel t) _ _ refl refl
-turn_keeps now (Spawn place) = spawn_keeps now (slice_get now.templates place)
-
-templates_stay : (now : RunState) (events : List Event) → (state_after now events).templates ≡ now.templates
-templates_stay now [] = refl
-templates_stay now (e ∷ events) = templates_stay (turn now e).state events ∙ turn_keeps now e
+use Rattle.run_determined.proofs.ByEvent.{templates_stay, all_at}
+use Rattle.run_determined.specs.ScheduleLines.{IsGone, AreFirstOps, IsNewProgram, IsMadeFrom, SpawnsMakeTheirTemplate, IsHungUpFor, IsHangupLine, HangupLinesHangUpTheirPhone, IsServedFor, IsStepLine, StepsServeTheirTask, IsKilledFor, IsKillLine, KillLinesKillTheirTask}
 
 -- ---- an event of a schedule may come where it does
 
@@ -64,9 +41,10 @@ may_there tasks templates (d ∷ done) later e may = may_there (tasks_after task
 
 there : (templates : List TaskPlan) (place : ℕ) → place < length templates
     → (template : TaskPlan) × (slice_get templates place ≡ Some template)
-there [] place lt = absurd (omega (arith, lt))
-there (template ∷ templates) zero lt = (template, refl)
-there (template ∷ templates) (suc place) lt = there templates place (omega (arith, lt))
+there templates place lt = elim (slice_get_cases templates place).1 [
+  | inl h ↦ (h.0, h.2)
+  | inr h ↦ absurd (let past = h.0 in omega (arith, lt, past))
+]
 
 -- ---- a program before its first step
 
@@ -118,30 +96,13 @@ made_from now template names same sound some may = record {
   templates = refl;
 }
 
-sound_template : (templates : List TaskPlan) (place : ℕ) (template : TaskPlan) → All IsSoundTask templates
-    → slice_get templates place ≡ Some template → IsSoundTask template
-sound_template templates place template sound at =
-    subst IsSoundTask (get_or_from_slice_get templates place template template at)
-    (sound place template (slice_get_within templates place template at))
-
-abbrev kind_in : Option TaskPlan → Option Kind
-kind_in None = None
-kind_in (Some x) = Some x.kind
-
-kind_at : (templates : List TaskPlan) (place : ℕ) (template : TaskPlan) → slice_get templates place ≡ Some template
-    → slice_get (map (λ (x : TaskPlan). x.kind) templates) place ≡ Some template.kind
-kind_at [] place template at = absurd (cc at)
-kind_at (x ∷ templates) zero template at = ap kind_in at
-kind_at (x ∷ templates) (suc place) template at = kind_at templates place template at
-
 kind_may : (templates : List TaskPlan) (place : ℕ) (template : TaskPlan)
     → All IsRawOrAsync (map (λ (x : TaskPlan). x.kind) templates) → slice_get templates place ≡ Some template
     → IsRawOrAsync template.kind
 kind_may templates place template may at =
-    let kinds : List Kind = map (λ (x : TaskPlan). x.kind) templates in
-    let is : slice_get kinds place ≡ Some template.kind = kind_at templates place template at in
-    subst IsRawOrAsync (get_or_from_slice_get kinds place template.kind template.kind is)
-    (may place template.kind (slice_get_within kinds place template.kind is))
+    let kind : TaskPlan → Kind = λ x. x.kind in
+    all_at IsRawOrAsync (map kind templates) place template.kind may
+    (slice_get-map kind templates place ∙ ap (option_map kind) at)
 
 module _ (plan : Plan) (events : List Event) (sound : IsSound plan)
     (may : MayAllCome (length plan.tasks) (length plan.templates) events) where
@@ -167,7 +128,7 @@ module _ (plan : Plan) (events : List Event) (sound : IsSound plan)
         found.1,
         subst (λ (o : Option TaskPlan). IsMadeFrom found.0 (service_of plan.tasks) now (spawn_by now o)) (sym at)
             (made_from now found.0 (service_of plan.tasks) fits.names fits.kernel.sound
-            (sound_template plan.templates place found.0 sound.sound_templates found.1).some_phones
+            (all_at IsSoundTask plan.templates place found.0 sound.sound_templates found.1).some_phones
             (kind_may plan.templates place found.0 sound.raw_or_async found.1)),
       )
 
@@ -184,37 +145,28 @@ hung_up_for now t p = record {
   entries = refl;
 }
 
-true_false : (b : Bool) → b ≡ true → b ≡ false → ⊥
-true_false b x y = cc
+-- a line on a task that has ended does nothing
+nothing_for : (now : RunState) (t : TaskNo) → IsGone t now (gone now t)
+nothing_for now t = record { nothing = refl; entries = refl }
 
 hangup_line : (now : RunState) (t : TaskNo) (p : ℕ) → IsHangupLine t p now (turn now (Hangup t p))
-hangup_line now t p = by_mark (is_alive now.kernel t) refl where
-  by_mark : (b : Bool) → is_alive now.kernel t ≡ b
-      → IsHangupLine t p now
-      (if b then request_served now t (request.Hangup p) (serve now.kernel t (request.Hangup p)) else gone now t)
-  by_mark true is =
-      record {
-        living = λ _. hung_up_for now t p;
-        ended = λ ended. absurd (true_false (is_alive now.kernel t) is ended);
-      }
-  by_mark false is =
-      record {
-        living = λ lives. absurd (true_false (is_alive now.kernel t) lives is);
-        ended = λ _. record { nothing = refl; entries = refl };
-      }
+hangup_line now t p =
+    let line : Bool → RunTransition = λ b.
+    if b then request_served now t (request.Hangup p) (serve now.kernel t (request.Hangup p)) else gone now t in
+    record {
+      living = λ lives. subst (λ (b : Bool). IsHungUpFor t p now (line b)) (sym lives) (hung_up_for now t p);
+      ended = λ ended. subst (λ (b : Bool). IsGone t now (line b)) (sym ended) (nothing_for now t);
+    }
 
 pub hangups_hang_up : (plan : Plan) (events : List Event) → HangupLinesHangUpTheirPhone plan events
 hangups_hang_up plan events done later t p is = hangup_line (state_after (start plan) done) t p
 
 -- ---- a line that gives a task its turn, and one that kills a task
 
-lawful_kernel : IsKernel serve kill_event spawn_event
-lawful_kernel = kernel_is_lawful
-
 served_for : (now : RunState) (t : TaskNo) (p : AnyProgram) → kernel.IsSound now.kernel → is_alive now.kernel t ≡ true
     → IsServedFor t p now (step_served now t p (serve now.kernel t (wanted p)))
 served_for now t p sound alive =
-    let laws : IsKernel serve kill_event spawn_event = lawful_kernel in
+    let laws : IsKernel serve kill_event spawn_event = kernel_is_lawful in
     record {
       served = serve now.kernel t (wanted p);
       lawful = laws.requests now.kernel t (wanted p) (record { sound = sound; alive = alive });
@@ -225,25 +177,20 @@ served_for now t p sound alive =
     }
 
 step_line : (now : RunState) (t : TaskNo) → kernel.IsSound now.kernel → IsStepLine t now (turn now (Step t))
-step_line now t sound = by_mark (is_alive now.kernel t) refl where
-  by_mark : (b : Bool) → is_alive now.kernel t ≡ b
-      → IsStepLine t now (step_by now t (if b then slice_get now.programs (t.0 - 1) else None))
-  by_mark true is =
-      record {
-        living = λ p lives at. subst (λ (o : Option AnyProgram). IsServedFor t p now (step_by now t o)) (sym at)
-            (served_for now t p sound is);
-        ended = λ ended. absurd (true_false (is_alive now.kernel t) is ended);
-      }
-  by_mark false is =
-      record {
-        living = λ p lives at. absurd (true_false (is_alive now.kernel t) lives is);
-        ended = λ _. record { nothing = refl; entries = refl };
-      }
+step_line now t sound =
+    let line : Bool → RunTransition = λ b.
+    step_by now t (if b then slice_get now.programs (t.0 - 1) else None) in
+    record {
+      living = λ p lives at. subst (λ (b : Bool). IsServedFor t p now (line b)) (sym lives)
+          (subst (λ (o : Option AnyProgram). IsServedFor t p now (step_by now t o)) (sym at)
+          (served_for now t p sound lives));
+      ended = λ ended. subst (λ (b : Bool). IsGone t now (line b)) (sym ended) (nothing_for now t);
+    }
 
 killed_for : (now : RunState) (t : TaskNo) → kernel.IsSound now.kernel → is_alive now.kernel t ≡ true
     → IsKilledFor t now (killed now t (kill_event now.kernel t))
 killed_for now t sound alive =
-    let laws : IsKernel serve kill_event spawn_event = lawful_kernel in
+    let laws : IsKernel serve kill_event spawn_event = kernel_is_lawful in
     record {
       step = kill_event now.kernel t;
       lawful = laws.killed now.kernel t (record { sound = sound; alive = alive });
@@ -254,19 +201,12 @@ killed_for now t sound alive =
     }
 
 kill_line : (now : RunState) (t : TaskNo) → kernel.IsSound now.kernel → IsKillLine t now (turn now (Kill t))
-kill_line now t sound = by_mark (is_alive now.kernel t) refl where
-  by_mark : (b : Bool) → is_alive now.kernel t ≡ b
-      → IsKillLine t now (if b then killed now t (kill_event now.kernel t) else gone now t)
-  by_mark true is =
-      record {
-        living = λ _. killed_for now t sound is;
-        ended = λ ended. absurd (true_false (is_alive now.kernel t) is ended);
-      }
-  by_mark false is =
-      record {
-        living = λ lives. absurd (true_false (is_alive now.kernel t) lives is);
-        ended = λ _. record { nothing = refl; entries = refl };
-      }
+kill_line now t sound =
+    let line : Bool → RunTransition = λ b. if b then killed now t (kill_event now.kernel t) else gone now t in
+    record {
+      living = λ lives. subst (λ (b : Bool). IsKilledFor t now (line b)) (sym lives) (killed_for now t sound lives);
+      ended = λ ended. subst (λ (b : Bool). IsGone t now (line b)) (sym ended) (nothing_for now t);
+    }
 
 pub steps_serve : (plan : Plan) (events : List Event) → IsSound plan
     → MayAllCome (length plan.tasks) (length plan.templates) events → StepsServeTheirTask plan events

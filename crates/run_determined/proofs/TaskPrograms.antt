@@ -3,10 +3,10 @@ use Rattle.std.proofs.Common.{◌≡◌, ℕ, zero, suc, ◌+◌, ◌-◌, Bool,
 use Rattle.std.specs.Prelude.{◌==◌, if◌then◌else◌, slice_get, slice_set}
 use Rattle.std.specs.Option.{option_to_list}
 use Rattle.std.proofs.lemmas.List.{append-nil, length-set}
+use Rattle.std.proofs.lemmas.Option.{same_Some, slice_get_within}
 use Rattle.ipc_ids.specs.declared.numbers.TaskNo.{TaskNo}
 use Rattle.ipc_ids.specs.declared.message.Outcome.{Outcome}
 use Rattle.ipc_ids.specs.declared.message.Outcome.TheVariants as got
-use Rattle.ipc_ids.specs.declared.message.Request.TheVariants as request
 use Rattle.ipc_ids.specs.declared.message.Event.{Event}
 use Rattle.ipc_ids.specs.declared.message.Event.TheVariants.{Step, Kill, Hangup, Spawn}
 use Rattle.ipc_ids.specs.declared.op.Op.{Op}
@@ -17,24 +17,24 @@ use Rattle.script_lines.specs.declared.plan.TaskPlan.{TaskPlan}
 use Rattle.script_lines.specs.Plan.{Plan}
 use Rattle.script_lines.specs.Sound.{IsSound}
 use Rattle.script_reader.specs.Schedule.{MayAllCome}
-use Rattle.cleanup.specs.State.{is_alive}
-use Rattle.kernel_core.specs.Kernel.{serve, kill_event, next_task}
+use Rattle.kernel_core.specs.Kernel.{serve, next_task}
 use Rattle.raw_program.specs.Raw as raw
 use Rattle.raw_program.specs.Raw.{RawState}
 use Rattle.async_task.specs.Steps.{bare_task}
 use Rattle.task_system.specs.declared.any.AnyProgram.{AnyProgram}
 use Rattle.task_system.specs.declared.any.AnyProgram.TheVariants as any
 use Rattle.task_system.specs.Any.{wanted, after}
-use Rattle.task_system.specs.Run.{RunState, RunTransition, program_by, program_of, programs_from, start, state_after, turn, step_by, request_served, killed, gone, spawn_by, MayAllHappen}
+use Rattle.task_system.specs.Run.{RunState, RunTransition, program_by, program_of, programs_from, start, state_after, turn, spawn_by, MayAllHappen}
 use Rattle.schedule_replay.specs.RunHistory.{beginning, RunFits}
-use Rattle.schedule_replay.proofs.RunHistories.{turn_fits, start_told, later_may, may_from}
+use Rattle.schedule_replay.proofs.RunHistories.{turn_fits, start_told, turn_templates, later_may, may_from}
 use Rattle.route_laws.specs.Leads.{Beginning}
 use Rattle.ipc_ids.specs.declared.entry.Entry.{Entry}
 use Rattle.run_determined.specs.ScheduleLines.{AreFirstOps}
 use Rattle.run_determined.specs.TaskPrograms.{plans_after, IsProgramOf, RunThePlans, TasksRunTheirPlans}
-use Rattle.run_determined.proofs.AsyncStays.{step_still}
-use Rattle.run_determined.proofs.LiveRuns.{may_first}
-use Rattle.run_determined.proofs.ScheduleLines.{bodies_still, first_ops, turn_keeps}
+use Rattle.run_determined.proofs.AsyncSteps.{step_still}
+use Rattle.run_determined.proofs.ByEvent as happens
+use Rattle.run_determined.proofs.ByEvent.{Happens, what_happens, may_part}
+use Rattle.run_determined.proofs.ScheduleLines.{bodies_still, first_ops}
 
 -- ---- a raw program keeps its operations
 
@@ -72,23 +72,12 @@ after_keeps : (t : ℕ) (plan : TaskPlan) (k : Kind) (p : AnyProgram) (o : Outco
     → IsProgramOf t plan k (after p o)
 after_keeps t plan kind.Raw (any.Raw p) o it =
     subst (λ (ops : List Op). AreFirstOps ops plan.bodies) (sym (raw_ops p o)) it
-after_keeps t plan kind.Raw (any.Naming p) o it = absurd it
-after_keeps t plan kind.Raw (any.Async p) o it = absurd it
-after_keeps t plan kind.Raw (any.Block p) o it = absurd it
 after_keeps t plan kind.Async (any.Async p) o it =
     let still = step_still p.state o in
     (ap (λ (me : TaskNo). me.0) still.0 ∙ it.0, still.1 ∙ it.1)
-after_keeps t plan kind.Async (any.Raw p) o it = absurd it
-after_keeps t plan kind.Async (any.Naming p) o it = absurd it
-after_keeps t plan kind.Async (any.Block p) o it = absurd it
 after_keeps t plan kind.Naming (any.Naming p) o it = tt
-after_keeps t plan kind.Naming (any.Raw p) o it = absurd it
-after_keeps t plan kind.Naming (any.Async p) o it = absurd it
-after_keeps t plan kind.Naming (any.Block p) o it = absurd it
 after_keeps t plan kind.Block (any.Block p) o it = tt
-after_keeps t plan kind.Block (any.Raw p) o it = absurd it
-after_keeps t plan kind.Block (any.Naming p) o it = absurd it
-after_keeps t plan kind.Block (any.Async p) o it = absurd it
+after_keeps t plan _ _ o it = absurd it
 
 -- before its first step it is that
 new_is : (t : ℕ) (plan : TaskPlan) (k : Kind) → IsProgramOf t plan k (program_by (record { 0 = t }) plan k)
@@ -105,9 +94,7 @@ pub at_set : (ps : List AnyProgram) (i j : ℕ) (x p : AnyProgram) → slice_get
     → (j ≡ i) × (p ≡ x) × ((q : AnyProgram) × (slice_get ps j ≡ Some q)) ⊎ (slice_get ps j ≡ Some p)
 at_set [] i zero x p h = absurd (cc h)
 at_set [] i (suc j) x p h = absurd (cc h)
-at_set (q ∷ ps) zero zero x p h = inl (refl, sym (some_is x p h), (q, refl)) where
-  some_is : (a b : AnyProgram) → Some a ≡ Some b → a ≡ b
-  some_is a b e = cc e
+at_set (q ∷ ps) zero zero x p h = inl (refl, sym (same_Some x p h), (q, refl))
 at_set (q ∷ ps) zero (suc j) x p h = inr h
 at_set (q ∷ ps) (suc i) zero x p h = inr h
 at_set (q ∷ ps) (suc i) (suc j) x p h =
@@ -116,17 +103,13 @@ at_set (q ∷ ps) (suc i) (suc j) x p h =
 module _ {A : Type 0} where
   pub at_last : (xs : List A) (x : A) (j : ℕ) (y : A) → slice_get (xs ++ x ∷ []) j ≡ Some y
       → (slice_get xs j ≡ Some y) ⊎ ((j ≡ length xs) × (x ≡ y))
-  at_last [] x zero y h = inr (refl, some_is x y h) where
-    some_is : (a b : A) → Some a ≡ Some b → a ≡ b
-    some_is a b e = cc e
+  at_last [] x zero y h = inr (refl, same_Some x y h)
   at_last [] x (suc j) y h = absurd (cc h)
   at_last (z ∷ xs) x zero y h = inl h
   at_last (z ∷ xs) x (suc j) y h = elim (at_last xs x j y h) [ inl e ↦ inl e | inr e ↦ inr (ap suc e.0, e.1) ]
 
   within : (xs : List A) (j : ℕ) (y : A) → slice_get xs j ≡ Some y → j ≡ length xs → ⊥
-  within [] j y h e = cc h
-  within (z ∷ xs) zero y h e = omega (arith, e)
-  within (z ∷ xs) (suc j) y h e = within xs j y h (omega (arith, e))
+  within xs j y h e = let few = slice_get_within xs j y h in omega (arith, few, e)
 
 -- ---- each event
 
@@ -166,53 +149,37 @@ made_plans plans ps template t number it = record {
   ];
 }
 
-module _ (now : RunState) (plans : List TaskPlan) (it : RunThePlans plans now.programs) where
-  stepped : (u : TaskNo) (x : Bool) (o : Option AnyProgram) → slice_get now.programs (u.0 - 1) ≡ o
-      → RunThePlans plans (step_by now u (if x then o else None)).state.programs
-  stepped u true None at = it
-  stepped u true (Some p) at =
-      served_plans plans now.programs (u.0 - 1) p (serve now.kernel u (wanted p)).outcome at it
-  stepped u false o at = it
-
-  ended : (u : TaskNo) (x : Bool)
-      → RunThePlans plans (if x then killed now u (kill_event now.kernel u) else gone now u).state.programs
-  ended u true = it
-  ended u false = it
-
-  hung_up : (u : TaskNo) (phone : ℕ) (x : Bool)
-      → RunThePlans plans
-      (if x then request_served now u (request.Hangup phone)
-      (serve now.kernel u (request.Hangup phone)) else gone now u).state.programs
-  hung_up u phone true = it
-  hung_up u phone false = it
-
-  made : (o : Option TaskPlan) → length now.programs ≡ length now.kernel.tasks.alive
-      → RunThePlans (plans ++ option_to_list o) (spawn_by now o).state.programs
-  made None paired = subst (λ (ps : List TaskPlan). RunThePlans ps now.programs) (sym (append-nil plans)) it
-  made (Some template) paired =
-      made_plans plans now.programs template (next_task now.kernel).0 (omega (arith, paired)) it
-
 -- the plans after one event
 abbrev next_plans : List TaskPlan → List TaskPlan → Event → List TaskPlan
 next_plans templates plans (Spawn place) = plans ++ option_to_list (slice_get templates place)
 next_plans templates plans _ = plans
 
-turn_plans : (now : RunState) (plans : List TaskPlan) → RunThePlans plans now.programs
-    → length now.programs ≡ length now.kernel.tasks.alive → (e : Event)
-    → RunThePlans (next_plans now.templates plans e) (turn now e).state.programs
-turn_plans now plans it paired (Step u) =
-    stepped now plans it u (is_alive now.kernel u) (slice_get now.programs (u.0 - 1)) refl
-turn_plans now plans it paired (Kill u) = ended now plans it u (is_alive now.kernel u)
-turn_plans now plans it paired (Hangup u phone) = hung_up now plans it u phone (is_alive now.kernel u)
-turn_plans now plans it paired (Spawn place) = made now plans it (slice_get now.templates place) paired
+module _ (now : RunState) (plans : List TaskPlan) (it : RunThePlans plans now.programs)
+    (paired : length now.programs ≡ length now.kernel.tasks.alive) where
+  turned : (e : Event) (next : RunTransition) → Happens now e next → ((place : ℕ) → e ≡ Spawn place → ⊥)
+      → RunThePlans plans next.state.programs
+  turned e next (happens.served u p _ at) not =
+      served_plans plans now.programs (u.0 - 1) p (serve now.kernel u (wanted p)).outcome at it
+  turned e next (happens.nothing place is) not = absurd (not place is)
+  turned e next (happens.spawned place template is _) not = absurd (not place is)
+  turned e next _ not = it
+
+  made : (o : Option TaskPlan) → RunThePlans (plans ++ option_to_list o) (spawn_by now o).state.programs
+  made None = subst (λ (ps : List TaskPlan). RunThePlans ps now.programs) (sym (append-nil plans)) it
+  made (Some template) = made_plans plans now.programs template (next_task now.kernel).0 (omega (arith, paired)) it
+
+  turn_plans : (e : Event) → RunThePlans (next_plans now.templates plans e) (turn now e).state.programs
+  turn_plans (Step u) = turned (Step u) (turn now (Step u)) (what_happens now (Step u)) (λ place e. cc e)
+  turn_plans (Kill u) = turned (Kill u) (turn now (Kill u)) (what_happens now (Kill u)) (λ place e. cc e)
+  turn_plans (Hangup u phone) =
+      turned (Hangup u phone) (turn now (Hangup u phone)) (what_happens now (Hangup u phone)) (λ place e. cc e)
+  turn_plans (Spawn place) = made (slice_get now.templates place)
 
 first_event : (templates plans : List TaskPlan) (e : Event) (events : List Event) (ps : List AnyProgram)
     → RunThePlans (plans_after templates (next_plans templates plans e) events) ps
     → RunThePlans (plans_after templates plans (e ∷ events)) ps
-first_event templates plans (Step u) events ps h = h
-first_event templates plans (Kill u) events ps h = h
-first_event templates plans (Hangup u phone) events ps h = h
 first_event templates plans (Spawn place) events ps h = h
+first_event templates plans _ events ps h = h
 
 -- all events
 plans_kept : (b : Beginning) (h : List Entry) (now : RunState) → RunFits b h now → (plans : List TaskPlan)
@@ -224,7 +191,7 @@ plans_kept b h now told plans it (e ∷ events) may =
     let later : List TaskPlan = next_plans now.templates plans e in
     first_event now.templates plans e events (state_after next.state events).programs
     (subst (λ (ts : List TaskPlan). RunThePlans (plans_after ts later events)
-    (state_after next.state events).programs) (turn_keeps now e)
+    (state_after next.state events).programs) (turn_templates now e)
     (plans_kept b (h ++ next.entries) next.state (turn_fits b h now told e may.0) later
     (turn_plans now plans it told.paired e) events (later_may now e events may)))
 
@@ -236,15 +203,9 @@ programs_are : (t : ℕ) (tasks : List TaskPlan) (i : ℕ) (plan : TaskPlan) (p 
 programs_are t [] i plan p has is = absurd (cc has)
 programs_are t (task ∷ tasks) zero plan p has is =
     subst (λ (m : ℕ). IsProgramOf m plan plan.kind p) (omega arith)
-    (subst (IsProgramOf t plan plan.kind) (one_program (program_of t task) p is)
-    (subst (λ (y : TaskPlan). IsProgramOf t y y.kind (program_of t task)) (one_plan task plan has)
+    (subst (IsProgramOf t plan plan.kind) (same_Some (program_of t task) p is)
+    (subst (λ (y : TaskPlan). IsProgramOf t y y.kind (program_of t task)) (same_Some task plan has)
     (new_is t task task.kind)))
-  where
-    one_plan : (a b : TaskPlan) → Some a ≡ Some b → a ≡ b
-    one_plan a b e = cc e
-
-    one_program : (a b : AnyProgram) → Some a ≡ Some b → a ≡ b
-    one_program a b e = cc e
 programs_are t (task ∷ tasks) (suc i) plan p has is =
     subst (λ (m : ℕ). IsProgramOf m plan plan.kind p) (omega arith) (programs_are (t + 1) tasks i plan p has is)
 
@@ -264,7 +225,5 @@ start_plans plan = record {
 pub tasks_run_their_plans : (plan : Plan) (events : List Event) → IsSound plan
     → MayAllCome (length plan.tasks) (length plan.templates) events → TasksRunTheirPlans plan events
 tasks_run_their_plans plan events sound may done later is =
-    let all : MayAllCome (length plan.tasks) (length plan.templates) (done ++ later) =
-    subst (λ (es : List Event). MayAllCome (length plan.tasks) (length plan.templates) es) is may in
     plans_kept (beginning plan) [] (start plan) (start_told plan sound) plan.tasks (start_plans plan) done
-    (may_from plan done (start plan) refl (may_first (length plan.tasks) (length plan.templates) done later all))
+    (may_from plan done (start plan) refl (may_part plan events done later is may))

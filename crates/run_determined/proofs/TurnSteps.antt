@@ -1,8 +1,9 @@
 -- An entry comes in turn: the laws of lives and of causes lead from it back to the head of its event, or to an earlier
 -- entry on its phone, which came in turn.
 use Rattle.std.proofs.Common.{◌≡◌, ℕ, suc, Bool, true, false, ◌⊎◌, inl, inr, List, [], ◌∷◌, Option, None, Some, refl, ap, sym, subst, ◌∙◌, arith}
-use Rattle.std.specs.Prelude.{⊤, ◌==◌, ◌&&◌, if◌then◌else◌}
-use Rattle.std.proofs.lemmas.Bool.{eqb-true}
+use Rattle.std.specs.Prelude.{⊤, ◌==◌, if◌then◌else◌}
+use Rattle.std.proofs.lemmas.Bool.{eqb-true, and_parts}
+use Rattle.std.proofs.lemmas.Option.{none-some, same_Some}
 use Rattle.ipc_ids.specs.declared.numbers.TaskNo.{TaskNo}
 use Rattle.ipc_ids.specs.declared.numbers.Label.{Label}
 use Rattle.ipc_ids.specs.declared.message.Request.TheVariants as request
@@ -10,16 +11,16 @@ use Rattle.ipc_ids.specs.declared.message.PhoneState.{PhoneState}
 use Rattle.ipc_ids.specs.declared.message.PhoneState.TheVariants.{Free, Connecting, Connected, HungUp, Slammed}
 use Rattle.ipc_ids.specs.declared.entry.Entry.{Entry}
 use Rattle.ipc_ids.specs.declared.entry.Entry.TheVariants as entry
-use Rattle.ipc_ids.specs.Tales.{Event, Step, Kill, Receive, Answer, Forward, Way, way, Task, Accepted, Received, Forwarded, Answered, Delivered, Dropped, Tale, tales}
-use Rattle.ipc_ids.specs.Life.{Life, Nowhere, Back, Incoming, Dispatched, Answers, Over, life, event, task_of, Allowed}
+use Rattle.ipc_ids.specs.Tales.{Event, Step, Kill, Receive, Answer, Forward, Way, way, Task, Accepted, Received, Forwarded, Answered, Dropped, Tale, tales}
+use Rattle.ipc_ids.specs.Life.{Life, Nowhere, Incoming, Dispatched, Answers, life, event, task_of, Allowed}
 use Rattle.ipc_ids.specs.Life as lives
-use Rattle.ipc_ids.specs.Lawful.{Lawful}
-use Rattle.ipc_ids.specs.Holdings.{present}
 use Rattle.ipc_ids.specs.Actors as actors
 use Rattle.ipc_ids.specs.Actors.{actor}
 use Rattle.route_laws.specs.Leads.{Lead, Beginning, is_phone, wired, phone_in}
 use Rattle.run_determined.specs.PhoneCauses.{is_sent, is_received, asked_for, lent_for, IsKept, AnswersFor, IsConnected, IsMadeLeading, IsLetGo, IsCause, HasItsCause}
-use Rattle.run_determined.specs.TasksInTurn.{IsOf, count_after, IsOneOf, IsInTurn, CameInTurn}
+use Rattle.run_determined.specs.TasksInTurn.{count_after, IsOneOf, IsInTurn, CameInTurn}
+use Rattle.run_determined.proofs.LiveCalls.{AreLawful}
+use Rattle.run_determined.proofs.LiveEvents.{delivered_by}
 
 -- ---- what earlier entries say
 
@@ -28,11 +29,8 @@ event_in_turn : (n : ℕ) (q : List Entry) (x : Event) → CameInTurn n q → ev
     → IsOneOf (count_after n q) (task_of x)
 event_in_turn n [] x came h = absurd (cc h)
 event_in_turn n (e ∷ q) x came h = by_entry e came.1 h (event_in_turn n q x came.0) where
-  one : (y : Event) → Some y ≡ Some x → y ≡ x
-  one y g = cc
-
   at : (m : ℕ) (y : Event) → Some y ≡ Some x → IsOneOf m (task_of y) → IsOneOf m (task_of x)
-  at m y g it = subst (λ (z : Event). IsOneOf m (task_of z)) (one y g) it
+  at m y g it = subst (λ (z : Event). IsOneOf m (task_of z)) (same_Some y x g) it
 
   by_entry : (e : Entry) → IsInTurn n q e → event (tales (e ∷ q)) ≡ Some x
       → (event (tales q) ≡ Some x → IsOneOf (count_after n q) (task_of x))
@@ -44,95 +42,64 @@ event_in_turn n (e ∷ q) x came h = by_entry e came.1 h (event_in_turn n q x ca
       at (suc (count_after n q)) _ h (let it : u.0 ≡ suc (count_after n q) = turn in (omega arith, omega arith))
   by_entry _ turn h before = before h
 
-present_in_turn : (n : ℕ) (q : List Entry) (e : Entry) → CameInTurn n q → present q ≡ Some e → (t : ℕ) → IsOf t e
-    → IsOneOf (count_after n q) t
-present_in_turn n [] e came h t it = absurd (cc h)
-present_in_turn n (x ∷ q) e came h t it = by_entry x came.1 h (λ g. present_in_turn n q e came.0 g t it) where
-  one : (y : Entry) → Some y ≡ Some e → e ≡ y
-  one y g = let same : y ≡ e = cc in sym same
-
-  by_entry : (x : Entry) → IsInTurn n q x → present (x ∷ q) ≡ Some e
-      → (present q ≡ Some e → IsOneOf (count_after n q) t) → IsOneOf (count_after n (x ∷ q)) t
-  by_entry (entry.Head u asked) turn h before = turn t (subst (IsOf t) (one _ h) it)
-  by_entry (entry.Kill u) turn h before = turn t (subst (IsOf t) (one _ h) it)
-  by_entry (entry.Gone u) turn h before = turn t (subst (IsOf t) (one _ h) it)
-  by_entry (entry.Spawn u) turn h before =
-      let task : u.0 ≡ t = subst (IsOf t) (one _ h) it in
-      let next : u.0 ≡ suc (count_after n q) = turn in
-      (omega (arith, task, next), omega (arith, task, next))
-  by_entry _ turn h before = before h
-
 -- tasks stay there
 more : (n : ℕ) (e : Entry) (q : List Entry) (t : ℕ) → IsOneOf (count_after n q) t → IsOneOf (count_after n (e ∷ q)) t
 more n (entry.Spawn u) q t it = let a = it.0 in let b = it.1 in (a, omega (arith, b))
 more n _ q t it = it
 
--- the task of a phone that was kept for a call
+-- what these entries tell of a phone with one entry more: what they told before, or the phone of that entry
+abbrev TellsOfPhone : Label → Option Label → Entry → Type 0
+TellsOfPhone l before e = (before ≡ Some l) ⊎ ((s : PhoneState) × (e ≡ entry.PhoneIs l s))
+
+-- a phone that some word on entries tells is one of a task that is there
+told_in_turn : (n : ℕ) (word : List Entry → Option Label) → (word [] ≡ None)
+    → ((l : Label) (e : Entry) (q : List Entry) → word (e ∷ q) ≡ Some l → TellsOfPhone l (word q) e)
+    → (l : Label) (q : List Entry) → CameInTurn n q → word q ≡ Some l → IsOneOf (count_after n q) l.task.0
+told_in_turn n word none next l [] came h = absurd (none-some l (sym none ∙ h))
+told_in_turn n word none next l (e ∷ q) came h = elim (next l e q h) [
+  | inl before ↦ more n e q l.task.0 (told_in_turn n word none next l q came.0 before)
+  | inr now ↦ of_phone e now.0 now.1 came.1
+] where
+  of_phone : (e : Entry) (s : PhoneState) → e ≡ entry.PhoneIs l s → IsInTurn n q e
+      → IsOneOf (count_after n (e ∷ q)) l.task.0
+  of_phone e s is turn =
+      subst (λ (x : Entry). IsOneOf (count_after n (x ∷ q)) l.task.0) (sym is)
+      ((subst (IsInTurn n q) is turn) l.task.0 refl)
+
+by_choice : (b : Bool) (x l : Label) (o : Option Label) (s : PhoneState) → (if b then Some x else o) ≡ Some l
+    → TellsOfPhone l o (entry.PhoneIs x s)
+by_choice true x l o s h = inr (s, ap (λ (y : Label). entry.PhoneIs y s) (same_Some x l h))
+by_choice false x l o s h = inl h
+
+unless : (b : Bool) (o : Option Label) (l : Label) → (if b then None else o) ≡ Some l → o ≡ Some l
+unless true o l h = absurd (none-some l h)
+unless false o l h = h
+
+-- so the phone that was kept for a call
+asked_next : (m : ℕ) (l : Label) (e : Entry) (q : List Entry) → asked_for m (e ∷ q) ≡ Some l
+    → TellsOfPhone l (asked_for m q) e
+asked_next m l (entry.PhoneIs x Connecting) q h = by_choice (is_sent m q) x l (asked_for m q) Connecting h
+asked_next m l _ q h = inl h
+
+lent_next : (m : ℕ) (l : Label) (e : Entry) (q : List Entry) → lent_for m (e ∷ q) ≡ Some l
+    → TellsOfPhone l (lent_for m q) e
+lent_next m l (entry.PhoneIs x Connecting) q h = by_choice (is_received m q) x l (lent_for m q) Connecting h
+lent_next m l (entry.Received k u) q h = inl (unless (k.0 == m) (lent_for m q) l h)
+lent_next m l (entry.Forwarded k u to label) q h = inl (unless (k.0 == m) (lent_for m q) l h)
+lent_next m l _ q h = inl h
+
 asked_in_turn : (n m : ℕ) (l : Label) (q : List Entry) → CameInTurn n q → asked_for m q ≡ Some l
     → IsOneOf (count_after n q) l.task.0
-asked_in_turn n m l [] came h = absurd (cc h)
-asked_in_turn n m l (e ∷ q) came h = by_entry e came.1 h (asked_in_turn n m l q came.0) where
-  one : (x : Label) → Some x ≡ Some l → x ≡ l
-  one x g = cc
-
-  by_state : (x : Label) (s : PhoneState) → IsInTurn n q (entry.PhoneIs x s)
-      → asked_for m (entry.PhoneIs x s ∷ q) ≡ Some l → (asked_for m q ≡ Some l → IsOneOf (count_after n q) l.task.0)
-      → IsOneOf (count_after n q) l.task.0
-  by_state x Connecting turn h before = by_test (is_sent m q) h where
-    by_test : (b : Bool) → (if b then Some x else asked_for m q) ≡ Some l → IsOneOf (count_after n q) l.task.0
-    by_test true g = turn l.task.0 (ap (λ (y : Label). y.task.0) (one x g))
-    by_test false g = before g
-  by_state x Free turn h before = before h
-  by_state x (Connected u) turn h before = before h
-  by_state x HungUp turn h before = before h
-  by_state x Slammed turn h before = before h
-
-  by_entry : (e : Entry) → IsInTurn n q e → asked_for m (e ∷ q) ≡ Some l
-      → (asked_for m q ≡ Some l → IsOneOf (count_after n q) l.task.0) → IsOneOf (count_after n (e ∷ q)) l.task.0
-  by_entry (entry.PhoneIs x s) turn h before = by_state x s turn h before
-  by_entry (entry.Spawn u) turn h before = more n (entry.Spawn u) q l.task.0 (before h)
-  by_entry _ turn h before = before h
+asked_in_turn n m = told_in_turn n (asked_for m) refl (asked_next m)
 
 lent_in_turn : (n m : ℕ) (l : Label) (q : List Entry) → CameInTurn n q → lent_for m q ≡ Some l
     → IsOneOf (count_after n q) l.task.0
-lent_in_turn n m l [] came h = absurd (cc h)
-lent_in_turn n m l (e ∷ q) came h = by_entry e came.1 h (lent_in_turn n m l q came.0) where
-  one : (x : Label) → Some x ≡ Some l → x ≡ l
-  one x g = cc
-
-  by_state : (x : Label) (s : PhoneState) → IsInTurn n q (entry.PhoneIs x s)
-      → lent_for m (entry.PhoneIs x s ∷ q) ≡ Some l → (lent_for m q ≡ Some l → IsOneOf (count_after n q) l.task.0)
-      → IsOneOf (count_after n q) l.task.0
-  by_state x Connecting turn h before = by_test (is_received m q) h where
-    by_test : (b : Bool) → (if b then Some x else lent_for m q) ≡ Some l → IsOneOf (count_after n q) l.task.0
-    by_test true g = turn l.task.0 (ap (λ (y : Label). y.task.0) (one x g))
-    by_test false g = before g
-  by_state x Free turn h before = before h
-  by_state x (Connected u) turn h before = before h
-  by_state x HungUp turn h before = before h
-  by_state x Slammed turn h before = before h
-
-  unless : (b : Bool) → (if b then None else lent_for m q) ≡ Some l
-      → (lent_for m q ≡ Some l → IsOneOf (count_after n q) l.task.0) → IsOneOf (count_after n q) l.task.0
-  unless true g before = absurd (cc g)
-  unless false g before = before g
-
-  by_entry : (e : Entry) → IsInTurn n q e → lent_for m (e ∷ q) ≡ Some l
-      → (lent_for m q ≡ Some l → IsOneOf (count_after n q) l.task.0) → IsOneOf (count_after n (e ∷ q)) l.task.0
-  by_entry (entry.PhoneIs x s) turn h before = by_state x s turn h before
-  by_entry (entry.Received k u) turn h before = unless (k.0 == m) h before
-  by_entry (entry.Forwarded k u to label) turn h before = unless (k.0 == m) h before
-  by_entry (entry.Spawn u) turn h before = more n (entry.Spawn u) q l.task.0 (before h)
-  by_entry _ turn h before = before h
+lent_in_turn n m = told_in_turn n (lent_for m) refl (lent_next m)
 
 -- each of these wires begins at one of so many tasks
 abbrev pub BeginAt : ℕ → List Lead → Type 0
 BeginAt n [] = ⊤
 BeginAt n (w ∷ wires) = IsOneOf n w.phone.task.0 × BeginAt n wires
-
-both_true : (a b : Bool) → (a && b) ≡ true → a ≡ true
-both_true true b h = refl
-both_true false b h = h
 
 -- a wired phone that is not free is one of a wire
 wired_in_turn : (n : ℕ) (wires : List Lead) (t p : ℕ) (s : PhoneState) → BeginAt n wires → IsOneOf n t ⊎ (s ≡ Free)
@@ -145,7 +112,7 @@ wired_in_turn n (w ∷ wires) t p s begins before not =
       by_phone : (b : Bool) → is_phone t p w.phone ≡ b → IsOneOf n t ⊎ ((if b then Connected w.to else s) ≡ Free)
       by_phone true is =
           inl (subst (IsOneOf n)
-          (eqb-true w.phone.task.0 t (both_true (w.phone.task.0 == t) (w.phone.phone.0 == p) is)) begins.0)
+          (eqb-true w.phone.task.0 t (and_parts (w.phone.task.0 == t) (w.phone.phone.0 == p) is).0) begins.0)
       by_phone false is = before
 
 -- a phone that is not free is one of a task that is there
@@ -159,7 +126,7 @@ phone_in_turn n wires t p (e ∷ q) begins came not =
       by_entry (entry.PhoneIs l s) turn not before = by_phone (is_phone t p l) refl not where
         by_phone : (b : Bool) → is_phone t p l ≡ b → ((if b then s else phone_in wires t p q) ≡ Free → ⊥)
             → IsOneOf (count_after n q) t
-        by_phone true is not = turn t (eqb-true l.task.0 t (both_true (l.task.0 == t) (l.phone.0 == p) is))
+        by_phone true is not = turn t (eqb-true l.task.0 t (and_parts (l.task.0 == t) (l.phone.0 == p) is).0)
         by_phone false is not = before not
       by_entry (entry.Spawn u) turn not before = more n (entry.Spawn u) q t (before not)
       by_entry _ turn not before = before not
@@ -179,55 +146,29 @@ names_of t (Some x) h = (x, refl, h)
 accepted_by : (p : List Tale) (m t phone method : ℕ) (w : Way) (l : Life) → Allowed p m (Accepted t phone method w) l
     → Names t p
 accepted_by p m t phone method w Nowhere a = names_of t (event p) a.1
-accepted_by p m t phone method w (Back u) a = absurd a
-accepted_by p m t phone method w (Incoming u s) a = absurd a
-accepted_by p m t phone method w (Dispatched u s) a = absurd a
-accepted_by p m t phone method w (Answers u) a = absurd a
-accepted_by p m t phone method w Over a = absurd a
+accepted_by p m t phone method w _ a = absurd a
 
 received_by : (p : List Tale) (m t : ℕ) (l : Life) → Allowed p m (Received t) l → Names t p
-received_by p m t Nowhere a = absurd a
-received_by p m t (Back u) a = absurd a
 received_by p m t (Incoming u s) a = (Step t Receive, a.1, refl)
-received_by p m t (Dispatched u s) a = absurd a
-received_by p m t (Answers u) a = absurd a
-received_by p m t Over a = absurd a
+received_by p m t _ a = absurd a
 
 forwarded_by : (p : List Tale) (m t v : ℕ) (l : Life) → Allowed p m (Forwarded t v) l → Names t p
-forwarded_by p m t v Nowhere a = absurd a
-forwarded_by p m t v (Back u) a = absurd a
-forwarded_by p m t v (Incoming u s) a = absurd a
 forwarded_by p m t v (Dispatched u s) a = (Step t (Forward m), a.1, refl)
-forwarded_by p m t v (Answers u) a = absurd a
-forwarded_by p m t v Over a = absurd a
+forwarded_by p m t v _ a = absurd a
 
 answered_by : (p : List Tale) (m code t : ℕ) (l : Life) → Allowed p m (Answered code (Task t)) l → Names t p
-answered_by p m code t Nowhere a = absurd a
-answered_by p m code t (Back u) a = absurd a
-answered_by p m code t (Incoming u s) a = absurd a
 answered_by p m code t (Dispatched u s) a = (Step t (Answer m), a.1, refl)
-answered_by p m code t (Answers u) a = absurd a
-answered_by p m code t Over a = absurd a
-
-delivered_by : (p : List Tale) (m t : ℕ) (l : Life) → Allowed p m (Delivered t) l → Names t p
-delivered_by p m t Nowhere a = absurd a
-delivered_by p m t (Back u) a = absurd a
-delivered_by p m t (Incoming u s) a = absurd a
-delivered_by p m t (Dispatched u s) a = absurd a
-delivered_by p m t (Answers u) a = (Step u Receive, a.1, sym a.0)
-delivered_by p m t Over a = absurd a
+answered_by p m code t _ a = absurd a
 
 dropped_by : (p : List Tale) (m t : ℕ) (l : Life) → Allowed p m (Dropped t) l → Names t p
-dropped_by p m t Nowhere a = absurd a
-dropped_by p m t (Back u) a = absurd a
-dropped_by p m t (Incoming u s) a = absurd a
-dropped_by p m t (Dispatched u s) a = absurd a
 dropped_by p m t (Answers u) a = elim a.1 [ inl h ↦ (Step u Receive, h, sym a.0) | inr h ↦ (Kill u, h, sym a.0) ]
-dropped_by p m t Over a = absurd a
+dropped_by p m t _ a = absurd a
 
-module _ (b : Beginning) (n : ℕ) (begins : BeginAt n b.wires) (q : List Entry) (came : CameInTurn n q) where
-  named : (t : ℕ) → Names t (tales q) → IsOneOf (count_after n q) t
-  named t it = subst (IsOneOf (count_after n q)) it.2 (event_in_turn n q it.0 came it.1)
+-- a task that it names is one of those that are there
+named : (n : ℕ) (q : List Entry) → CameInTurn n q → (t : ℕ) → Names t (tales q) → (u : ℕ) → t ≡ u
+    → IsOneOf (count_after n q) u
+named n q came t it u is =
+    subst (IsOneOf (count_after n q)) (it.2 ∙ is) (event_in_turn n q it.0 came it.1)
 
 -- an entry that makes no task
 abbrev pub IsNoSpawn : Entry → Type 0
@@ -287,48 +228,32 @@ module _ (b : Beginning) (n : ℕ) (begins : BeginAt n b.wires) where
   caused_in_turn l q came Free Free is h = absurd h
   caused_in_turn l q came Free HungUp is h = absurd h
   caused_in_turn l q came Free Slammed is h = absurd h
-  caused_in_turn l q came Connecting new is h = not_free l q Connecting came is (λ e. cc e)
-  caused_in_turn l q came (Connected u) new is h = not_free l q (Connected u) came is (λ e. cc e)
-  caused_in_turn l q came HungUp new is h = not_free l q HungUp came is (λ e. cc e)
-  caused_in_turn l q came Slammed new is h = not_free l q Slammed came is (λ e. cc e)
+  caused_in_turn l q came s new is h = not_free l q s came is (λ e. cc e)
 
-  pub in_turn : (q : List Entry) (e : Entry) → CameInTurn n q → IsNoSpawn e → Lawful (tales (e ∷ q))
+  pub in_turn : (q : List Entry) (e : Entry) → CameInTurn n q → IsNoSpawn e → AreLawful (e ∷ q)
       → HasItsCause b q e → actors.IsOneOf (count_after n q) (actor e) → IsInTurn n q e
   in_turn q (entry.Spawn t) came plain l had known = absurd plain
-  in_turn q (entry.Accepted k from method to) came plain l had known = λ t it.
-      subst (IsOneOf (count_after n q)) it
-      (named b n begins q came from.task.0
-      (accepted_by (tales q) k.0 from.task.0 from.phone.0 method (way to) (life k.0 (tales q)) l.2.0))
+  in_turn q (entry.Accepted k from method to) came plain l had known =
+      named n q came from.task.0
+      (accepted_by (tales q) k.0 from.task.0 from.phone.0 method (way to) (life k.0 (tales q)) l.2.0)
   in_turn q (entry.Received k u) came plain l had known =
-      λ t it. subst (IsOneOf (count_after n q)) it
-      (named b n begins q came u.0 (received_by (tales q) k.0 u.0 (life k.0 (tales q)) l.2.0))
+      named n q came u.0 (received_by (tales q) k.0 u.0 (life k.0 (tales q)) l.2.0)
   in_turn q (entry.Forwarded k u to label) came plain l had known =
-      λ t it. subst (IsOneOf (count_after n q)) it
-      (named b n begins q came u.0 (forwarded_by (tales q) k.0 u.0 to.0 (life k.0 (tales q)) l.2.0))
+      named n q came u.0 (forwarded_by (tales q) k.0 u.0 to.0 (life k.0 (tales q)) l.2.0)
   in_turn q (entry.Answered k reply None) came plain l had known = λ t it. absurd it
   in_turn q (entry.Answered k reply (Some u)) came plain l had known =
-      λ t it. subst (IsOneOf (count_after n q)) it
-      (named b n begins q came u.0 (answered_by (tales q) k.0 reply.code.0 u.0 (life k.0 (tales q)) l.2.0))
+      named n q came u.0 (answered_by (tales q) k.0 reply.code.0 u.0 (life k.0 (tales q)) l.2.0)
   in_turn q (entry.Delivered k u) came plain l had known =
-      λ t it. subst (IsOneOf (count_after n q)) it
-      (named b n begins q came u.0 (delivered_by (tales q) k.0 u.0 (life k.0 (tales q)) l.2.0))
+      named n q came u.0 (Step u.0 Receive, delivered_by (tales q) k.0 u.0 (life k.0 (tales q)) l.2.0, refl)
   in_turn q (entry.Dropped k u) came plain l had known =
-      λ t it. subst (IsOneOf (count_after n q)) it
-      (named b n begins q came u.0 (dropped_by (tales q) k.0 u.0 (life k.0 (tales q)) l.2.0))
+      named n q came u.0 (dropped_by (tales q) k.0 u.0 (life k.0 (tales q)) l.2.0)
   in_turn q (entry.PhoneIs l s) came plain lawful had known =
       λ t it. subst (IsOneOf (count_after n q)) it
       (caused_in_turn l q came (phone_in b.wires l.task.0 l.phone.0 q) s refl had.changes.0)
-  in_turn q (entry.Head u asked) came plain l had known = λ t it. subst (IsOneOf (count_after n q)) it known
-  in_turn q (entry.Kill u) came plain l had known = λ t it. subst (IsOneOf (count_after n q)) it known
-  in_turn q (entry.Gone u) came plain l had known = λ t it. subst (IsOneOf (count_after n q)) it known
-  in_turn q (entry.Sent u f m slot) came plain l had known = λ t it. subst (IsOneOf (count_after n q)) it known
-  in_turn q (entry.Gets u f m slot reply) came plain l had known = λ t it. subst (IsOneOf (count_after n q)) it known
-  in_turn q (entry.Blocks u f why) came plain l had known = λ t it. subst (IsOneOf (count_after n q)) it known
-  in_turn q (entry.Starts u f label) came plain l had known = λ t it. subst (IsOneOf (count_after n q)) it known
-  in_turn q (entry.Ends u f) came plain l had known = λ t it. subst (IsOneOf (count_after n q)) it known
-  in_turn q (entry.Begins u f e mode session phone) came plain l had known =
-      λ t it. subst (IsOneOf (count_after n q)) it known
-  in_turn q (entry.ExchangeEnds u f e) came plain l had known = λ t it. subst (IsOneOf (count_after n q)) it known
-  in_turn q (entry.Drops u f e) came plain l had known = λ t it. subst (IsOneOf (count_after n q)) it known
-  in_turn q (entry.RefusedOp u f code) came plain l had known = λ t it. subst (IsOneOf (count_after n q)) it known
-  in_turn q _ came plain l had known = λ t it. absurd it
+  in_turn q (entry.Vanished k) came plain l had known = λ t it. absurd it
+  in_turn q (entry.Forgotten k) came plain l had known = λ t it. absurd it
+  in_turn q (entry.AreaMade u base pages rights store) came plain l had known = λ t it. absurd it
+  in_turn q (entry.AreaGone u base) came plain l had known = λ t it. absurd it
+  in_turn q (entry.Wrote u at count store) came plain l had known = λ t it. absurd it
+  in_turn q (entry.Outcome o) came plain l had known = λ t it. absurd it
+  in_turn q _ came plain l had known = λ t it. subst (IsOneOf (count_after n q)) it known
