@@ -46,8 +46,7 @@ use Rattle.kernel_laws.specs.MemoryLaws.{Has, HasAt, Drops}
 use Rattle.kernel_laws.specs.Routes.{Leads, Stands}
 use Rattle.kernel_laws.proofs.KillRoutes.{is_there}
 use Rattle.kernel_laws.proofs.LawfulAreas.{drop_is_lawful, one_base}
-use Rattle.kernel_determined.specs.Frames.{IsStep}
-use Rattle.kernel_determined.specs.Frames.{CameBefore}
+use Rattle.kernel_determined.specs.Frames.{IsStep, CameBefore}
 use Rattle.kernel_determined.specs.SettleLaw.{DropsAnswer}
 use Rattle.kernel_determined.specs.Turns.{EachInTurn}
 use Rattle.kernel_determined.specs.KillLaw.{IsToHangUp, HangsUpPhone, HangsUpOwn, SlamsPhone, SlamsOf, IsOther, IsOlder, SlamsOthers, SettlesCall, SettlesAll, DropsAnswers, IsOwn, ForgetsCall, ForgetsCalls, HasBase, LosesArea, LosesAreas, EndsCalls, EndsParts, IsKill}

@@ -20,9 +20,7 @@ use Rattle.cleanup.proofs.Lookups.{same_call}
 use Rattle.kernel_laws.specs.DataLaws.{code_after, first}
 use Rattle.kernel_laws.specs.MemoryRequests.{written}
 use Rattle.kernel_laws.specs.ReceiveLaws.{IsFirst, HasNone}
-use Rattle.kernel_determined.specs.Frames.{PhoneComesTo}
-use Rattle.kernel_determined.specs.Frames.{HasFifth}
-use Rattle.kernel_determined.specs.Frames.{CameBefore}
+use Rattle.kernel_determined.specs.Frames.{PhoneComesTo, HasFifth, CameBefore}
 use Rattle.kernel_determined.specs.SettleLaw.{DropsAnswer}
 use Rattle.kernel_determined.specs.ReceiveLaw.{IsDropped, Delivers, DeliversBytes, DeliversRefusal, DeliversPhone, IsDelivery, Receives, ReceivesWithPhone, ReceivesWithout, IsReception, IsAnswerAt, IsWaitingAt, TakesAnswer, TakesCall, Takes, with_entries, IsReceive}
 use Rattle.kernel_determined.proofs.Same.{list_same, table_same, state_same, served_same}

@@ -6,10 +6,9 @@ use Rattle.std.proofs.lemmas.Grind.{common_steps}
 use Rattle.ipc_ids.specs.declared.numbers.TaskNo.{TaskNo}
 use Rattle.ipc_ids.specs.declared.entry.Entry.{Entry}
 use Rattle.address_space.specs.Areas.{Area}
-use Rattle.cleanup.specs.State.{KernelState, Transition, is_alive, phone_at}
+use Rattle.cleanup.specs.State.{KernelState, Transition, is_alive, phone_at, with_task}
 use Rattle.cleanup.specs.Sound.{IsSound}
 use Rattle.ipc_ids.specs.declared.message.PhoneState.TheVariants.{Connected}
-use Rattle.cleanup.specs.State.{with_task}
 use Rattle.cleanup.proofs.Endings.{length_rows}
 use Rattle.kernel_core.specs.Kernel.{named, spawning, spawn_event}
 use Rattle.kernel_laws.proofs.SpawnLaws.{spawn_makes_task}

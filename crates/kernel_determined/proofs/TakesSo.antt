@@ -56,8 +56,7 @@ use Rattle.kernel_laws.proofs.UsablePhones.{own_phone, own, usable_one, least_on
 use Rattle.kernel_laws.proofs.KillRoutes.{is_there}
 use Rattle.kernel_laws.proofs.LawfulWrites.{write_is_lawful}
 use Rattle.kernel_laws.proofs.MemoryRequests.{written_is}
-use Rattle.kernel_determined.specs.Frames.{PhonesStay}
-use Rattle.kernel_determined.specs.Frames.{HasFifth}
+use Rattle.kernel_determined.specs.Frames.{PhonesStay, HasFifth}
 use Rattle.kernel_determined.specs.MemoryLaw.{IsWholeWrite}
 use Rattle.kernel_determined.specs.ReceiveLaw.{Delivers, IsDelivery, IsReception, IsAnswerAt, IsWaitingAt, Takes, IsReceive}
 use Rattle.kernel_determined.proofs.ReceiveSo.{unawaited_dropped, unawaited_sound}

@@ -1,7 +1,6 @@
 -- Each event keeps that argument 5 of connect calls tells their phones.
 use Rattle.std.proofs.Common.{◌≡◌, ℕ, ◌+◌, ◌*◌, inl, inr, List, [], Option, None, Some, refl, ap, sym, subst, ◌∙◌, arith, nat_lt}
 use Rattle.std.specs.Prelude.{length, slice_index, slice_set}
-use Rattle.std.specs.Option.{option_map_or}
 use Rattle.std.specs.Ordering.{nat_cmp}
 use Rattle.std.specs.FinMap.{get-empty}
 use Rattle.std.proofs.lemmas.List.{length-set, get_or-set_same}
@@ -13,24 +12,21 @@ use Rattle.ipc_ids.specs.declared.message.Reply.{Reply}
 use Rattle.ipc_ids.specs.declared.message.Request.{Request}
 use Rattle.ipc_ids.specs.declared.message.Request.TheVariants as request
 use Rattle.ipc_ids.specs.declared.methods.MethodKind.{MethodKind}
-use Rattle.ipc_ids.specs.declared.methods.MethodKind.TheVariants.{ConnectToMe, ConnectMeTo, DataWrite, DataRead, ShareOut, ShareIn, User}
+use Rattle.ipc_ids.specs.declared.methods.MethodKind.TheVariants.{ConnectToMe, ConnectMeTo, DataRead, User}
 use Rattle.ipc_ids.specs.Codes.{ehangup, eforward}
 use Rattle.ipc_ids.specs.Methods.{kind_of, connect_me_to}
 use Rattle.ipc_ids.specs.Tables.{most_data}
 use Rattle.call_slab.specs.declared.call.Call.{Call}
 use Rattle.call_slab.specs.declared.call.Place.{Place}
 use Rattle.call_slab.specs.declared.call.Place.TheVariants.{Incoming, Dispatched, Answers}
-use Rattle.answerbox.specs.Calls.{CallTable, call_at, enqueue, put_at, without_call, without_caller, with_record}
+use Rattle.answerbox.specs.Calls.{CallTable, enqueue, put_at, without_call, without_caller}
 use Rattle.forwarding.specs.Forwarding.{changed_msg, msg_after, label_after}
 use Rattle.data_hooks.specs.DataMoments.{count_of, cut_args}
 use Rattle.cleanup.specs.State.{KernelState, Transition, start}
 use Rattle.cleanup.specs.Kept.{lent_phone, unless_freed, first_usable_of}
-use Rattle.cleanup.specs.declared.sharing.Share.TheVariants.{Out, In}
-use Rattle.cleanup.specs.Sharing.{accepted_share}
-use Rattle.cleanup.specs.Data.{accepted_write, accepted_read}
+use Rattle.cleanup.specs.Data.{accepted_read}
 use Rattle.cleanup.specs.Serving.{Served}
-use Rattle.cleanup.specs.Joins.{bare_reply, new_call, reception, answer_to, accepted_to_me, accepted_me_to, declined_call, passed_call, passage, hangup_call}
-use Rattle.cleanup.proofs.Lookups.{at_insert, chosen, same_call}
+use Rattle.cleanup.specs.Joins.{bare_reply, new_call, reception, answer_to, declined_call, passed_call, passage, hangup_call}
 use Rattle.cleanup.proofs.Repeats.{by_test}
 use Rattle.cleanup.proofs.Usable.{usable_is}
 use Rattle.kernel_core.specs.Moments.{number_of, on_receive_of, on_accept_of, cut_call}
@@ -38,7 +34,7 @@ use Rattle.kernel_core.specs.Kernel.{serve, kill_event, spawn_event, spawning, n
 use Rattle.kernel_core.proofs.ByRequest as join
 use Rattle.kernel_core.proofs.ByKill as end
 use Rattle.kernel_laws.specs.Connecting.{TellsPhone, TellPhones, HasFive}
-use Rattle.kernel_laws.proofs.Tables.{came_by, put_by, gone_by}
+use Rattle.kernel_laws.proofs.Tables.{came_by, put_by, gone_by, forgot_by}
 
 -- a call that no task holds, at its place
 away : (c : Call) (place : Place) → c.place ≡ place → ((t : TaskNo) → place ≡ Dispatched t → ⊥) → length c.msg.args ≡ 5
@@ -86,18 +82,12 @@ module _ (q : CallTable) (h : TellPhones q) where
   tell_gone m n c is = h n c (gone_by q m n c is)
 
   tell_forgot : (m : ℕ) → TellPhones (without_caller q m)
-  tell_forgot m = by_call (call_at q m) refl where
-    by_call : (o : Option Call) → call_at q m ≡ o
-        → TellPhones (option_map_or (λ (d : Call). with_record q (record d { caller = None })) o q)
-    by_call None at n c is = h n c is
-    by_call (Some d) at n c is =
-        let f : Call = record d { caller = None } in
-        let g = h m d at in
-        let told : TellsPhone f = record { five = g.five; me_to = g.me_to; to_me = g.to_me; without = g.without } in
-        elim (chosen d.number.0 n (Some f) (call_at q n) (Some c) (sym (at_insert q.records d.number.0 n f) ∙ is)) [
-          | inl e ↦ subst TellsPhone (same_call f c e.1) told
-          | inr e ↦ h n c e.1
-        ]
+  tell_forgot m n c is = elim (forgot_by q m n c is) [
+    | inl e ↦
+        let g = h m e.0 e.1 in
+        subst TellsPhone e.3 (record { five = g.five; me_to = g.me_to; to_me = g.to_me; without = g.without })
+    | inr e ↦ h n c e
+  ]
 
   -- a call without a phone comes to a queue
   tell_bare : (d : Call) (place : Place) → d.place ≡ place → ((t : TaskNo) → place ≡ Dispatched t → ⊥)
@@ -176,13 +166,8 @@ module _ (k : KernelState) (t : TaskNo) (h : TellPhones k.calls) where
     accepted_as :
         (reply : Reply) (u : TaskNo) (kind : MethodKind)
         → TellPhones (answer_to (on_accept_of kind k c reply t u) (Some t) u).state.calls
-    accepted_as reply u ConnectToMe = replied_as (accepted_to_me k c reply u).call u refl refl (λ l kept. kept)
-    accepted_as reply u ConnectMeTo = replied_as (accepted_me_to k c reply t).call u refl refl (λ l kept. kept)
-    accepted_as reply u DataWrite = replied_as (accepted_write k c reply t).call u refl refl (λ l kept. kept)
     accepted_as reply u DataRead = replied_as (accepted_read k c reply t).call u refl refl (λ l kept. kept)
-    accepted_as reply u ShareOut = replied_as (accepted_share Out k c reply t u).call u refl refl (λ l kept. kept)
-    accepted_as reply u ShareIn = replied_as (accepted_share In k c reply t u).call u refl refl (λ l kept. kept)
-    accepted_as reply u _ = replied_as (record c { reply = reply }) u refl refl (λ l kept. kept)
+    accepted_as reply u kind = replied_as (on_accept_of kind k c reply t u).call u refl refl (λ l kept. kept)
 
     -- the message of a call that is passed on
     module _ (change : Msg) (five : length change.args ≡ 5) where

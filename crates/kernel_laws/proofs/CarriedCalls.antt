@@ -7,7 +7,7 @@ use Rattle.ipc_ids.specs.declared.message.Msg.{Msg}
 use Rattle.ipc_ids.specs.declared.message.Reply.{Reply}
 use Rattle.ipc_ids.specs.declared.message.Request.{Request}
 use Rattle.ipc_ids.specs.declared.methods.MethodKind.{MethodKind}
-use Rattle.ipc_ids.specs.declared.methods.MethodKind.TheVariants.{ConnectToMe, ConnectMeTo, DataWrite, DataRead, ShareOut, ShareIn}
+use Rattle.ipc_ids.specs.declared.methods.MethodKind.TheVariants.{ConnectToMe, DataWrite, DataRead}
 use Rattle.ipc_ids.specs.Codes.{ehangup, eforward}
 use Rattle.ipc_ids.specs.Methods.{data_write, first_user_method, kind_of}
 use Rattle.call_slab.specs.declared.call.Call.{Call}
@@ -16,14 +16,12 @@ use Rattle.call_slab.specs.declared.call.Place.TheVariants.{Incoming, Dispatched
 use Rattle.answerbox.specs.Calls.{CallTable, call_at, calls_of, enqueue, put_at, without_call}
 use Rattle.answerbox.proofs.Callers.{calls_of_live}
 use Rattle.forwarding.specs.Forwarding.{is_held, msg_after, label_after}
-use Rattle.cleanup.specs.declared.sharing.Share.TheVariants.{Out, In}
 use Rattle.cleanup.specs.State.{KernelState, Transition}
 use Rattle.cleanup.specs.Sound.{IsSound}
-use Rattle.cleanup.specs.Data.{accepted_write, accepted_read}
-use Rattle.cleanup.specs.Sharing.{accepted_share}
-use Rattle.cleanup.specs.Joins.{bare_reply, new_call, reception, answer_to, declined_call, accepted_to_me, accepted_me_to, passed_call, forget_call, hangup_call}
-use Rattle.cleanup.specs.Serving.{Handed, Served, as_it_is}
-use Rattle.cleanup.proofs.Lookups.{at_insert, at_remove, chosen, same_call}
+use Rattle.cleanup.specs.Data.{accepted_read}
+use Rattle.cleanup.specs.Joins.{bare_reply, new_call, reception, answer_to, declined_call, passed_call, forget_call, hangup_call}
+use Rattle.cleanup.specs.Serving.{Handed, Served}
+use Rattle.cleanup.proofs.Lookups.{same_call}
 use Rattle.kernel_core.specs.Moments.{on_receive_of, on_accept_of, cut_call}
 use Rattle.kernel_core.specs.Kernel.{serve, kill_event}
 use Rattle.kernel_core.proofs.InEvent.{same_place-true}
@@ -31,6 +29,8 @@ use Rattle.kernel_core.proofs.ByRequest as join
 use Rattle.kernel_core.proofs.ByKill as end
 use Rattle.kernel_laws.specs.Carrying.{Forwards, IsCarried, AreCarried}
 use Rattle.kernel_laws.proofs.Methods.{user_kind}
+use Rattle.kernel_laws.proofs.Tables.{came_in, came_by, gone_by}
+use Rattle.std.proofs.lemmas.Bool.{false≢true}
 
 -- ---- one record after another
 
@@ -51,15 +51,11 @@ abbrev IsOpen : Call → Type 0
 IsOpen c = (u : TaskNo) → c.place ≡ Answers u → ⊥
 
 abbrev is_answer : Place → Bool
-is_answer (Incoming t) = false
-is_answer (Dispatched t) = false
 is_answer (Answers t) = true
+is_answer _ = false
 
-incoming_open : (c : Call) (t : TaskNo) → c.place ≡ Incoming t → IsOpen c
-incoming_open c t is u at = let h : false ≡ true = ap is_answer (sym is ∙ at) in cc
-
-dispatched_open : (c : Call) (t : TaskNo) → c.place ≡ Dispatched t → IsOpen c
-dispatched_open c t is u at = let h : false ≡ true = ap is_answer (sym is ∙ at) in cc
+other_open : (c : Call) (place : Place) → c.place ≡ place → is_answer place ≡ false → IsOpen c
+other_open c place is other u at = false≢true (sym other ∙ ap is_answer (sym is ∙ at))
 
 -- ---- the calls of an event that began in the state k
 
@@ -74,32 +70,36 @@ module _ (k : KernelState) (sound : IsSound k) (May : ℕ → Type 0) where
 
   put : (q : CallTable) (c d : Call) (stamp : ℕ) → call_at q d.number.0 ≡ Some c → IsCarried (May d.number.0) c d → IsCarrying q → IsCarrying (record { records = insert q.records d.number.0 d; next_number = q.next_number; next_stamp = stamp })
   put q c d stamp is change a = record {
-    named = λ n e at. elim (found n e at) [ inl h ↦ ap (λ (x : Call). x.number.0) (sym h.1) ∙ h.0 | inr h ↦ a.named n e h ];
-    later = a.later;
-    kept = λ n b e had at. elim (found n e at) [
-      | inl h ↦ subst (λ x. IsCarried (May n) b x) h.1 (subst (λ m. IsCarried (May m) b d) h.0 (then_record (May d.number.0) b c d (a.kept d.number.0 b c (ap (call_at k.calls) h.0 ∙ had) is) change))
-      | inr h ↦ a.kept n b e had h
+    named = λ n e at. elim (came_in q d.number.0 n d e at) [
+      | inl h ↦ ap (λ (x : Call). x.number.0) (sym h.1) ∙ h.0
+      | inr h ↦ a.named n e h.1
     ];
-  } where
-    found : (n : ℕ) (e : Call) → call_at (record { records = insert q.records d.number.0 d; next_number = q.next_number; next_stamp = stamp }) n ≡ Some e → ((d.number.0 ≡ n) × (d ≡ e)) ⊎ (call_at q n ≡ Some e)
-    found n e at = elim (chosen d.number.0 n (Some d) (call_at q n) (Some e) (sym (at_insert q.records d.number.0 n d) ∙ at)) [ inl h ↦ inl (h.0, same_call d e h.1) | inr h ↦ inr h.1 ]
+    later = a.later;
+    kept = λ n b e had at. elim (came_in q d.number.0 n d e at) [
+      | inl h ↦ subst (λ x. IsCarried (May n) b x) h.1 (subst (λ m. IsCarried (May m) b d) h.0 (then_record (May d.number.0) b c d (a.kept d.number.0 b c (ap (call_at k.calls) h.0 ∙ had) is) change))
+      | inr h ↦ a.kept n b e had h.1
+    ];
+  }
 
   gone : (q : CallTable) (m : ℕ) → IsCarrying q → IsCarrying (without_call q m)
-  gone q m a = record { named = λ n e at. a.named n e (found n e at); later = a.later; kept = λ n b e had at. a.kept n b e had (found n e at) } where
-    found : (n : ℕ) (e : Call) → call_at (without_call q m) n ≡ Some e → call_at q n ≡ Some e
-    found n e at = elim (chosen m n None (call_at q n) (Some e) (sym (at_remove q.records m n) ∙ at)) [ inl h ↦ absurd (let x = h.1 in cc) | inr h ↦ h.1 ]
+  gone q m a = record {
+    named = λ n e at. a.named n e (gone_by q m n e at);
+    later = a.later;
+    kept = λ n b e had at. a.kept n b e had (gone_by q m n e at);
+  }
 
   come : (q : CallTable) (d : Call) → d.number.0 ≡ q.next_number → IsCarrying q → IsCarrying (enqueue q d)
   come q d next a = record {
-    named = λ n e at. elim (found n e at) [ inl h ↦ ap (λ (x : Call). x.number.0) (sym h.1) ∙ h.0 | inr h ↦ a.named n e h ];
+    named = λ n e at. elim (came_by q d e n at) [
+      | inl h ↦ ap (λ (x : Call). x.number.0) (sym h.1) ∙ h.0
+      | inr h ↦ a.named n e h
+    ];
     later = let l = a.later in omega (arith, l);
-    kept = λ n b e had at. elim (found n e at) [
+    kept = λ n b e had at. elim (came_by q d e n at) [
       | inl h ↦ absurd (let below = (sound.calls.each n b had).below in let l = a.later in let s = h.0 in omega (arith, below, l, s, next))
       | inr h ↦ a.kept n b e had h
     ];
-  } where
-    found : (n : ℕ) (e : Call) → call_at (enqueue q d) n ≡ Some e → ((d.number.0 ≡ n) × (record d { stamp = q.next_stamp } ≡ e)) ⊎ (call_at q n ≡ Some e)
-    found n e at = elim (chosen d.number.0 n (Some (record d { stamp = q.next_stamp })) (call_at q n) (Some e) (sym (at_insert q.records d.number.0 n (record d { stamp = q.next_stamp })) ∙ at)) [ inl h ↦ inl (h.0, same_call (record d { stamp = q.next_stamp }) e h.1) | inr h ↦ inr h.1 ]
+  }
 
   -- a record of an unanswered call that goes to a place
   moved : (q : CallTable) (c d : Call) (place : Place) → call_at q c.number.0 ≡ Some c → IsOpen c → d.number ≡ c.number → d.from ≡ c.from → d.request ≡ c.request → (c.request.method ≡ data_write → d.buffer ≡ c.buffer) → (first_user_method ≤ c.request.method → May d.number.0 ⊎ (d.msg ≡ c.msg)) → IsCarrying q → IsCarrying (put_at q d place)
@@ -128,8 +128,8 @@ module _ (k : KernelState) (sound : IsSound k) (May : ℕ → Type 0) where
   ended : (t : TaskNo) (j : KernelState) (s : Transition) → Keeps j → end.Ends t j s → Keeps s.state
   ended t j s a (end.hung_up p u _) = come j.calls (hangup_call j t p u) refl a
   ended t j s a (end.vanished n c place _ _ _) = gone j.calls c.number.0 a
-  ended t j s a (end.bounced n c u place (inl there) at _ _) = declining j n c (bare_reply ehangup) u at.live (incoming_open c t (same_place-true c.place place at.here ∙ there)) a
-  ended t j s a (end.bounced n c u place (inr there) at _ _) = declining j n c (bare_reply ehangup) u at.live (dispatched_open c t (same_place-true c.place place at.here ∙ there)) a
+  ended t j s a (end.bounced n c u place (inl there) at _ _) = declining j n c (bare_reply ehangup) u at.live (other_open c (Incoming t) (same_place-true c.place place at.here ∙ there) refl) a
+  ended t j s a (end.bounced n c u place (inr there) at _ _) = declining j n c (bare_reply ehangup) u at.live (other_open c (Dispatched t) (same_place-true c.place place at.here ∙ there) refl) a
   ended t j s a (end.dropped n c _) = gone j.calls c.number.0 a
   ended t j s a (end.forgotten c is) = forgotten j t c a is
   ended t j s a _ = a
@@ -146,16 +146,14 @@ module _ (k : KernelState) (sound : IsSound k) (May : ℕ → Type 0) where
     answered_as h u by same number from request msg bytes = subst (λ (q : CallTable). IsCarrying (put_at q h.call (Answers u))) (sym same) (moved j.calls c h.call (Answers u) live unanswered number from request bytes (λ _. inr msg) a)
 
     accepting : (t : TaskNo) (reply : Reply) (u : TaskNo) (kind : MethodKind) → kind_of c.request.method ≡ kind → Keeps (answer_to (on_accept_of kind j c reply t u) (Some t) u).state
-    accepting t reply u ConnectToMe is = answered_as (accepted_to_me j c reply u) u (Some t) refl refl refl refl refl (λ _. refl)
-    accepting t reply u ConnectMeTo is = answered_as (accepted_me_to j c reply t) u (Some t) refl refl refl refl refl (λ _. refl)
-    accepting t reply u DataWrite is = answered_as (accepted_write j c reply t) u (Some t) refl refl refl refl refl (λ _. refl)
-    accepting t reply u DataRead is = answered_as (accepted_read j c reply t) u (Some t) refl refl refl refl refl (λ e. absurd (let z : DataRead ≡ DataWrite = sym is ∙ ap kind_of e in cc))
-    accepting t reply u ShareOut is = answered_as (accepted_share Out j c reply t u) u (Some t) refl refl refl refl refl (λ _. refl)
-    accepting t reply u ShareIn is = answered_as (accepted_share In j c reply t u) u (Some t) refl refl refl refl refl (λ _. refl)
-    accepting t reply u _ is = answered_as (as_it_is j (record c { reply = reply })) u (Some t) refl refl refl refl refl (λ _. refl)
+    accepting t reply u DataRead is =
+        answered_as (accepted_read j c reply t) u (Some t) refl refl refl refl refl
+        (λ e. absurd (let z : DataRead ≡ DataWrite = sym is ∙ ap kind_of e in cc))
+    accepting t reply u kind is =
+        answered_as (on_accept_of kind j c reply t u) u (Some t) refl refl refl refl refl (λ _. refl)
 
   held_open : (t : TaskNo) (c : Call) → is_held t c ≡ true → IsOpen c
-  held_open t c h = dispatched_open c t (same_place-true c.place (Dispatched t) h)
+  held_open t c h = other_open c (Dispatched t) (same_place-true c.place (Dispatched t) h) refl
 
   joined : (t : TaskNo) (asked : Request) → ((n : ℕ) → Forwards asked n → May n) → (j : KernelState) (s : Served) → Keeps j → join.Joins t asked j s → Keeps s.state
   joined t asked may j s a (join.back p msg at code _ _ _ _) = come j.calls (record (new_call j t p msg (Answers t)) { reply = bare_reply code }) refl a
@@ -163,7 +161,7 @@ module _ (k : KernelState) (sound : IsSound k) (May : ℕ → Type 0) where
   joined t asked may j s a (join.sent_keeping p msg u l _ _ _ _) = come j.calls (join.kept_to_send j (new_call j t p msg (Incoming u)) l).call refl a
   joined t asked may j s a (join.sent_carrying p msg u bytes _ _ _ _) = come j.calls (record (cut_call (new_call j t p msg (Incoming u))) { buffer = bytes }) refl a
   joined t asked may j s a (join.sent_cut p msg u _ _ _) = come j.calls (cut_call (new_call j t p msg (Incoming u))) refl a
-  joined t asked may j s a (join.taken n c kind _ at is) = received_as t j c kind is (live_at j n c a at.live) (incoming_open c t (same_place-true c.place (Incoming t) at.here)) a
+  joined t asked may j s a (join.taken n c kind _ at is) = received_as t j c kind is (live_at j n c a at.live) (other_open c (Incoming t) (same_place-true c.place (Incoming t) at.here) refl) a
   joined t asked may j s a (join.delivered n c _ _ _) = gone j.calls c.number.0 a
   joined t asked may j s a (join.brought n c _ _ _) = gone j.calls c.number.0 a
   joined t asked may j s a (join.vanished n c o _ _ _ _) = gone j.calls c.number.0 a

@@ -30,7 +30,7 @@ use Rattle.kernel_core.specs.Moments.{on_accept_of}
 use Rattle.kernel_core.specs.Receiving.{drop_unawaited}
 use Rattle.kernel_core.specs.Request.{serve_request}
 use Rattle.kernel_core.specs.Kernel.{serve}
-use Rattle.kernel_core.proofs.InEvent.{same_task}
+use Rattle.kernel_core.proofs.InEvent.{same_task, same_place-true}
 use Rattle.kernel_core.proofs.KindsOfCalls.{same_code, kept_to_me, kept_me_to, maker}
 use Rattle.kernel_core.proofs.ByRequest as join
 use Rattle.kernel_core.proofs.ByRequest.{own}
@@ -38,7 +38,6 @@ use Rattle.kernel_laws.specs.Routes.{Leads, IsConnected, LeadWhereConnected}
 use Rattle.kernel_laws.proofs.Methods.{method_of}
 use Rattle.kernel_laws.proofs.CallRoutes.{one_task}
 use Rattle.kernel_laws.proofs.KillRoutes.{IsNowhere, free_nowhere, is_there}
-use Rattle.kernel_core.proofs.InEvent.{same_place-true}
 
 -- rows of phones after one of them was written
 

@@ -1,5 +1,5 @@
 -- What each change of the calls does to the pool, and to the account of an event so far.
-use Rattle.std.proofs.Common.{◌≡◌, ℕ, ◌+◌, ◌<◌, ◌≤◌, ◌⊎◌, inl, inr, List, [], ◌∷◌, ◌++◌, length, Option, None, Some, refl, ap, sym, ◌∙◌, arith}
+use Rattle.std.proofs.Common.{◌≡◌, ℕ, ◌+◌, ◌<◌, ◌≤◌, inl, inr, List, [], ◌∷◌, ◌++◌, length, None, Some, refl, ap, sym, ◌∙◌, arith}
 use Rattle.std.specs.FinMap.{entries, insert}
 use Rattle.ipc_ids.specs.declared.entry.Entry.{Entry}
 use Rattle.call_slab.specs.declared.call.Call.{Call}
@@ -8,8 +8,8 @@ use Rattle.answerbox.specs.Calls.{CallTable, call_at, put_at, enqueue, without_c
 use Rattle.answerbox.proofs.Used.{used-enqueue, used-without_call, used-with_record}
 use Rattle.cleanup.specs.State.{KernelState}
 use Rattle.cleanup.specs.Sound.{IsSound}
-use Rattle.cleanup.proofs.Lookups.{at_insert, at_remove, chosen, same_call}
 use Rattle.kernel_laws.specs.PoolLaws.{bytes_of_calls, pool, bytes_of, ended_by, total}
+use Rattle.kernel_laws.proofs.Tables.{came_in, came_by, gone_by, none_past, none_above}
 
 -- the pool is what the boxes count
 pub pool-used : (k : KernelState) → pool k ≡ used k.calls
@@ -54,19 +54,28 @@ module _ (k : KernelState) (sound : IsSound k) where
   -- a record in the place of another that carries as much
   pub accounted_replaced : (es new : List Entry) (q : CallTable) (c d : Call) (stamp : ℕ) → call_at q d.number.0 ≡ Some c → d.buffer ≡ c.buffer → total (ended_by k.calls) new ≡ 0 → IsAccounted es q → IsAccounted (es ++ new) (record { records = insert q.records d.number.0 d; next_number = q.next_number; next_stamp = stamp })
   accounted_replaced es new q c d stamp is bytes quiet a = record {
-    named = λ n e at. elim (found n e at) [ inl h ↦ ap (λ (x : Call). x.number.0) (sym h.1) ∙ h.0 | inr h ↦ a.named n e h ];
-    below = λ n e at. elim (found n e at) [ inl h ↦ (let l = a.below d.number.0 c is in let s = h.0 in omega (arith, l, s)) | inr h ↦ a.below n e h ];
+    named = λ n e at. elim (came_in q d.number.0 n d e at) [
+      | inl h ↦ ap (λ (x : Call). x.number.0) (sym h.1) ∙ h.0
+      | inr h ↦ a.named n e h.1
+    ];
+    below = λ n e at. elim (came_in q d.number.0 n d e at) [
+      | inl h ↦ (let l = a.below d.number.0 c is in let s = h.0 in omega (arith, l, s))
+      | inr h ↦ a.below n e h.1
+    ];
     later = a.later;
-    same = λ n e at. elim (found n e at) [ inl h ↦ ap (λ m. bytes_of (call_at k.calls m)) (sym h.0) ∙ a.same d.number.0 c is ∙ ap length (sym bytes) ∙ ap (λ (x : Call). length x.buffer) h.1 | inr h ↦ a.same n e h ];
+    same = λ n e at. elim (came_in q d.number.0 n d e at) [
+      | inl h ↦
+          ap (λ m. bytes_of (call_at k.calls m)) (sym h.0) ∙ a.same d.number.0 c is ∙ ap length (sym bytes)
+          ∙ ap (λ (x : Call). length x.buffer) h.1
+      | inr h ↦ a.same n e h.1
+    ];
     given =
         let sum = used-with_record q c d is in
         let size : length d.buffer ≡ length c.buffer = ap length bytes in
         let g = a.given in
         let t = total-append (ended_by k.calls) es new in
         omega (arith, sum, size, g, t, quiet);
-  } where
-    found : (n : ℕ) (e : Call) → call_at (record { records = insert q.records d.number.0 d; next_number = q.next_number; next_stamp = stamp }) n ≡ Some e → ((d.number.0 ≡ n) × (d ≡ e)) ⊎ (call_at q n ≡ Some e)
-    found n e at = elim (chosen d.number.0 n (Some d) (call_at q n) (Some e) (sym (at_insert q.records d.number.0 n d) ∙ at)) [ inl h ↦ inl (h.0, same_call d e h.1) | inr h ↦ inr h.1 ]
+  }
 
   -- it goes to a place
   pub accounted_put : (es new : List Entry) (q : CallTable) (c d : Call) (place : Place) → call_at q d.number.0 ≡ Some c → d.buffer ≡ c.buffer → total (ended_by k.calls) new ≡ 0 → IsAccounted es q → IsAccounted (es ++ new) (put_at q d place)
@@ -75,47 +84,41 @@ module _ (k : KernelState) (sound : IsSound k) where
   -- a call is over, and an entry says so
   pub accounted_gone : (es new : List Entry) (q : CallTable) (c : Call) → call_at q c.number.0 ≡ Some c → total (ended_by k.calls) new ≡ bytes_of (call_at k.calls c.number.0) → IsAccounted es q → IsAccounted (es ++ new) (without_call q c.number.0)
   accounted_gone es new q c is told a = record {
-    named = λ n e at. a.named n e (found n e at);
-    below = λ n e at. a.below n e (found n e at);
+    named = λ n e at. a.named n e (gone_by q c.number.0 n e at);
+    below = λ n e at. a.below n e (gone_by q c.number.0 n e at);
     later = a.later;
-    same = λ n e at. a.same n e (found n e at);
+    same = λ n e at. a.same n e (gone_by q c.number.0 n e at);
     given =
         let sum = used-without_call q c.number.0 c is in
         let own = a.same c.number.0 c is in
         let g = a.given in
         let t = total-append (ended_by k.calls) es new in
         omega (arith, sum, own, g, t, told);
-  } where
-    found : (n : ℕ) (e : Call) → call_at (without_call q c.number.0) n ≡ Some e → call_at q n ≡ Some e
-    found n e at = elim (chosen c.number.0 n None (call_at q n) (Some e) (sym (at_remove q.records c.number.0 n) ∙ at)) [ inl h ↦ absurd (let x = h.1 in cc) | inr h ↦ h.1 ]
-
-  -- a call that comes has the next number, and is not live before
-  pub next_is_free : (es : List Entry) (q : CallTable) → IsAccounted es q → call_at q q.next_number ≡ None
-  next_is_free es q a = by_call (call_at q q.next_number) refl where
-    by_call : (o : Option Call) → call_at q q.next_number ≡ o → o ≡ None
-    by_call None is = refl
-    by_call (Some c) is = absurd (let l = a.below q.next_number c is in omega (arith, l))
-
-  none_above : (n : ℕ) → k.calls.next_number ≤ n → bytes_of (call_at k.calls n) ≡ 0
-  none_above n above = by_call (call_at k.calls n) refl where
-    by_call : (o : Option Call) → call_at k.calls n ≡ o → bytes_of o ≡ 0
-    by_call None is = refl
-    by_call (Some c) is = absurd (let l = (sound.calls.each n c is).below in omega (arith, l, above))
+  }
 
   -- it brings no bytes
   pub accounted_come : (es new : List Entry) (q : CallTable) (d : Call) → d.number.0 ≡ q.next_number → d.buffer ≡ [] → total (ended_by k.calls) new ≡ 0 → IsAccounted es q → IsAccounted (es ++ new) (enqueue q d)
   accounted_come es new q d next bytes quiet a = record {
-    named = λ n e at. elim (found n e at) [ inl h ↦ ap (λ (x : Call). x.number.0) (sym h.1) ∙ h.0 | inr h ↦ a.named n e h ];
-    below = λ n e at. elim (found n e at) [ inl h ↦ (let s = h.0 in omega (arith, s, next)) | inr h ↦ (let l = a.below n e h in omega (arith, l)) ];
+    named = λ n e at. elim (came_by q d e n at) [
+      | inl h ↦ ap (λ (x : Call). x.number.0) (sym h.1) ∙ h.0
+      | inr h ↦ a.named n e h
+    ];
+    below = λ n e at. elim (came_by q d e n at) [
+      | inl h ↦ (let s = h.0 in omega (arith, s, next))
+      | inr h ↦ (let l = a.below n e h in omega (arith, l))
+    ];
     later = let l = a.later in omega (arith, l);
-    same = λ n e at. elim (found n e at) [ inl h ↦ none_above n (let s = h.0 in let l = a.later in omega (arith, s, l, next)) ∙ ap length (sym bytes) ∙ ap (λ (x : Call). length x.buffer) h.1 | inr h ↦ a.same n e h ];
+    same = λ n e at. elim (came_by q d e n at) [
+      | inl h ↦
+          ap bytes_of (none_above k sound n (let s = h.0 in let l = a.later in omega (arith, s, l, next)))
+          ∙ ap length (sym bytes) ∙ ap (λ (x : Call). length x.buffer) h.1
+      | inr h ↦ a.same n e h
+    ];
     given =
-        let free : call_at q d.number.0 ≡ None = ap (call_at q) next ∙ next_is_free es q a in
+        let free : call_at q d.number.0 ≡ None = ap (call_at q) next ∙ none_past q a.below q.next_number (omega arith) in
         let sum = used-enqueue q d free in
         let size : length d.buffer ≡ 0 = ap length bytes in
         let g = a.given in
         let t = total-append (ended_by k.calls) es new in
         omega (arith, sum, size, g, t, quiet);
-  } where
-    found : (n : ℕ) (e : Call) → call_at (enqueue q d) n ≡ Some e → ((d.number.0 ≡ n) × (record d { stamp = q.next_stamp } ≡ e)) ⊎ (call_at q n ≡ Some e)
-    found n e at = elim (chosen d.number.0 n (Some (record d { stamp = q.next_stamp })) (call_at q n) (Some e) (sym (at_insert q.records d.number.0 n (record d { stamp = q.next_stamp })) ∙ at)) [ inl h ↦ inl (h.0, same_call (record d { stamp = q.next_stamp }) e h.1) | inr h ↦ inr h.1 ]
+  }

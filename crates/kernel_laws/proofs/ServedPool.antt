@@ -17,9 +17,8 @@ use Rattle.ipc_ids.specs.declared.methods.MethodKind.TheVariants.{ConnectToMe, C
 use Rattle.ipc_ids.specs.Codes.{eforward}
 use Rattle.ipc_ids.specs.Methods.{phone_hungup, kind_of}
 use Rattle.call_slab.specs.declared.call.Call.{Call}
-use Rattle.call_slab.specs.declared.call.Place.{Place}
 use Rattle.call_slab.specs.declared.call.Place.TheVariants.{Incoming, Dispatched, Answers}
-use Rattle.answerbox.specs.Calls.{CallTable, call_at, front, enqueue, put_at, without_call, used}
+use Rattle.answerbox.specs.Calls.{CallTable, call_at, front, enqueue, put_at, used}
 use Rattle.answerbox.proofs.Used.{used-enqueue, used-without_call, used-put_at}
 use Rattle.forwarding.specs.Forwarding.{msg_after, label_after}
 use Rattle.address_space.specs.Memory as spaces
@@ -42,9 +41,10 @@ use Rattle.kernel_core.specs.Receiving.{drop_unawaited, receive_first, receive}
 use Rattle.kernel_core.specs.Request.{serve_request}
 use Rattle.kernel_core.specs.Kernel.{serve}
 use Rattle.kernel_core.proofs.ByRequest as join
-use Rattle.kernel_laws.specs.PoolLaws.{bytes_of, carried, accepted_by, answered_by, total, IsBalanced}
-use Rattle.kernel_laws.proofs.PoolChanges.{pool-used, total-append, IsAccounted, accounted_first, accounted_put, accounted_gone, next_is_free}
+use Rattle.kernel_laws.specs.PoolLaws.{bytes_of, carried, accepted_by, answered_by, total, IsBalanced, ended_by}
+use Rattle.kernel_laws.proofs.PoolChanges.{pool-used, total-append, IsAccounted, accounted_first, accounted_put, accounted_gone}
 use Rattle.kernel_laws.proofs.PoolSteps.{IsSilent, none_silent, more_silent, kept_silent, wrote_silent, Accounts, live_front, dropped}
+use Rattle.kernel_laws.proofs.Tables.{none_above}
 
 made_silent : (t : TaskNo) (base pages rights : ℕ) (told : Result StoreNo Code) → IsSilent (made_note t base pages rights told)
 made_silent t base pages rights (Ok store) = record { ended = λ q. refl; accepted = λ q. refl; answered = λ q. refl }
@@ -77,95 +77,64 @@ module _ (k : KernelState) where
       let sum : used j.calls ≡ used k.calls = ap used same in
       omega (arith, ended, answered, came, got, one, two, sum)
 
-  -- a record that carries as much goes to a place, and nothing is told of it that counts
-  moved : (es : List Entry) (j : KernelState) (c d : Call) (place : Place) → j.calls ≡ put_at k.calls d place
-      → call_at k.calls d.number.0 ≡ Some c → d.buffer ≡ c.buffer → IsSilent es → IsBalanced k es j
-  moved es j c d place is live bytes silent =
+  -- one entry, and others that tell of no call: the calls carry what that entry says
+  told_by : (e : Entry) (told : List Entry) (j : KernelState) → IsSilent told
+      → used j.calls + (ended_by k.calls e + answered_by k.calls e) ≡ used k.calls + (accepted_by j.calls e + answered_by j.calls e)
+      → IsBalanced k (e ∷ told) j
+  told_by e told j silent sum =
       let ended = silent.ended k.calls in
-      let before = silent.answered k.calls in
+      let answered = silent.answered k.calls in
       let came = silent.accepted j.calls in
       let got = silent.answered j.calls in
       let one = pool-used k in
       let two = pool-used j in
-      let whole : used j.calls ≡ used (put_at k.calls d place) = ap used is in
-      let sum = used-put_at k.calls c d place live in
-      let size : length d.buffer ≡ length c.buffer = ap length bytes in
-      omega (arith, ended, before, came, got, one, two, whole, sum, size)
+      omega (arith, ended, answered, came, got, one, two, sum)
 
   -- an answer, with what it carries
-  answered : (j : KernelState) (c d : Call) (u : TaskNo) (reply : Reply) (by : Option TaskNo) (told : Option Entry)
-      → j.calls ≡ put_at k.calls d (Answers u) → call_at k.calls d.number.0 ≡ Some c → IsSilent (option_to_list told)
-      → IsBalanced k (entry.Answered d.number reply by ∷ option_to_list told) j
-  answered j c d u reply by told is live silent =
-      let ended = silent.ended k.calls in
-      let before = silent.answered k.calls in
-      let came = silent.accepted j.calls in
-      let got = silent.answered j.calls in
-      let one = pool-used k in
-      let two = pool-used j in
-      let whole : used j.calls ≡ used (put_at k.calls d (Answers u)) = ap used is in
-      let sum = used-put_at k.calls c d (Answers u) live in
-      let had : carried k.calls d.number ≡ length c.buffer = ap bytes_of live in
-      let here = put_here k.calls d.number.0 d.number.0 (record d { place = Answers u; stamp = k.calls.next_stamp }) refl in
-      let has : carried j.calls d.number ≡ length d.buffer = ap (λ (q : CallTable). bytes_of (call_at q d.number.0)) is ∙ ap bytes_of here in
-      omega (arith, ended, before, came, got, one, two, whole, sum, had, has)
-
   answered_as : (c : Call) (h : Handed) (by : Option TaskNo) (u : TaskNo) → h.state.calls ≡ k.calls
       → call_at k.calls h.call.number.0 ≡ Some c → IsSilent (option_to_list h.note) → StepBalances (answer_to h by u)
   answered_as c h by u same live silent =
-      answered (answer_to h by u).state c h.call u h.call.reply by h.note
-      (ap (λ (q : CallTable). put_at q h.call (Answers u)) same) live silent
-
-  -- a call vanishes
-  vanished : (j : KernelState) (c : Call) (told : Option Entry) → j.calls ≡ without_call k.calls c.number.0
-      → call_at k.calls c.number.0 ≡ Some c → IsSilent (option_to_list told)
-      → IsBalanced k (entry.Vanished c.number ∷ option_to_list told) j
-  vanished j c told is live silent =
-      let ended = silent.ended k.calls in
-      let before = silent.answered k.calls in
-      let came = silent.accepted j.calls in
-      let got = silent.answered j.calls in
-      let one = pool-used k in
-      let two = pool-used j in
-      let whole : used j.calls ≡ used (without_call k.calls c.number.0) = ap used is in
-      let sum = used-without_call k.calls c.number.0 c live in
-      let had : carried k.calls c.number ≡ length c.buffer = ap bytes_of live in
-      omega (arith, ended, before, came, got, one, two, whole, sum, had)
+      let d : Call = record h.call { place = Answers u; stamp = k.calls.next_stamp } in
+      let j : KernelState = (answer_to h by u).state in
+      let is : j.calls ≡ put_at k.calls h.call (Answers u) = ap (λ (q : CallTable). put_at q h.call (Answers u)) same in
+      let whole : used j.calls ≡ used (put_at k.calls h.call (Answers u)) = ap used is in
+      let sum = used-put_at k.calls c h.call (Answers u) live in
+      let had : carried k.calls h.call.number ≡ length c.buffer = ap bytes_of live in
+      let has : carried j.calls h.call.number ≡ length h.call.buffer =
+      ap (λ (q : CallTable). carried q h.call.number) is
+      ∙ ap bytes_of (put_here k.calls h.call.number.0 h.call.number.0 d refl) in
+      told_by (entry.Answered h.call.number h.call.reply by) (option_to_list h.note) j silent
+      (omega (arith, whole, sum, had, has))
 
 module _ (k : KernelState) (sound : IsSound k) where
-  free : call_at k.calls k.calls.next_number ≡ None
-  free = next_is_free k sound [] k.calls (accounted_first k sound)
+  free : (d : Call) → d.number.0 ≡ k.calls.next_number → call_at k.calls d.number.0 ≡ None
+  free d next = ap (call_at k.calls) next ∙ none_above k sound k.calls.next_number (omega arith)
 
   -- a call comes, with what it carries
   come : (j : KernelState) (d : Call) (from : Label) (method : ℕ) (to : Option TaskNo) (told : List Entry)
       → j.calls ≡ enqueue k.calls d → d.number.0 ≡ k.calls.next_number → IsSilent told
       → IsBalanced k (entry.Accepted d.number from method to ∷ told) j
   come j d from method to told is next silent =
-      let ended = silent.ended k.calls in
-      let before = silent.answered k.calls in
-      let came = silent.accepted j.calls in
-      let got = silent.answered j.calls in
-      let one = pool-used k in
-      let two = pool-used j in
-      let none : call_at k.calls d.number.0 ≡ None = ap (call_at k.calls) next ∙ free in
       let whole : used j.calls ≡ used (enqueue k.calls d) = ap used is in
-      let sum = used-enqueue k.calls d none in
-      let here = put_here k.calls d.number.0 d.number.0 (record d { stamp = k.calls.next_stamp }) refl in
-      let has : carried j.calls d.number ≡ length d.buffer = ap (λ (q : CallTable). bytes_of (call_at q d.number.0)) is ∙ ap bytes_of here in
-      omega (arith, ended, before, came, got, one, two, whole, sum, has)
+      let sum = used-enqueue k.calls d (free d next) in
+      let has : carried j.calls d.number ≡ length d.buffer =
+      ap (λ (q : CallTable). carried q d.number) is
+      ∙ ap bytes_of (put_here k.calls d.number.0 d.number.0 (record d { stamp = k.calls.next_stamp }) refl) in
+      told_by k (entry.Accepted d.number from method to) told j silent (omega (arith, whole, sum, has))
 
   -- one that carries nothing, and is answered at once
-  at_once : (c : Call) (code : Code) → c.number.0 ≡ k.calls.next_number → c.buffer ≡ [] → Balances k (answer_at_once k c code)
+  at_once : (c : Call) (code : Code) → c.number.0 ≡ k.calls.next_number → c.buffer ≡ []
+      → Balances k (answer_at_once k c code)
   at_once c code next empty =
       let d : Call = record c { reply = bare_reply code } in
       let j : KernelState = (answer_at_once k c code).state in
       let one = pool-used k in
       let two = pool-used j in
-      let none : call_at k.calls c.number.0 ≡ None = ap (call_at k.calls) next ∙ free in
-      let sum : used j.calls ≡ length c.buffer + used k.calls = used-enqueue k.calls d none in
+      let sum : used j.calls ≡ length c.buffer + used k.calls = used-enqueue k.calls d (free c next) in
       let size : length c.buffer ≡ 0 = ap length empty in
-      let had : carried k.calls c.number ≡ 0 = ap bytes_of none in
-      let has : carried j.calls c.number ≡ length c.buffer = ap bytes_of (put_here k.calls c.number.0 c.number.0 (record d { stamp = k.calls.next_stamp }) refl) in
+      let had : carried k.calls c.number ≡ 0 = ap bytes_of (free c next) in
+      let has : carried j.calls c.number ≡ length c.buffer =
+      ap bytes_of (put_here k.calls c.number.0 c.number.0 (record d { stamp = k.calls.next_stamp }) refl) in
       omega (arith, one, two, sum, size, had, has)
 
   -- one that is sent, as it is handed on
@@ -288,7 +257,11 @@ module _ (k : KernelState) (sound : IsSound k) where
   -- an answer, and a forward, of a live call
   module _ (c : Call) (live : call_at k.calls c.number.0 ≡ Some c) where
     gone : StepBalances k (vanishing k c)
-    gone = vanished k (vanishing k c).state c (kept_note (kept_phone c) Free) refl live (kept_silent (kept_phone c) Free)
+    gone =
+        let sum = used-without_call k.calls c.number.0 c live in
+        let had : carried k.calls c.number ≡ length c.buffer = ap bytes_of live in
+        told_by k (entry.Vanished c.number) (option_to_list (kept_note (kept_phone c) Free)) (vanishing k c).state
+        (kept_silent (kept_phone c) Free) (omega (arith, sum, had))
 
     declines : (reply : Reply) (by : Option TaskNo) (u : TaskNo) → StepBalances k (answer_to (declined k c reply) by u)
     declines reply by u = answered_as k c (declined k c reply) by u refl live (kept_silent (lent_phone c) Free)
@@ -310,14 +283,9 @@ module _ (k : KernelState) (sound : IsSound k) where
 
     passed : (msg : Msg) (label : Label) (t to : TaskNo) → StepBalances k (passage msg label t to k c)
     passed msg label t to =
-        let step : Transition = passage msg label t to k c in
-        let silent =
-        more_silent (entry.Forwarded c.number t to label) (option_to_list (kept_note (lent_phone c) Free))
-        (λ q. refl) (λ q. refl) (λ q. refl) (kept_silent (lent_phone c) Free) in
-        moved k step.entries step.state c (passed_call msg label c) (Incoming to) refl live refl silent
-
-  own : (n : ℕ) (c : Call) → call_at k.calls n ≡ Some c → call_at k.calls c.number.0 ≡ Some c
-  own n c is = ap (call_at k.calls) (sound.calls.each n c is).number ∙ is
+        let sum = used-put_at k.calls c (passed_call msg label c) (Incoming to) live in
+        told_by k (entry.Forwarded c.number t to label) (option_to_list (kept_note (lent_phone c) Free))
+        (passage msg label t to k c).state (kept_silent (lent_phone c) Free) (omega (arith, sum))
 
   -- each join
   joined : (t : TaskNo) (asked : Request) (s : Served) → join.Joins t asked k s → Balances k s
@@ -331,16 +299,16 @@ module _ (k : KernelState) (sound : IsSound k) where
       sent (as_it_is k (record (cut_call (new_call k t p msg (Incoming u))) { buffer = bytes })) u refl refl none_silent
   joined t asked s (join.sent_cut p msg u _ _ _) =
       sent (as_it_is k (cut_call (new_call k t p msg (Incoming u)))) u refl refl none_silent
-  joined t asked s (join.taken n c kind _ at _) = received_as t [] k begun c kind (own n c at.live)
-  joined t asked s (join.delivered n c _ at _) = given t [] k begun c (own n c at.live)
-  joined t asked s (join.brought n c _ at _) = brought t [] k begun c (own n c at.live)
-  joined t asked s (join.vanished n c o _ at _ _) = gone c (own n c at.live)
-  joined t asked s (join.turned_down n c reply u _ at _ _ _) = declines c (own n c at.live) reply (Some t) u
+  joined t asked s (join.taken n c kind _ at _) = received_as t [] k begun c kind (join.own k n c sound at.live)
+  joined t asked s (join.delivered n c _ at _) = given t [] k begun c (join.own k n c sound at.live)
+  joined t asked s (join.brought n c _ at _) = brought t [] k begun c (join.own k n c sound at.live)
+  joined t asked s (join.vanished n c o _ at _ _) = gone c (join.own k n c sound at.live)
+  joined t asked s (join.turned_down n c reply u _ at _ _ _) = declines c (join.own k n c sound at.live) reply (Some t) u
   joined t asked s (join.bounced n p mode change c u code _ at _ _) =
-      declines c (own n c at.live) (bare_reply eforward) None u
-  joined t asked s (join.accepted n c reply u kind _ at _ _ _ _) = accepted c (own n c at.live) t reply u kind
+      declines c (join.own k n c sound at.live) (bare_reply eforward) None u
+  joined t asked s (join.accepted n c reply u kind _ at _ _ _ _) = accepted c (join.own k n c sound at.live) t reply u kind
   joined t asked s (join.passed n p mode change c u _ at _ _) =
-      passed c (own n c at.live) (msg_after change c) (label_after t p mode c) t u
+      passed c (join.own k n c sound at.live) (msg_after change c) (label_after t p mode c) t u
   joined t asked s (join.hung_up p u _ _) =
       come (hang_up k t p (Some (Connected u))).state (hangup_call k t p u) (label_of t p) phone_hungup (Some u)
       (entry.PhoneIs (label_of t p) HungUp ∷ []) refl refl

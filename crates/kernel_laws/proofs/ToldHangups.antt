@@ -1,8 +1,7 @@
 -- A kill tells each task that a phone of its task led to, by one call.
-use Rattle.std.proofs.Common.{◌≡◌, ℕ, ◌<◌, ◌≤◌, Bool, true, false, ◌⊎◌, inl, inr, Option, None, Some, refl, ap, sym, subst, ◌∙◌, arith}
-use Rattle.std.specs.Prelude.{◌==◌}
+use Rattle.std.proofs.Common.{◌≡◌, ℕ, ◌<◌, ◌≤◌, true, ◌⊎◌, inl, inr, Option, None, Some, refl, ap, sym, subst, ◌∙◌, arith}
 use Rattle.std.specs.Option.{option_map_or}
-use Rattle.std.proofs.lemmas.Bool.{cases_eq, eqb-true}
+use Rattle.std.proofs.lemmas.Bool.{cases_eq}
 use Rattle.ipc_ids.specs.declared.numbers.Label.{Label}
 use Rattle.ipc_ids.specs.declared.numbers.TaskNo.{TaskNo}
 use Rattle.ipc_ids.specs.declared.message.PhoneState.{PhoneState}
@@ -11,23 +10,23 @@ use Rattle.ipc_ids.specs.Codes.{ehangup}
 use Rattle.call_slab.specs.declared.call.Call.{Call}
 use Rattle.call_slab.specs.declared.call.Place.{Place}
 use Rattle.call_slab.specs.declared.call.Place.TheVariants.{Incoming, Answers}
-use Rattle.answerbox.specs.Calls.{CallTable, call_at, task_of, enqueue, put_at, with_record, without_call, without_caller}
+use Rattle.answerbox.specs.Calls.{CallTable, call_at, task_of, enqueue, put_at, with_record, without_call, without_caller, same_place}
 use Rattle.phone_table.specs.Phones.{state_at}
 use Rattle.cleanup.specs.State.{KernelState, Transition, is_alive, phone_at, label_of, with_phone, with_state_at}
 use Rattle.cleanup.specs.Sound.{IsSound}
-use Rattle.cleanup.specs.Kept.{kept_phone, lent_phone, kept_rows, unless_freed}
-use Rattle.cleanup.specs.Joins.{bare_reply, lives, settle_for, forget_call, hang_up, hangup_call}
-use Rattle.cleanup.specs.Areas.{lose_first_area}
-use Rattle.cleanup.specs.Kill.{mark_ended, slam, kill}
+use Rattle.cleanup.specs.Kept.{kept_phone, lent_phone, kept_rows}
+use Rattle.cleanup.specs.Joins.{bare_reply, forget_call, hang_up, hangup_call, declined_call}
+use Rattle.cleanup.specs.Areas.{lose_area}
+use Rattle.cleanup.specs.Kill.{mark_ended, kill}
 use Rattle.cleanup.proofs.Lookups.{same_call, put_here, put_other, gone_other}
-use Rattle.cleanup.proofs.Repeats.{by_test}
 use Rattle.cleanup.proofs.Rows.{state_changed_at}
 use Rattle.kernel_laws.specs.KillLaws.{TellsOfHangup, HasCome, TellsWhereItLed}
 use Rattle.kernel_laws.specs.Routes.{Leads}
 use Rattle.kernel_laws.proofs.CallRoutes.{not_answers}
 use Rattle.kernel_laws.proofs.KillLaws.{kill_closes_phones}
-use Rattle.kernel_laws.proofs.KillRoutes.{forgot_by, kill_keeps}
-use Rattle.kernel_laws.proofs.Tables.{came_by, put_by, gone_by}
+use Rattle.kernel_laws.proofs.KillRoutes.{one_task}
+use Rattle.kernel_laws.proofs.Tables.{came_by, put_by, gone_by, forgot_by, none_above}
+use Rattle.kernel_core.proofs.ByKill as end
 
 at_one : (p : Place) (t u : TaskNo) → p ≡ Incoming u → task_of p ≡ t.0 → u.0 ≡ t.0
 at_one p t u at e = ap task_of (sym at) ∙ e
@@ -68,12 +67,6 @@ module _ (k : KernelState) (sound : IsSound k) (t : TaskNo) where
     own = λ n c u h at. absurd (none_new n c h);
     once = λ m n c d u v h g a b e. absurd (none_new m c h);
   }
-
-  none_above : (n : ℕ) → k.calls.next_number ≤ n → call_at k.calls n ≡ None
-  none_above n above = by_call (call_at k.calls n) refl where
-    by_call : (o : Option Call) → call_at k.calls n ≡ o → o ≡ None
-    by_call None is = refl
-    by_call (Some c) is = absurd (let l = (sound.calls.each n c is).below in omega (arith, l, above))
 
   -- ---- steps that bring no call
 
@@ -134,14 +127,17 @@ module _ (k : KernelState) (sound : IsSound k) (t : TaskNo) where
     back : (n : ℕ) (c : Call) → call_at i.calls n ≡ Some c → call_at j.calls n ≡ Some c
     back n c is = ap (λ (q : CallTable). call_at q n) (sym same) ∙ is
 
-  slammed : (u : TaskNo) (j : KernelState) (p : ℕ) (o : Option PhoneState) → phone_at j u p ≡ o → IsTelling j → IsTelling (slam t u j p o).state
-  slammed u j p (Some (Connected v)) is h = by_test (λ (s : Transition). IsTelling s.state) (v.0 == t.0) _ _ (λ e. only_phones j (with_phone j u p Slammed) refl h (slams_to (eqb-true v.0 t.0 e))) (λ _. h) where
-    slams_to : v.0 ≡ t.0 → (q : ℕ) (s : PhoneState) → phone_at (with_phone j u p Slammed) t q ≡ Some s → (phone_at j t q ≡ Some s) ⊎ ((s ≡ Free) ⊎ ((s ≡ Slammed) × (w : TaskNo) × Leads j t q w × (w.0 ≡ t.0)))
-    slams_to own q s at = elim (state_changed_at j.tasks.phones u.0 p t.0 q Slammed s at) [
-      | inl e ↦ inr (inr (sym e.2, v, ap (λ i. state_at j.tasks.phones i q) e.0 ∙ ap (state_at j.tasks.phones u.0) e.1 ∙ is, own))
-      | inr e ↦ inl e.1
-    ]
-  slammed u j p _ is h = h
+  -- a phone that leads to t is slammed
+  slammed : (u v : TaskNo) (j : KernelState) (p : ℕ) → phone_at j u p ≡ Some (Connected v) → v.0 ≡ t.0 → IsTelling j
+      → IsTelling (with_phone j u p Slammed)
+  slammed u v j p is own h =
+      only_phones j (with_phone j u p Slammed) refl h
+      (λ q s at. elim (state_changed_at j.tasks.phones u.0 p t.0 q Slammed s at) [
+        | inl e ↦
+            let led = ap (λ i. state_at j.tasks.phones i q) e.0 ∙ ap (state_at j.tasks.phones u.0) e.1 ∙ is in
+            inr (inr (sym e.2, v, led, own))
+        | inr e ↦ inl e.1
+      ])
 
   freed : (j : KernelState) (kept : Option Label) (p : ℕ) (s : PhoneState) → state_at (kept_rows j.tasks.phones kept Free) t.0 p ≡ Some s → (phone_at j t p ≡ Some s) ⊎ ((s ≡ Free) ⊎ ((s ≡ Slammed) × (v : TaskNo) × Leads j t p v × (v.0 ≡ t.0)))
   freed j None p s at = inl at
@@ -181,15 +177,13 @@ module _ (k : KernelState) (sound : IsSound k) (t : TaskNo) where
         let one : c ≡ e = same_call c e (sym is ∙ ap (call_at j.calls) (sym number ∙ f) ∙ there) in
         at_one c.place t u (ap (λ (x : Call). x.place) one ∙ at) here
 
-  settled : (j : KernelState) (m : ℕ) (c : Call) → call_at j.calls m ≡ Some c → task_of c.place ≡ t.0 → (o : Option TaskNo) (b : Bool) → IsTelling j → IsTelling (settle_for j c (bare_reply ehangup) None o b).state
-  settled j m c is here None b h = over j m c (kept_phone c) is here h
-  settled j m c is here (Some u) false h = over j m c (kept_phone c) is here h
-  settled j m c is here (Some u) true h = answered j m c (record c { reply = bare_reply ehangup; reserved = unless_freed (lent_phone c) c.reserved }) u (lent_phone c) is here refl h
-
   -- a call loses its caller
   forgotten : (j : KernelState) (c : Call) → IsTelling j → IsTelling (forget_call j c).state
   forgotten j c h = changed j (forget_call j c).state h (record {
-    numbered = λ n e there. elim (back n e there) [ inl x ↦ ap (λ (y : Call). y.number.0) (sym x.2) ∙ h.numbered n x.0 x.1 | inr x ↦ h.numbered n e x ];
+    numbered = λ n e there. elim (back n e there) [
+      | inl x ↦ ap (λ (y : Call). y.number.0) (sym x.2) ∙ h.numbered n x.0 x.1
+      | inr x ↦ h.numbered n e x
+    ];
     live = λ n e there. elim (back n e there) [ inl x ↦ (x.0, x.1) | inr x ↦ (e, x) ];
     next = next_by (call_at j.calls c.number.0);
     came = λ n e u there at. elim (back n e there) [ inl x ↦ (x.0, x.1, ap (λ (y : Call). y.place) x.2 ∙ at, ap (λ (y : Call). y.label) x.2) | inr x ↦ (e, x, at, refl) ];
@@ -197,7 +191,10 @@ module _ (k : KernelState) (sound : IsSound k) (t : TaskNo) where
     phones = λ p s at. inl at;
   }) where
     back : (n : ℕ) (e : Call) → call_at (without_caller j.calls c.number.0) n ≡ Some e → ((d : Call) × (call_at j.calls n ≡ Some d) × (record d { caller = None } ≡ e)) ⊎ (call_at j.calls n ≡ Some e)
-    back n e there = forgot_by j.calls c.number.0 n e h.numbered there
+    back n e there = elim (forgot_by j.calls c.number.0 n e there) [
+      | inl x ↦ inl (x.0, ap (call_at j.calls) (sym x.2 ∙ h.numbered c.number.0 x.0 x.1) ∙ x.1, x.3)
+      | inr x ↦ inr x
+    ]
 
     next_by : (o : Option Call) → (option_map_or (λ (d : Call). with_record j.calls (record d { caller = None })) o j.calls).next_number ≡ j.calls.next_number
     next_by None = refl
@@ -210,10 +207,6 @@ module _ (k : KernelState) (sound : IsSound k) (t : TaskNo) where
           (record x { caller = None }, put_here j.calls x.number.0 n _ e, ap (λ (y : Call). y.place) one ∙ at, ap (λ (y : Call). y.label) one, ap (λ (y : Call). y.request) one))
       | inr ne ↦ (d, put_other j.calls x.number.0 n _ ne ∙ there, at, refl, refl)
     ]
-
-  lost : (j : KernelState) (base : Option ℕ) → IsTelling j → IsTelling (lose_first_area t j base).state
-  lost j None h = h
-  lost j (Some base) h = only_phones j (lose_first_area t j (Some base)).state refl h (λ p s at. inl at)
 
   -- ---- a phone of t is hung up
 
@@ -270,34 +263,51 @@ module _ (k : KernelState) (sound : IsSound k) (t : TaskNo) where
     now : (q : ℕ) (v : TaskNo) → Leads k t q v → q ≡ p → IsToldIn (hang_up j t p (Some (Connected u))).state q v
     now q v l e =
         let one : v ≡ u = same_led t v u k q l (subst (λ x. Leads k t x u) (sym e) (h.leads p u is)) in
-        (j.calls.next_number, new_one, (none_above j.calls.next_number h.later, put_here j.calls j.calls.next_number j.calls.next_number new_one refl), record { place = ap Incoming (sym one); asks = refl; label = ap (label_of t) (sym e) })
+        (j.calls.next_number, new_one, (none_above k sound j.calls.next_number h.later, put_here j.calls j.calls.next_number j.calls.next_number new_one refl), record { place = ap Incoming (sym one); asks = refl; label = ap (label_of t) (sym e) })
 
     still : (q : ℕ) (v : TaskNo) → IsToldIn j q v → IsToldIn (hang_up j t p (Some (Connected u))).state q v
     still q v r =
         let b = h.below r.0 r.1 r.2.1 in
         (r.0, r.1, (r.2.0, put_other j.calls j.calls.next_number r.0 new_one (λ e. omega (arith, b, e)) ∙ r.2.1), r.3)
 
-  hung_up : (j : KernelState) (p : ℕ) (o : Option PhoneState) → phone_at j t p ≡ o → IsTelling j → IsTelling (hang_up j t p o).state
-  hung_up j p (Some Slammed) is h = record {
+  -- a phone that was slammed is hung up
+  hung_up : (j : KernelState) (p : ℕ) → phone_at j t p ≡ Some Slammed → IsTelling j
+      → IsTelling (hang_up j t p (Some Slammed)).state
+  hung_up j p is h = record {
     numbered = h.numbered;
     below = h.below;
     later = h.later;
     leads = λ q u l. h.leads q u (led j p q u l);
     told = λ q u l ne. (
       λ s. elim (written j p q Slammed s) [ inl e ↦ (let f = e.1 in cc f) | inr old ↦ (h.told q u l ne).0 old ],
-      λ s. elim (written j p q HungUp s) [ inl e ↦ absurd ((h.told q u l ne).0 (ap (phone_at j t) e.0 ∙ is)) | inr old ↦ (h.told q u l ne).1 old ],
+      λ s. elim (written j p q HungUp s) [
+        | inl e ↦ absurd ((h.told q u l ne).0 (ap (phone_at j t) e.0 ∙ is))
+        | inr old ↦ (h.told q u l ne).1 old
+      ],
     );
     own = λ n c u new at. let o = h.own n c u new at in (o.0, o.1, λ v l. o.2 v (led j p o.0 v l));
     once = h.once;
   }
-  hung_up j p (Some (Connected u)) is h = called j p u is h
-  hung_up j p _ is h = h
+
+  -- a call that waits at t, or that t holds, stands at t
+  at_task : (c : Call) (place : Place) → end.IsSettled t place → same_place c.place place ≡ true → task_of c.place ≡ t.0
+  at_task c place settled here = one_task c.place place here ∙ elim settled [ inl e ↦ ap task_of e | inr e ↦ ap task_of e ]
+
+  -- each part of the kill
+  ended : (j : KernelState) (s : Transition) → IsTelling j → end.Ends t j s → IsTelling s.state
+  ended j s h (end.hung_up p u is) = called j p u is h
+  ended j s h (end.hung_up_slammed p is) = hung_up j p is h
+  ended j s h (end.slammed u v p is own) = slammed u v j p is own h
+  ended j s h (end.vanished n c place settled at _) =
+      over j n c (kept_phone c) at.live (at_task c place settled at.here) h
+  ended j s h (end.bounced n c u place settled at _ _) =
+      answered j n c (declined_call c (bare_reply ehangup)) u (lent_phone c) at.live (at_task c place settled at.here) refl h
+  ended j s h (end.dropped n c at) = over j n c (kept_phone c) at.live (one_task c.place (Answers t) at.here) h
+  ended j s h (end.forgotten c _) = forgotten j c h
+  ended j s h (end.lost base _) = only_phones j (lose_area t j base).state refl h (λ p s at. inl at)
 
   kill_told : IsTelling (kill k t).state
-  kill_told = kill_keeps t IsTelling
-      (λ j p h. hung_up j p (phone_at j t p) refl h) (λ u j p h. slammed u j p (phone_at j u p) refl h)
-      (λ j m c is at h. settled j m c is at c.caller (lives j c.caller) h) (λ j m c is at h. over j m c (kept_phone c) is at h)
-      forgotten lost k first
+  kill_told = end.states_by_kill t IsTelling ended k first
 
 pub kill_tells_where_it_led : (k : KernelState) (t : TaskNo) → IsSound k → is_alive k t ≡ true → TellsWhereItLed t k (kill k t).state
 kill_tells_where_it_led k t sound alive = record {
