@@ -1,6 +1,6 @@
 -- A kill keeps its laws.
 use Rattle.std.proofs.Common.{◌≡◌, true, false, ◌⊎◌, inl, inr, Option, None, Some, option_map, refl, ap, sym, subst, ◌∙◌}
-use Rattle.std.proofs.lemmas.Bool.{eqb-true, eq-eqb, ne_eqb, false≢true}
+use Rattle.std.proofs.lemmas.Bool.{eq-eqb, ne_eqb, false≢true}
 use Rattle.ipc_ids.specs.declared.numbers.TaskNo.{TaskNo}
 use Rattle.ipc_ids.specs.declared.message.PhoneState.{PhoneState}
 use Rattle.ipc_ids.specs.declared.message.PhoneState.TheVariants.{Connecting, Connected, HungUp, Slammed}
@@ -15,6 +15,8 @@ use Rattle.kernel_laws.specs.KillLaws.{EndsTask, LeavesNothingOf, IsOpen, Closes
 use Rattle.cleanup.proofs.Killing.{kill_leaves_nothing, killed_task, other_task}
 use Rattle.kernel_laws.proofs.KilledCalls.{kill_answers, kill_ends, kill_orphans, kill_spares, IsWith as StandsWith}
 use Rattle.cleanup.proofs.KilledPhones.{hung, slammed, kill_own_phone, kill_other_phone}
+use Rattle.kernel_core.proofs.InEvent.{same_task}
+use Rattle.kernel_laws.proofs.KillRoutes.{one_task}
 
 -- the words of a place, and the tests of it
 
@@ -36,27 +38,16 @@ at_test t c e = by_place c.place e where
   by_place (Answers u) e = inr (eq-eqb u.0 t.0 e)
 
 task_test : (t : TaskNo) (c : Call) → StandsWith t c ⊎ (same_place c.place (Answers t) ≡ true) → task_of c.place ≡ t.0
-task_test t c h = by_place c.place h where
-  by_place : (place : Place) → ((same_place place (Incoming t) ≡ true) ⊎ (same_place place (Dispatched t) ≡ true)) ⊎ (same_place place (Answers t) ≡ true) → task_of place ≡ t.0
-  by_place (Incoming u) (inl (inl e)) = eqb-true u.0 t.0 e
-  by_place (Incoming u) (inl (inr e)) = absurd (false≢true e)
-  by_place (Incoming u) (inr e) = absurd (false≢true e)
-  by_place (Dispatched u) (inl (inl e)) = absurd (false≢true e)
-  by_place (Dispatched u) (inl (inr e)) = eqb-true u.0 t.0 e
-  by_place (Dispatched u) (inr e) = absurd (false≢true e)
-  by_place (Answers u) (inl (inl e)) = absurd (false≢true e)
-  by_place (Answers u) (inl (inr e)) = absurd (false≢true e)
-  by_place (Answers u) (inr e) = eqb-true u.0 t.0 e
-
-same_no : (t u : TaskNo) → u.0 ≡ t.0 → u ≡ t
-same_no t u e = ap (λ n. let r : TaskNo = record { 0 = n } in r) e
+task_test t c (inl (inl e)) = one_task c.place (Incoming t) e
+task_test t c (inl (inr e)) = one_task c.place (Dispatched t) e
+task_test t c (inr e) = one_task c.place (Answers t) e
 
 is_its_caller : (t : TaskNo) (o : Option TaskNo) → o ≡ Some t → is_caller t o ≡ true
 is_its_caller t o e = ap (is_caller t) e ∙ eq-eqb t.0 t.0 refl
 
 not_its_caller : (t : TaskNo) (o : Option TaskNo) → (o ≡ Some t → ⊥) → is_caller t o ≡ false
 not_its_caller t None ne = refl
-not_its_caller t (Some u) ne = ne_eqb u.0 t.0 (λ e. ne (ap Some (same_no t u e)))
+not_its_caller t (Some u) ne = ne_eqb u.0 t.0 (λ e. ne (ap Some (same_task u t e)))
 
 -- the words of a phone
 
@@ -73,7 +64,7 @@ slammed_leading : (t : TaskNo) → slammed t (Connected t) ≡ Slammed
 slammed_leading t = rw (eq-eqb t.0 t.0 refl) refl
 
 slammed_other : (t : TaskNo) (s : PhoneState) → (s ≡ Connected t → ⊥) → slammed t s ≡ s
-slammed_other t (Connected u) ne = rw (ne_eqb u.0 t.0 (λ e. ne (ap Connected (same_no t u e)))) refl
+slammed_other t (Connected u) ne = rw (ne_eqb u.0 t.0 (λ e. ne (ap Connected (same_task u t e)))) refl
 slammed_other t _ ne = refl
 
 pub kill_ends_task : (k : KernelState) (t : TaskNo) → is_alive k t ≡ true → EndsTask t k (kill k t).state

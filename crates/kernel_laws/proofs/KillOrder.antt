@@ -19,13 +19,14 @@ use Rattle.cleanup.specs.Kept.{kept_phone, lent_phone, kept_note}
 use Rattle.cleanup.specs.Joins.{bare_reply, settle_for, lives, hang_up}
 use Rattle.cleanup.specs.Kill.{task_no, width, mark_ended, hang_up_at, hang_up_own_phones, slam, slam_at, slam_phones_of, slam_other, slam_phones_to, first_at, settle_call, settle_incoming, settle_dispatched, drop_answers, forget_calls_elsewhere, drop_areas, kill}
 use Rattle.kernel_laws.specs.KillLaws.{Ends, HasEnd, EndsBefore, EndsWaitingFirst}
-use Rattle.cleanup.proofs.Lookups.{same_call, put_other, gone_other}
+use Rattle.cleanup.proofs.Lookups.{same_call}
 use Rattle.cleanup.proofs.Repeats.{by_test}
 use Rattle.cleanup.proofs.Histories.{told_after, none_after, both_after, each_tells, drain_tells}
-use Rattle.cleanup.proofs.Silence.{IsEnding, IsAlone, own_phones_hung_up, phones_slammed}
-use Rattle.cleanup.proofs.Queues.{IsLive, stands_at, front_at, incoming_alone, incoming_settled}
+use Rattle.cleanup.proofs.Silence.{IsAlone}
+use Rattle.cleanup.proofs.Queues.{IsLive, stands_at, front_at, incoming_alone}
 use Rattle.cleanup.proofs.Killing.{after_hangups, after_slams, after_incoming, after_dispatched, after_answers, after_calls}
-use Rattle.kernel_laws.proofs.KilledCalls.{answered_call, after_phones}
+use Rattle.kernel_laws.proofs.KilledCalls.{after_phones, leaves_other}
+use Rattle.kernel_laws.proofs.KillParts.{alone_then, uncalled_then}
 
 -- ends in a list that goes on
 
@@ -115,11 +116,6 @@ ends_no_other n j d None b ne h = elim h [ inl x ↦ ne x | inr x ↦ note_ends_
 ends_no_other n j d (Some u) false ne h = elim h [ inl x ↦ ne x | inr x ↦ note_ends_none n (kept_phone d) Free x ]
 ends_no_other n j d (Some u) true ne h = elim h [ inl x ↦ ne x | inr x ↦ note_ends_none n (lent_phone d) Free x ]
 
-leaves_other : (n : ℕ) (j : KernelState) (d : Call) (o : Option TaskNo) (b : Bool) → (d.number.0 ≡ n → ⊥) → call_at (settle_for j d (bare_reply ehangup) None o b).state.calls n ≡ call_at j.calls n
-leaves_other n j d None b ne = gone_other j.calls d.number.0 n ne
-leaves_other n j d (Some u) false ne = gone_other j.calls d.number.0 n ne
-leaves_other n j d (Some u) true ne = put_other j.calls d.number.0 n (answered_call d u j.calls.next_stamp) ne
-
 module _
     (k : KernelState) (t : TaskNo) (sound : IsSound k) (alive : is_alive k t ≡ true)
     (m n : ℕ) (c d : Call) (waits : call_at k.calls m ≡ Some c) (at_t : c.place ≡ Incoming t)
@@ -134,17 +130,12 @@ module _
     pub second : call_at j.calls n ≡ Some d
     pub none : HasNoEnd n p
 
-  alone_first : IsAlone marks t (after_slams t k)
-  alone_first =
-      let h0 : IsEnding marks (mark_ended k t) = record { sound = sound } in
-      phones_slammed marks t (after_hangups t k) (own_phones_hung_up marks t (mark_ended k t) alive h0)
-
   abbrev told_first : List Entry
   told_first = (hang_up_own_phones t (mark_ended k t)).entries ++ (slam_phones_to t (after_hangups t k)).entries
 
   begun : Waits told_first (after_slams t k)
   begun = record {
-    alone = alone_first;
+    alone = alone_then k t sound alive;
     first = inl (after_phones k t sound alive m c waits);
     second = after_phones k t sound alive n d held;
     none = slams_end_none n t (hang_up_own_phones t (mark_ended k t)).entries (after_hangups t k) (hangups_end_none n t [] (mark_ended k t) (λ x. x));
@@ -173,7 +164,7 @@ module _
 
   m_ends : HasEnd m told_waiting
   m_ends = elim all_waiting.first [
-    | inl there ↦ absurd (false≢true (sym ((incoming_settled marks t (after_slams t k) alone_first).incoming m c there) ∙ ap (λ (y : Place). same_place y (Incoming t)) at_t ∙ eq-eqb t.0 t.0 refl))
+    | inl there ↦ absurd (false≢true (sym ((uncalled_then k t sound alive).incoming m c there) ∙ ap (λ (y : Place). same_place y (Incoming t)) at_t ∙ eq-eqb t.0 t.0 refl))
     | inr done ↦ done
   ]
 

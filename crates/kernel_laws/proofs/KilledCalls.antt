@@ -16,10 +16,12 @@ use Rattle.cleanup.specs.Joins.{bare_reply, declined_call, settle_for, lives, dr
 use Rattle.cleanup.specs.Kill.{width, mark_ended, hang_up_at, slam, first_at, first_call_of, settle_call, kill}
 use Rattle.cleanup.proofs.Lookups.{same_call, put_here, put_other, gone_here, gone_other}
 use Rattle.cleanup.proofs.Repeats.{by_test, each_keeps, drain_keeps}
-use Rattle.cleanup.proofs.Silence.{IsEnding, IsAlone, slams_keep, own_phones_hung_up, phones_slammed}
-use Rattle.cleanup.proofs.Queues.{IsLive, IsUncalled, IsIdle, IsUnanswered, stands_at, is_call_of, front_at, call_from, forget_step, forget_unanswered, incoming_alone, incoming_settled, dispatched_uncalled, dispatched_settled, drop_idle, answers_dropped}
+use Rattle.cleanup.proofs.Silence.{IsAlone, slams_keep}
+use Rattle.cleanup.proofs.Queues.{IsLive, IsUncalled, IsIdle, IsUnanswered, stands_at, is_call_of, front_at, call_from, forget_step, forget_unanswered, incoming_alone, dispatched_uncalled, drop_idle}
 use Rattle.cleanup.proofs.MarkChanges.{ended_here, alive_elsewhere}
 use Rattle.cleanup.proofs.Killing.{KeepsTheRest, HasNothingOf, kill_leaves_nothing, areas_last, hang_up_steady, slam_steady, settle_steady, after_hangups, after_slams, after_incoming, after_dispatched, after_answers, after_calls}
+use Rattle.std.proofs.lemmas.Option.{none-some, same_Some}
+use Rattle.kernel_laws.proofs.KillParts.{alone_then, uncalled_then, idle_then, unanswered_then}
 
 -- a call stands at a task as one that waits or is held
 abbrev pub IsWith : TaskNo → Call → Type 0
@@ -53,12 +55,6 @@ pub record IsOrphaned (t : TaskNo) (c : Call) (now : Option Call) : Type 0 where
 abbrev pub Becomes : TaskNo → Call → Option Call → Type 0
 Becomes t c now = (now ≡ Some c) ⊎ (IsAnswered t c now ⊎ (IsOver t c now ⊎ IsOrphaned t c now))
 
-none_some : {A : Type 0} (x : A) → None ≡ Some x → ⊥
-none_some x e = cc
-
-same_caller : (u v : TaskNo) → Some u ≡ Some v → u ≡ v
-same_caller u v e = cc
-
 its_caller : (t u : TaskNo) (o : Option TaskNo) → is_caller t o ≡ true → o ≡ Some u → u.0 ≡ t.0
 its_caller t u o made from = eqb-true u.0 t.0 (sym (ap (is_caller t) from) ∙ made)
 
@@ -69,10 +65,17 @@ not_with t u (inr e) = false≢true e
 at_answers : (t : TaskNo) (tasks : Tasks) (o : Option TaskNo) (place : Place) → IsPlaced tasks o place → same_place place (Answers t) ≡ true → (u : TaskNo) → o ≡ Some u → u.0 ≡ t.0
 at_answers t tasks o (Incoming s) h there u from = absurd (false≢true there)
 at_answers t tasks o (Dispatched s) h there u from = absurd (false≢true there)
-at_answers t tasks o (Answers s) h there u from = ap (λ (x : TaskNo). x.0) (same_caller u s (sym from ∙ h)) ∙ eqb-true s.0 t.0 there
+at_answers t tasks o (Answers s) h there u from = ap (λ (x : TaskNo). x.0) (same_Some u s (sym from ∙ h)) ∙ eqb-true s.0 t.0 there
 
 abbrev orphan : Call → Call
 orphan c = record c { caller = None }
+
+-- where the kernel ends one call, each other one stays as it is
+pub leaves_other : (n : ℕ) (j : KernelState) (d : Call) (o : Option TaskNo) (b : Bool) → (d.number.0 ≡ n → ⊥)
+    → call_at (settle_for j d (bare_reply ehangup) None o b).state.calls n ≡ call_at j.calls n
+leaves_other n j d (Some u) true ne = put_other j.calls d.number.0 n (answered_call d u j.calls.next_stamp) ne
+leaves_other n j d (Some u) false ne = gone_other j.calls d.number.0 n ne
+leaves_other n j d None b ne = gone_other j.calls d.number.0 n ne
 
 module _ (k : KernelState) (t : TaskNo) (sound : IsSound k) (alive : is_alive k t ≡ true) (n : ℕ) (c : Call) (is : call_at k.calls n ≡ Some c) where
   abbrev now_dead : KernelState
@@ -95,16 +98,11 @@ module _ (k : KernelState) (t : TaskNo) (sound : IsSound k) (alive : is_alive k 
 
   -- the kernel answers a call
 
-  settle_other : (j : KernelState) (d : Call) (o : Option TaskNo) (b : Bool) → (d.number.0 ≡ n → ⊥) → Comes j → Comes (settle_for j d (bare_reply ehangup) None o b).state
-  settle_other j d None b ne h = subst (Becomes t c) (sym (gone_other j.calls d.number.0 n ne)) h
-  settle_other j d (Some u) false ne h = subst (Becomes t c) (sym (gone_other j.calls d.number.0 n ne)) h
-  settle_other j d (Some u) true ne h = subst (Becomes t c) (sym (put_other j.calls d.number.0 n (answered_call d u j.calls.next_stamp) ne)) h
-
   settle_it : (j : KernelState) → KeepsTheRest now_dead j → c.number.0 ≡ n → IsWith t c → (o : Option TaskNo) (b : Bool) → c.caller ≡ o → lives j o ≡ b → Comes (settle_for j c (bare_reply ehangup) None o b).state
-  settle_it j s e w None b from l = inr (inr (inl (record { at_task = inl w; alone = λ u f. absurd (none_some u (sym from ∙ f)); over = gone_here j.calls c.number.0 n e })))
+  settle_it j s e w None b from l = inr (inr (inl (record { at_task = inl w; alone = λ u f. absurd (none-some u (sym from ∙ f)); over = gone_here j.calls c.number.0 n e })))
   settle_it j s e w (Some u) false from l = inr (inr (inl (record {
     at_task = inl w;
-    alone = λ v f. ap (λ (x : TaskNo). x.0) (same_caller v u (sym f ∙ from)) ∙ caller_gone j s u from l;
+    alone = λ v f. ap (λ (x : TaskNo). x.0) (same_Some v u (sym f ∙ from)) ∙ caller_gone j s u from l;
     over = gone_here j.calls c.number.0 n e;
   })))
   settle_it j s e w (Some u) true from l = inr (inl (record {
@@ -117,13 +115,13 @@ module _ (k : KernelState) (t : TaskNo) (sound : IsSound k) (alive : is_alive k 
   }))
 
   settle_comes : (j : KernelState) (d : Call) → KeepsTheRest now_dead j → IsLive j d → IsWith t d → Comes j → Comes (settle_call j d).state
-  settle_comes j d s live w h = elim (cases_eq d.number.0 n) [ inl e ↦ here e (ap (call_at j.calls) (sym e) ∙ live) h | inr ne ↦ settle_other j d d.caller (lives j d.caller) ne h ] where
+  settle_comes j d s live w h = elim (cases_eq d.number.0 n) [ inl e ↦ here e (ap (call_at j.calls) (sym e) ∙ live) h | inr ne ↦ subst (Becomes t c) (sym (leaves_other n j d d.caller (lives j d.caller) ne)) h ] where
     here : d.number.0 ≡ n → call_at j.calls n ≡ Some d → Comes j → Comes (settle_call j d).state
     here e there (inl was) =
         let same : d ≡ c = same_call d c (sym there ∙ was) in
         subst (λ (x : Call). Comes (settle_call j x).state) (sym same) (settle_it j s (ap (λ (x : Call). x.number.0) (sym same) ∙ e) (subst (IsWith t) same w) c.caller (lives j c.caller) refl refl)
     here e there (inr (inl a)) = absurd (not_with t a.caller (subst (IsWith t) (same_call d (answered_call c a.caller a.stamp) (sym there ∙ a.answer)) w))
-    here e there (inr (inr (inl o))) = absurd (none_some d (sym o.over ∙ there))
+    here e there (inr (inr (inl o))) = absurd (none-some d (sym o.over ∙ there))
     here e there (inr (inr (inr o))) =
         let same : d ≡ orphan c = same_call d (orphan c) (sym there ∙ o.orphan) in
         let at_task : IsWith t (orphan c) = subst (IsWith t) same w in
@@ -142,7 +140,7 @@ module _ (k : KernelState) (t : TaskNo) (sound : IsSound k) (alive : is_alive k 
         let same : d ≡ answered_call c a.caller a.stamp = same_call d (answered_call c a.caller a.stamp) (sym there ∙ a.answer) in
         let at_task : (a.caller.0 == t.0) ≡ true = subst (λ (x : Call). stands_at (Answers t) x ≡ true) same w in
         absurd (a.other (eqb-true a.caller.0 t.0 at_task))
-    here e there (inr (inr (inl o))) = absurd (none_some d (sym o.over ∙ there))
+    here e there (inr (inr (inl o))) = absurd (none-some d (sym o.over ∙ there))
     here e there (inr (inr (inr o))) =
         let same : d ≡ orphan c = same_call d (orphan c) (sym there ∙ o.orphan) in
         let at_task : stands_at (Answers t) c ≡ true = subst (λ (x : Call). stands_at (Answers t) x ≡ true) same w in
@@ -158,7 +156,7 @@ module _ (k : KernelState) (t : TaskNo) (sound : IsSound k) (alive : is_alive k 
     here e there (inr (inl a)) =
         let same : d ≡ answered_call c a.caller a.stamp = same_call d (answered_call c a.caller a.stamp) (sym there ∙ a.answer) in
         absurd (a.other (its_caller t a.caller c.caller (subst (λ (x : Call). is_call_of t x ≡ true) same made) a.is))
-    here e there (inr (inr (inl o))) = absurd (none_some d (sym o.over ∙ there))
+    here e there (inr (inr (inl o))) = absurd (none-some d (sym o.over ∙ there))
     here e there (inr (inr (inr o))) =
         let same : d ≡ orphan c = same_call d (orphan c) (sym there ∙ o.orphan) in
         absurd (false≢true (subst (λ (x : Call). is_call_of t x ≡ true) same made))
@@ -203,60 +201,43 @@ module _ (k : KernelState) (t : TaskNo) (sound : IsSound k) (alive : is_alive k 
   settled_steady : (j : KernelState) (d : Call) → KeepsTheRest now_dead j → KeepsTheRest now_dead (settle_call j d).state
   settled_steady j d s = settle_steady now_dead j d (bare_reply ehangup) d.caller (lives j d.caller) s
 
-  abbrev marks : List Bool
-  marks = k.tasks.alive
+  comes_incoming : IsOn (IsAlone k.tasks.alive t) (after_incoming t k)
+  comes_incoming = drain_keeps (first_at (Incoming t)) settle_call (IsOn (IsAlone k.tasks.alive t))
+      (λ j d h e. let f = front_at k.tasks.alive j (Incoming t) d h.calls.silent.ending e in record { calls = incoming_alone k.tasks.alive t j d h.calls e; steady = settled_steady j d h.steady; comes = settle_comes j d h.steady f.0 (inl f.1) h.comes })
+      (calls_at (after_slams t k).calls (Incoming t)) (after_slams t k) (record { calls = alone_then k t sound alive; steady = steady_phones; comes = inl after_phones })
 
-  alone_first : IsAlone marks t (after_slams t k)
-  alone_first =
-      let h0 : IsEnding marks now_dead = record { sound = sound } in
-      phones_slammed marks t (after_hangups t k) (own_phones_hung_up marks t now_dead alive h0)
+  comes_dispatched : IsOn (IsUncalled k.tasks.alive t) (after_dispatched t k)
+  comes_dispatched = drain_keeps (first_at (Dispatched t)) settle_call (IsOn (IsUncalled k.tasks.alive t))
+      (λ j d h e. let f = front_at k.tasks.alive j (Dispatched t) d h.calls.alone.silent.ending e in record { calls = dispatched_uncalled k.tasks.alive t j d h.calls e; steady = settled_steady j d h.steady; comes = settle_comes j d h.steady f.0 (inr f.1) h.comes })
+      (calls_at (after_incoming t k).calls (Dispatched t)) (after_incoming t k) (record { calls = uncalled_then k t sound alive; steady = comes_incoming.steady; comes = comes_incoming.comes })
 
-  comes_incoming : IsOn (IsAlone marks t) (after_incoming t k)
-  comes_incoming = drain_keeps (first_at (Incoming t)) settle_call (IsOn (IsAlone marks t))
-      (λ j d h e. let f = front_at marks j (Incoming t) d h.calls.silent.ending e in record { calls = incoming_alone marks t j d h.calls e; steady = settled_steady j d h.steady; comes = settle_comes j d h.steady f.0 (inl f.1) h.comes })
-      (calls_at (after_slams t k).calls (Incoming t)) (after_slams t k) (record { calls = alone_first; steady = steady_phones; comes = inl after_phones })
+  comes_answers : IsOn (IsIdle k.tasks.alive t) (after_answers t k)
+  comes_answers = drain_keeps (first_at (Answers t)) (drop_answer t) (IsOn (IsIdle k.tasks.alive t))
+      (λ j d h e. let f = front_at k.tasks.alive j (Answers t) d h.calls.uncalled.alone.silent.ending e in record { calls = drop_idle k.tasks.alive t j d h.calls e; steady = record { alive = h.steady.alive; memory = h.steady.memory; events = h.steady.events }; comes = drop_comes j d f.0 f.1 h.comes })
+      (calls_at (after_dispatched t k).calls (Answers t)) (after_dispatched t k) (record { calls = idle_then k t sound alive; steady = comes_dispatched.steady; comes = comes_dispatched.comes })
 
-  uncalled : IsUncalled marks t (after_incoming t k)
-  uncalled = incoming_settled marks t (after_slams t k) alone_first
-
-  comes_dispatched : IsOn (IsUncalled marks t) (after_dispatched t k)
-  comes_dispatched = drain_keeps (first_at (Dispatched t)) settle_call (IsOn (IsUncalled marks t))
-      (λ j d h e. let f = front_at marks j (Dispatched t) d h.calls.alone.silent.ending e in record { calls = dispatched_uncalled marks t j d h.calls e; steady = settled_steady j d h.steady; comes = settle_comes j d h.steady f.0 (inr f.1) h.comes })
-      (calls_at (after_incoming t k).calls (Dispatched t)) (after_incoming t k) (record { calls = uncalled; steady = comes_incoming.steady; comes = comes_incoming.comes })
-
-  idle : IsIdle marks t (after_dispatched t k)
-  idle = dispatched_settled marks t (after_incoming t k) uncalled
-
-  comes_answers : IsOn (IsIdle marks t) (after_answers t k)
-  comes_answers = drain_keeps (first_at (Answers t)) (drop_answer t) (IsOn (IsIdle marks t))
-      (λ j d h e. let f = front_at marks j (Answers t) d h.calls.uncalled.alone.silent.ending e in record { calls = drop_idle marks t j d h.calls e; steady = record { alive = h.steady.alive; memory = h.steady.memory; events = h.steady.events }; comes = drop_comes j d f.0 f.1 h.comes })
-      (calls_at (after_dispatched t k).calls (Answers t)) (after_dispatched t k) (record { calls = idle; steady = comes_dispatched.steady; comes = comes_dispatched.comes })
-
-  unanswered : IsUnanswered marks t (after_answers t k)
-  unanswered = answers_dropped marks t (after_dispatched t k) idle
-
-  comes_calls : IsOn (IsUnanswered marks t) (after_calls t k)
-  comes_calls = drain_keeps (first_call_of t) forget_call (IsOn (IsUnanswered marks t))
-      (λ j d h e. let f = call_from marks t j d h.calls.idle.uncalled.alone.silent.ending e in record { calls = forget_unanswered marks t j d h.calls e; steady = record { alive = h.steady.alive; memory = h.steady.memory; events = h.steady.events }; comes = forget_comes j d f.0 f.1 h.comes })
-      (calls_by (after_answers t k).calls t) (after_answers t k) (record { calls = unanswered; steady = comes_answers.steady; comes = comes_answers.comes })
+  comes_calls : IsOn (IsUnanswered k.tasks.alive t) (after_calls t k)
+  comes_calls = drain_keeps (first_call_of t) forget_call (IsOn (IsUnanswered k.tasks.alive t))
+      (λ j d h e. let f = call_from k.tasks.alive t j d h.calls.idle.uncalled.alone.silent.ending e in record { calls = forget_unanswered k.tasks.alive t j d h.calls e; steady = record { alive = h.steady.alive; memory = h.steady.memory; events = h.steady.events }; comes = forget_comes j d f.0 f.1 h.comes })
+      (calls_by (after_answers t k).calls t) (after_answers t k) (record { calls = unanswered_then k t sound alive; steady = comes_answers.steady; comes = comes_answers.comes })
 
   pub kill_becomes : Becomes t c (call_at (kill k t).state.calls n)
   kill_becomes = areas_last k t Comes (λ j base h. h) comes_calls.comes
 
-  nothing_left : HasNothingOf t (kill k t).state
-  nothing_left = kill_leaves_nothing k t sound alive
+  left : HasNothingOf t (kill k t).state
+  left = kill_leaves_nothing k t sound alive
 
   not_there : IsWith t c ⊎ (same_place c.place (Answers t) ≡ true) → (d : Call) → call_at (kill k t).state.calls n ≡ Some d → d.place ≡ c.place → ⊥
-  not_there (inl (inl w)) d e p = false≢true (sym (nothing_left.incoming n d e) ∙ ap (λ (x : Place). same_place x (Incoming t)) p ∙ w)
-  not_there (inl (inr w)) d e p = false≢true (sym (nothing_left.dispatched n d e) ∙ ap (λ (x : Place). same_place x (Dispatched t)) p ∙ w)
-  not_there (inr w) d e p = false≢true (sym (nothing_left.answers n d e) ∙ ap (λ (x : Place). same_place x (Answers t)) p ∙ w)
+  not_there (inl (inl w)) d e p = false≢true (sym (left.incoming n d e) ∙ ap (λ (x : Place). same_place x (Incoming t)) p ∙ w)
+  not_there (inl (inr w)) d e p = false≢true (sym (left.dispatched n d e) ∙ ap (λ (x : Place). same_place x (Dispatched t)) p ∙ w)
+  not_there (inr w) d e p = false≢true (sym (left.answers n d e) ∙ ap (λ (x : Place). same_place x (Answers t)) p ∙ w)
 
   -- a call of another task that waited at t, or that t held, is answered by the kernel
   pub kill_answers : (u : TaskNo) → IsWith t c → c.caller ≡ Some u → (u.0 ≡ t.0 → ⊥) → (stamp : ℕ) × (call_at (kill k t).state.calls n ≡ Some (answered_call c u stamp))
   kill_answers u w from ne = by_fate kill_becomes where
     by_fate : Becomes t c (call_at (kill k t).state.calls n) → (stamp : ℕ) × (call_at (kill k t).state.calls n ≡ Some (answered_call c u stamp))
     by_fate (inl e) = absurd (not_there (inl w) c e refl)
-    by_fate (inr (inl a)) = (a.stamp, a.answer ∙ ap (λ (v : TaskNo). Some (answered_call c v a.stamp)) (same_caller a.caller u (sym a.is ∙ from)))
+    by_fate (inr (inl a)) = (a.stamp, a.answer ∙ ap (λ (v : TaskNo). Some (answered_call c v a.stamp)) (same_Some a.caller u (sym a.is ∙ from)))
     by_fate (inr (inr (inl o))) = absurd (ne (o.alone u from))
     by_fate (inr (inr (inr o))) = absurd (ne (its_caller t u c.caller o.made from))
 
@@ -273,7 +254,7 @@ module _ (k : KernelState) (t : TaskNo) (sound : IsSound k) (alive : is_alive k 
   pub kill_orphans : (IsWith t c ⊎ (same_place c.place (Answers t) ≡ true) → ⊥) → is_caller t c.caller ≡ true → call_at (kill k t).state.calls n ≡ Some (record c { caller = None })
   kill_orphans away made = by_fate kill_becomes where
     by_fate : Becomes t c (call_at (kill k t).state.calls n) → call_at (kill k t).state.calls n ≡ Some (record c { caller = None })
-    by_fate (inl e) = absurd (false≢true (sym (nothing_left.callers n c e) ∙ made))
+    by_fate (inl e) = absurd (false≢true (sym (left.callers n c e) ∙ made))
     by_fate (inr (inl a)) = absurd (away (inl a.with_task))
     by_fate (inr (inr (inl o))) = absurd (away o.at_task)
     by_fate (inr (inr (inr o))) = o.orphan

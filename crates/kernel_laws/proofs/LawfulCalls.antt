@@ -1,5 +1,5 @@
 -- With which methods a task may call, which phone it may keep, and what is checked of a call before it is sent.
-use Rattle.std.proofs.Common.{◌≡◌, ℕ, zero, suc, ◌+◌, ◌≤◌, ◌⊎◌, inl, inr, Bool, true, false, List, [], ◌∷◌, Option, None, Some, Result, refl, ap, sym, subst, ◌∙◌, arith, nat_lt}
+use Rattle.std.proofs.Common.{◌≡◌, ℕ, zero, suc, ◌+◌, ◌≤◌, ◌⊎◌, inl, inr, Bool, true, false, List, [], ◌∷◌, Option, None, Some, Result, refl, ap, sym, subst, ◌∙◌, arith, nat_lt, ◌<◌}
 use Rattle.std.specs.Prelude.{◌==◌, ◌↔◌, if◌then◌else◌, ⊤, slice_get}
 use Rattle.std.proofs.lemmas.Bool.Decides.{nat_tests}
 use Rattle.ipc_ids.specs.declared.numbers.Code.{Code}
@@ -24,6 +24,8 @@ use Rattle.kernel_laws.specs.PoolLaws.{pool}
 use Rattle.kernel_laws.specs.DataLaws.{IsLawfulCopy, IsLawfulAsking, IsLawfulOffer, IsLawfulWish}
 use Rattle.kernel_laws.specs.CallCodes.{IsNoCall, cause_of, HasUsable, IsCheck}
 use Rattle.kernel_laws.proofs.Methods.{user_kind}
+use Rattle.std.proofs.lemmas.Bool.{eqb-true, eq-eqb, false≢true}
+use Rattle.std.proofs.lemmas.Option.{same_Some}
 
 -- ---- methods
 
@@ -49,47 +51,80 @@ method_test m =
 
 -- ---- a phone for a connection
 
--- the first of some states, which is not usable, and what is known of the others
-module _ (calls : CallTable) (t : TaskNo) (p : ℕ) (x : PhoneState) (states : List PhoneState) (s : PhoneState) (others : (j : ℕ) → first_usable_from calls t (p + 1) states ≡ None → slice_get states j ≡ Some s → is_usable s (active_calls calls (label_of t (p + 1 + j))) ≡ true → ⊥) where
-  unusable_by : (b : Bool) → is_usable x (active_calls calls (label_of t p)) ≡ b → (if b then Some (label_of t p) else first_usable_from calls t (p + 1) states) ≡ None → (j : ℕ) → slice_get (x ∷ states) j ≡ Some s → is_usable s (active_calls calls (label_of t (p + j))) ≡ true → ⊥
-  unusable_by true it g j has can = absurd (cc g)
-  unusable_by false it g zero has can =
-      let same : x ≡ s = cc in
-      let z : p + 0 ≡ p = omega arith in
-      let now : is_usable x (active_calls calls (label_of t p)) ≡ true = subst (λ y. is_usable y (active_calls calls (label_of t p)) ≡ true) (sym same) (subst (λ q. is_usable s (active_calls calls (label_of t q)) ≡ true) z can) in
-      let h = sym it ∙ now in absurd (cc h)
-  unusable_by false it g (suc j) has can =
-      let n : p + suc j ≡ p + 1 + j = omega arith in
-      others j g has (subst (λ q. is_usable s (active_calls calls (label_of t q)) ≡ true) n can)
+-- the phone that is found, if one is, has a higher number
+abbrev pub IsBefore : ℕ → Option Label → Type 0
+IsBefore p None = ⊤
+IsBefore p (Some l) = p < l.phone.0
 
-unusable : (calls : CallTable) (t : TaskNo) (p : ℕ) (states : List PhoneState) (i : ℕ) (s : PhoneState) → first_usable_from calls t p states ≡ None → slice_get states i ≡ Some s → is_usable s (active_calls calls (label_of t (p + i))) ≡ true → ⊥
-unusable calls t p [] i s e is usable = absurd (cc is)
-unusable calls t p (x ∷ states) i s e is usable = unusable_by calls t p x states s (λ j g has can. unusable calls t (p + 1) states j s g has can) (is_usable x (active_calls calls (label_of t p))) refl e i is usable
+-- the first of some states, and what is known of the others: none before the one that is found is usable
+module _ (q : CallTable) (t : TaskNo) (p : ℕ) (x : PhoneState) (states : List PhoneState) (o : Option Label) (s : PhoneState)
+    (others : (j : ℕ) → first_usable_from q t (p + 1) states ≡ o → IsBefore (p + 1 + j) o → slice_get states j ≡ Some s
+    → is_usable s (active_calls q (label_of t (p + 1 + j))) ≡ true → ⊥) where
+  before_by :
+      (b : Bool) → is_usable x (active_calls q (label_of t p)) ≡ b
+      → (if b then Some (label_of t p) else first_usable_from q t (p + 1) states) ≡ o
+      → (j : ℕ) → IsBefore (p + j) o → slice_get (x ∷ states) j ≡ Some s
+      → is_usable s (active_calls q (label_of t (p + j))) ≡ true → ⊥
+  before_by true it g j less has can =
+      let below : p + j < p = subst (IsBefore (p + j)) (sym g) less in
+      omega (arith, below)
+  before_by false it g zero less has can =
+      let z : p + 0 ≡ p = omega arith in
+      let now = subst (λ y. is_usable y (active_calls q (label_of t (p + 0))) ≡ true) (sym (same_Some x s has)) can in
+      false≢true (sym it ∙ subst (λ i. is_usable x (active_calls q (label_of t i)) ≡ true) z now)
+  before_by false it g (suc j) less has can =
+      let n : p + suc j ≡ p + 1 + j = omega arith in
+      others j g (subst (λ i. IsBefore i o) n less) has
+      (subst (λ i. is_usable s (active_calls q (label_of t i)) ≡ true) n can)
+
+none_before : (q : CallTable) (t : TaskNo) (p : ℕ) (states : List PhoneState) (o : Option Label) (s : PhoneState) (j : ℕ)
+    → first_usable_from q t p states ≡ o → IsBefore (p + j) o → slice_get states j ≡ Some s
+    → is_usable s (active_calls q (label_of t (p + j))) ≡ true → ⊥
+none_before q t p [] o s j e less has can = absurd (cc has)
+none_before q t p (x ∷ states) o s j e less has can =
+    before_by q t p x states o s (λ i. none_before q t (p + 1) states o s i)
+    (is_usable x (active_calls q (label_of t p))) refl e j less has can
 
 module _ (k : KernelState) (t : TaskNo) where
-  pub some_usable : (l : Label) → first_usable_of k t ≡ Some l → HasUsable k t
-  some_usable l is =
+  -- so of the phones of a task
+  pub unusable : (p : ℕ) (s : PhoneState) (o : Option Label) → first_usable_of k t ≡ o → IsBefore p o
+      → phone_at k t p ≡ Some s → is_usable s (active_calls k.calls (label_of t p)) ≡ true → ⊥
+  unusable p s o found less at can = by_row (row_at k.tasks.phones t.0) refl found at where
+    by_row : (row : Option (List PhoneState)) → row_at k.tasks.phones t.0 ≡ row → first_usable_of k t ≡ o
+        → phone_at k t p ≡ Some s → ⊥
+    by_row None is e there = let g = rw is at there in absurd (cc g)
+    by_row (Some row) is e there =
+        let z : p ≡ 0 + p = omega arith in
+        none_before k.calls t 0 row o s p (rw is at e) (subst (λ i. IsBefore i o) z less) (rw is at there)
+        (subst (λ i. is_usable s (active_calls k.calls (label_of t i)) ≡ true) z can)
+
+  -- what is found is usable
+  pub found_usable : (l : Label) → first_usable_of k t ≡ Some l
+      → (s : PhoneState) × (phone_at k t l.phone.0 ≡ Some s) × (is_usable s (active_calls k.calls (label_of t l.phone.0)) ≡ true)
+  found_usable l is =
       let u = usable_is k t l is in
-      let p : ℕ = l.phone.0 in
-      let here : phone_at k t p ≡ Some u.state = subst (λ (v : TaskNo). phone_at k v p ≡ Some u.state) u.own u.is in
-      let same : l ≡ label_of t p = ap (λ (v : TaskNo). let r : Label = record { task = v; phone = l.phone } in r) u.own in
-      (p, by u.state here (subst (λ (x : Label). is_usable u.state (active_calls k.calls x) ≡ true) same u.usable)) where
-        by : (s : PhoneState) → phone_at k t l.phone.0 ≡ Some s → is_usable s (active_calls k.calls (label_of t l.phone.0)) ≡ true → (phone_at k t l.phone.0 ≡ Some Free) ⊎ ((phone_at k t l.phone.0 ≡ Some HungUp) × (active_calls k.calls (label_of t l.phone.0) ≡ 0))
-        by Free at usable = inl at
-        by HungUp at usable = inr (at, grind (arith, nat_tests, usable))
-        by _ at usable = absurd (cc usable)
+      let same : l ≡ label_of t l.phone.0 =
+      ap (λ (v : TaskNo). let r : Label = record { task = v; phone = l.phone } in r) u.own in
+      (
+        u.state,
+        subst (λ (v : TaskNo). phone_at k v l.phone.0 ≡ Some u.state) u.own u.is,
+        subst (λ (x : Label). is_usable u.state (active_calls k.calls x) ≡ true) same u.usable,
+      )
+
+  pub some_usable : (l : Label) → first_usable_of k t ≡ Some l → HasUsable k t
+  some_usable l is = let u = found_usable l is in (l.phone.0, by u.0 u.1 u.2) where
+    by : (s : PhoneState) → phone_at k t l.phone.0 ≡ Some s
+        → is_usable s (active_calls k.calls (label_of t l.phone.0)) ≡ true
+        → (phone_at k t l.phone.0 ≡ Some Free)
+        ⊎ ((phone_at k t l.phone.0 ≡ Some HungUp) × (active_calls k.calls (label_of t l.phone.0) ≡ 0))
+    by Free at usable = inl at
+    by HungUp at usable = inr (at, eqb-true (active_calls k.calls (label_of t l.phone.0)) 0 usable)
+    by _ at usable = absurd (cc usable)
 
   pub none_usable : first_usable_of k t ≡ None → HasUsable k t → ⊥
-  none_usable is h = by_row (row_at k.tasks.phones t.0) refl is h.1 where
-    by_row : (row : Option (List PhoneState)) → row_at k.tasks.phones t.0 ≡ row → first_usable_of k t ≡ None → (phone_at k t h.0 ≡ Some Free) ⊎ ((phone_at k t h.0 ≡ Some HungUp) × (active_calls k.calls (label_of t h.0) ≡ 0)) → ⊥
-    by_row None at none usable = elim usable [ inl free ↦ (let g = rw at at free in absurd (cc g)) | inr hung ↦ (let f = hung.0 in let g = rw at at f in absurd (cc g)) ]
-    by_row (Some row) at none usable =
-        let e : first_usable_from k.calls t 0 row ≡ None = rw at at none in
-        let z : 0 + h.0 ≡ h.0 = omega arith in
-        elim usable [
-          | inl free ↦ unusable k.calls t 0 row h.0 Free e (rw at at free) refl
-          | inr hung ↦ (let f = hung.0 in let count = hung.1 in unusable k.calls t 0 row h.0 HungUp e (rw at at f) (subst (λ q. (active_calls k.calls (label_of t q) == 0) ≡ true) (sym z) (grind (arith, nat_tests, count))))
-        ]
+  none_usable is (p, inl free) = unusable p Free None is tt free refl
+  none_usable is (p, inr hung) =
+      unusable p HungUp None is tt hung.0 (eq-eqb (active_calls k.calls (label_of t p)) 0 hung.1)
 
 -- ---- what is checked
 
