@@ -47,7 +47,7 @@ use Rattle.kernel_laws.specs.HeldCalls.{IsHeld}
 use Rattle.kernel_laws.proofs.PoolChanges.{pool-used}
 use Rattle.kernel_laws.proofs.AnswerWords.{same_told, accepts_eok}
 use Rattle.kernel_laws.proofs.LawfulData.{length_taken, taking_is_lawful}
-use Rattle.kernel_laws.proofs.LawfulWrites.{get_taken}
+use Rattle.kernel_laws.proofs.Lists.{get_take}
 use Rattle.kernel_laws.proofs.MemoryRequests.{written_is, added}
 use Rattle.kernel_laws.proofs.Methods.{method_of}
 use Rattle.kernel_determined.specs.Frames.{PhoneComesTo}
@@ -80,7 +80,7 @@ placing_is_whole m t brought reply sound = by_many (nat_lt (length brought) (sec
           take (second reply.args) brought,
           record {
             many = length_taken brought (second reply.args) few;
-            each = λ i less. get_taken brought (second reply.args) i less;
+            each = λ i less. get_take brought (second reply.args) i less;
           },
           write_is_whole m t (first reply.args) (take (second reply.args) brought) sound,
         );

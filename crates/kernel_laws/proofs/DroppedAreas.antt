@@ -1,36 +1,33 @@
 -- An area that is dropped: what becomes of the other areas, and of the stores.
-use Rattle.std.proofs.Common.{◌≡◌, ℕ, zero, suc, ◌-◌, ◌<◌, ◌≤◌, Bool, true, false, List, [], ◌∷◌, Option, None, Some, refl, ap, sym, subst, ◌∙◌, arith}
+use Rattle.std.proofs.Common.{◌≡◌, ℕ, zero, suc, ◌-◌, ◌<◌, ◌≤◌, Bool, true, false, List, [], ◌∷◌, Option, None, Some, refl, ap, sym, subst, ◌∙◌, arith, inl, inr}
 use Rattle.std.specs.Prelude.{if◌then◌else◌, ◌||◌, slice_get, slice_set, remove, unwrap_or}
 use Rattle.std.specs.List.{list_any}
 use Rattle.std.specs.FinMap.{get}
 use Rattle.std.specs.FinMap as map
-use Rattle.std.proofs.lemmas.Bool.{eq-eqb, eqb-true}
+use Rattle.std.proofs.lemmas.Bool.{eq-eqb, eqb-true, or_cases, or_left, or_right}
 use Rattle.ipc_ids.specs.declared.numbers.TaskNo.{TaskNo}
 use Rattle.address_space.specs.Areas.{Area, stands_over}
 use Rattle.address_space.specs.Memory.{Memory, areas_of, with_areas, is_used, drop_place}
 use Rattle.address_space.proofs.Rows.{others_keep}
 use Rattle.kernel_laws.specs.MemoryLaws.{Has, Drops}
 use Rattle.kernel_laws.proofs.KilledAreas.{in_row, row_of, removed, not_removed}
+use Rattle.std.proofs.lemmas.Option.{same_Some}
 
 -- areas of a list that pass a test
 
-any_if : (p : Area → Bool) (x : Area) (areas : List Area) (b : Bool) → p x ≡ b → (b || list_any p areas) ≡ true → (list_any p areas ≡ true → (a : Area) × ((i : ℕ) × (slice_get areas i ≡ Some a)) × (p a ≡ true)) → (a : Area) × ((i : ℕ) × (slice_get (x ∷ areas) i ≡ Some a)) × (p a ≡ true)
-any_if p x areas true is h more = (x, (0, refl), is)
-any_if p x areas false is h more = let r = more h in (r.0, (suc r.1.0, r.1.1), r.2)
-
-pub any_of : (p : Area → Bool) (areas : List Area) → list_any p areas ≡ true → (a : Area) × ((i : ℕ) × (slice_get areas i ≡ Some a)) × (p a ≡ true)
+pub any_of : (p : Area → Bool) (areas : List Area) → list_any p areas ≡ true
+    → (a : Area) × ((i : ℕ) × (slice_get areas i ≡ Some a)) × (p a ≡ true)
 any_of p [] h = absurd (cc h)
-any_of p (x ∷ areas) h = any_if p x areas (p x) refl h (λ r. any_of p areas r)
+any_of p (x ∷ areas) h = elim (or_cases (p x) (list_any p areas) h) [
+  | inl here ↦ (x, (0, refl), here)
+  | inr behind ↦ let r = any_of p areas behind in (r.0, (suc r.1.0, r.1.1), r.2)
+]
 
 pub any_at : (p : Area → Bool) (areas : List Area) (i : ℕ) (a : Area) → slice_get areas i ≡ Some a → p a ≡ true → list_any p areas ≡ true
 any_at p [] i a is h = absurd (cc is)
 any_at p (x ∷ areas) zero a is h =
-    let same : x ≡ a = cc in
-    ap (λ (b : Bool). b || list_any p areas) (ap p same ∙ h)
-any_at p (x ∷ areas) (suc i) a is h = or_true (p x) (list_any p areas) (any_at p areas i a is h) where
-  or_true : (b c : Bool) → c ≡ true → (b || c) ≡ true
-  or_true true c e = refl
-  or_true false c e = e
+    or_left (p x) (list_any p areas) (ap p (same_Some x a is) ∙ h)
+any_at p (x ∷ areas) (suc i) a is h = or_right (p x) (list_any p areas) (any_at p areas i a is h)
 
 -- a list without one element
 
@@ -85,7 +82,7 @@ module _ (m : Memory) (t : TaskNo) (i : ℕ) (a : Area) (some : 1 ≤ t.0) (ther
 
   goes : (b : Bool) → (b ≡ true → ⊥) → kept_if b a.store ≡ None
   goes true unused = absurd (unused refl)
-  goes false unused = removed m.stores a.store a.store (eq-eqb a.store a.store refl)
+  goes false unused = removed m.stores a.store a.store refl
 
   elsewhere : (b : Bool) (n : ℕ) → (n ≡ a.store → ⊥) → kept_if b n ≡ get m.stores n
   elsewhere true n other = refl

@@ -36,28 +36,15 @@ use Rattle.kernel_core.specs.Kernel.{serve, kill_event, spawn_event, spawning, n
 use Rattle.kernel_core.proofs.Serving.{sound_serve}
 use Rattle.kernel_laws.specs.PoolLaws.{pool, bytes_asked, HasAnswer, IsFullFor}
 use Rattle.kernel_laws.proofs.PoolChanges.{pool-used}
+use Rattle.kernel_laws.proofs.Told.{code_in}
+use Rattle.kernel_laws.proofs.LawfulData.{decided_count}
 
--- codes and counts of results
-
-abbrev code_in : {A : Type 0} → Result A Code → ℕ
-code_in (Ok x) = 0
-code_in (Err code) = code.0
-
-abbrev count_in : Result ℕ Code → ℕ
-count_in (Ok n) = n
-count_in (Err code) = 0
-
-above : (most n : ℕ) → nat_lt most n ≡ true → most < n
-above most n h = grind (arith, nat_tests)
-
-abbrev some : ℕ → Result ℕ Code
-some n = Ok n
-
--- a transfer is refused because it is too large, or it takes what is asked, cut down
-kept_is : (large restricted : Bool) (n : ℕ) (r : Result ℕ Code) → (if large then (if restricted then some most_data else Err elimit) else some n) ≡ r → (code_in r ≡ 9 → ⊥) × ((count : ℕ) → r ≡ Ok count → count ≡ (if large then most_data else n))
-kept_is true true n r is = ((λ e. let c : code_in r ≡ 0 = ap code_in (sym is) in omega (arith, c, e)), λ count ok. sym (ap count_in (is ∙ ok)))
-kept_is true false n r is = ((λ e. let c : code_in r ≡ 5 = ap code_in (sym is) in omega (arith, c, e)), λ count ok. absurd (let h = is ∙ ok in cc))
-kept_is false restricted n r is = ((λ e. let c : code_in r ≡ 0 = ap code_in (sym is) in omega (arith, c, e)), λ count ok. sym (ap count_in (is ∙ ok)))
+-- a transfer that is too large is refused with another code
+count_code : (args : List ℕ) → code_in (kept_count args) ≡ 9 → ⊥
+count_code args e = elim (decided_count args) [
+  | inl h ↦ (let c : code_in (kept_count args) ≡ 5 = ap code_in h.1 in omega (arith, c, e))
+  | inr h ↦ (let c : code_in (kept_count args) ≡ 100 = ap code_in h.1 in omega (arith, c, e))
+]
 
 -- bytes are not read where they may not be
 read_code : (m : Memory) (t : TaskNo) (at count : ℕ) → code_in (read m t at count) ≡ 9 → ⊥
@@ -68,16 +55,18 @@ read_code m t at count = by_test (λ (r : Result (List ℕ) Code). code_in r ≡
 
 -- or where the pool has no room for them
 pooled_full : (used count : ℕ) (r : Result (List ℕ) Code) → (code_in r ≡ 9 → ⊥) → code_in (pooled used count r) ≡ 9 → most_buffered < used + count
-pooled_full used count (Ok bytes) other e = by_test (λ (r : Result (List ℕ) Code). code_in r ≡ 9 → most_buffered < used + count) (nat_lt most_buffered (used + count)) _ _ (λ full _. above most_buffered (used + count) full) (λ _ f. absurd (omega arith)) e
+pooled_full used count (Ok bytes) other e = by_test (λ (r : Result (List ℕ) Code). code_in r ≡ 9 → most_buffered < used + count) (nat_lt most_buffered (used + count)) _ _ (λ full _. let over : most_buffered < used + count = grind (arith, nat_tests, full) in over) (λ _ f. absurd (omega arith)) e
 pooled_full used count (Err code) other e = absurd (other e)
 
-write_full : (m : Memory) (t : TaskNo) (args : List ℕ) (used : ℕ) → code_in (write_before_send m t args used) ≡ 9 → most_buffered < used + bytes_asked args
-write_full m t args used = by_count (kept_count args) refl where
-  by_count : (r : Result ℕ Code) → kept_count args ≡ r → code_in (write_kept m t args used r) ≡ 9 → most_buffered < used + bytes_asked args
-  by_count (Ok count) is e =
-      let same : count ≡ bytes_asked args = (kept_is (nat_lt most_data (count_of args)) (is_restricted args) (count_of args) (Ok count) is).1 count refl in
-      rw (← same) (pooled_full used count (read m t (address_of args) count) (read_code m t (address_of args) count) e)
-  by_count (Err code) is e = absurd ((kept_is (nat_lt most_data (count_of args)) (is_restricted args) (count_of args) (Err code) is).0 e)
+write_full : (m : Memory) (t : TaskNo) (args : List ℕ) (used : ℕ) → code_in (write_before_send m t args used) ≡ 9
+    → most_buffered < used + bytes_asked args
+write_full m t args used e = elim (decided_count args) [
+  | inl h ↦ absurd (let c : code_in (write_kept m t args used (kept_count args)) ≡ 5 =
+      ap (λ r. code_in (write_kept m t args used r)) h.1 in omega (arith, c, e))
+  | inr h ↦
+      pooled_full used (bytes_asked args) (read m t (address_of args) (bytes_asked args))
+      (read_code m t (address_of args) (bytes_asked args)) (ap (λ r. code_in (write_kept m t args used r)) (sym h.1) ∙ e)
+]
 
 offer_code : (args : List ℕ) (o : Option Area) → code_in (offer args o) ≡ 9 → ⊥
 offer_code args None e = omega arith
@@ -121,7 +110,7 @@ module _ (k : KernelState) (t : TaskNo) (p : ℕ) (msg : Msg) where
   sent : (u : TaskNo) (kind : MethodKind) → Fills (sent_to u k (new_call k t p msg (Incoming u)) (before_send_of kind k (new_call k t p msg (Incoming u))))
   sent u ConnectMeTo = keeping u (first_usable_of k t)
   sent u DataWrite = carried_on u (write_before_send k.memory t msg.args (used k.calls)) (λ e. subst (λ (n : ℕ). most_buffered < n + bytes_asked msg.args) (sym (pool-used k)) (write_full k.memory t msg.args (used k.calls) e))
-  sent u DataRead = brought u (read_before_send msg.args) (kept_is (nat_lt most_data (count_of msg.args)) (is_restricted msg.args) (count_of msg.args) (kept_count msg.args) refl).0
+  sent u DataRead = brought u (read_before_send msg.args) (count_code msg.args)
   sent u ShareOut = asked u (out_before_send k.memory t msg.args) (offer_code msg.args (area_at k.memory t (base_of msg.args)))
   sent u ShareIn = asked u (in_before_send msg.args) (in_code msg.args)
   sent u _ = alone

@@ -6,7 +6,7 @@ use Rattle.std.specs.Ordering.{nat_cmp, eq_by_cmp}
 use Rattle.std.specs.Cmp.{nat_cmp_total}
 use Rattle.std.specs.FinMap.{FinMap, get, get-remove}
 use Rattle.std.specs.FinMap as map
-use Rattle.std.proofs.lemmas.Bool.{cases_eq, eqb-true, false≢true}
+use Rattle.std.proofs.lemmas.Bool.{cases_eq, eqb-true, false≢true, or_left, or_right, or_cases, or_parts, both_ways}
 use Rattle.std.proofs.lemmas.Bool.Decides.{nat_tests}
 use Rattle.ipc_ids.specs.declared.numbers.TaskNo.{TaskNo}
 use Rattle.address_space.specs.Areas.{Area, stands_over, place_of}
@@ -17,26 +17,10 @@ use Rattle.cleanup.specs.Kill.{mark_ended, kill}
 use Rattle.cleanup.proofs.SoundMemory.{from_one}
 use Rattle.cleanup.proofs.Killing.{areas_last, areas_end, calls_steady, after_calls}
 use Rattle.kernel_laws.specs.KillLaws.{HasAreaOver, ClosesAreas}
+use Rattle.answerbox.proofs.Counts.{ties}
+use Rattle.answerbox.proofs.Chain.{other_key}
 
 -- one of many passes a test
-
-or_left : (b c : Bool) → b ≡ true → (b || c) ≡ true
-or_left b c h = rw h
-
-or_right : (b c : Bool) → c ≡ true → (b || c) ≡ true
-or_right true c h = refl
-or_right false c h = h
-
-one_of : (b c : Bool) → (b || c) ≡ true → (b ≡ true) ⊎ (c ≡ true)
-one_of true c h = inl refl
-one_of false c h = inr h
-
-neither : (b c : Bool) → (b || c) ≡ false → (b ≡ false) × (c ≡ false)
-neither true c h = absurd (cc h)
-neither false c h = (refl, h)
-
-pub true_false : (b : Bool) → b ≡ true → b ≡ false → ⊥
-true_false b h g = false≢true (sym g ∙ h)
 
 module _ (q : Area → Bool) where
   pub in_row : (rows : List (List Area)) (j : ℕ) → list_any q (unwrap_or (slice_get rows j) []) ≡ true → list_any (list_any q) rows ≡ true
@@ -46,44 +30,35 @@ module _ (q : Area → Bool) where
 
   pub row_of : (rows : List (List Area)) → list_any (list_any q) rows ≡ true → (j : ℕ) × (list_any q (unwrap_or (slice_get rows j) []) ≡ true)
   row_of [] h = absurd (cc h)
-  row_of (row ∷ rows) h = elim (one_of (list_any q row) (list_any (list_any q) rows) h) [ inl here ↦ (zero, here) | inr behind ↦ let r = row_of rows behind in (suc r.0, r.1) ]
+  row_of (row ∷ rows) h = elim (or_cases (list_any q row) (list_any (list_any q) rows) h) [ inl here ↦ (zero, here) | inr behind ↦ let r = row_of rows behind in (suc r.0, r.1) ]
 
   -- where none passes any more, it was the one that was removed
   lost_here : (row : List Area) (i : ℕ) (a : Area) → slice_get row i ≡ Some a → list_any q row ≡ true → list_any q (remove row i) ≡ false → q a ≡ true
   lost_here [] i a is h none = absurd (cc h)
   lost_here (b ∷ row) zero a is h none =
       let same : b ≡ a = cc in
-      elim (one_of (q b) (list_any q row) h) [ inl this ↦ ap q (sym same) ∙ this | inr behind ↦ absurd (true_false (list_any q row) behind none) ]
+      elim (or_cases (q b) (list_any q row) h) [ inl this ↦ ap q (sym same) ∙ this | inr behind ↦ absurd (both_ways (list_any q row) none behind) ]
   lost_here (b ∷ row) (suc i) a is h none =
-      let left = neither (q b) (list_any q (remove row i)) none in
-      elim (one_of (q b) (list_any q row) h) [ inl this ↦ absurd (true_false (q b) this left.0) | inr behind ↦ lost_here row i a is behind left.1 ]
+      let left = or_parts (q b) (list_any q (remove row i)) none in
+      elim (or_cases (q b) (list_any q row) h) [ inl this ↦ absurd (both_ways (q b) left.0 this) | inr behind ↦ lost_here row i a is behind left.1 ]
 
   lost_in : (rows : List (List Area)) (j i : ℕ) (a : Area) → slice_get (unwrap_or (slice_get rows j) []) i ≡ Some a → list_any (list_any q) rows ≡ true → list_any (list_any q) (slice_set rows j (remove (unwrap_or (slice_get rows j) []) i)) ≡ false → q a ≡ true
   lost_in [] j i a is h none = absurd (cc h)
   lost_in (row ∷ rows) zero i a is h none =
-      let left = neither (list_any q (remove row i)) (list_any (list_any q) rows) none in
-      elim (one_of (list_any q row) (list_any (list_any q) rows) h) [ inl here ↦ lost_here row i a is here left.0 | inr behind ↦ absurd (true_false (list_any (list_any q) rows) behind left.1) ]
+      let left = or_parts (list_any q (remove row i)) (list_any (list_any q) rows) none in
+      elim (or_cases (list_any q row) (list_any (list_any q) rows) h) [ inl here ↦ lost_here row i a is here left.0 | inr behind ↦ absurd (both_ways (list_any (list_any q) rows) left.1 behind) ]
   lost_in (row ∷ rows) (suc j) i a is h none =
-      let left = neither (list_any q row) (list_any (list_any q) (slice_set rows j (remove (unwrap_or (slice_get rows j) []) i))) none in
-      elim (one_of (list_any q row) (list_any (list_any q) rows) h) [ inl here ↦ absurd (true_false (list_any q row) here left.0) | inr behind ↦ lost_in rows j i a is behind left.1 ]
+      let left = or_parts (list_any q row) (list_any (list_any q) (slice_set rows j (remove (unwrap_or (slice_get rows j) []) i))) none in
+      elim (or_cases (list_any q row) (list_any (list_any q) rows) h) [ inl here ↦ absurd (both_ways (list_any q row) left.0 here) | inr behind ↦ lost_in rows j i a is behind left.1 ]
 
 -- a store where one is removed
 
-eq_keys : (n s : ℕ) → (s == n) ≡ true → eq_by_cmp nat_cmp n s ≡ true
-eq_keys n s h = grind (arith, nat_tests)
+pub removed : (stores : FinMap nat_cmp (List ℕ)) (s n : ℕ) → s ≡ n → get (map.remove stores s) n ≡ None
+removed stores s n e = rw (← e) (rw (get-remove nat_cmp_total stores s s, ties s) refl)
 
-key_eq : (n s : ℕ) → eq_by_cmp nat_cmp n s ≡ true → n ≡ s
-key_eq n s h = grind (arith, nat_tests)
-
-same_key : (n s : ℕ) (b : Bool) → eq_by_cmp nat_cmp n s ≡ b → (n ≡ s → ⊥) → b ≡ false
-same_key n s true e ne = absurd (ne (key_eq n s e))
-same_key n s false e ne = refl
-
-pub removed : (stores : FinMap nat_cmp (List ℕ)) (s n : ℕ) → (s == n) ≡ true → get (map.remove stores s) n ≡ None
-removed stores s n e = rw (get-remove nat_cmp_total stores s n, eq_keys n s e) refl
-
-pub not_removed : (stores : FinMap nat_cmp (List ℕ)) (s n : ℕ) → (n ≡ s → ⊥) → get (map.remove stores s) n ≡ get stores n
-not_removed stores s n ne = rw (get-remove nat_cmp_total stores s n, same_key n s (eq_by_cmp nat_cmp n s) refl ne) refl
+pub not_removed : (stores : FinMap nat_cmp (List ℕ)) (s n : ℕ) → (n ≡ s → ⊥)
+    → get (map.remove stores s) n ≡ get stores n
+not_removed stores s n ne = rw (get-remove nat_cmp_total stores s n, other_key n s ne) refl
 
 none_either : (b : Bool) (o : Option (List ℕ)) → o ≡ None → cond b None o ≡ None
 none_either true o e = refl
@@ -96,7 +71,7 @@ still_none stores s n e = get-remove nat_cmp_total stores s n ∙ none_either (e
 
 release_if : (m : Memory) (s n : ℕ) (used : Bool) → is_used s m.areas ≡ used → is_used n m.areas ≡ true → get (if used then m.stores else map.remove m.stores s) n ≡ get m.stores n
 release_if m s n true is over = refl
-release_if m s n false is over = not_removed m.stores s n (λ e. true_false (is_used n m.areas) over (ap (λ (i : ℕ). is_used i m.areas) e ∙ is))
+release_if m s n false is over = not_removed m.stores s n (λ e. both_ways (is_used n m.areas) (ap (λ (i : ℕ). is_used i m.areas) e ∙ is) over)
 
 release_keeps : (m : Memory) (s n : ℕ) → is_used n m.areas ≡ true → get (release m s).stores n ≡ get m.stores n
 release_keeps m s n over = release_if m s n (is_used s m.areas) refl over
@@ -125,8 +100,8 @@ gone_if m s n true e = e
 gone_if m s n false e = still_none m.stores s n e
 
 released_if : (m : Memory) (s n : ℕ) (used : Bool) → is_used s m.areas ≡ used → (s == n) ≡ true → is_used n m.areas ≡ false → get (if used then m.stores else map.remove m.stores s) n ≡ None
-released_if m s n true is e none = absurd (true_false (is_used n m.areas) (ap (λ (i : ℕ). is_used i m.areas) (sym (eqb-true s n e)) ∙ is) none)
-released_if m s n false is e none = removed m.stores s n e
+released_if m s n true is e none = absurd (both_ways (is_used n m.areas) none (ap (λ (i : ℕ). is_used i m.areas) (sym (eqb-true s n e)) ∙ is))
+released_if m s n false is e none = removed m.stores s n (eqb-true s n e)
 
 module _ (m : Memory) (t : TaskNo) (n : ℕ) (before : IsGoneOrUsed n m) where
   left_or_gone : (i : ℕ) (a : Area) → slice_get (areas_of m t) i ≡ Some a → is_used n m.areas ≡ true → (used : Bool) → is_used n (with_areas m t (remove (areas_of m t) i)).areas ≡ used → IsGoneOrUsed n (release (with_areas m t (remove (areas_of m t) i)) a.store)

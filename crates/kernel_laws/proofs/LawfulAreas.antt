@@ -6,7 +6,7 @@ use Rattle.std.proofs.Math.Nat.{mul-mod_left, mod-add-div'}
 use Rattle.std.proofs.lemmas.Nat.{and_le_r}
 use Rattle.std.proofs.lemmas.Bool.Decides.{nat_tests}
 use Rattle.std.proofs.lemmas.List.Sums.{passes_at_first, fails_before_first}
-use Rattle.std.proofs.lemmas.Option.{slice_get_within, get_or_from_slice_get, slice_get-get_or}
+use Rattle.std.proofs.lemmas.Option.{slice_get_within, get_or_from_slice_get, slice_get-get_or, cond_some}
 use Rattle.ipc_ids.specs.Codes.{enoent, eperm, eexist, einval, elimit}
 use Rattle.ipc_ids.specs.declared.numbers.Code.{Code}
 use Rattle.ipc_ids.specs.declared.numbers.StoreNo.{StoreNo}
@@ -20,7 +20,10 @@ use Rattle.address_space.proofs.Soundness.{lawful_of}
 use Rattle.kernel_laws.specs.MemoryLaws.{Has, HasAt, IsIn, NoArea, byte_at, IsPossible, IsTaken, IsFirstCause, Gives, IsLawfulMake, AreAmong, IsSharable, IsLawfulShare, IsLawfulDrop}
 use Rattle.kernel_laws.proofs.OneArea.{one_area}
 use Rattle.kernel_laws.proofs.LawfulWrites.{byte_put, byte_elsewhere}
-use Rattle.kernel_laws.proofs.DroppedAreas.{any_of, drops}
+use Rattle.kernel_laws.proofs.DroppedAreas.{any_of, drops, any_at}
+use Rattle.std.proofs.lemmas.Bool.{eqb-true, eq-eqb, both_ways, false_from_ne_true}
+use Rattle.kernel_laws.proofs.Told.{code_in, never, always}
+use Rattle.kernel_laws.proofs.Lists.{get_copy, past_copies, row_set}
 
 -- ---- the tests of an area that is asked for
 
@@ -48,14 +51,9 @@ impossible base pages rights h p =
 
 -- areas of a list that pass a test
 
-none_if : (p : Area → Bool) (x : Area) (areas : List Area) (b : Bool) → p x ≡ b → (b || list_any p areas) ≡ false → (p x ≡ false) × (list_any p areas ≡ false)
-none_if p x areas true is h = absurd (cc h)
-none_if p x areas false is h = (is, h)
-
-none_of : (p : Area → Bool) (areas : List Area) (i : ℕ) (a : Area) → list_any p areas ≡ false → slice_get areas i ≡ Some a → p a ≡ false
-none_of p [] i a h is = absurd (cc is)
-none_of p (x ∷ areas) zero a h is = let same : x ≡ a = cc in subst (λ y. p y ≡ false) same (none_if p x areas (p x) refl h).0
-none_of p (x ∷ areas) (suc i) a h is = none_of p areas i a (none_if p x areas (p x) refl h).1 is
+none_of : (p : Area → Bool) (areas : List Area) (i : ℕ) (a : Area) → list_any p areas ≡ false
+    → slice_get areas i ≡ Some a → p a ≡ false
+none_of p areas i a h is = false_from_ne_true (p a) (λ yes. both_ways (list_any p areas) h (any_at p areas i a is yes))
 
 -- ---- the areas of a task
 
@@ -89,11 +87,6 @@ module _ (m : Memory) (t : TaskNo) (base pages : ℕ) (sound : IsSound m) where
 
 -- ---- the first cause
 
--- a number for what is told
-abbrev code_in : {A : Type 0} → Result A Code → ℕ
-code_in (Ok x) = 100
-code_in (Err code) = code.0
-
 -- what is told of a cause
 abbrev told_of : Option Code → StoreNo → Result StoreNo Code
 told_of None store = Ok store
@@ -105,47 +98,45 @@ first b c d = if b then Some einval else (if c then Some eexist else (if d then 
 abbrev the : ℕ → StoreNo
 the store = record { 0 = store }
 
-differ : {A : Type 0} (r s : Result A Code) → (code_in r ≡ code_in s → ⊥) → r ≡ s → ⊥
-differ r s other e = other (ap code_in e)
-
 module _ (m : Memory) (t : TaskNo) (base pages rights store : ℕ) (sound : IsSound m) where
-  by_tests : (b c d : Bool) → is_malformed base pages rights ≡ b → is_taken base pages (areas_of m t) ≡ c → is_full (areas_of m t) ≡ d → IsFirstCause m t base pages rights store (told_of (first b c d) (the store))
+  by_tests : (b c d : Bool) → is_malformed base pages rights ≡ b → is_taken base pages (areas_of m t) ≡ c
+      → is_full (areas_of m t) ≡ d → IsFirstCause m t base pages rights store (told_of (first b c d) (the store))
   by_tests true c d p q r =
       let no = impossible base pages rights p in
       record {
-        impossible = (λ _. no, λ _. refl);
-        taken = (λ e. absurd (differ (told_of (Some einval) (the store)) (Err eexist) (λ z. omega arith) e), λ h. absurd (no h.0));
-        full = (λ e. absurd (differ (told_of (Some einval) (the store)) (Err elimit) (λ z. omega arith) e), λ h. absurd (no h.0));
-        given = (λ e. absurd (differ (told_of (Some einval) (the store)) (Ok (the store)) (λ z. omega arith) e), λ h. absurd (no h.0));
+        impossible = always no;
+        taken = never (λ z. omega arith) (λ h. no h.0);
+        full = never (λ z. omega arith) (λ h. no h.0);
+        given = never (λ z. omega arith) (λ h. no h.0);
       }
   by_tests false true d p q r =
       let can = possible base pages rights p in
       let is = taken m t base pages sound can.some q in
       record {
-        impossible = (λ e. absurd (differ (told_of (Some eexist) (the store)) (Err einval) (λ z. omega arith) e), λ no. absurd (no can));
-        taken = (λ _. (can, is), λ _. refl);
-        full = (λ e. absurd (differ (told_of (Some eexist) (the store)) (Err elimit) (λ z. omega arith) e), λ h. absurd (h.1 is));
-        given = (λ e. absurd (differ (told_of (Some eexist) (the store)) (Ok (the store)) (λ z. omega arith) e), λ h. absurd (h.1 is));
+        impossible = never (λ z. omega arith) (λ no. no can);
+        taken = always (can, is);
+        full = never (λ z. omega arith) (λ h. h.1 is);
+        given = never (λ z. omega arith) (λ h. h.1 is);
       }
   by_tests false false true p q r =
       let can = possible base pages rights p in
       let no = free m t base pages sound q in
       let many : 16 ≤ length (areas_of m t) = grind (arith, nat_tests, r) in
       record {
-        impossible = (λ e. absurd (differ (told_of (Some elimit) (the store)) (Err einval) (λ z. omega arith) e), λ not. absurd (not can));
-        taken = (λ e. absurd (differ (told_of (Some elimit) (the store)) (Err eexist) (λ z. omega arith) e), λ h. absurd (no h.1));
-        full = (λ _. (can, no, many), λ _. refl);
-        given = (λ e. absurd (differ (told_of (Some elimit) (the store)) (Ok (the store)) (λ z. omega arith) e), λ h. let few = h.2 in absurd (omega (arith, many, few)));
+        impossible = never (λ z. omega arith) (λ not. not can);
+        taken = never (λ z. omega arith) (λ h. no h.1);
+        full = always (can, no, many);
+        given = never (λ z. omega arith) (λ h. let few = h.2 in omega (arith, many, few));
       }
   by_tests false false false p q r =
       let can = possible base pages rights p in
       let no = free m t base pages sound q in
       let few : length (areas_of m t) < 16 = grind (arith, nat_tests, r) in
       record {
-        impossible = (λ e. absurd (differ (told_of None (the store)) (Err einval) (λ z. omega arith) e), λ not. absurd (not can));
-        taken = (λ e. absurd (differ (told_of None (the store)) (Err eexist) (λ z. omega arith) e), λ h. absurd (no h.1));
-        full = (λ e. absurd (differ (told_of None (the store)) (Err elimit) (λ z. omega arith) e), λ h. let many = h.2 in absurd (omega (arith, many, few)));
-        given = (λ _. (can, no, few), λ _. refl);
+        impossible = never (λ z. omega arith) (λ not. not can);
+        taken = never (λ z. omega arith) (λ h. no h.1);
+        full = never (λ z. omega arith) (λ h. let many = h.2 in omega (arith, many, few));
+        given = always (can, no, few);
       }
 
   first_cause : (cause : Option Code) → refusal base pages rights (areas_of m t) ≡ cause → IsFirstCause m t base pages rights store (told_of cause (the store))
@@ -153,25 +144,10 @@ module _ (m : Memory) (t : TaskNo) (base pages rights store : ℕ) (sound : IsSo
 
 -- ---- a new area
 
-row_set : {A : Type 0} (rows : List (List A)) (i : ℕ) (row : List A) → i < length rows → unwrap_or (slice_get (slice_set rows i row) i) [] ≡ row
-row_set [] i row few = absurd (omega arith)
-row_set (x ∷ rows) zero row few = refl
-row_set (x ∷ rows) (suc i) row few = row_set rows i row (omega arith)
-
 gives : (m : Memory) (t : TaskNo) (a : Area) → IsAdded m t → Gives m t a (with_areas m t (areas_of m t ++ a ∷ []))
 gives m t a added =
     let some = added.from_one in let there = added.in_range in
     record { area = row_set m.areas (t.0 - 1) (areas_of m t ++ a ∷ []) (omega arith); others = λ u more apart. others_keep m t u (areas_of m t ++ a ∷ []) added.from_one more apart }
-
-zero_within : (count n : ℕ) → n < count → slice_get {X = ℕ} (replicate count 0) n ≡ Some 0
-zero_within zero n few = absurd (omega arith)
-zero_within (suc count) zero few = refl
-zero_within (suc count) (suc n) few = zero_within count n (omega arith)
-
-none_behind : (count n : ℕ) → count ≤ n → slice_get {X = ℕ} (replicate count 0) n ≡ None
-none_behind zero n far = refl
-none_behind (suc count) zero far = absurd (omega arith)
-none_behind (suc count) (suc n) far = none_behind count n (omega arith)
 
 module _ (m : Memory) (t : TaskNo) (base pages rights : ℕ) (sound : IsSound m) (added : IsAdded m t) where
   abbrev new : ℕ → Area
@@ -196,7 +172,7 @@ module _ (m : Memory) (t : TaskNo) (base pages rights : ℕ) (sound : IsSound m)
         zeros = λ store e n.
             let same : the m.next_store ≡ store = cc in
             subst (λ (s : StoreNo). (n < pages * 4096 → byte_at (made_area m t (new m.next_store)) s.0 n ≡ Some 0) × (pages * 4096 ≤ n → byte_at (made_area m t (new m.next_store)) s.0 n ≡ None)) same
-            ((λ few. byte_put m.stores m.next_store n (replicate (pages * 4096) 0) ∙ zero_within (pages * 4096) n few), (λ far. byte_put m.stores m.next_store n (replicate (pages * 4096) 0) ∙ none_behind (pages * 4096) n far));
+            ((λ few. byte_put m.stores m.next_store n (replicate (pages * 4096) 0) ∙ get_copy (pages * 4096) n 0 few), (λ far. byte_put m.stores m.next_store n (replicate (pages * 4096) 0) ∙ past_copies (pages * 4096) n 0 far));
         others = λ store n other. byte_elsewhere m.stores m.next_store store n (replicate (pages * 4096) 0) other;
       }
 
@@ -205,12 +181,6 @@ module _ (m : Memory) (t : TaskNo) (base pages rights : ℕ) (sound : IsSound m)
 
 -- ---- the area with a base
 
-same_base : (b base : ℕ) → (b == base) ≡ true → b ≡ base
-same_base b base h = grind (arith, nat_tests)
-
-other_base : (b base : ℕ) → (b == base) ≡ false → b ≡ base → ⊥
-other_base b base h e = absurd (grind (arith, nat_tests, h, e))
-
 module _ (base : ℕ) (areas : List Area) where
   abbrev test : Area → Bool
   test a = a.base == base
@@ -218,14 +188,18 @@ module _ (base : ℕ) (areas : List Area) where
   abbrev place : ℕ
   place = position_or_len test areas
 
-  at_place : (i : ℕ) (b : Bool) → nat_lt place (length areas) ≡ b → cond b (Some place) None ≡ Some i → (a : Area) × (slice_get areas i ≡ Some a) × (a.base ≡ base)
-  at_place i false is e = absurd (cc e)
-  at_place i true is e =
-      let few : place < length areas = grind (arith, nat_tests, is) in
-      let same : place ≡ i = cc in
+  at_place : (i : ℕ) → cond (nat_lt place (length areas)) (Some place) None ≡ Some i
+      → (a : Area) × (slice_get areas i ≡ Some a) × (a.base ≡ base)
+  at_place i e =
+      let at = cond_some (nat_lt place (length areas)) place i e in
+      let few : place < length areas = grind (arith, nat_tests, at.0) in
       let d : Area = record { base = 0; pages = 0; rights = 0; store = 0 } in
       let a : Area = slice_index_or areas place d in
-      (a, subst (λ j. slice_get areas j ≡ Some a) same (slice_get-get_or areas place d few), same_base a.base base (passes_at_first test areas d few))
+      (
+        a,
+        subst (λ j. slice_get areas j ≡ Some a) at.1 (slice_get-get_or areas place d few),
+        eqb-true a.base base (passes_at_first test areas d few),
+      )
 
   no_place : (b : Bool) → nat_lt place (length areas) ≡ b → cond b (Some place) None ≡ None → (i : ℕ) (a : Area) → slice_get areas i ≡ Some a → a.base ≡ base → ⊥
   no_place true is e i a at same = absurd (cc e)
@@ -233,11 +207,11 @@ module _ (base : ℕ) (areas : List Area) where
       let there = slice_get_within areas i a at in
       let far : length areas ≤ place = grind (arith, nat_tests, is) in
       let fails = fails_before_first test areas i a (omega (arith, there, far)) in
-      other_base a.base base (subst (λ x. test x ≡ false) (get_or_from_slice_get areas i a a at) fails) same
+      both_ways (test a) (subst (λ x. test x ≡ false) (get_or_from_slice_get areas i a a at) fails) (eq-eqb a.base base same)
 
 module _ (m : Memory) (t : TaskNo) (base : ℕ) where
   found_place : (i : ℕ) → place_of base (areas_of m t) ≡ Some i → (a : Area) × (slice_get (areas_of m t) i ≡ Some a) × (a.base ≡ base)
-  found_place i e = at_place base (areas_of m t) i (nat_lt (place base (areas_of m t)) (length (areas_of m t))) refl e
+  found_place i e = at_place base (areas_of m t) i e
 
   nowhere : place_of base (areas_of m t) ≡ None → NoArea (HasAt m t base)
   nowhere e a h = no_place base (areas_of m t) (nat_lt (place base (areas_of m t)) (length (areas_of m t))) refl e h.has.0 a h.has.1 h.begins
@@ -264,7 +238,7 @@ module _ (m : Memory) (t : TaskNo) (base : ℕ) where
   by_place : (o : Option ℕ) → place_of base (areas_of m t) ≡ o → IsLawfulDrop m t base (drop_at m t o)
   by_place None is =
       let no = nowhere m t base is in
-      record { gone = (λ _. no, λ _. refl); dropped = (λ e. absurd (cc e), λ h. absurd (no h.0 h.1)); refused = λ _ _. refl; goes = λ some e. absurd (cc e) }
+      record { gone = always no; dropped = (λ e. absurd (cc e), λ h. absurd (no h.0 h.1)); refused = λ _ _. refl; goes = λ some e. absurd (cc e) }
   by_place (Some i) is =
       let f = found_place m t base i is in
       let has : HasAt m t base f.0 = record { has = (i, f.1); begins = f.2 } in
@@ -305,9 +279,6 @@ rights_among r all some few h =
 pub not_among : (r all : ℕ) → 1 ≤ all → all ≤ 3 → is_subset r all ≡ false → AreAmong r all → ⊥
 not_among r all some few h a = let e = bits_of r all some few a in absurd (grind (arith, nat_tests, h, e))
 
-same_pages : (p q : ℕ) → (p == q) ≡ true → p ≡ q
-same_pages p q h = grind (arith, nat_tests, h)
-
 no_codes : (b c d : Bool) (store : StoreNo) → (code_in (told_of (first b c d) store) ≡ 1 → ⊥) × (code_in (told_of (first b c d) store) ≡ 2 → ⊥)
 no_codes true c d store = (λ e. omega arith, λ e. omega arith)
 no_codes false true d store = (λ e. omega arith, λ e. omega arith)
@@ -329,7 +300,7 @@ module _ (m : Memory) (from : TaskNo) (base : ℕ) (to : TaskNo) (target pages r
   sharable a has h =
       let tests = both_true (a.pages == pages) (is_subset rights a.rights) h in
       let range = range_of m from a sound has.has in
-      record { has = has; wide = same_pages a.pages pages tests.0; rightful = rights_among rights a.rights range.lawful.0 range.lawful.1 tests.1 }
+      record { has = has; wide = eqb-true a.pages pages tests.0; rightful = rights_among rights a.rights range.lawful.0 range.lawful.1 tests.1 }
 
   unsharable : (a b : Area) → HasAt m from base a → (a.pages == pages) && is_subset rights a.rights ≡ false → IsSharable m from base pages rights b → ⊥
   unsharable a b has h s =
@@ -337,17 +308,14 @@ module _ (m : Memory) (from : TaskNo) (base : ℕ) (to : TaskNo) (target pages r
       let range = range_of m from a sound has.has in
       let wide : a.pages ≡ pages = ap (λ (x : Area). x.pages) (sym same) ∙ s.wide in
       let right : AreAmong rights a.rights = subst (λ (x : Area). AreAmong rights x.rights) same s.rightful in
-      by_subset (is_subset rights a.rights) refl wide right (rw (eq-eqb a.pages pages wide) at h) where
-        by_subset : (c : Bool) → is_subset rights a.rights ≡ c → a.pages ≡ pages → AreAmong rights a.rights → is_subset rights a.rights ≡ false → ⊥
-        by_subset c is wide right fails =
-            let range = range_of m from a sound has.has in
-            not_among rights a.rights range.lawful.0 range.lawful.1 fails right
+      let fails : is_subset rights a.rights ≡ false = rw (eq-eqb a.pages pages wide) at h in
+      not_among rights a.rights range.lawful.0 range.lawful.1 fails right
 
   by_refusal : (a : Area) → HasAt m from base a → IsSharable m from base pages rights a → (cause : Option Code) → refusal target pages rights (areas_of m to) ≡ cause → (code_in (told_of cause (the a.store)) ≡ 1 → ⊥) × (code_in (told_of cause (the a.store)) ≡ 2 → ⊥) → IsLawfulShare m from base to target pages rights (share_unless m to (given a) cause)
   by_refusal a has can (Some code) is codes =
       record {
-        gone = (λ e. absurd (codes.0 (ap code_in e)), λ no. absurd (no a has));
-        unlike = (λ e. absurd (codes.1 (ap code_in e)), λ h. absurd (h.1 a can));
+        gone = never codes.0 (λ no. no a has);
+        unlike = never codes.1 (λ h. h.1 a can);
         cause = λ b s. subst (λ (x : Area). IsFirstCause m to target pages rights x.store (Err code)) (one_base m from base a b sound has s.has) (first_cause m to target pages rights a.store sound (Some code) is);
         refused = λ _ _. refl;
         gives = λ store e. absurd (cc e);
@@ -355,8 +323,8 @@ module _ (m : Memory) (from : TaskNo) (base : ℕ) (to : TaskNo) (target pages r
       }
   by_refusal a has can None is codes =
       record {
-        gone = (λ e. absurd (cc e), λ no. absurd (no a has));
-        unlike = (λ e. absurd (cc e), λ h. absurd (h.1 a can));
+        gone = never codes.0 (λ no. no a has);
+        unlike = never codes.1 (λ h. h.1 a can);
         cause = λ b s. subst (λ (x : Area). IsFirstCause m to target pages rights x.store (Ok (the a.store))) (one_base m from base a b sound has s.has) (first_cause m to target pages rights a.store sound None is);
         refused = λ code e. absurd (cc e);
         gives = λ store e. let same : the a.store ≡ store = cc in subst (λ (s : StoreNo). Gives m to (record { base = target; pages = pages; rights = rights; store = s.0 }) (with_areas m to (areas_of m to ++ given a ∷ []))) same (gives m to (given a) added);
@@ -367,8 +335,8 @@ module _ (m : Memory) (from : TaskNo) (base : ℕ) (to : TaskNo) (target pages r
   by_right a has true is = by_refusal a has (sharable a has is) (refusal target pages rights (areas_of m to)) refl (no_codes (is_malformed target pages rights) (is_taken target pages (areas_of m to)) (is_full (areas_of m to)) (the a.store))
   by_right a has false is =
       record {
-        gone = (λ e. absurd (differ (told_of (Some eperm) (the a.store)) (Err enoent) (λ z. omega arith) e), λ no. absurd (no a has));
-        unlike = (λ _. ((a, has), λ b s. unsharable a b has is s), λ _. refl);
+        gone = never (λ z. omega arith) (λ no. no a has);
+        unlike = always ((a, has), λ b s. unsharable a b has is s);
         cause = λ b s. absurd (unsharable a b has is s);
         refused = λ _ _. refl;
         gives = λ store e. absurd (cc e);
@@ -379,8 +347,8 @@ module _ (m : Memory) (from : TaskNo) (base : ℕ) (to : TaskNo) (target pages r
   by_found None is =
       let no = none_at m from base is in
       record {
-        gone = (λ _. no, λ _. refl);
-        unlike = (λ e. absurd (differ (told_of (Some enoent) (the 0)) (Err eperm) (λ z. omega arith) e), λ h. absurd (no h.0.0 h.0.1));
+        gone = always no;
+        unlike = never (λ z. omega arith) (λ h. no h.0.0 h.0.1);
         cause = λ b s. absurd (no b s.has);
         refused = λ _ _. refl;
         gives = λ store e. absurd (cc e);

@@ -1,6 +1,6 @@
 -- The data methods move the bytes that their calls and answers name, or are refused by the first cause.
 use Rattle.std.proofs.Common.{◌≡◌, ℕ, zero, suc, ◌+◌, ◌<◌, ◌≤◌, ◌==◌, ◌⊎◌, inl, inr, Bool, true, false, List, [], ◌∷◌, length, Option, Some, None, refl, sym, ap, subst, arith, nat_lt}
-use Rattle.std.specs.Prelude.{if◌then◌else◌, Result, Ok, Err, slice_index, take}
+use Rattle.std.specs.Prelude.{if◌then◌else◌, Result, Ok, Err, slice_index, take, ◌↔◌}
 use Rattle.std.proofs.lemmas.Bool.Decides.{nat_tests}
 use Rattle.std.proofs.lemmas.Grind.{common_steps}
 use Rattle.ipc_ids.specs.Codes.{eperm, elimit, enomem}
@@ -14,19 +14,12 @@ use Rattle.address_space.specs.Memory.{Memory, areas_of, spot_in, read_at, read}
 use Rattle.address_space.specs.Sound.{IsSound}
 use Rattle.data_hooks.specs.DataMoments.{count_of, kept_count, cut_args, pooled, write_kept, write_before_send, read_before_send, read_accept}
 use Rattle.kernel_laws.specs.MemoryLaws.{IsLawfulRead}
-use Rattle.kernel_laws.specs.DataLaws.{first, second, third, IsTooLarge, asked, IsUnreadable, AreTold, IsLawfulCopy, IsLawfulAsking, AreCutDown, IsLawfulTaking}
+use Rattle.kernel_laws.specs.DataLaws.{first, second, third, IsTooLarge, asked, IsUnreadable, AreTold, IsLawfulCopy, IsLawfulAsking, AreCutDown, IsLawfulTaking, IsFull}
 use Rattle.kernel_laws.proofs.OneArea.{found_readable, none_readable}
 use Rattle.kernel_laws.proofs.LawfulReads.{read_is_lawful}
+use Rattle.kernel_laws.proofs.Told.{differ, never, always}
 
 -- ---- the tests, decided
-
-abbrev code_in : {A : Type 0} → Result A Code → ℕ
-code_in (Ok x) = 100
-code_in (Err code) = code.0
-
--- two results with different codes are not one
-differ : {A : Type 0} (r s : Result A Code) → (code_in r ≡ code_in s → ⊥) → r ≡ s → ⊥
-differ r s other e = other (ap code_in e)
 
 -- bytes cannot be read, or they are
 pub decided_read : (m : Memory) (t : TaskNo) (at count : ℕ) → (IsUnreadable m t at count × (read m t at count ≡ Err eperm)) ⊎ ((IsUnreadable m t at count → ⊥) × AreTold (read m t at count))
@@ -50,63 +43,87 @@ decided_count args = by (nat_lt 65536 (second args)) (third args == 1) refl refl
   by true false is re = inl (record { large = grind (arith, nat_tests, is); whole = λ one. absurd (grind (arith, nat_tests, re, one)) }, refl)
   by false restricted is re = inr ((λ l. let large = l.large in absurd (grind (arith, nat_tests, is, large))), refl)
 
+-- ---- bytes that are taken into the pool
+
+-- what is told of so many bytes, where a number of them is too large or small enough
+record IsTaken (Large Small : Type 0) (m : Memory) (t : TaskNo) (at count used : ℕ) (told : Result (List ℕ) Code) : Type 0 where
+  pub large : told ≡ Err elimit ↔ Large
+  pub closed : told ≡ Err eperm ↔ Small × IsUnreadable m t at count
+  pub full : told ≡ Err enomem ↔ Small × (IsUnreadable m t at count → ⊥) × IsFull used count
+  pub given : AreTold told ↔ Small × (IsUnreadable m t at count → ⊥) × (IsFull used count → ⊥)
+  pub bytes : (bytes : List ℕ) → told ≡ Ok bytes → IsLawfulRead m t at count (Ok bytes)
+
+module _ (Large Small : Type 0) (apart : Large → Small → ⊥) (m : Memory) (t : TaskNo) (at count used : ℕ) where
+  abbrev Taken : Result (List ℕ) Code → Type 0
+  Taken = IsTaken Large Small m t at count used
+
+  too_large : Large → Taken (Err elimit)
+  too_large large = record {
+    large = always large;
+    closed = never (λ z. omega arith) (λ h. apart large h.0);
+    full = never (λ z. omega arith) (λ h. apart large h.0);
+    given = (λ t. absurd (differ (λ z. omega arith) t.1), λ h. absurd (apart large h.0));
+    bytes = λ other e. absurd (differ (λ z. omega arith) e);
+  }
+
+  closed_to : Small → IsUnreadable m t at count → Taken (Err eperm)
+  closed_to small shut = record {
+    large = never (λ z. omega arith) (λ l. apart l small);
+    closed = always (small, shut);
+    full = never (λ z. omega arith) (λ h. h.1 shut);
+    given = (λ t. absurd (differ (λ z. omega arith) t.1), λ h. absurd (h.1 shut));
+    bytes = λ other e. absurd (differ (λ z. omega arith) e);
+  }
+
+  by_room : (bytes : List ℕ) → Small → (IsUnreadable m t at count → ⊥) → IsLawfulRead m t at count (Ok bytes)
+      → (b : Bool) → nat_lt most_buffered (used + count) ≡ b → Taken (if b then Err enomem else Ok bytes)
+  by_room bytes small can lawful true is =
+      let over : 67108864 < used + count = grind (arith, nat_tests, is) in
+      record {
+        large = never (λ z. omega arith) (λ l. apart l small);
+        closed = never (λ z. omega arith) (λ h. can h.1);
+        full = always (small, can, over);
+        given = (λ t. absurd (differ (λ z. omega arith) t.1), λ h. absurd (h.2 over));
+        bytes = λ other e. absurd (differ (λ z. omega arith) e);
+      }
+  by_room bytes small can lawful false is =
+      let fits : used + count ≤ 67108864 = grind (arith, nat_tests, is) in
+      record {
+        large = never (λ z. omega arith) (λ l. apart l small);
+        closed = never (λ z. omega arith) (λ h. can h.1);
+        full = never (λ z. omega arith) (λ h. let over = h.2 in omega (arith, fits, over));
+        given = (λ _. (small, can, (λ over. omega (arith, fits, over))), λ _. (bytes, refl));
+        bytes = λ other e. subst (IsLawfulRead m t at count) e lawful;
+      }
+
+  small_enough : IsSound m → Small → Taken (pooled used count (read m t at count))
+  small_enough sound small = elim (decided_read m t at count) [
+    | inl h ↦ subst (λ r. Taken (pooled used count r)) (sym h.1) (closed_to small h.0)
+    | inr h ↦
+        subst (λ r. Taken (pooled used count r)) (sym h.1.1)
+        (by_room h.1.0 small h.0 (subst (IsLawfulRead m t at count) h.1.1 (read_is_lawful m t at count sound))
+        (nat_lt most_buffered (used + count)) refl)
+  ]
+
 -- ---- a DATA_WRITE
 
 module _ (m : Memory) (caller : TaskNo) (args : List ℕ) (used : ℕ) (sound : IsSound m) where
-  abbrev Copy : Result (List ℕ) Code → Type 0
-  Copy told = IsLawfulCopy m caller args used told
+  abbrev Copied : Result (List ℕ) Code → Type 0
+  Copied = IsTaken (IsTooLarge args) (IsTooLarge args → ⊥) m caller (first args) (asked args) used
 
-  by_room : (bytes : List ℕ) → (IsTooLarge args → ⊥) → (IsUnreadable m caller (first args) (asked args) → ⊥) → IsLawfulRead m caller (first args) (asked args) (Ok bytes) → (b : Bool) → nat_lt most_buffered (used + asked args) ≡ b → Copy (if b then Err enomem else Ok bytes)
-  by_room bytes small can lawful true is =
-      let over : 67108864 < used + asked args = grind (arith, nat_tests, is) in
-      record {
-        large = (λ e. absurd (differ _ _ (λ z. omega arith) e), λ l. absurd (small l));
-        closed = (λ e. absurd (differ _ _ (λ z. omega arith) e), λ h. absurd (can h.1));
-        full = (λ _. (small, can, over), λ _. refl);
-        sent = (λ t. absurd (differ _ _ (λ z. omega arith) t.1), λ h. absurd (h.2 over));
-        bytes = λ other e. absurd (differ _ _ (λ z. omega arith) e);
-      }
-  by_room bytes small can lawful false is =
-      let fits : used + asked args ≤ 67108864 = grind (arith, nat_tests, is) in
-      record {
-        large = (λ e. absurd (differ _ _ (λ z. omega arith) e), λ l. absurd (small l));
-        closed = (λ e. absurd (differ _ _ (λ z. omega arith) e), λ h. absurd (can h.1));
-        full = (λ e. absurd (differ _ _ (λ z. omega arith) e), λ h. let over = h.2 in absurd (omega (arith, fits, over)));
-        sent = (λ _. (small, can, (λ over. omega (arith, fits, over))), λ _. (bytes, refl));
-        bytes = λ other e. subst (IsLawfulRead m caller (first args) (asked args)) e lawful;
-      }
-
-  too_large : IsTooLarge args → Copy (Err elimit)
-  too_large large =
-      record {
-        large = (λ _. large, λ _. refl);
-        closed = (λ e. absurd (differ _ _ (λ z. omega arith) e), λ h. absurd (h.0 large));
-        full = (λ e. absurd (differ _ _ (λ z. omega arith) e), λ h. absurd (h.0 large));
-        sent = (λ t. absurd (differ _ _ (λ z. omega arith) t.1), λ h. absurd (h.0 large));
-        bytes = λ other e. absurd (differ _ _ (λ z. omega arith) e);
-      }
-
-  closed_to : (IsTooLarge args → ⊥) → IsUnreadable m caller (first args) (asked args) → Copy (Err eperm)
-  closed_to small shut =
-      record {
-        large = (λ e. absurd (differ _ _ (λ z. omega arith) e), λ l. absurd (small l));
-        closed = (λ _. (small, shut), λ _. refl);
-        full = (λ e. absurd (differ _ _ (λ z. omega arith) e), λ h. absurd (h.1 shut));
-        sent = (λ t. absurd (differ _ _ (λ z. omega arith) t.1), λ h. absurd (h.1 shut));
-        bytes = λ other e. absurd (differ _ _ (λ z. omega arith) e);
-      }
-
-  by_read : (IsTooLarge args → ⊥) → Copy (pooled used (asked args) (read m caller (first args) (asked args)))
-  by_read small = elim (decided_read m caller (first args) (asked args)) [
-    | inl h ↦ subst (λ r. Copy (pooled used (asked args) r)) (sym h.1) (closed_to small h.0)
-    | inr h ↦ subst (λ r. Copy (pooled used (asked args) r)) (sym h.1.1) (by_room h.1.0 small h.0 (subst (IsLawfulRead m caller (first args) (asked args)) h.1.1 (read_is_lawful m caller (first args) (asked args) sound)) (nat_lt most_buffered (used + asked args)) refl)
+  copied : Copied (write_before_send m caller args used)
+  copied = elim (decided_count args) [
+    | inl d ↦
+        subst (λ r. Copied (write_kept m caller args used r)) (sym d.1)
+        (too_large _ _ (λ l s. s l) m caller (first args) (asked args) used d.0)
+    | inr d ↦
+        subst (λ r. Copied (write_kept m caller args used r)) (sym d.1)
+        (small_enough _ _ (λ l s. s l) m caller (first args) (asked args) used sound d.0)
   ]
 
-  pub copy_is_lawful : Copy (write_before_send m caller args used)
-  copy_is_lawful = elim (decided_count args) [
-    | inl h ↦ subst (λ r. Copy (write_kept m caller args used r)) (sym h.1) (too_large h.0)
-    | inr h ↦ subst (λ r. Copy (write_kept m caller args used r)) (sym h.1) (by_read h.0)
-  ]
+  pub copy_is_lawful : IsLawfulCopy m caller args used (write_before_send m caller args used)
+  copy_is_lawful =
+      let h = copied in record { large = h.large; closed = h.closed; full = h.full; sent = h.given; bytes = h.bytes }
 
 pub length_taken : (bytes : List ℕ) (n : ℕ) → n ≤ length bytes → length (take n bytes) ≡ n
 length_taken bytes n few = grind (arith, common_steps)
@@ -115,72 +132,36 @@ length_taken bytes n few = grind (arith, common_steps)
 
 pub asking_is_lawful : (args : List ℕ) → IsLawfulAsking args (read_before_send args)
 asking_is_lawful args = elim (decided_count args) [
-  | inl h ↦ subst (IsLawfulAsking args) (sym h.1) (record { large = (λ _. h.0, λ _. refl); sent = (λ e. absurd (differ _ _ (λ z. omega arith) e), λ small. absurd (small h.0)) })
-  | inr h ↦ subst (IsLawfulAsking args) (sym h.1) (record { large = (λ e. absurd (differ _ _ (λ z. omega arith) e), λ l. absurd (h.0 l)); sent = (λ _. h.0, λ _. refl) })
+  | inl h ↦
+      subst (IsLawfulAsking args) (sym h.1)
+      (record { large = always h.0; sent = never (λ z. omega arith) (λ small. small h.0) })
+  | inr h ↦
+      subst (IsLawfulAsking args) (sym h.1)
+      (record { large = never (λ z. omega arith) (λ l. h.0 l); sent = always h.0 })
 ]
 
 module _ (m : Memory) (answerer : TaskNo) (args : List ℕ) (reply : Reply) (used : ℕ) (sound : IsSound m) where
-  abbrev Taking : Result (List ℕ) Code → Type 0
-  Taking told = IsLawfulTaking m answerer args reply used told
-
   abbrev b1 : ℕ
   b1 = first reply.args
 
   abbrev b2 : ℕ
   b2 = second reply.args
 
-  taking_room : (bytes : List ℕ) → b2 ≤ second args → (IsUnreadable m answerer b1 b2 → ⊥) → IsLawfulRead m answerer b1 b2 (Ok bytes) → (b : Bool) → nat_lt most_buffered (used + b2) ≡ b → Taking (if b then Err enomem else Ok bytes)
-  taking_room bytes few can lawful true is =
-      let over : 67108864 < used + b2 = grind (arith, nat_tests, is) in
-      record {
-        more = (λ e. absurd (differ _ _ (λ z. omega arith) e), λ many. absurd (omega (arith, few, many)));
-        closed = (λ e. absurd (differ _ _ (λ z. omega arith) e), λ h. absurd (can h.1));
-        full = (λ _. (few, can, over), λ _. refl);
-        taken = (λ t. absurd (differ _ _ (λ z. omega arith) t.1), λ h. absurd (h.2 over));
-        bytes = λ other e. absurd (differ _ _ (λ z. omega arith) e);
-      }
-  taking_room bytes few can lawful false is =
-      let fits : used + b2 ≤ 67108864 = grind (arith, nat_tests, is) in
-      record {
-        more = (λ e. absurd (differ _ _ (λ z. omega arith) e), λ many. absurd (omega (arith, few, many)));
-        closed = (λ e. absurd (differ _ _ (λ z. omega arith) e), λ h. absurd (can h.1));
-        full = (λ e. absurd (differ _ _ (λ z. omega arith) e), λ h. let over = h.2 in absurd (omega (arith, fits, over)));
-        taken = (λ _. (few, can, (λ over. omega (arith, fits, over))), λ _. (bytes, refl));
-        bytes = λ other e. subst (IsLawfulRead m answerer b1 b2) e lawful;
-      }
+  abbrev Taking : Result (List ℕ) Code → Type 0
+  Taking = IsTaken (second args < b2) (b2 ≤ second args) m answerer b1 b2 used
 
-  taking_closed : b2 ≤ second args → IsUnreadable m answerer b1 b2 → Taking (Err eperm)
-  taking_closed few shut =
-      record {
-        more = (λ e. absurd (differ _ _ (λ z. omega arith) e), λ many. absurd (omega (arith, few, many)));
-        closed = (λ _. (few, shut), λ _. refl);
-        full = (λ e. absurd (differ _ _ (λ z. omega arith) e), λ h. absurd (h.1 shut));
-        taken = (λ t. absurd (differ _ _ (λ z. omega arith) t.1), λ h. absurd (h.1 shut));
-        bytes = λ other e. absurd (differ _ _ (λ z. omega arith) e);
-      }
+  apart : second args < b2 → b2 ≤ second args → ⊥
+  apart many few = omega (arith, few, many)
 
-  taking_more : second args < b2 → Taking (Err elimit)
-  taking_more many =
-      record {
-        more = (λ _. many, λ _. refl);
-        closed = (λ e. absurd (differ _ _ (λ z. omega arith) e), λ h. let few = h.0 in absurd (omega (arith, few, many)));
-        full = (λ e. absurd (differ _ _ (λ z. omega arith) e), λ h. let few = h.0 in absurd (omega (arith, few, many)));
-        taken = (λ t. absurd (differ _ _ (λ z. omega arith) t.1), λ h. let few = h.0 in absurd (omega (arith, few, many)));
-        bytes = λ other e. absurd (differ _ _ (λ z. omega arith) e);
-      }
+  by_most : (b : Bool) → nat_lt (second args) b2 ≡ b
+      → Taking (if b then Err elimit else pooled used b2 (read m answerer b1 b2))
+  by_most true is = too_large _ _ apart m answerer b1 b2 used (grind (arith, nat_tests, is))
+  by_most false is = small_enough _ _ apart m answerer b1 b2 used sound (grind (arith, nat_tests, is))
 
-  taking_few : b2 ≤ second args → Taking (pooled used b2 (read m answerer b1 b2))
-  taking_few few = elim (decided_read m answerer b1 b2) [
-    | inl h ↦ subst (λ r. Taking (pooled used b2 r)) (sym h.1) (taking_closed few h.0)
-    | inr h ↦ subst (λ r. Taking (pooled used b2 r)) (sym h.1.1) (taking_room h.1.0 few h.0 (subst (IsLawfulRead m answerer b1 b2) h.1.1 (read_is_lawful m answerer b1 b2 sound)) (nat_lt most_buffered (used + b2)) refl)
-  ]
-
-  taking_by : (b : Bool) → nat_lt (second args) b2 ≡ b → Taking (if b then Err elimit else pooled used b2 (read m answerer b1 b2))
-  taking_by true is = taking_more (grind (arith, nat_tests, is))
-  taking_by false is = taking_few (grind (arith, nat_tests, is))
-
-  pub taking_is_lawful : Taking (read_accept m answerer args reply used)
-  taking_is_lawful = taking_by (nat_lt (second args) b2) refl
+  pub taking_is_lawful : IsLawfulTaking m answerer args reply used (read_accept m answerer args reply used)
+  taking_is_lawful =
+      let h = by_most (nat_lt (second args) b2) refl in
+      record { more = h.large; closed = h.closed; full = h.full; taken = h.given; bytes = h.bytes }
 
 -- ---- what is asked for is what is sent
 

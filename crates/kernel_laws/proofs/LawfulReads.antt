@@ -15,23 +15,7 @@ use Rattle.address_space.proofs.Keeping.{all_got, room}
 use Rattle.address_space.proofs.Soundness.{over_of}
 use Rattle.kernel_laws.specs.MemoryLaws.{Has, Spans, IsReadable, byte_in, AreBytesOf, TellsBytesOf, IsLawfulRead, IsLawfulPeek}
 use Rattle.kernel_laws.proofs.OneArea.{one_span, found_readable, none_readable}
-
--- bytes of a list
-
-get_take : (xs : List ℕ) (count i : ℕ) → i < count → slice_get (take count xs) i ≡ slice_get xs i
-get_take [] zero i few = absurd (omega arith)
-get_take [] (suc count) i few = refl
-get_take (x ∷ xs) zero i few = absurd (omega arith)
-get_take (x ∷ xs) (suc count) zero few = refl
-get_take (x ∷ xs) (suc count) (suc i) few = get_take xs count i (omega arith)
-
-pub get_drop : (xs : List ℕ) (k i : ℕ) → slice_get (drop k xs) i ≡ slice_get xs (k + i)
-get_drop xs zero i = let e : 0 + i ≡ i = omega arith in rw e refl
-get_drop [] (suc k) i = refl
-get_drop (x ∷ xs) (suc k) i = let e : suc k + i ≡ suc (k + i) = omega arith in rw e (get_drop xs k i)
-
-length_part : (xs : List ℕ) (k count : ℕ) → k + count ≤ length xs → length (bytes_from xs k count) ≡ count
-length_part xs k count room = grind (arith, common_steps)
+use Rattle.kernel_laws.proofs.Lists.{get_take, get_drop}
 
 -- those of the area's store
 
@@ -48,7 +32,7 @@ bytes_in : (m : Memory) (at count : ℕ) (a : Area) (o : Option (List ℕ)) → 
 bytes_in m at count a None is room from = absurd room
 bytes_in m at count a (Some xs) is room from =
     record {
-      many = length_part xs (at - a.base) count room;
+      many = grind (arith, common_steps);
       each = λ i n few e. get_take (drop (at - a.base) xs) count i few ∙ get_drop xs (at - a.base) i ∙ ap (slice_get xs) (sym (place_in a at i n (at - a.base) from e refl)) ∙ ap (λ (b : Option (List ℕ)). byte_in b n) (sym is);
     }
 

@@ -13,13 +13,8 @@ use Rattle.share_hooks.specs.ShareMoments.{is_between, offer, out_before_send, i
 use Rattle.kernel_laws.specs.MemoryLaws.{HasAt, AreAmong}
 use Rattle.kernel_laws.specs.DataLaws.{first, second, third, IsOffered, IsLawfulOffer, IsAreaAsked, IsLawfulWish}
 use Rattle.kernel_laws.proofs.LawfulAreas.{range_of, found_at, none_at, one_base, rights_among, not_among}
-
-abbrev code_in : {A : Type 0} → Result A Code → ℕ
-code_in (Ok x) = 100
-code_in (Err code) = code.0
-
-differ : {A : Type 0} (r s : Result A Code) → (code_in r ≡ code_in s → ⊥) → r ≡ s → ⊥
-differ r s other e = other (ap code_in e)
+use Rattle.std.proofs.lemmas.Bool.{eqb-true, eq-eqb, both_ways, true_from_ne_false}
+use Rattle.kernel_laws.proofs.Told.{never, always}
 
 from_low : (low high n : ℕ) → is_between low high n ≡ true → low ≤ n
 from_low low high n h = let b = (both_true (nat_le low n) (nat_le n high) h).0 in grind (arith, nat_tests, b)
@@ -30,23 +25,8 @@ to_high low high n h = let b = (both_true (nat_le low n) (nat_le n high) h).1 in
 between : (low high n : ℕ) → low ≤ n → n ≤ high → is_between low high n ≡ true
 between low high n from to = grind (arith, nat_tests, from, to)
 
-same_pages : (p q : ℕ) → (p == q) ≡ true → p ≡ q
-same_pages p q h = grind (arith, nat_tests, h)
-
-is_page : (p q : ℕ) → p ≡ q → (p == q) ≡ true
-is_page p q h = grind (arith, nat_tests, h)
-
-all_three : (a b c : Bool) → a ≡ true → b ≡ true → c ≡ true → a && (b && c) ≡ true
-all_three a b c p q r = rw (p, q, r) refl
-
-true_is : (b : Bool) → b ≡ true → b ≡ false → ⊥
-true_is b p q = let h = sym p ∙ q in cc
-
 among_test : (r all : ℕ) → 1 ≤ all → all ≤ 3 → AreAmong r all → is_subset r all ≡ true
-among_test r all some few a = by (is_subset r all) refl where
-  by : (b : Bool) → is_subset r all ≡ b → b ≡ true
-  by true is = refl
-  by false is = absurd (not_among r all some few is a)
+among_test r all some few a = true_from_ne_false (is_subset r all) (λ is. not_among r all some few is a)
 
 module _ (m : Memory) (caller : TaskNo) (args : List ℕ) (sound : IsSound m) where
   abbrev test : Area → Bool
@@ -59,7 +39,7 @@ module _ (m : Memory) (caller : TaskNo) (args : List ℕ) (sound : IsSound m) wh
       let range = range_of m caller a sound has.has in
       record {
         has = has;
-        pages = same_pages a.pages (second args) one.0;
+        pages = eqb-true a.pages (second args) one.0;
         lowest = from_low 1 3 (third args) two.0;
         highest = to_high 1 3 (third args) two.0;
         rights = rights_among (third args) a.rights range.lawful.0 range.lawful.1 two.1;
@@ -70,30 +50,33 @@ module _ (m : Memory) (caller : TaskNo) (args : List ℕ) (sound : IsSound m) wh
       let same : b ≡ a = one_base m caller (first args) b a sound o.has has in
       let p : IsOffered m caller args a = subst (IsOffered m caller args) same o in
       let range = range_of m caller a sound has.has in
-      true_is (test a) (all_three _ _ _ (is_page a.pages (second args) p.pages) (between 1 3 (third args) p.lowest p.highest) (among_test (third args) a.rights range.lawful.0 range.lawful.1 p.rights)) h
+      let pages = eq-eqb a.pages (second args) p.pages in
+      let rights = between 1 3 (third args) p.lowest p.highest in
+      let among = among_test (third args) a.rights range.lawful.0 range.lawful.1 p.rights in
+      both_ways (test a) h (rw (pages, rights, among) refl)
 
   by_test : (a : Area) → HasAt m caller (first args) a → (b : Bool) → test a ≡ b → IsLawfulOffer m caller args (if b then Ok tt else Err eperm)
   by_test a has true is =
       let can = offered a has is in
       record {
-        gone = (λ e. absurd (differ _ _ (λ z. omega arith) e), λ none. absurd (none a has));
-        unlike = (λ e. absurd (differ _ _ (λ z. omega arith) e), λ h. absurd (h.1 a can));
-        sent = (λ _. (a, can), λ _. refl);
+        gone = never (λ z. omega arith) (λ none. none a has);
+        unlike = never (λ z. omega arith) (λ h. h.1 a can);
+        sent = always (a, can);
       }
   by_test a has false is =
       record {
-        gone = (λ e. absurd (differ _ _ (λ z. omega arith) e), λ none. absurd (none a has));
-        unlike = (λ _. ((a, has), λ b o. not_offered a b has is o), λ _. refl);
-        sent = (λ e. absurd (differ _ _ (λ z. omega arith) e), λ h. absurd (not_offered a h.0 has is h.1));
+        gone = never (λ z. omega arith) (λ none. none a has);
+        unlike = always ((a, has), λ b o. not_offered a b has is o);
+        sent = never (λ z. omega arith) (λ h. not_offered a h.0 has is h.1);
       }
 
   by_found : (o : Option Area) → area_at m caller (first args) ≡ o → IsLawfulOffer m caller args (offer args o)
   by_found None is =
       let none = none_at m caller (first args) is in
       record {
-        gone = (λ _. none, λ _. refl);
-        unlike = (λ e. absurd (differ _ _ (λ z. omega arith) e), λ h. absurd (none h.0.0 h.0.1));
-        sent = (λ e. absurd (differ _ _ (λ z. omega arith) e), λ h. absurd (none h.0 h.1.has));
+        gone = always none;
+        unlike = never (λ z. omega arith) (λ h. none h.0.0 h.0.1);
+        sent = never (λ z. omega arith) (λ h. none h.0 h.1.has);
       }
   by_found (Some a) is = by_test a (found_at m caller (first args) a is) (test a) refl
 
@@ -110,11 +93,13 @@ module _ (args : List ℕ) where
       record { some = from_low 1 16 (second args) both.0; few = to_high 1 16 (second args) both.0; lowest = from_low 1 3 (third args) both.1; highest = to_high 1 3 (third args) both.1 }
 
   not_wished : wish ≡ false → IsAreaAsked args → ⊥
-  not_wished h a = true_is wish (rw (between 1 16 (second args) a.some a.few, between 1 3 (third args) a.lowest a.highest) refl) h
+  not_wished h a =
+      both_ways wish h
+      (rw (between 1 16 (second args) a.some a.few, between 1 3 (third args) a.lowest a.highest) refl)
 
   by_wish : (b : Bool) → wish ≡ b → IsLawfulWish args (if b then Ok tt else Err eperm)
-  by_wish true is = record { refused = (λ e. absurd (differ _ _ (λ z. omega arith) e), λ none. absurd (none (wished is))); sent = (λ _. wished is, λ _. refl) }
-  by_wish false is = record { refused = (λ _ a. not_wished is a, λ _. refl); sent = (λ e. absurd (differ _ _ (λ z. omega arith) e), λ a. absurd (not_wished is a)) }
+  by_wish true is = record { refused = never (λ z. omega arith) (λ none. none (wished is)); sent = always (wished is) }
+  by_wish false is = record { refused = (λ _ a. not_wished is a, λ _. refl); sent = never (λ z. omega arith) (λ a. not_wished is a) }
 
   pub wish_is_lawful : IsLawfulWish args (in_before_send args)
   wish_is_lawful = by_wish wish refl

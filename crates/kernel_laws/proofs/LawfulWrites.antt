@@ -16,7 +16,10 @@ use Rattle.address_space.specs.Memory.{Memory, areas_of, spot_in, write_spot, wr
 use Rattle.address_space.specs.Sound.{IsSound}
 use Rattle.kernel_laws.specs.MemoryLaws.{IsWritable, byte_in, byte_at, Writes, IsLawfulWrite}
 use Rattle.kernel_laws.proofs.OneArea.{one_span, found_writable, none_writable}
-use Rattle.kernel_laws.proofs.LawfulReads.{room_of, get_drop}
+use Rattle.kernel_laws.proofs.LawfulReads.{room_of}
+use Rattle.kernel_laws.proofs.Lists.{get_take, get_drop}
+use Rattle.answerbox.proofs.Counts.{ties}
+use Rattle.answerbox.proofs.Chain.{other_key}
 
 -- ---- bytes of a list that others were written over
 
@@ -33,17 +36,10 @@ get_right (x ∷ xs) ys (suc k) i is = let e : suc k + i ≡ suc (k + i) = omega
 length_take : (xs : List ℕ) (k : ℕ) → k ≤ length xs → k ≡ length (take k xs)
 length_take xs k room = grind (arith, common_steps)
 
-pub get_taken : (xs : List ℕ) (k i : ℕ) → i < k → slice_get (take k xs) i ≡ slice_get xs i
-get_taken [] zero i few = absurd (omega arith)
-get_taken [] (suc k) i few = refl
-get_taken (x ∷ xs) zero i few = absurd (omega arith)
-get_taken (x ∷ xs) (suc k) zero few = refl
-get_taken (x ∷ xs) (suc k) (suc i) few = get_taken xs k i (omega arith)
-
 before : (xs new : List ℕ) (k n : ℕ) → k + length new ≤ length xs → n < k → slice_get (written_over xs k new) n ≡ slice_get xs n
 before xs new k n room few =
     let l = length_take xs k (omega arith) in
-    get_left (take k xs) (new ++ drop (k + length new) xs) n (omega (arith, l, few)) ∙ get_taken xs k n few
+    get_left (take k xs) (new ++ drop (k + length new) xs) n (omega (arith, l, few)) ∙ get_take xs k n few
 
 among : (xs new : List ℕ) (k i : ℕ) → k + length new ≤ length xs → i < length new → slice_get (written_over xs k new) (k + i) ≡ slice_get new i
 among xs new k i room few = get_right (take k xs) (new ++ drop (k + length new) xs) k i (length_take xs k (omega arith)) ∙ get_left new (drop (k + length new) xs) i few
@@ -57,14 +53,8 @@ behind xs new k n room far =
 
 -- ---- bytes of a store
 
-same_key : (n : ℕ) → eq_by_cmp nat_cmp n n ≡ true
-same_key n = grind (arith, nat_tests)
-
-other_key : (q n : ℕ) → (q ≡ n → ⊥) → eq_by_cmp nat_cmp q n ≡ false
-other_key q n other = grind (arith, nat_tests, other)
-
 pub byte_put : (stores : FinMap nat_cmp (List ℕ)) (n i : ℕ) (bytes : List ℕ) → byte_in (get (insert stores n bytes) n) i ≡ slice_get bytes i
-byte_put stores n i bytes = rw (get-insert nat_cmp_total stores n bytes n, same_key n) refl
+byte_put stores n i bytes = rw (get-insert nat_cmp_total stores n bytes n, ties n) refl
 
 pub byte_elsewhere : (stores : FinMap nat_cmp (List ℕ)) (n q i : ℕ) (bytes : List ℕ) → (q ≡ n → ⊥) → byte_in (get (insert stores n bytes) q) i ≡ byte_in (get stores q) i
 byte_elsewhere stores n q i bytes other = rw (get-insert nat_cmp_total stores n bytes q, other_key q n other) refl

@@ -1,4 +1,6 @@
 pub mod Tables
+pub mod Told
+pub mod Lists
 pub mod Places
 pub mod KillParts
 pub mod KilledCalls

@@ -2,7 +2,7 @@
 use Rattle.std.proofs.Common.{◌≡◌, ℕ, zero, suc, ◌+◌, ◌*◌, ◌<◌, ◌≤◌, ◌==◌, ◌⊎◌, inl, inr, Bool, true, false, List, [], ◌∷◌, Some, None, refl, sym, ap, subst, arith}
 use Rattle.std.specs.Prelude.{if◌then◌else◌, ◌||◌, slice_get, slice_index_or}
 use Rattle.std.specs.List.{AllPairs}
-use Rattle.std.proofs.lemmas.Bool.{cases_eq, eq-eqb, ne_eqb}
+use Rattle.std.proofs.lemmas.Bool.{cases_eq, eq-eqb, ne_eqb, cases_lt, or_cases, or_left, or_right, eqb-true}
 use Rattle.std.proofs.lemmas.Bool.Decides.{nat_tests}
 use Rattle.std.proofs.lemmas.Option.{slice_get_within, get_or_from_slice_get}
 use Rattle.ipc_ids.specs.declared.numbers.TaskNo.{TaskNo}
@@ -18,12 +18,9 @@ use Rattle.kernel_laws.specs.MemoryLaws.{Has, IsIn, Spans, IsReadable, IsWritabl
 -- ---- one area has an address
 
 pub order : (i j : ℕ) → (i ≡ j) ⊎ ((i < j) ⊎ (j < i))
-order zero zero = inl refl
-order zero (suc j) = inr (inl (omega arith))
-order (suc i) zero = inr (inr (omega arith))
-order (suc i) (suc j) = elim (order i j) [
-  | inl e ↦ inl (ap suc e)
-  | inr o ↦ elim o [ inl lt ↦ inr (inl (omega arith)) | inr gt ↦ inr (inr (omega arith)) ]
+order i j = elim (cases_lt i j) [
+  | inl lt ↦ inr (inl lt)
+  | inr ge ↦ elim (cases_eq i j) [ inl e ↦ inl e | inr ne ↦ inr (inr (omega (arith, ge, ne))) ]
 ]
 
 pub apart_at : (areas : List Area) (i j : ℕ) (a b : Area) → AllPairs AreApart areas → i < j → slice_get areas i ≡ Some a → slice_get areas j ≡ Some b → AreApart a b
@@ -60,16 +57,11 @@ pub one_span : (m : Memory) (t : TaskNo) (at count : ℕ) (a b : Area) → IsSou
 one_span m t at count a b sound some has also s r = one_area m t at a b sound has also (first_of a at count some s) (first_of b at count some r)
 
 either : (r n o : ℕ) → (r == n) || (r == o) ≡ true → (r ≡ n) ⊎ (r ≡ o)
-either r n o h = elim (cases_eq r n) [
-  | inl e ↦ inl e
-  | inr ne ↦ let f = rw (ne_eqb r n ne) at h in inr (grind (arith, nat_tests, f))
-]
+either r n o h = elim (or_cases (r == n) (r == o) h) [ inl e ↦ inl (eqb-true r n e) | inr e ↦ inr (eqb-true r o e) ]
 
 is_either : (r n o : ℕ) → (r ≡ n) ⊎ (r ≡ o) → (r == n) || (r == o) ≡ true
-is_either r n o h = elim h [
-  | inl e ↦ rw (eq-eqb r n e) refl
-  | inr e ↦ elim (cases_eq r n) [ inl f ↦ rw (eq-eqb r n f) refl | inr ne ↦ rw (ne_eqb r n ne, eq-eqb r o e) refl ]
-]
+is_either r n o (inl e) = or_left (r == n) (r == o) (eq-eqb r n e)
+is_either r n o (inr e) = or_right (r == n) (r == o) (eq-eqb r o e)
 
 spans : (at count : ℕ) (right : Right) (a : Area) → holds at count right a ≡ true → Spans a at count
 spans at count right a h = let w = within at count right a h in record { from = w.from; to = w.to }

@@ -14,6 +14,9 @@ use Rattle.cleanup.proofs.Rows.{state_changed_at}
 use Rattle.cleanup.proofs.Soundness.{get_last, phone_kept}
 use Rattle.kernel_core.specs.Kernel.{next_task, named, spawning, spawn_event}
 use Rattle.kernel_laws.specs.SpawnLaws.{MakesTask}
+use Rattle.cleanup.proofs.Keepers.{state_here}
+use Rattle.kernel_laws.proofs.Lists.{get_copy, past_copies}
+use Rattle.kernel_laws.proofs.KillRoutes.{is_there}
 
 -- one item more at the end of a list
 
@@ -22,16 +25,6 @@ get_other [] y zero other = absurd (other refl)
 get_other [] y (suc i) other = refl
 get_other (x ∷ xs) y zero other = refl
 get_other (x ∷ xs) y (suc i) other = get_other xs y i (λ e. other (omega arith))
-
-get_free : (limit p : ℕ) → p < limit → slice_get (replicate limit Free) p ≡ Some Free
-get_free zero p few = absurd (omega arith)
-get_free (suc n) zero few = refl
-get_free (suc n) (suc p) few = get_free n p (omega arith)
-
-get_none : (limit p : ℕ) → limit ≤ p → slice_get (replicate limit Free) p ≡ None
-get_none zero p out = refl
-get_none (suc n) zero out = absurd (omega arith)
-get_none (suc n) (suc p) out = get_none n p (omega arith)
 
 row_last : {A : Type 0} (rows : List A) (row : A) → row_at (rows ++ row ∷ []) (length rows + 1) ≡ Some row
 row_last rows row = rw (ne_eqb (length rows + 1) 0 (λ z. omega arith), get_last rows row (length rows + 1 - 1) (omega arith)) refl
@@ -57,18 +50,6 @@ areas_last [] (suc i) = refl
 areas_last (row ∷ rows) zero = refl
 areas_last (row ∷ rows) (suc i) = areas_last rows i
 
-none_is : {A : Type 0} (o : Option A) → IsSome o → o ≡ None → ⊥
-none_is o h e = let g = rw e at h in cc
-
-is_some : {A : Type 0} (o : Option A) (x : A) → o ≡ Some x → IsSome o
-is_some o x e = rw e refl
-
-written_here : (rows : List (List PhoneState)) (t p : ℕ) (s : PhoneState) → IsSome (state_at rows t p) → state_at (with_state_at rows t p s) t p ≡ Some s
-written_here rows t p s there = by_state (state_at (with_state_at rows t p s) t p) refl where
-  by_state : (o : Option PhoneState) → state_at (with_state_at rows t p s) t p ≡ o → o ≡ Some s
-  by_state None now = absurd (none_is (state_at (with_state_at rows t p s) t p) (phone_kept rows t p t p s there) now)
-  by_state (Some x) now = elim (state_changed_at rows t p t p s x now) [ inl e ↦ ap Some (sym e.2) | inr e ↦ absurd (e.0 (refl, refl)) ]
-
 -- the rows of phones after a spawn
 module _ (rows : List (List PhoneState)) (limit n : ℕ) (paired : length rows ≡ n) where
   new_at : (p : ℕ) → state_at (rows ++ replicate limit Free ∷ []) (n + 1) p ≡ slice_get (replicate limit Free) p
@@ -92,9 +73,9 @@ module _ (k : KernelState) (limit : ℕ) (names : Option TaskNo) (some : 1 ≤ l
     made = alive_last k.tasks.alive;
     others = λ u other. alive_other k.tasks.alive u.0 other;
     leads = λ u is alive. absurd (let none = leads u is alive in cc);
-    alone = λ none. new 0 ∙ get_free limit 0 (omega arith);
-    free = λ p from few. new p ∙ get_free limit p few;
-    limited = λ p out. new p ∙ get_none limit p out;
+    alone = λ none. new 0 ∙ get_copy limit 0 Free (omega arith);
+    free = λ p from few. new p ∙ get_copy limit p Free few;
+    limited = λ p out. new p ∙ past_copies limit p Free out;
     phones = λ u p other. old u.0 p other;
     calls = refl;
     areas = λ u. areas_last k.memory.areas (u.0 - 1);
@@ -103,10 +84,10 @@ module _ (k : KernelState) (limit : ℕ) (names : Option TaskNo) (some : 1 ≤ l
   made_by (Some v) leads alone = record {
     made = alive_last k.tasks.alive;
     others = λ u other. alive_other k.tasks.alive u.0 other;
-    leads = λ u is alive. written_here rows (length k.tasks.alive + 1) 0 (Connected v) (is_some (state_at rows (length k.tasks.alive + 1) 0) Free (new 0 ∙ get_free limit 0 (omega arith))) ∙ (let same = leads u is alive in cc);
+    leads = λ u is alive. state_here rows (length k.tasks.alive + 1) 0 (Connected v) (is_there (state_at rows (length k.tasks.alive + 1) 0) Free (new 0 ∙ get_copy limit 0 Free (omega arith))) ∙ (let same = leads u is alive in cc);
     alone = λ none. absurd (let is = alone none in cc);
-    free = λ p from few. written_elsewhere rows (length k.tasks.alive + 1) 0 (length k.tasks.alive + 1) p (Connected v) (λ e. let first = e.1 in omega (arith, first, from)) ∙ new p ∙ get_free limit p few;
-    limited = λ p out. written_elsewhere rows (length k.tasks.alive + 1) 0 (length k.tasks.alive + 1) p (Connected v) (λ e. let first = e.1 in omega (arith, first, out)) ∙ new p ∙ get_none limit p out;
+    free = λ p from few. written_elsewhere rows (length k.tasks.alive + 1) 0 (length k.tasks.alive + 1) p (Connected v) (λ e. let first = e.1 in omega (arith, first, from)) ∙ new p ∙ get_copy limit p Free few;
+    limited = λ p out. written_elsewhere rows (length k.tasks.alive + 1) 0 (length k.tasks.alive + 1) p (Connected v) (λ e. let first = e.1 in omega (arith, first, out)) ∙ new p ∙ past_copies limit p Free out;
     phones = λ u p other. written_elsewhere rows (length k.tasks.alive + 1) 0 u.0 p (Connected v) (λ e. other e.0) ∙ old u.0 p other;
     calls = refl;
     areas = λ u. areas_last k.memory.areas (u.0 - 1);
