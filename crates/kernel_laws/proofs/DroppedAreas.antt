@@ -1,6 +1,6 @@
 -- An area that is dropped: what becomes of the other areas, and of the stores.
 use Rattle.std.proofs.Common.{◌≡◌, ℕ, zero, suc, ◌-◌, ◌<◌, ◌≤◌, Bool, true, false, List, [], ◌∷◌, Option, None, Some, refl, ap, sym, subst, ◌∙◌, arith, inl, inr}
-use Rattle.std.specs.Prelude.{if◌then◌else◌, ◌||◌, slice_get, slice_set, remove, unwrap_or}
+use Rattle.std.specs.Prelude.{if◌then◌else◌, slice_get, slice_set, remove, unwrap_or}
 use Rattle.std.specs.List.{list_any}
 use Rattle.std.specs.FinMap.{get}
 use Rattle.std.specs.FinMap as map

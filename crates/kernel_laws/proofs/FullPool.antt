@@ -1,6 +1,6 @@
 -- A call is answered ENOMEM at once only where the pool has no room for it, and the pool stays within its bytes.
-use Rattle.std.proofs.Common.{◌≡◌, ℕ, ◌+◌, ◌<◌, ◌≤◌, Bool, true, false, not, inl, inr, List, [], ◌∷◌, Option, None, Some, Result, Ok, Err, refl, ap, sym, subst, ◌∙◌, arith, nat_lt, nat_le}
-use Rattle.std.specs.Prelude.{◌==◌, ◌&&◌, if◌then◌else◌}
+use Rattle.std.proofs.Common.{◌≡◌, ℕ, ◌+◌, ◌<◌, ◌≤◌, true, not, inl, inr, List, [], ◌∷◌, Option, None, Some, Result, Ok, Err, refl, ap, sym, subst, ◌∙◌, arith, nat_lt, nat_le}
+use Rattle.std.specs.Prelude.{◌==◌, ◌&&◌}
 use Rattle.std.proofs.lemmas.Bool.Decides.{nat_tests}
 use Rattle.ipc_ids.specs.declared.numbers.Code.{Code}
 use Rattle.ipc_ids.specs.declared.numbers.Label.{Label}
@@ -14,13 +14,13 @@ use Rattle.ipc_ids.specs.declared.methods.MethodKind.{MethodKind}
 use Rattle.ipc_ids.specs.declared.methods.MethodKind.TheVariants.{ConnectMeTo, DataWrite, DataRead, ShareOut, ShareIn}
 use Rattle.ipc_ids.specs.Codes.{ehangup, enoent, elimit, enomem}
 use Rattle.ipc_ids.specs.Methods.{kind_of}
-use Rattle.ipc_ids.specs.Tables.{most_active, most_data, most_buffered}
+use Rattle.ipc_ids.specs.Tables.{most_active, most_buffered}
 use Rattle.call_slab.specs.declared.call.Call.{Call}
 use Rattle.call_slab.specs.declared.call.Place.TheVariants.{Incoming, Answers}
 use Rattle.answerbox.specs.Calls.{active_calls, used}
 use Rattle.address_space.specs.Areas.{Area, is_subset}
 use Rattle.address_space.specs.Memory.{Memory, spot_in, area_at, read_at, read}
-use Rattle.data_hooks.specs.DataMoments.{address_of, count_of, is_restricted, kept_count, pooled, write_kept, write_before_send, read_before_send}
+use Rattle.data_hooks.specs.DataMoments.{address_of, kept_count, pooled, write_kept, write_before_send, read_before_send}
 use Rattle.share_hooks.specs.ShareMoments.{is_between, base_of, pages_of, rights_of, offer, out_before_send, in_before_send}
 use Rattle.cleanup.specs.State.{KernelState, is_alive, phone_at, label_of}
 use Rattle.cleanup.specs.Sound.{IsSound}

@@ -1,13 +1,12 @@
 -- Areas and stores after a kill: what became of them.
 use Rattle.std.proofs.Common.{◌≡◌, ℕ, zero, suc, ◌-◌, ◌≤◌, ◌==◌, Bool, true, false, cond, ◌⊎◌, inl, inr, Option, None, Some, List, [], ◌∷◌, refl, ap, sym, ◌∙◌, arith}
-use Rattle.std.specs.Prelude.{if◌then◌else◌, ◌||◌, slice_get, slice_set, remove, unwrap_or}
+use Rattle.std.specs.Prelude.{if◌then◌else◌, slice_get, slice_set, remove, unwrap_or}
 use Rattle.std.specs.List.{list_any}
 use Rattle.std.specs.Ordering.{nat_cmp, eq_by_cmp}
 use Rattle.std.specs.Cmp.{nat_cmp_total}
 use Rattle.std.specs.FinMap.{FinMap, get, get-remove}
 use Rattle.std.specs.FinMap as map
 use Rattle.std.proofs.lemmas.Bool.{cases_eq, eqb-true, false≢true, or_left, or_right, or_cases, or_parts, both_ways}
-use Rattle.std.proofs.lemmas.Bool.Decides.{nat_tests}
 use Rattle.ipc_ids.specs.declared.numbers.TaskNo.{TaskNo}
 use Rattle.address_space.specs.Areas.{Area, stands_over, place_of}
 use Rattle.address_space.specs.Memory.{Memory, areas_of, with_areas, is_used, release, drop_place, drop_at, drop_area}

@@ -1,5 +1,5 @@
 -- What lists have at their places.
-use Rattle.std.proofs.Common.{◌≡◌, ℕ, zero, suc, ◌+◌, ◌<◌, ◌≤◌, List, [], ◌∷◌, length, replicate, Some, None, refl, sym, ◌∙◌, arith, ap}
+use Rattle.std.proofs.Common.{◌≡◌, ℕ, zero, suc, ◌+◌, ◌<◌, ◌≤◌, List, [], ◌∷◌, length, replicate, Some, None, refl, ◌∙◌, arith, ap}
 use Rattle.std.specs.Prelude.{slice_get, slice_set, take, drop, unwrap_or}
 use Rattle.std.proofs.lemmas.List.{length-replicate, get_or-replicate, get_or-set_same}
 use Rattle.std.proofs.lemmas.Option.{slice_get_past, slice_get-get_or, unwrap_or-slice_get}

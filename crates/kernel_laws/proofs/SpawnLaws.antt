@@ -1,17 +1,16 @@
 -- A spawn keeps its law.
-use Rattle.std.proofs.Common.{◌≡◌, ℕ, zero, suc, ◌+◌, ◌-◌, ◌<◌, ◌≤◌, Bool, true, false, inl, inr, List, [], ◌∷◌, ◌++◌, length, replicate, Option, None, Some, refl, ap, sym, ◌∙◌, arith}
-use Rattle.std.specs.Prelude.{IsSome, slice_get, option_and_then, unwrap_or}
+use Rattle.std.proofs.Common.{◌≡◌, ℕ, zero, suc, ◌+◌, ◌-◌, ◌≤◌, Bool, true, false, inl, inr, List, [], ◌∷◌, ◌++◌, length, replicate, Option, None, Some, refl, ap, ◌∙◌, arith}
+use Rattle.std.specs.Prelude.{slice_get, option_and_then, unwrap_or}
 use Rattle.std.proofs.lemmas.Bool.{cases_eq, eq-eqb, ne_eqb}
 use Rattle.ipc_ids.specs.declared.numbers.TaskNo.{TaskNo}
 use Rattle.ipc_ids.specs.declared.message.PhoneState.{PhoneState}
 use Rattle.ipc_ids.specs.declared.message.PhoneState.TheVariants.{Free, Connected}
 use Rattle.phone_table.specs.Phones.{row_at, state_at}
 use Rattle.address_space.specs.Areas.{Area}
-use Rattle.cleanup.specs.State.{KernelState, alive_in, is_alive, with_state_at, with_event}
+use Rattle.cleanup.specs.State.{KernelState, alive_in, is_alive, with_event}
 use Rattle.cleanup.specs.Sound.{IsSound}
 use Rattle.cleanup.proofs.KilledPhones.{written_elsewhere}
-use Rattle.cleanup.proofs.Rows.{state_changed_at}
-use Rattle.cleanup.proofs.Soundness.{get_last, phone_kept}
+use Rattle.cleanup.proofs.Soundness.{get_last}
 use Rattle.kernel_core.specs.Kernel.{next_task, named, spawning, spawn_event}
 use Rattle.kernel_laws.specs.SpawnLaws.{MakesTask}
 use Rattle.cleanup.proofs.Keepers.{state_here}
