@@ -30,27 +30,28 @@ use Rattle.kernel_determined.specs.Frames.{PhoneComesTo}
 use Rattle.kernel_determined.specs.MemoryLaw.{IsWholeWrite}
 use Rattle.kernel_determined.specs.SettleLaw.{IsWanted}
 use Rattle.kernel_determined.specs.AnswerLaw.{IsWholePlacing, bytes_after, Reaches, ConnectsTo, ConnectsNothing, WritesBytes, TakesBytes, SharesArea, IsPlain, AnswersPlainly, Accepts, AnswersDeclining, AnswersNobody, AnswersAccepting, IsAnswer}
-use Rattle.kernel_determined.proofs.Same.{list_same}
+use Rattle.kernel_determined.proofs.Same.{list_same, done_same}
 use Rattle.kernel_determined.proofs.HangupDetermined.{stay_same, come_same, refusal_same, quiet_same}
-use Rattle.kernel_determined.proofs.WriteDetermined.{step_same, write_is_determined}
-use Rattle.kernel_determined.proofs.ChecksDetermined.{past, bytes_read_same}
+use Rattle.kernel_determined.proofs.WriteDetermined.{write_is_determined}
+use Rattle.kernel_determined.proofs.ChecksDetermined.{bytes_read_same}
 use Rattle.kernel_determined.proofs.SettleDetermined.{moves_same, ended_same, settled_same}
 use Rattle.kernel_determined.proofs.ForwardDetermined.{parts_same}
 use Rattle.kernel_determined.proofs.ShareDetermined.{share_is_determined}
+use Rattle.std.proofs.lemmas.Option.{slice_get_past, none-some}
 
 -- ---- bytes
 
 first_bytes_same : (xs ys zs : List ℕ) (n : ℕ) → AreFirst xs n zs → AreFirst ys n zs → xs ≡ ys
 first_bytes_same xs ys zs n f g = list_same xs ys (λ i. elim (cases_lt i n) [
   | inl few ↦ f.each i few ∙ sym (g.each i few)
-  | inr far ↦ let x = f.many in let y = g.many in past xs i (omega (arith, x, far))
-      ∙ sym (past ys i (omega (arith, y, far)))
+  | inr far ↦ let x = f.many in let y = g.many in slice_get_past xs i (omega (arith, x, far))
+      ∙ sym (slice_get_past ys i (omega (arith, y, far)))
 ])
 
 placing_same : (m : Memory) (t : TaskNo) (brought : List ℕ) (reply : Reply) (x y : Step (Option StoreNo))
     → IsWholePlacing m t brought reply x → IsWholePlacing m t brought reply y → x ≡ y
 placing_same m t brought reply x y f g = elim (cases_lt (length brought) (second reply.args)) [
-  | inl more ↦ (let u = f.more more in let v = g.more more in step_same x y (u.1 ∙ sym v.1) (u.0 ∙ sym v.0))
+  | inl more ↦ (let u = f.more more in let v = g.more more in done_same x y (u.1 ∙ sym v.1) (u.0 ∙ sym v.0))
   | inr few ↦ (let u = f.placed few in let v = g.placed few in
       let same : u.0 ≡ v.0 = first_bytes_same u.0 v.0 brought (second reply.args) u.1 v.1 in
       write_is_determined m t (first reply.args) v.0 x y
@@ -101,14 +102,11 @@ module _ (t : TaskNo) (n : ℕ) (reply : Reply) (c : Call) (u : TaskNo) (k : Ker
       reaches_same eok c.buffer k.memory _ reaches y.reaches
       (come_same k a.state b.state y.phone.task y.phone.phone.0 (Connected to) leads y.leads)
 
-  connects_none : (l : Label) → c.reserved ≡ Some l → c.reserved ≡ None → ⊥
-  connects_none l e f = let g : Some l ≡ None = sym e ∙ f in cc
-
   to_me_same : ConnectsTo u t n reply c u k a ⊎ ConnectsNothing t n reply c u k a
       → ConnectsTo u t n reply c u k b ⊎ ConnectsNothing t n reply c u k b → a ≡ b
   to_me_same (inl x) (inl y) = connects_same u x y
-  to_me_same (inl x) (inr y) = absurd (connects_none x.phone x.kept y.none)
-  to_me_same (inr x) (inl y) = absurd (connects_none y.phone y.kept x.none)
+  to_me_same (inl x) (inr y) = absurd (none-some x.phone (sym y.none ∙ x.kept))
+  to_me_same (inr x) (inl y) = absurd (none-some y.phone (sym x.none ∙ y.kept))
   to_me_same (inr x) (inr y) =
       reaches_same elimit c.buffer k.memory [] x.reaches y.reaches (stay_same k a.state b.state x.phones y.phones)
 

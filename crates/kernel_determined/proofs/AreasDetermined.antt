@@ -21,9 +21,8 @@ use Rattle.kernel_laws.specs.MemoryRequests.{Tells, made}
 use Rattle.kernel_laws.proofs.LawfulAreas.{make_is_lawful}
 use Rattle.kernel_laws.proofs.MemoryRequests.{tells, made_is, added}
 use Rattle.kernel_determined.specs.MemoryLaw.{IsWholeMake, IsAreaMake}
-use Rattle.kernel_determined.proofs.Same.{state_same, served_same}
-use Rattle.kernel_determined.proofs.WriteDetermined.{memory_same, stores_same}
-use Rattle.kernel_determined.proofs.SpawnDetermined.{or_same}
+use Rattle.kernel_determined.proofs.Same.{state_same, served_same, each_task, areas_same, memory_same, done_same, leaves_same}
+use Rattle.kernel_determined.proofs.WriteDetermined.{stores_same}
 use Rattle.kernel_determined.proofs.TakesSo.{put_elsewhere}
 use Rattle.kernel_determined.proofs.MemoryDetermined.{outcome_same}
 
@@ -49,30 +48,10 @@ cause_same m t base pages rights store a d (inr (inl e)) f g = f.impossible.1 (g
 cause_same m t base pages rights store a d (inr (inr (inl e))) f g = f.taken.1 (g.taken.0 e) ∙ sym e
 cause_same m t base pages rights store a d (inr (inr (inr e))) f g = f.full.1 (g.full.0 e) ∙ sym e
 
-no_of : (u t : TaskNo) → u.0 ≡ t.0 → u ≡ t
-no_of u t e = ap (λ n. let r : TaskNo = record { 0 = n } in r) e
-
--- areas by task determine all areas
-pub areas_same : (a b : Memory) → length a.areas ≡ length b.areas
-    → ((u : TaskNo) → 1 ≤ u.0 → areas_of a u ≡ areas_of b u) → a.areas ≡ b.areas
-areas_same a b many at = or_same [] a.areas b.areas many
-    (λ i. sym (back i a.areas) ∙ at (record { 0 = suc i }) (omega arith) ∙ back i b.areas) where
-      back : (i : ℕ) (zs : List (List Area)) → unwrap_or (slice_get zs (suc i - 1)) [] ≡ unwrap_or (slice_get zs i) []
-      back i zs = let last : suc i - 1 ≡ i = omega arith in rw last refl
-
 pub gives_same : (m : Memory) (t : TaskNo) (x : Area) (a b : Memory) → Gives m t x a → Gives m t x b → (u : TaskNo)
     → 1 ≤ u.0 → areas_of a u ≡ areas_of b u
-gives_same m t x a b f g u some = elim (cases_eq u.0 t.0) [
-  | inl e ↦ let same = no_of u t e in ap (areas_of a) same ∙ f.area ∙ sym g.area ∙ ap (areas_of b) (sym same)
-  | inr ne ↦ f.others u some ne ∙ sym (g.others u some ne)
-]
-
-step_of : Memory → Result StoreNo Code → Step StoreNo
-step_of m told = record { memory = m; told = told }
-
-pub store_step_same : (x y : Step StoreNo) → x.memory ≡ y.memory → x.told ≡ y.told → x ≡ y
-unfolding step_of
-store_step_same x y memory told = ap (λ m. step_of m x.told) memory ∙ ap (step_of y.memory) told
+gives_same m t x a b f g u some = each_task (areas_of a) (areas_of b) t (f.area ∙ sym g.area) u
+    (λ ne. f.others u some ne ∙ sym (g.others u some ne))
 
 none_some : (o : Option (List ℕ)) (n : ℕ) → o ≡ None → byte_in o 0 ≡ Some n → ⊥
 none_some o n e f = let g : None ≡ Some n = sym (ap (λ x. byte_in x 0) e) ∙ f in cc
@@ -146,7 +125,7 @@ module _ (m : Memory) (t : TaskNo) (base pages rights : ℕ) (sound : spaces.IsS
             ]
 
       pub make_is_determined : x ≡ y
-      make_is_determined = let told = told_same x y f g in store_step_same x y (by_told y.told told refl) told
+      make_is_determined = let told = told_same x y f g in done_same x y (by_told y.told told refl) told
 
 -- ---- the definition
 
@@ -202,10 +181,6 @@ area_make_is_determined k t base pages rights a b sound alive x y =
     let same : x.step ≡ y.step = make_is_determined k.memory t base pages rights sound.memory.spaces law x.step y.step
     x.make y.make in
     let told = subst (λ (s : Step StoreNo). Tells s.told a.outcome) same x.told in
-    let u = x.leaves in let v = y.leaves in
-    served_same a b
-    (state_same a.state b.state (ap (λ (z : Tasks). z.alive) (u.tasks ∙ sym v.tasks))
-    (ap (λ (z : Tasks). z.phones) (u.tasks ∙ sym v.tasks)) (u.calls ∙ sym v.calls)
-    (u.memory_after ∙ ap (λ (s : Step StoreNo). s.memory) same ∙ sym v.memory_after) (x.events ∙ sym y.events))
+    leaves_same k a b _ _ _ _ x.leaves y.leaves (ap (λ (s : Step StoreNo). s.memory) same)
+    (ap (λ (s : Step StoreNo). made t base pages rights s.told) same) (x.events ∙ sym y.events)
     (outcome_same t k a b y.step.told told y.told)
-    (u.entries ∙ ap (λ (s : Step StoreNo). made t base pages rights s.told) same ∙ sym v.entries)

@@ -25,42 +25,23 @@ use Rattle.kernel_laws.proofs.ActiveCalls.{active_count}
 use Rattle.kernel_determined.specs.Frames.{IsMade, HasFifth, MayCome}
 use Rattle.kernel_determined.specs.CallLaw.{IsAnsweredAtOnce, Content, KeepsPhone, BringsBytes, WantsBytes, IsAsMade, IsContent, IsSent, Goes, GoesOver, IsAccepted, IsCall}
 use Rattle.kernel_determined.proofs.HangupDetermined.{stay_same, call_same, refusal_same, more_same}
-use Rattle.kernel_determined.proofs.ReceiveDetermined.{args_same}
+use Rattle.kernel_determined.proofs.ReceiveDetermined.{args_same, one_least}
 use Rattle.kernel_determined.proofs.SettleDetermined.{may_come_same}
 use Rattle.kernel_determined.proofs.ForwardDetermined.{parts_same}
 use Rattle.kernel_determined.proofs.ChecksDetermined.{copy_same, cut_same, check_same}
-
-msg_of : ℕ → List ℕ → Msg
-msg_of method args = record { method = method; args = args }
-
-msg_same : (m n : Msg) → m.method ≡ n.method → m.args ≡ n.args → m ≡ n
-unfolding msg_of
-msg_same m n e f = ap (λ x. msg_of x m.args) e ∙ ap (msg_of n.method) f
-
-content_of : Msg → Msg → List ℕ → Option Label → Content
-content_of request seen bytes kept = record { request = request; seen = seen; bytes = bytes; kept = kept }
+use Rattle.kernel_determined.proofs.Same.{msg_same}
+use Rattle.kernel_laws.specs.UsablePhones.{IsUsable}
 
 content_parts : (c d : Content) → c.request ≡ d.request → c.seen ≡ d.seen → c.bytes ≡ d.bytes → c.kept ≡ d.kept → c ≡ d
-unfolding content_of
 content_parts c d request seen bytes kept =
-    ap (λ x. content_of x c.seen c.bytes c.kept) request ∙ ap (λ x. content_of d.request x c.bytes c.kept) seen
-    ∙ ap (λ x. content_of d.request d.seen x c.kept) bytes ∙ ap (content_of d.request d.seen d.bytes) kept
+    λ i. record { request = request i; seen = seen i; bytes = bytes i; kept = kept i }
 
 -- ---- what is sent
 
 module _ (k : KernelState) (sound : spaces.IsSound k.memory) (t : TaskNo) (msg : Msg) (c d : Content) where
-  least_same : (x : KeepsPhone k t msg c) (y : KeepsPhone k t msg d) → x.phone ≡ y.phone
-  least_same x y = elim (cases_lt x.phone y.phone) [
-    | inl less ↦ absurd (y.least x.phone less x.usable)
-    | inr le ↦ elim (cases_lt y.phone x.phone) [
-      | inl less ↦ absurd (x.least y.phone less y.usable)
-      | inr ge ↦ omega (arith, le, ge)
-    ]
-  ]
-
   keeps_same : KeepsPhone k t msg c → KeepsPhone k t msg d → c ≡ d
   keeps_same x y =
-      let same = least_same x y in
+      let same = one_least (IsUsable k k.calls t) x.phone y.phone x.usable y.usable x.least y.least in
       let names = subst (λ p. HasFifth (64 * t.0 + p) msg.args c.seen.args) same x.names in
       content_parts c d (x.request ∙ sym y.request) (msg_same c.seen d.seen (x.method ∙ sym y.method)
       (args_same _ msg.args c.seen.args d.seen.args names y.names)) (x.bytes ∙ sym y.bytes)

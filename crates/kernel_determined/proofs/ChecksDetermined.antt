@@ -22,11 +22,7 @@ use Rattle.address_space.specs.Sound as spaces
 use Rattle.kernel_laws.proofs.LawfulShares.{offer_is_lawful}
 use Rattle.kernel_laws.proofs.LawfulData.{decided_read, decided_count}
 use Rattle.kernel_determined.proofs.Same.{list_same}
-
-pub past : (zs : List ℕ) (i : ℕ) → length zs ≤ i → slice_get zs i ≡ None
-past [] i h = refl
-past (z ∷ zs) zero h = absurd (omega (arith, h))
-past (z ∷ zs) (suc i) h = past zs i (omega (arith, h))
+use Rattle.std.proofs.lemmas.Option.{slice_get_past, slice_get-get_or, none-some}
 
 abbrev told_ok : List ℕ → Result (List ℕ) Code
 told_ok x = Ok x
@@ -56,7 +52,7 @@ bytes_read_same m t at count xs ys f g = elim (cases_lt 0 count) [
       let from = may.spans.from in
       list_same xs ys (λ i. elim (cases_lt i count) [
         | inl few ↦ u.each i (at + i - h.base) few (omega arith) ∙ sym (v.each i (at + i - h.base) few (omega arith))
-        | inr far ↦ past xs i (omega (arith, um, far)) ∙ sym (past ys i (omega (arith, vm, far)))
+        | inr far ↦ slice_get_past xs i (omega (arith, um, far)) ∙ sym (slice_get_past ys i (omega (arith, vm, far)))
       ])
 
 -- ---- a DATA_WRITE that is sent
@@ -118,11 +114,6 @@ offer_same m t args a b sound f g =
 
 -- ---- the arguments of a data call
 
-here : (xs : List ℕ) (i : ℕ) → i < length xs → slice_get xs i ≡ Some (slice_index xs i)
-here [] i few = absurd (omega (arith, few))
-here (x ∷ xs) zero few = refl
-here (x ∷ xs) (suc i) few = here xs i (omega (arith, few))
-
 pub cut_same : (args xs ys : List ℕ) → AreCutDown args xs → AreCutDown args ys → xs ≡ ys
 cut_same args xs ys f g = elim (cases_lt 65536 (second args)) [
   | inr few ↦ f.few few ∙ sym (g.few few)
@@ -130,24 +121,21 @@ cut_same args xs ys f g = elim (cases_lt 65536 (second args)) [
 ] where
   by : length xs ≡ 5 → length ys ≡ 5 → (i : ℕ) → (i < 5) ⊎ (5 ≤ i) → (i ≡ 1) ⊎ (i ≡ 1 → ⊥)
       → slice_get xs i ≡ slice_get ys i
-  by x y i (inr far) one = past xs i (omega (arith, x, far)) ∙ sym (past ys i (omega (arith, y, far)))
+  by x y i (inr far) one = slice_get_past xs i (omega (arith, x, far)) ∙ sym (slice_get_past ys i (omega (arith, y, far)))
   by x y i (inl few) (inl one) =
-      here xs i (omega (arith, x, few)) ∙ ap (λ (j : ℕ). Some (slice_index xs j)) one
+      slice_get-get_or xs i 0 (omega (arith, x, few)) ∙ ap (λ (j : ℕ). Some (slice_index xs j)) one
       ∙ ap Some (f.second ∙ sym g.second)
-      ∙ ap (λ (j : ℕ). Some (slice_index ys j)) (sym one) ∙ sym (here ys i (omega (arith, y, few)))
+      ∙ ap (λ (j : ℕ). Some (slice_index ys j)) (sym one) ∙ sym (slice_get-get_or ys i 0 (omega (arith, y, few)))
   by x y i (inl few) (inr other) =
-      here xs i (omega (arith, x, few)) ∙ ap Some (f.others i few other ∙ sym (g.others i few other))
-      ∙ sym (here ys i (omega (arith, y, few)))
+      slice_get-get_or xs i 0 (omega (arith, x, few)) ∙ ap Some (f.others i few other ∙ sym (g.others i few other))
+      ∙ sym (slice_get-get_or ys i 0 (omega (arith, y, few)))
 
 -- ---- a check
-
-some_refused : (code : Code) → None ≡ Some code → ⊥
-some_refused code e = cc
 
 module _ (k : KernelState) (t : TaskNo) (msg : Msg) (sound : spaces.IsSound k.memory) (may : IsNoCall msg.method → ⊥)
     (a b : Option Code) (f : IsCheck k t msg a) (g : IsCheck k t msg b) where
   no_phone : (code : Code) → (z : Option Code) → z ≡ Some code → z ≡ None → ⊥
-  no_phone code z r s = some_refused code (sym s ∙ r)
+  no_phone code z r s = none-some code (sym s ∙ r)
 
   connected : msg.method ≡ connect_me_to → (x y : Option Code) → a ≡ x → b ≡ y → x ≡ y
   connected e None None p q = refl

@@ -25,9 +25,7 @@ use Rattle.kernel_laws.proofs.LawfulAreas.{drop_is_lawful, one_base, range_of}
 use Rattle.kernel_laws.proofs.MemoryRequests.{tells, gone_is}
 use Rattle.kernel_laws.proofs.OneArea.{order, apart_at, no_common}
 use Rattle.kernel_determined.specs.MemoryLaw.{IsWholeDrop, IsAreaDrop}
-use Rattle.kernel_determined.proofs.Same.{list_same, state_same, served_same}
-use Rattle.kernel_determined.proofs.WriteDetermined.{memory_same}
-use Rattle.kernel_determined.proofs.AreasDetermined.{areas_same}
+use Rattle.kernel_determined.proofs.Same.{list_same, state_same, served_same, each_task, areas_same, memory_same, done_same, leaves_same}
 use Rattle.kernel_determined.proofs.MemoryDetermined.{outcome_same}
 
 -- ---- what is told
@@ -97,20 +95,14 @@ module _ (m : Memory) (t : TaskNo) (sound : spaces.IsSound m) (a : Area) where
       | inr from ↦ f.behind i from ∙ sym (g.behind i (subst (λ p. p ≤ i) place from))
     ])
 
-    no_of : (u v : TaskNo) → u.0 ≡ v.0 → u ≡ v
-    no_of u v e = ap (λ n. let r : TaskNo = record { 0 = n } in r) e
-
-    each_task : (u : TaskNo) → 1 ≤ u.0 → areas_of x u ≡ areas_of y u
-    each_task u some = elim (cases_eq u.0 t.0) [
-      | inl e ↦ let same = no_of u t e in ap (areas_of x) same ∙ own ∙ ap (areas_of y) (sym same)
-      | inr ne ↦ f.others u some ne ∙ sym (g.others u some ne)
-    ]
+    all_tasks : (u : TaskNo) → 1 ≤ u.0 → areas_of x u ≡ areas_of y u
+    all_tasks u some = each_task (areas_of x) (areas_of y) t own u (λ ne. f.others u some ne ∙ sym (g.others u some ne))
 
     there : (u : TaskNo) (b : Area) → 1 ≤ u.0 → Has x u b → Has y u b
-    there u b some has = (has.0, ap (λ areas. slice_get areas has.0) (sym (each_task u some)) ∙ has.1)
+    there u b some has = (has.0, ap (λ areas. slice_get areas has.0) (sym (all_tasks u some)) ∙ has.1)
 
     back : (u : TaskNo) (b : Area) → 1 ≤ u.0 → Has y u b → Has x u b
-    back u b some has = (has.0, ap (λ areas. slice_get areas has.0) (each_task u some) ∙ has.1)
+    back u b some has = (has.0, ap (λ areas. slice_get areas has.0) (all_tasks u some) ∙ has.1)
 
     its_store : get x.stores a.store ≡ get y.stores a.store
     its_store = elim (used_or_none x a.store) [
@@ -120,19 +112,12 @@ module _ (m : Memory) (t : TaskNo) (sound : spaces.IsSound m) (a : Area) where
     ]
 
     pub drops_same : x ≡ y
-    drops_same = memory_same x y (areas_same x y many each_task)
+    drops_same = memory_same x y (areas_same x y many all_tasks)
         (same_map nat_cmp_total nat_cmp-IsAntisymmetric x.stores y.stores (λ n. elim (cases_eq n a.store) [
           | inl e ↦ ap (get x.stores) e ∙ its_store ∙ ap (get y.stores) (sym e)
           | inr ne ↦ f.stores n ne ∙ sym (g.stores n ne)
         ]))
         (f.next ∙ sym g.next)
-
-step_of : Memory → Result Unit Code → Step Unit
-step_of m told = record { memory = m; told = told }
-
-step_same : (x y : Step Unit) → x.memory ≡ y.memory → x.told ≡ y.told → x ≡ y
-unfolding step_of
-step_same x y memory told = ap (λ m. step_of m x.told) memory ∙ ap (step_of y.memory) told
 
 module _ (m : Memory) (t : TaskNo) (base : ℕ) (some : 1 ≤ t.0) (sound : spaces.IsSound m) (x y : Step Unit)
     (f : IsWholeDrop m t base x) (g : IsWholeDrop m t base y) where
@@ -148,7 +133,7 @@ module _ (m : Memory) (t : TaskNo) (base : ℕ) (some : 1 ≤ t.0) (sound : spac
   pub drop_is_determined : x ≡ y
   drop_is_determined =
       let told = drop_told m t base x f ∙ sym (drop_told m t base y g) in
-      step_same x y (by_told y.told told refl) told
+      done_same x y (by_told y.told told refl) told
 
 -- ---- the definition
 
@@ -173,10 +158,6 @@ pub area_drop_is_determined : (k : KernelState) (t : TaskNo) (base : ℕ) (a b :
 area_drop_is_determined k t base a b sound some x y =
     let same : x.step ≡ y.step = drop_is_determined k.memory t base some sound x.step y.step x.drop y.drop in
     let told = subst (λ (s : Step Unit). Tells s.told a.outcome) same x.told in
-    let u = x.leaves in let v = y.leaves in
-    served_same a b
-    (state_same a.state b.state (ap (λ (z : Tasks). z.alive) (u.tasks ∙ sym v.tasks))
-    (ap (λ (z : Tasks). z.phones) (u.tasks ∙ sym v.tasks)) (u.calls ∙ sym v.calls)
-    (u.memory_after ∙ ap (λ (s : Step Unit). s.memory) same ∙ sym v.memory_after) (x.events ∙ sym y.events))
+    leaves_same k a b _ _ _ _ x.leaves y.leaves (ap (λ (s : Step Unit). s.memory) same)
+    (ap (λ (s : Step Unit). gone t base s.told) same) (x.events ∙ sym y.events)
     (outcome_same t k a b y.step.told told y.told)
-    (u.entries ∙ ap (λ (s : Step Unit). gone t base s.told) same ∙ sym v.entries)

@@ -20,7 +20,7 @@ use Rattle.kernel_laws.specs.HeldCalls.{IsHeld, MayPass}
 use Rattle.kernel_laws.specs.Routes.{Leads, label_by}
 use Rattle.kernel_determined.specs.Frames.{IsOneEvent, MayCome}
 use Rattle.kernel_determined.specs.ForwardLaw.{IsOther, IsNewMessage, passed_call, Passes, Fails, MayNotForward, ForwardsNowhere, Forwards, IsForward}
-use Rattle.kernel_determined.proofs.Same.{state_same, served_same}
+use Rattle.kernel_determined.proofs.Same.{state_same, served_same, msg_same}
 use Rattle.kernel_determined.proofs.HangupDetermined.{phones_same, refusal_same, quiet_same}
 use Rattle.kernel_determined.proofs.SettleDetermined.{moves_same, back_same, may_come_same, settled_same}
 use Rattle.kernel_determined.proofs.ReceiveDetermined.{args_same}
@@ -33,13 +33,6 @@ parts_same k a b x y phones calls memory outcomes entries =
     calls memory (x.counted ∙ sym y.counted)) outcomes entries
 
 -- a message
-
-msg_of : ℕ → List ℕ → Msg
-msg_of method args = record { method = method; args = args }
-
-pub msg_same : (m n : Msg) → m.method ≡ n.method → m.args ≡ n.args → m ≡ n
-unfolding msg_of
-msg_same m n e f = ap (λ x. msg_of x m.args) e ∙ ap (msg_of n.method) f
 
 message_same : (change : Option Msg) (c : Call) (m n : Msg) → IsNewMessage change c m → IsNewMessage change c n → m ≡ n
 message_same None c m n x y = x.unchanged refl ∙ sym (y.unchanged refl)

@@ -1,5 +1,5 @@
 -- What does nothing, and a hangup, does all that is said of it, and that determines what it does.
-use Rattle.std.proofs.Common.{◌≡◌, ℕ, Bool, true, ◌⊎◌, inl, inr, List, [], Option, None, Some, refl, sym, ap, subst, ◌∙◌}
+use Rattle.std.proofs.Common.{◌≡◌, ℕ, Bool, true, ◌⊎◌, inl, inr, List, [], Option, None, Some, refl, sym, ap, subst, ◌∙◌, ◌+◌, length}
 use Rattle.std.proofs.lemmas.Bool.{cases_eq}
 use Rattle.ipc_ids.specs.declared.numbers.Code.{Code}
 use Rattle.ipc_ids.specs.declared.numbers.CallNo.{CallNo}
@@ -17,8 +17,8 @@ use Rattle.call_slab.specs.declared.call.Place.{Place}
 use Rattle.call_slab.specs.declared.call.Place.TheVariants.{Incoming}
 use Rattle.answerbox.specs.Calls.{CallTable, call_at, enqueue}
 use Rattle.phone_table.specs.Phones.{state_at}
-use Rattle.cleanup.specs.State.{KernelState, phone_at, with_state_at}
-use Rattle.cleanup.specs.Serving.{Served, refusal}
+use Rattle.cleanup.specs.State.{KernelState, phone_at, with_state_at, Tasks, Transition}
+use Rattle.cleanup.specs.Serving.{Served, refusal, telling}
 use Rattle.cleanup.specs.Joins.{hangup_call, hang_up}
 use Rattle.cleanup.proofs.Keepers.{state_here, state_elsewhere}
 use Rattle.cleanup.proofs.Rows.{state_changed_at}
@@ -29,7 +29,8 @@ use Rattle.kernel_core.specs.Kernel.{serve, and_event}
 use Rattle.kernel_laws.proofs.KillRoutes.{is_there}
 use Rattle.kernel_determined.specs.Frames.{IsOneEvent, PhonesStay, PhoneComesTo, CallsStay, OneCallMore, IsMade, IsStep, IsQuietEvent, NothingHappens, IsRefusal}
 use Rattle.kernel_determined.specs.HangupLaw.{IsNothing, farewell, TellsOfHangup, TellsNobody, IsHangup}
-use Rattle.kernel_determined.proofs.Same.{rows_same, table_same, state_same, served_same}
+use Rattle.kernel_determined.proofs.Same.{rows_same, table_same, state_same, served_same, one_changed}
+use Rattle.cleanup.proofs.KilledPhones.{written_elsewhere}
 
 -- what is determined of a state
 
@@ -40,9 +41,6 @@ phones_same k a b x y at = rows_same a.tasks.phones b.tasks.phones (x.tasks ∙ 
 pub stay_same : (k a b : KernelState) → PhonesStay k a → PhonesStay k b → (u : TaskNo) (q : ℕ)
     → phone_at a u q ≡ phone_at b u q
 stay_same k a b x y u q = x u q ∙ sym (y u q)
-
-no_of : (u t : TaskNo) → u.0 ≡ t.0 → u ≡ t
-no_of u t e = ap (λ n. let r : TaskNo = record { 0 = n } in r) e
 
 pub come_same : (k a b : KernelState) (t : TaskNo) (p : ℕ) (s : PhoneState) → PhoneComesTo t p s k a
     → PhoneComesTo t p s k b → (u : TaskNo) (q : ℕ) → phone_at a u q ≡ phone_at b u q
@@ -58,12 +56,8 @@ calls_stay_same q a b x y = table_same a b (λ n. x.each n ∙ sym (y.each n)) (
     (x.arrivals ∙ sym y.arrivals)
 
 pub more_same : (q a b : CallTable) (c d : Call) → OneCallMore q a c → OneCallMore q b d → c ≡ d → a ≡ b
-more_same q a b c d x y same = table_same a b at (x.numbers ∙ sym y.numbers) (x.arrivals ∙ sym y.arrivals) where
-  at : (n : ℕ) → call_at a n ≡ call_at b n
-  at n = elim (cases_eq n q.next_number) [
-    | inl e ↦ ap (call_at a) e ∙ x.made ∙ ap Some same ∙ sym y.made ∙ ap (call_at b) (sym e)
-    | inr ne ↦ x.others n ne ∙ sym (y.others n ne)
-  ]
+more_same q a b c d x y same = one_changed q a b q.next_number (Some c) (Some d) x.made y.made (ap Some same) x.others
+    y.others (x.numbers ∙ sym y.numbers) (x.arrivals ∙ sym y.arrivals)
 
 -- calls with the same parts are one
 pub call_same : (c d : Call) → c.number ≡ d.number → c.caller ≡ d.caller → c.from ≡ d.from → c.label ≡ d.label
@@ -160,9 +154,9 @@ hangup_is_determined _ t p k a b x y = refusal_same einval k a b x y
 
 -- what the definitions do
 
-pub nothing_is_so : (k : KernelState)
-    → NothingHappens k (and_event (record { state = k; outcome = outcome.Done; entries = [] }))
-nothing_is_so k = record {
+pub nothing_is_so : (k : KernelState) (o : Outcome)
+    → NothingHappens k (and_event (record { state = k; outcome = o; entries = [] }))
+nothing_is_so k o = record {
   event = record { counted = refl; alive = refl; tasks = refl };
   phones = λ u q. refl;
   calls = record { each = λ n. refl; numbers = refl; arrivals = refl };
@@ -171,43 +165,29 @@ nothing_is_so k = record {
 }
 
 pub refuses : (k : KernelState) (code : Code) → IsRefusal code k (and_event (refusal k code))
-refuses k code = record {
-  told = refl;
-  nothing = record {
-    event = record { counted = refl; alive = refl; tasks = refl };
-    phones = λ u q. refl;
-    calls = record { each = λ n. refl; numbers = refl; arrivals = refl };
-    memory = refl;
-    entries = refl;
-  };
-}
+refuses k code = record { told = refl; nothing = nothing_is_so k (outcome.Refused code) }
 
--- a phone elsewhere is as it was
-pub elsewhere : (rows : List (List PhoneState)) (a b t p : ℕ) (s : PhoneState) → ((t ≡ a) × (p ≡ b) → ⊥)
-    → state_at (with_state_at rows a b s) t p ≡ state_at rows t p
-elsewhere rows a b t p s ne = by_state (state_at (with_state_at rows a b s) t p) (state_at rows t p) refl refl where
-  by_state : (o q : Option PhoneState) → state_at (with_state_at rows a b s) t p ≡ o → state_at rows t p ≡ q → o ≡ q
-  by_state None None f g = refl
-  by_state o (Some y) f g = sym f ∙ state_elsewhere rows a b t p s y g ne
-  by_state (Some x) None f g = elim (state_changed_at rows a b t p s x f)
-      [ inl e ↦ absurd (ne (e.0, e.1)) | inr e ↦ sym e.1 ∙ g ]
-
-pub comes_to : (k : KernelState) (t : TaskNo) (p : ℕ) (s old : PhoneState) → phone_at k t p ≡ Some old
-    → (state_at (with_state_at k.tasks.phones t.0 p s) t.0 p ≡ Some s) × ((u : TaskNo) (q : ℕ)
-    → ((u.0 ≡ t.0) × (q ≡ p) → ⊥)
-    → state_at (with_state_at k.tasks.phones t.0 p s) u.0 q ≡ state_at k.tasks.phones u.0 q)
-comes_to k t p s old is = (
-  state_here k.tasks.phones t.0 p s (is_there (phone_at k t p) old is),
-  λ u q ne. elsewhere
-      k.tasks.phones t.0 p u.0 q s ne,
-)
+-- one call more comes to a queue
+pub comes : (q after : CallTable) (c : Call) → c.number.0 ≡ q.next_number → after ≡ enqueue q c
+    → OneCallMore q after (record c { stamp = q.next_stamp })
+comes q after c number same =
+    let d : Call = record c { stamp = q.next_stamp } in
+    subst (λ (r : CallTable). OneCallMore q r d) (sym same) (record {
+      made = put_here q c.number.0 q.next_number d number;
+      last = refl;
+      others = λ n ne. put_other q c.number.0 n d (λ e. ne (sym e ∙ number));
+      numbers = refl;
+      arrivals = refl;
+    })
 
 module _ (k : KernelState) (t : TaskNo) (p : ℕ) (after : KernelState)
     (phones : after.tasks.phones ≡ with_state_at k.tasks.phones t.0 p HungUp) where
   hung_up : (s : PhoneState) → phone_at k t p ≡ Some s → PhoneComesTo t p HungUp k after
-  hung_up s is = let c = comes_to k t p HungUp s is in record {
-    this = ap (λ rows. state_at rows t.0 p) phones ∙ c.0;
-    others = λ u q ne. ap (λ rows. state_at rows u.0 q) phones ∙ c.1 u q ne;
+  hung_up s is = record {
+    this = ap (λ rows. state_at rows t.0 p) phones
+        ∙ state_here k.tasks.phones t.0 p HungUp (is_there (phone_at k t p) s is);
+    others = λ u q ne. ap (λ rows. state_at rows u.0 q) phones
+        ∙ written_elsewhere k.tasks.phones t.0 p u.0 q HungUp ne;
   }
 
   pub tells : (u : TaskNo) → phone_at k t p ≡ Some (Connected u) → after.calls ≡ enqueue k.calls (hangup_call k t p u)
@@ -230,13 +210,7 @@ module _ (k : KernelState) (t : TaskNo) (p : ℕ) (after : KernelState)
           reserved = refl;
           place = refl;
         };
-        calls = subst (λ (q : CallTable). OneCallMore k.calls q c) (sym calls) (record {
-          made = put_here k.calls c.number.0 c.number.0 c refl;
-          last = refl;
-          others = λ n ne. put_other k.calls c.number.0 n c (λ e. ne (sym e));
-          numbers = refl;
-          arrivals = refl;
-        });
+        calls = comes k.calls after.calls (hangup_call k t p u) refl calls;
         entries = refl;
       }
 
@@ -249,25 +223,28 @@ module _ (k : KernelState) (t : TaskNo) (p : ℕ) (after : KernelState)
     entries = refl;
   }
 
+-- it changes no memory, and neither makes nor ends a task
+hangup_quiet : (k : KernelState) (t : TaskNo) (p : ℕ) (after : Transition)
+    → after.state.tasks ≡ record { alive = k.tasks.alive; phones = with_state_at k.tasks.phones t.0 p HungUp }
+    → after.state.memory ≡ k.memory → after.state.events ≡ k.events
+    → IsQuietEvent outcome.Done k (and_event (telling after outcome.Done))
+hangup_quiet k t p after tasks memory events = record {
+  answer = refl;
+  event = record {
+    counted = ap (λ n. n + 1) events;
+    alive = ap (λ (x : Tasks). x.alive) tasks;
+    tasks = ap (λ (x : Tasks). length x.phones) tasks ∙ length_rows k.tasks.phones t.0 p HungUp;
+  };
+  memory = memory;
+}
+
 hangs_up : (o : Option PhoneState) (k : KernelState) (t : TaskNo) (p : ℕ) → phone_at k t p ≡ o
     → IsHangup o t p k (and_event (hangup_over k t p o))
 hangs_up None k t p is = refuses k enoent
-hangs_up (Some (Connected u)) k t p is = record {
-  quiet = record {
-    answer = refl;
-    event = record { counted = refl; alive = refl; tasks = length_rows k.tasks.phones t.0 p HungUp };
-    memory = refl;
-  };
-  hangup = tells k t p _ refl u is refl;
-}
-hangs_up (Some Slammed) k t p is = record {
-  quiet = record {
-    answer = refl;
-    event = record { counted = refl; alive = refl; tasks = length_rows k.tasks.phones t.0 p HungUp };
-    memory = refl;
-  };
-  hangup = tells_nobody k t p _ refl is refl;
-}
+hangs_up (Some (Connected u)) k t p is =
+    record { quiet = hangup_quiet k t p _ refl refl refl; hangup = tells k t p _ refl u is refl }
+hangs_up (Some Slammed) k t p is =
+    record { quiet = hangup_quiet k t p _ refl refl refl; hangup = tells_nobody k t p _ refl is refl }
 hangs_up _ k t p is = refuses k einval
 
 pub hangup_is_so : (k : KernelState) (t : TaskNo) (p : ℕ)
@@ -283,4 +260,4 @@ hangup_is_served k t p done is = hangup_is_determined (phone_at k t p) t p k don
 pub nothing_is_served : (k : KernelState) (t : TaskNo) (done : Served) → IsNothing k done
     → done ≡ serve k t request.Nothing
 nothing_is_served k t done is = nothing_is_determined k done (serve k t request.Nothing) is
-    (record { told = refl; nothing = nothing_is_so k })
+    (record { told = refl; nothing = nothing_is_so k outcome.Done })

@@ -13,7 +13,7 @@ use Rattle.call_slab.specs.declared.call.Place.TheVariants.{Incoming, Dispatched
 use Rattle.address_space.specs.Memory.{Step, drop_area}
 use Rattle.address_space.specs.Sound as spaces
 use Rattle.address_space.proofs.Soundness.{sound_drop}
-use Rattle.cleanup.specs.State.{Tasks, KernelState, Transition, alive_in, phone_at}
+use Rattle.cleanup.specs.State.{Tasks, KernelState, Transition, alive_in, phone_at, is_alive}
 use Rattle.cleanup.proofs.Lookups.{same_call}
 use Rattle.kernel_laws.specs.CallCodes.{own_reply}
 use Rattle.kernel_laws.specs.Routes.{Leads, Stands}
@@ -22,11 +22,10 @@ use Rattle.kernel_determined.specs.Frames.{CameBefore}
 use Rattle.kernel_determined.specs.SettleLaw.{IsSettled, DropsAnswer}
 use Rattle.kernel_determined.specs.Turns.{Then}
 use Rattle.kernel_determined.specs.KillLaw.{IsMarked, IsToHangUp, HangsUpPhone, HangsUpOwn, SlamsPhone, SlamsOf, IsOther, IsOlder, SlamsOthers, SettlesCall, SettlesAll, DropsAnswers, IsOwn, ForgetsCall, ForgetsCalls, HasBase, LosesArea, LosesAreas, EndsPhones, SettlesBoth, EndsCalls, EndsParts, IsKill}
-use Rattle.kernel_determined.proofs.Same.{state_same}
+use Rattle.kernel_determined.proofs.Same.{state_same, marks_same, each_task, transition_same}
 use Rattle.kernel_determined.proofs.OneOrder.{came_apart, IsDetermined, each_same, each_keeps, IsPart, each_part, then_part}
 use Rattle.kernel_determined.proofs.HangupDetermined.{come_same, stay_same, calls_stay_same, AreAlike, step_same, tells_same, nobody_same}
 use Rattle.kernel_determined.proofs.SettleDetermined.{now_same, settled_same, drop_same}
-use Rattle.kernel_determined.proofs.SpawnDetermined.{or_same, transition_same}
 use Rattle.kernel_determined.proofs.DropDetermined.{drop_is_determined, drop_is_whole}
 
 -- the memory is sound, as it is before each part
@@ -161,22 +160,12 @@ parts_part t some = then_part (EndsCalls t) (LosesAreas t) HasSoundAreas HasSoun
 
 -- ---- a kill
 
--- marks of who is alive, as many, with the same for each task
-marks_same : (xs ys : List Bool) → length xs ≡ length ys → ((u : ℕ) → alive_in xs u ≡ alive_in ys u) → xs ≡ ys
-marks_same xs ys many at = or_same false xs ys many (λ i. sym (back i xs) ∙ at (suc i) ∙ back i ys) where
-  back : (i : ℕ) (zs : List Bool) → alive_in zs (suc i) ≡ unwrap_or (slice_get zs i) false
-  back i zs = let last : suc i - 1 ≡ i = omega arith in rw (ne_eqb (suc i) 0 (λ e. omega arith), last) refl
-
 mark_same : (t : TaskNo) (k a b : KernelState) → IsMarked t k a → IsMarked t k b → a ≡ b
 mark_same t k a b x y = state_same a b
-    (marks_same a.tasks.alive b.tasks.alive (x.many ∙ sym y.many) each)
+    (marks_same a.tasks.alive b.tasks.alive (x.many ∙ sym y.many) (λ u.
+    each_task (is_alive a) (is_alive b) t (x.ends.ended ∙ sym y.ends.ended) u
+    (λ ne. x.ends.others u ne ∙ sym (y.ends.others u ne))))
     (x.phones ∙ sym y.phones) (x.calls ∙ sym y.calls) (x.memory ∙ sym y.memory) (x.events ∙ sym y.events)
-  where
-    each : (u : ℕ) → alive_in a.tasks.alive u ≡ alive_in b.tasks.alive u
-    each u = elim (cases_eq u t.0) [
-      | inl e ↦ ap (alive_in a.tasks.alive) e ∙ x.ends.ended ∙ sym y.ends.ended ∙ ap (alive_in b.tasks.alive) (sym e)
-      | inr ne ↦ x.ends.others (record { 0 = u }) ne ∙ sym (y.ends.others (record { 0 = u }) ne)
-    ]
 
 pub kill_is_determined : (t : TaskNo) (k : KernelState) (a b : Transition) → 1 ≤ t.0 → spaces.IsSound k.memory
     → IsKill t k a → IsKill t k b → a ≡ b

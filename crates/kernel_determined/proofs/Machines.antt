@@ -28,6 +28,7 @@ use Rattle.kernel_determined.proofs.SpawnDetermined.{spawn_is_so, spawn_is_serve
 use Rattle.kernel_determined.proofs.AnswerSo.{answer_is_so, answer_is_served}
 use Rattle.kernel_determined.proofs.KillSo.{kill_is_so, kill_is_killed}
 use Rattle.cleanup.proofs.SoundMemory.{from_one}
+use Rattle.ipc_ids.specs.declared.message.Outcome.TheVariants as outcome
 
 served_as : (k : KernelState) (t : TaskNo) (asked : Request) (done : Served) → MayAct k t
     → IsServed k t asked done → done ≡ serve k t asked
@@ -73,7 +74,7 @@ serve_is_lawful k t (request.AreaMake base pages rights) may = area_make_is_so k
 serve_is_lawful k t (request.AreaDrop base) may = area_drop_is_so k t base
 serve_is_lawful k t (request.Poke at bytes) may = poke_is_so k t at bytes may.sound
 serve_is_lawful k t (request.Peek at count) may = peek_is_so k t at count may.sound
-serve_is_lawful k t request.Nothing may = record { told = refl; nothing = nothing_is_so k }
+serve_is_lawful k t request.Nothing may = record { told = refl; nothing = nothing_is_so k outcome.Done }
 
 pub kernel_is_lawful : IsKernel serve kill_event spawn_event
 kernel_is_lawful = record {

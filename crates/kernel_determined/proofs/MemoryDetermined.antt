@@ -19,7 +19,7 @@ use Rattle.kernel_laws.proofs.OneArea.{found_readable, none_readable}
 use Rattle.kernel_laws.proofs.LawfulReads.{peek_is_lawful}
 use Rattle.kernel_laws.proofs.MemoryRequests.{tells, tells_bytes, written_is}
 use Rattle.kernel_determined.specs.MemoryLaw.{IsPoke, IsPeek}
-use Rattle.kernel_determined.proofs.Same.{state_same, served_same}
+use Rattle.kernel_determined.proofs.Same.{state_same, served_same, leaves_same}
 use Rattle.kernel_determined.proofs.WriteDetermined.{write_is_determined}
 use Rattle.kernel_determined.proofs.TakesSo.{write_is_whole}
 use Rattle.kernel_determined.proofs.ChecksDetermined.{bytes_read_same}
@@ -39,14 +39,9 @@ module _ (t : TaskNo) (k : KernelState) (a b : Served) where
   poke_is_determined at new x y =
       let same : x.step ≡ y.step = write_is_determined k.memory t at new x.step y.step x.write y.write in
       let told = subst (λ (s : Step (Option StoreNo)). Tells s.told a.outcome) same x.told in
-      let u = x.leaves in let v = y.leaves in
-      served_same a b
-      (state_same a.state b.state (ap (λ (z : Tasks). z.alive) (u.tasks ∙ sym v.tasks))
-      (ap (λ (z : Tasks). z.phones) (u.tasks ∙ sym v.tasks)) (u.calls ∙ sym v.calls)
-      (u.memory_after ∙ ap (λ (s : Step (Option StoreNo)). s.memory) same ∙ sym v.memory_after)
-      (x.events ∙ sym y.events))
+      leaves_same k a b _ _ _ _ x.leaves y.leaves (ap (λ (s : Step (Option StoreNo)). s.memory) same)
+      (ap (λ (s : Step (Option StoreNo)). written t at (length new) s.told) same) (x.events ∙ sym y.events)
       (outcome_same y.step.told told y.told)
-      (u.entries ∙ ap (λ (s : Step (Option StoreNo)). written t at (length new) s.told) same ∙ sym v.entries)
 
 read_same : (m : Memory) (t : TaskNo) (at count : ℕ) (a b : Result (List ℕ) Code) → IsLawfulRead m t at count a
     → IsLawfulRead m t at count b → a ≡ b
@@ -71,13 +66,8 @@ module _ (t : TaskNo) (k : KernelState) (a b : Served) where
   pub peek_is_determined : (at count : ℕ) → IsPeek t at count k a → IsPeek t at count k b → a ≡ b
   peek_is_determined at count x y =
       let same = peek_same k.memory t at count x.told y.told x.read y.read in
-      let u = x.leaves in let v = y.leaves in
-      served_same a b
-      (state_same a.state b.state (ap (λ (z : Tasks). z.alive) (u.tasks ∙ sym v.tasks))
-      (ap (λ (z : Tasks). z.phones) (u.tasks ∙ sym v.tasks)) (u.calls ∙ sym v.calls)
-      (u.memory_after ∙ sym v.memory_after) (x.events ∙ sym y.events))
+      leaves_same k a b _ _ _ _ x.leaves y.leaves refl refl (x.events ∙ sym y.events)
       (bytes_told_same t k a b y.told (subst (λ r. TellsBytes r a.outcome) same x.tells) y.tells)
-      (u.entries ∙ sym v.entries)
 
 pub poke_is_so : (k : KernelState) (t : TaskNo) (at : ℕ) (new : List ℕ) → IsSound k
     → IsPoke t at new k (serve k t (request.Poke at new))

@@ -23,11 +23,13 @@ use Rattle.kernel_laws.specs.ReceiveLaws.{IsFirst, HasNone}
 use Rattle.kernel_determined.specs.Frames.{PhoneComesTo, HasFifth, CameBefore}
 use Rattle.kernel_determined.specs.SettleLaw.{DropsAnswer}
 use Rattle.kernel_determined.specs.ReceiveLaw.{IsDropped, Delivers, DeliversBytes, DeliversRefusal, DeliversPhone, IsDelivery, Receives, ReceivesWithPhone, ReceivesWithout, IsReception, IsAnswerAt, IsWaitingAt, TakesAnswer, TakesCall, Takes, with_entries, IsReceive}
-use Rattle.kernel_determined.proofs.Same.{list_same, table_same, state_same, served_same}
+use Rattle.kernel_determined.proofs.Same.{list_same, table_same, state_same, served_same, one_changed}
 use Rattle.kernel_determined.proofs.OneOrder.{came_apart, IsDetermined, each_same, each_keeps}
 use Rattle.kernel_determined.proofs.SettleDetermined.{drop_same}
 use Rattle.kernel_determined.proofs.WriteDetermined.{write_is_determined}
 use Rattle.kernel_determined.proofs.HangupDetermined.{phones_same, stay_same, come_same, nothing_same}
+use Rattle.std.proofs.lemmas.Option.{slice_get_past, none-some}
+use Rattle.kernel_laws.specs.UsablePhones.{IsUsable}
 
 -- ---- what is dropped
 
@@ -46,44 +48,32 @@ drops_left t k = record {
 
 -- ---- arguments
 
+-- of two numbers that pass a test, and are the least that do
+pub one_least : (IsSo : ℕ → Type 0) (m n : ℕ) → IsSo m → IsSo n → ((i : ℕ) → i < m → IsSo i → ⊥)
+    → ((i : ℕ) → i < n → IsSo i → ⊥) → m ≡ n
+one_least IsSo m n here there first least = elim (cases_lt m n) [
+  | inl less ↦ absurd (least m less here)
+  | inr le ↦ elim (cases_lt n m) [ inl less ↦ absurd (first n less there) | inr ge ↦ omega (arith, le, ge) ]
+]
+
 pub args_same : (number : ℕ) (given xs ys : List ℕ) → HasFifth number given xs → HasFifth number given ys → xs ≡ ys
 args_same number given xs ys f g = list_same xs ys (λ i. by i (cases_eq i 4) (cases_lt 4 (length given))) where
-  past : (zs : List ℕ) (i : ℕ) → length zs ≤ i → slice_get zs i ≡ None
-  past [] i h = refl
-  past (z ∷ zs) zero h = absurd (omega (arith, h))
-  past (z ∷ zs) (suc i) h = past zs i (omega (arith, h))
-
   by : (i : ℕ) → (i ≡ 4) ⊎ (i ≡ 4 → ⊥) → (4 < length given) ⊎ (length given ≤ 4) → slice_get xs i ≡ slice_get ys i
   by i (inr ne) h = f.others i ne ∙ sym (g.others i ne)
   by i (inl e) (inl more) = ap (slice_get xs) e ∙ f.fifth more ∙ sym (g.fifth more) ∙ ap (slice_get ys) (sym e)
-  by i (inl e) (inr few) = let x = f.many in let y = g.many in past xs i (omega (arith, x, e, few))
-      ∙ sym (past ys i (omega (arith, y, e, few)))
+  by i (inl e) (inr few) = let x = f.many in let y = g.many in slice_get_past xs i (omega (arith, x, e, few))
+      ∙ sym (slice_get_past ys i (omega (arith, y, e, few)))
 
 -- ---- a delivery
 
 module _ (t : TaskNo) (k : KernelState) (c : Call) (a b : Served) where
-  table_of : (xs : Option Call) → (next : ℕ)
-      → call_at a.state.calls c.number.0 ≡ xs → ((n : ℕ) → (n ≡ c.number.0 → ⊥) → call_at a.state.calls n
-      ≡ call_at k.calls n)
-      → call_at b.state.calls c.number.0 ≡ xs → ((n : ℕ) → (n ≡ c.number.0 → ⊥) → call_at b.state.calls n
-      ≡ call_at k.calls n)
-      → a.state.calls.next_number ≡ b.state.calls.next_number → a.state.calls.next_stamp ≡ next
-      → b.state.calls.next_stamp ≡ next → a.state.calls ≡ b.state.calls
-  table_of xs next here others there elsewhere numbers f g =
-      table_same a.state.calls b.state.calls at numbers (f ∙ sym g) where
-        at : (n : ℕ) → call_at a.state.calls n ≡ call_at b.state.calls n
-        at n = elim (cases_eq n c.number.0) [
-          | inl e ↦ ap (call_at a.state.calls) e ∙ here ∙ sym there ∙ ap (call_at b.state.calls) (sym e)
-          | inr ne ↦ others n ne ∙ sym (elsewhere n ne)
-        ]
-
   delivers_same : (r : Reply) (m : Memory) (note : List Entry) → Delivers t k c r m note a → Delivers t k c r m note b
       → ((u : TaskNo) (q : ℕ) → phone_at a.state u q ≡ phone_at b.state u q) → a ≡ b
   delivers_same r m note x y phones = served_same a b
       (state_same a.state b.state (x.event.alive ∙ sym y.event.alive)
       (phones_same k a.state b.state x.event y.event phones)
-      (table_of None k.calls.next_stamp x.gone x.others y.gone y.others (x.numbers ∙ sym y.numbers) x.arrivals
-      y.arrivals)
+      (one_changed k.calls a.state.calls b.state.calls c.number.0 None None x.gone y.gone refl x.others y.others
+      (x.numbers ∙ sym y.numbers) (x.arrivals ∙ sym y.arrivals))
       (x.memory_after ∙ sym y.memory_after) (x.event.counted ∙ sym y.event.counted))
       (x.told ∙ sym y.told) (x.entries ∙ sym y.entries)
 
@@ -117,9 +107,6 @@ module _ (t : TaskNo) (k : KernelState) (c : Call) (a b : Served) where
       x.delivers in
       delivers_same _ k.memory [] d y.delivers (stay_same k a.state b.state x.phones y.phones)
 
-  some_none : (l : Label) → c.reserved ≡ Some l → c.reserved ≡ None → ⊥
-  some_none l e f = let g : Some l ≡ None = sym e ∙ f in cc
-
   two_methods : connect_me_to ≡ data_read → ⊥
   two_methods e = omega (arith, e)
 
@@ -132,15 +119,15 @@ module _ (t : TaskNo) (k : KernelState) (c : Call) (a b : Served) where
   delivery_same (inr (inl x)) (inr (inl y)) = refusal_same x y
   delivery_same (inr (inl x)) (inr (inr (inl y))) = absurd (x.refused y.accepted)
   delivery_same (inr (inl x)) (inr (inr (inr y))) = absurd
-      (some_none x.phone x.unconnected.kept (y.unkept x.unconnected.asks))
+      (none-some x.phone (sym (y.unkept x.unconnected.asks) ∙ x.unconnected.kept))
   delivery_same (inr (inr (inl x))) (inl y) = absurd (two_methods (sym x.asks ∙ y.brought.asks))
   delivery_same (inr (inr (inl x))) (inr (inl y)) = absurd (y.refused x.accepted)
   delivery_same (inr (inr (inl x))) (inr (inr (inl y))) = phone_same x y
-  delivery_same (inr (inr (inl x))) (inr (inr (inr y))) = absurd (some_none x.phone x.kept (y.unkept x.asks))
+  delivery_same (inr (inr (inl x))) (inr (inr (inr y))) = absurd (none-some x.phone (sym (y.unkept x.asks) ∙ x.kept))
   delivery_same (inr (inr (inr x))) (inl y) = absurd (x.bare y.brought)
   delivery_same (inr (inr (inr x))) (inr (inl y)) = absurd
-      (some_none y.phone y.unconnected.kept (x.unkept y.unconnected.asks))
-  delivery_same (inr (inr (inr x))) (inr (inr (inl y))) = absurd (some_none y.phone y.kept (x.unkept y.asks))
+      (none-some y.phone (sym (x.unkept y.unconnected.asks) ∙ y.unconnected.kept))
+  delivery_same (inr (inr (inr x))) (inr (inr (inl y))) = absurd (none-some y.phone (sym (x.unkept y.asks) ∙ y.kept))
   delivery_same (inr (inr (inr x))) (inr (inr (inr y))) =
       delivers_same c.reply k.memory [] x.delivers y.delivers (stay_same k a.state b.state x.phones y.phones)
 
@@ -151,26 +138,15 @@ module _ (t : TaskNo) (k : KernelState) (c : Call) (a b : Served) where
   receives_same args kept note x y phones = served_same a b
       (state_same a.state b.state (x.event.alive ∙ sym y.event.alive)
       (phones_same k a.state b.state x.event y.event phones)
-      (table_of _ (k.calls.next_stamp + 1) x.held x.others y.held y.others (x.numbers ∙ sym y.numbers) x.arrivals
-      y.arrivals)
+      (one_changed k.calls a.state.calls b.state.calls c.number.0 _ _ x.held y.held refl x.others y.others
+      (x.numbers ∙ sym y.numbers) (x.arrivals ∙ sym y.arrivals))
       (x.memory ∙ sym y.memory) (x.event.counted ∙ sym y.event.counted))
       (x.told ∙ sym y.told) (x.entries ∙ sym y.entries)
 
-  one_least : ReceivesWithPhone t k c a → ReceivesWithPhone t k c b → ℕ
-  one_least x y = 0
-
-  least_same : (x : ReceivesWithPhone t k c a) (y : ReceivesWithPhone t k c b) → x.phone ≡ y.phone
-  least_same x y = elim (cases_lt x.phone y.phone) [
-    | inl less ↦ absurd (y.least x.phone less x.usable)
-    | inr le ↦ elim (cases_lt y.phone x.phone) [
-      | inl less ↦ absurd (x.least y.phone less y.usable)
-      | inr ge ↦ omega (arith, le, ge)
-    ]
-  ]
-
   with_phone_same : ReceivesWithPhone t k c a → ReceivesWithPhone t k c b → a ≡ b
   with_phone_same x y =
-      let same : x.phone ≡ y.phone = least_same x y in
+      let same : x.phone ≡ y.phone =
+      one_least (IsUsable k k.calls t) x.phone y.phone x.usable y.usable x.least y.least in
       let names = subst (λ p. HasFifth p c.msg.args x.args) same x.names in
       let args : x.args ≡ y.args = args_same y.phone c.msg.args x.args y.args names y.names in
       let waits = subst (λ p. PhoneComesTo t p Connecting k a.state) same x.waits in

@@ -19,25 +19,21 @@ use Rattle.cleanup.proofs.Lookups.{same_call}
 use Rattle.kernel_laws.specs.Connecting.{IsUnconnected}
 use Rattle.kernel_determined.specs.Frames.{MayCome, Moves, IsOver, IsNow}
 use Rattle.kernel_determined.specs.SettleLaw.{IsGivenBack, IsKeptFor, IsAnswered, IsEnded, IsSettled, IsKeptAtAnswer, DropsAnswer}
-use Rattle.kernel_determined.proofs.Same.{table_same}
+use Rattle.kernel_determined.proofs.Same.{table_same, one_changed}
 use Rattle.kernel_determined.proofs.HangupDetermined.{stay_same, come_same, AreAlike, step_same}
 
 module _ (q a b : CallTable) (n : ℕ) where
   pub moves_same : (c d : Call) → Moves q a n c → Moves q b n d → c ≡ d → a ≡ b
-  moves_same c d x y same = table_same a b at (x.numbers ∙ sym y.numbers) (x.arrivals ∙ sym y.arrivals) where
-    at : (m : ℕ) → call_at a m ≡ call_at b m
-    at m = elim (cases_eq m n) [
-      | inl e ↦ ap (call_at a) e ∙ x.moved ∙ ap Some same ∙ sym y.moved ∙ ap (call_at b) (sym e)
-      | inr ne ↦ x.others m ne ∙ sym (y.others m ne)
-    ]
+  moves_same c d x y same = one_changed q a b n (Some c) (Some d) x.moved y.moved (ap Some same) x.others y.others
+      (x.numbers ∙ sym y.numbers) (x.arrivals ∙ sym y.arrivals)
 
   pub over_same : IsOver q a n → IsOver q b n → a ≡ b
-  over_same x y = table_same a b at (x.numbers ∙ sym y.numbers) (x.arrivals ∙ sym y.arrivals) where
-    at : (m : ℕ) → call_at a m ≡ call_at b m
-    at m = elim (cases_eq m n) [
-      | inl e ↦ ap (call_at a) e ∙ x.gone ∙ sym y.gone ∙ ap (call_at b) (sym e)
-      | inr ne ↦ x.others m ne ∙ sym (y.others m ne)
-    ]
+  over_same x y = one_changed q a b n None None x.gone y.gone refl x.others y.others (x.numbers ∙ sym y.numbers)
+      (x.arrivals ∙ sym y.arrivals)
+
+  pub now_same : (c d : Call) → IsNow q a n c → IsNow q b n d → c ≡ d → a ≡ b
+  now_same c d x y same = one_changed q a b n (Some c) (Some d) x.now y.now (ap Some same) x.others y.others
+      (x.numbers ∙ sym y.numbers) (x.arrivals ∙ sym y.arrivals)
 
 pub back_same : (c : Call) (f g r s : Option Label) → IsGivenBack c f r → IsGivenBack c g s → (f ≡ g) × (r ≡ s)
 back_same c f g r s x y = elim (cases_eq c.request.method connect_to_me) [
@@ -59,14 +55,6 @@ pub may_come_same : (o : Option Label) (s : PhoneState) (k a b : KernelState) (m
     → MayCome o s k b n → ((u : TaskNo) (q : ℕ) → phone_at a u q ≡ phone_at b u q) × (m ≡ n)
 may_come_same None s k a b m n x y = (stay_same k a b x.0 y.0, x.1 ∙ sym y.1)
 may_come_same (Some l) s k a b m n x y = (come_same k a b l.task l.phone.0 s x.0 y.0, x.1 ∙ sym y.1)
-
-pub now_same : (q a b : CallTable) (n : ℕ) (c d : Call) → IsNow q a n c → IsNow q b n d → c ≡ d → a ≡ b
-now_same q a b n c d x y same = table_same a b at (x.numbers ∙ sym y.numbers) (x.arrivals ∙ sym y.arrivals) where
-  at : (m : ℕ) → call_at a m ≡ call_at b m
-  at m = elim (cases_eq m n) [
-    | inl e ↦ ap (call_at a) e ∙ x.now ∙ ap Some same ∙ sym y.now ∙ ap (call_at b) (sym e)
-    | inr ne ↦ x.others m ne ∙ sym (y.others m ne)
-  ]
 
 module _ (i : ℕ) (c : Call) (k a b : KernelState) (m n : List Entry) where
   pub answered_same : (reply : Reply) (by : Option TaskNo) → IsAnswered i c reply by k a m
@@ -115,30 +103,12 @@ kept_or_none c = elim (cases_eq c.request.method connect_me_to) [
   by_code : c.request.method ≡ connect_me_to → (l : Label) → c.reserved ≡ Some l → (place : Place) → c.place ≡ place
       → (c.reply.code.0 ≡ 0) ⊎ (c.reply.code.0 ≡ 0 → ⊥)
       → ((l : Label) × IsUnconnected c l) ⊎ ((l : Label) → IsUnconnected c l → ⊥)
-  by_code asks l kept (Incoming u) at e =
-      inl (
-        l,
-        record {
-          asks = asks;
-          kept = kept;
-          unaccepted = λ v is code. let f : Incoming u ≡ Answers v = sym at
-              ∙ is in cc;
-        },
-      )
-  by_code asks l kept (Dispatched u) at e =
-      inl (
-        l,
-        record {
-          asks = asks;
-          kept = kept;
-          unaccepted = λ v is code. let f : Dispatched u ≡ Answers v = sym at
-              ∙ is in cc;
-        },
-      )
   by_code asks l kept (Answers u) at (inr ne) =
       inl (l, record { asks = asks; kept = kept; unaccepted = λ v is code. ne (ap (λ (x : Code). x.0) code) })
   by_code asks l kept (Answers u) at (inl e) =
       inr (λ m x. x.unaccepted u at (ap (λ n. let code : Code = record { 0 = n } in code) e))
+  by_code asks l kept place at e =
+      inl (l, record { asks = asks; kept = kept; unaccepted = λ v is code. let f : place ≡ Answers v = sym at ∙ is in cc })
 
   by_phone : c.request.method ≡ connect_me_to → (o : Option Label) → c.reserved ≡ o
       → ((l : Label) × IsUnconnected c l) ⊎ ((l : Label) → IsUnconnected c l → ⊥)

@@ -7,7 +7,7 @@ use Rattle.ipc_ids.specs.declared.numbers.Label.{Label}
 use Rattle.ipc_ids.specs.declared.numbers.TaskNo.{TaskNo}
 use Rattle.ipc_ids.specs.declared.message.Reply.{Reply}
 use Rattle.ipc_ids.specs.declared.message.PhoneState.{PhoneState}
-use Rattle.ipc_ids.specs.declared.message.PhoneState.TheVariants.{Free, Connecting}
+use Rattle.ipc_ids.specs.declared.message.PhoneState.TheVariants.{Free, Connecting, HungUp}
 use Rattle.ipc_ids.specs.declared.message.Outcome.{Outcome}
 use Rattle.ipc_ids.specs.declared.entry.Entry.TheVariants as entry
 use Rattle.ipc_ids.specs.declared.methods.MethodKind.{MethodKind}
@@ -19,7 +19,7 @@ use Rattle.call_slab.specs.declared.call.Place.TheVariants.{Incoming, Dispatched
 use Rattle.answerbox.specs.Calls.{CallTable, call_at, put_at, without_call}
 use Rattle.phone_table.specs.Phones.{state_at}
 use Rattle.cleanup.specs.Board.{IsPendingAt}
-use Rattle.cleanup.specs.State.{Tasks, KernelState, is_alive}
+use Rattle.cleanup.specs.State.{Tasks, KernelState, is_alive, phone_at}
 use Rattle.cleanup.specs.Sound.{IsSoundCall, IsReservedAt}
 use Rattle.cleanup.specs.Kept.{keeper_of, kept_of, lent_of, held_phone, kept_phone, lent_phone, kept_rows, kept_note, phone_of, unless_freed, accepts, WaitsIn}
 use Rattle.cleanup.specs.Serving.{telling}
@@ -39,6 +39,8 @@ use Rattle.kernel_laws.proofs.Methods.{method_of}
 use Rattle.kernel_determined.specs.Frames.{MayCome, Moves, IsOver, IsQuietEvent}
 use Rattle.kernel_determined.specs.SettleLaw.{IsGivenBack, IsKeptFor, IsWanted, IsAnswered, IsEnded, IsSettled, DropsAnswer}
 use Rattle.kernel_core.proofs.KindsOfCalls.{same_code}
+use Rattle.std.proofs.lemmas.Option.{none-some}
+use Rattle.kernel_laws.specs.UsablePhones.{IsUsable}
 
 -- ---- the parts of a step
 
@@ -55,6 +57,10 @@ may_come k (Some l) s after rows there = (
   },
   refl,
 )
+
+pub usable_there : (k : KernelState) (t : TaskNo) (p : ℕ) → IsUsable k k.calls t p → IsSome (phone_at k t p)
+usable_there k t p (inl free) = is_there (phone_at k t p) Free free
+usable_there k t p (inr hung) = is_there (phone_at k t p) HungUp hung.0
 
 pub as_many : (rows : List (List PhoneState)) (o : Option Label) (s : PhoneState)
     → length (kept_rows rows o s) ≡ length rows
@@ -84,26 +90,6 @@ is_over q after n m number same = subst (λ (r : CallTable). IsOver q r n) (sym 
 })
 
 -- a step that settles a call, or ends it, changes no memory, and neither makes nor ends a task
-pub settle_quiet : (k : KernelState) (c : Call) (reply : Reply) (by : Option TaskNo) (told : Outcome)
-    → IsQuietEvent told k (and_event (telling (settle k c reply by) told))
-settle_quiet k c reply by told = by_caller c.caller (lives k c.caller) where
-  over : IsQuietEvent told k (and_event (telling (vanishing k c) told))
-  over = record {
-    answer = refl;
-    event = record { counted = refl; alive = refl; tasks = as_many k.tasks.phones (kept_phone c) Free };
-    memory = refl;
-  }
-
-  by_caller : (o : Option TaskNo) (b : Bool)
-      → IsQuietEvent told k (and_event (telling (settle_for k c reply by o b) told))
-  by_caller None b = over
-  by_caller (Some u) false = over
-  by_caller (Some u) true = record {
-    answer = refl;
-    event = record { counted = refl; alive = refl; tasks = as_many k.tasks.phones (lent_phone c) Free };
-    memory = refl;
-  }
-
 pub vanish_quiet : (k : KernelState) (c : Call) (told : Outcome)
     → IsQuietEvent told k (and_event (telling (vanishing k c) told))
 vanish_quiet k c told = record {
@@ -111,6 +97,19 @@ vanish_quiet k c told = record {
   event = record { counted = refl; alive = refl; tasks = as_many k.tasks.phones (kept_phone c) Free };
   memory = refl;
 }
+
+pub settle_quiet : (k : KernelState) (c : Call) (reply : Reply) (by : Option TaskNo) (told : Outcome)
+    → IsQuietEvent told k (and_event (telling (settle k c reply by) told))
+settle_quiet k c reply by told = by_caller c.caller (lives k c.caller) where
+  by_caller : (o : Option TaskNo) (b : Bool)
+      → IsQuietEvent told k (and_event (telling (settle_for k c reply by o b) told))
+  by_caller None b = vanish_quiet k c told
+  by_caller (Some u) false = vanish_quiet k c told
+  by_caller (Some u) true = record {
+    answer = refl;
+    event = record { counted = refl; alive = refl; tasks = as_many k.tasks.phones (lent_phone c) Free };
+    memory = refl;
+  }
 
 -- ---- a call that was not answered yet
 
@@ -164,16 +163,6 @@ module _ (k : KernelState) (tasks : Tasks) (rows : tasks.phones ≡ k.tasks.phon
 
   pub lent_is : IsGivenBack c (lent_phone c) (unless_freed (lent_phone c) c.reserved)
   lent_is = by_kind (kind_of c.request.method) refl where
-    plain : (kind : MethodKind) → kind_of c.request.method ≡ kind → (kind ≡ ConnectToMe → ⊥)
-        → lent_of (keeper_of kind) c.place c.reserved ≡ None
-        → IsGivenBack c (lent_phone c) (unless_freed (lent_phone c) c.reserved)
-    plain kind e ne none =
-        let freed = lent_by kind e ∙ none in
-        record {
-          to_me = λ asks. absurd (ne (sym e ∙ ap kind_of asks));
-          others = λ _. (freed, ap (λ o. unless_freed o c.reserved) freed);
-        }
-
     by_kind : (kind : MethodKind) → kind_of c.request.method ≡ kind
         → IsGivenBack c (lent_phone c) (unless_freed (lent_phone c) c.reserved)
     by_kind ConnectToMe e =
@@ -182,20 +171,13 @@ module _ (k : KernelState) (tasks : Tasks) (rows : tasks.phones ≡ k.tasks.phon
           to_me = λ _. (freed, ap (λ o. unless_freed o c.reserved) freed ∙ freed_all c.reserved);
           others = λ ne. absurd (ne (method_of ConnectToMe c.request.method e));
         }
-    by_kind kind e = plain kind e (λ f. cc f) refl
+    by_kind kind e = record {
+      to_me = λ asks. absurd (let x : kind ≡ ConnectToMe = sym e ∙ ap kind_of asks in cc);
+      others = λ _. (lent_by kind e, ap (λ o. unless_freed o c.reserved) (lent_by kind e));
+    }
 
   pub kept_is : IsKeptFor c (kept_phone c)
   kept_is = by_kind (kind_of c.request.method) refl where
-    plain : (kind : MethodKind) → kind_of c.request.method ≡ kind → (kind ≡ ConnectToMe → ⊥) → (kind ≡ ConnectMeTo → ⊥)
-        → kept_of (keeper_of kind) c.from.task c.place c.reply.code c.reserved ≡ None → IsKeptFor c (kept_phone c)
-    plain kind e ne other none = record {
-      connect = λ h. elim h [
-        | inl asks ↦ absurd (ne (sym e ∙ ap kind_of asks))
-        | inr asks ↦ absurd (other (sym e ∙ ap kind_of asks))
-      ];
-      others = λ _ _. kept_by kind e ∙ none;
-    }
-
     by_kind : (kind : MethodKind) → kind_of c.request.method ≡ kind → IsKeptFor c (kept_phone c)
     by_kind ConnectToMe e = record {
       connect = λ _. kept_by ConnectToMe e ∙ held e;
@@ -205,19 +187,22 @@ module _ (k : KernelState) (tasks : Tasks) (rows : tasks.phones ≡ k.tasks.phon
       connect = λ _. kept_by ConnectMeTo e ∙ asked e;
       others = λ _ ne. absurd (ne (method_of ConnectMeTo c.request.method e));
     }
-    by_kind kind e = plain kind e (λ f. cc f) (λ f. cc f) refl
+    by_kind kind e = record {
+      connect = λ h. elim h [
+        | inl asks ↦ absurd (let x : kind ≡ ConnectToMe = sym e ∙ ap kind_of asks in cc)
+        | inr asks ↦ absurd (let x : kind ≡ ConnectMeTo = sym e ∙ ap kind_of asks in cc)
+      ];
+      others = λ _ _. kept_by kind e;
+    }
 
   -- both are phones that are there
   reserved_there : (l : Label) → c.reserved ≡ Some l → IsSome (state_at k.tasks.phones l.task.0 l.phone.0)
   reserved_there l r = subst (λ x. IsSome (state_at x l.task.0 l.phone.0)) rows (s.reserved.there l r)
 
-  none_is_some : (l : Label) (o : Option Label) → o ≡ None → o ≡ Some l → ⊥
-  none_is_some l o e f = cc
-
   pub lent_there : (l : Label) → lent_phone c ≡ Some l → IsSome (state_at k.tasks.phones l.task.0 l.phone.0)
   lent_there l e = elim (cases_eq c.request.method connect_to_me) [
     | inl asks ↦ reserved_there l (sym (lent_is.to_me asks).0 ∙ e)
-    | inr ne ↦ absurd (none_is_some l (lent_phone c) (lent_is.others ne).0 e)
+    | inr ne ↦ absurd (none-some l (sym (lent_is.others ne).0 ∙ e))
   ]
 
   pub kept_there : (l : Label) → kept_phone c ≡ Some l → IsSome (state_at k.tasks.phones l.task.0 l.phone.0)
@@ -225,7 +210,7 @@ module _ (k : KernelState) (tasks : Tasks) (rows : tasks.phones ≡ k.tasks.phon
     | inl asks ↦ reserved_there l (sym (kept_is.connect (inl asks)) ∙ e)
     | inr ne ↦ elim (cases_eq c.request.method connect_me_to) [
       | inl asks ↦ reserved_there l (sym (kept_is.connect (inr asks)) ∙ e)
-      | inr other ↦ absurd (none_is_some l (kept_phone c) (kept_is.others ne other) e)
+      | inr other ↦ absurd (none-some l (sym (kept_is.others ne other) ∙ e))
     ]
   ]
 
@@ -285,13 +270,14 @@ module _ (k : KernelState) (tasks : Tasks) (rows : tasks.phones ≡ k.tasks.phon
 
 -- ---- an answer that is dropped
 
+-- the phone that an answer keeps, by the kind of its method
+pub kept_at : (t : TaskNo) (c : Call) → c.place ≡ Answers t → (kind : MethodKind) → kind_of c.request.method ≡ kind
+    → kept_phone c ≡ kept_of (keeper_of kind) c.from.task (Answers t) c.reply.code c.reserved
+kept_at t c at kind e = ap (λ m. kept_of (keeper_of m) c.from.task c.place c.reply.code c.reserved) e
+    ∙ ap (λ p. kept_of (keeper_of kind) c.from.task p c.reply.code c.reserved) at
+
 module _ (marks : List Bool) (t : TaskNo) (k : KernelState) (ending : IsEnding marks k) (c : Call)
     (live : call_at k.calls c.number.0 ≡ Some c) (at : c.place ≡ Answers t) where
-  kept_at : (kind : MethodKind) → kind_of c.request.method ≡ kind
-      → kept_phone c ≡ kept_of (keeper_of kind) c.from.task (Answers t) c.reply.code c.reserved
-  kept_at kind e = ap (λ m. kept_of (keeper_of m) c.from.task c.place c.reply.code c.reserved) e
-      ∙ ap (λ p. kept_of (keeper_of kind) c.from.task p c.reply.code c.reserved) at
-
   owner : kind_of c.request.method ≡ ConnectMeTo → (l : Label) → c.reserved ≡ Some l
       → phone_of c.from.task (Some l) ≡ Some l
   owner e l r = own_phone c.from.task l (subst (λ x. IsReservedAt x c.from.task c.place l) (ap keeper_of e)
@@ -300,7 +286,7 @@ module _ (marks : List Bool) (t : TaskNo) (k : KernelState) (ending : IsEnding m
   pub waits : (l : Label) → IsUnconnected c l → kept_phone c ≡ Some l
   waits l x =
       let kind : kind_of c.request.method ≡ ConnectMeTo = ap kind_of x.asks in
-      kept_at ConnectMeTo kind
+      kept_at t c at ConnectMeTo kind
       ∙ by (accepts c.reply.code) (λ h. x.unaccepted t at (same_code c.reply.code h))
       ∙ ap (phone_of c.from.task) x.kept ∙ owner kind l x.kept
     where
@@ -309,13 +295,9 @@ module _ (marks : List Bool) (t : TaskNo) (k : KernelState) (ending : IsEnding m
       by true never = absurd (never refl)
       by false never = refl
 
-  nobody : (kind : MethodKind) → kind_of c.request.method ≡ kind
-      → kept_of (keeper_of kind) c.from.task (Answers t) c.reply.code c.reserved ≡ None → kept_phone c ≡ None
-  nobody kind e none = kept_at kind e ∙ none
-
   none_kept : ((l : Label) → IsUnconnected c l → ⊥) → (kind : MethodKind) → kind_of c.request.method ≡ kind
       → kept_phone c ≡ None
-  none_kept none ConnectMeTo e = nobody ConnectMeTo e (by (accepts c.reply.code) refl c.reserved refl) where
+  none_kept none ConnectMeTo e = kept_at t c at ConnectMeTo e ∙ by (accepts c.reply.code) refl c.reserved refl where
     by : (b : Bool) → accepts c.reply.code ≡ b → (o : Option Label) → c.reserved ≡ o
         → (if b then None else phone_of c.from.task o) ≡ None
     by true a o r = refl
@@ -325,7 +307,7 @@ module _ (marks : List Bool) (t : TaskNo) (k : KernelState) (ending : IsEnding m
       kept = r;
       unaccepted = λ u p code. false≢true (sym a ∙ accepts_eok c.reply.code code);
     }))
-  none_kept none kind e = nobody kind e refl
+  none_kept none kind e = kept_at t c at kind e
 
   is_some : (l : Label) → kept_phone c ≡ Some l → IsSome (state_at k.tasks.phones l.task.0 l.phone.0)
   is_some l e = is_there (state_at k.tasks.phones l.task.0 l.phone.0) Connecting

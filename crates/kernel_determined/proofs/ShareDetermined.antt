@@ -13,8 +13,8 @@ use Rattle.cleanup.proofs.Repeats.{by_test}
 use Rattle.kernel_laws.specs.MemoryLaws.{IsSharable}
 use Rattle.kernel_laws.proofs.LawfulAreas.{sharable, found_at, share_is_lawful}
 use Rattle.kernel_determined.specs.AnswerLaw.{IsWholeShare}
-use Rattle.kernel_determined.proofs.WriteDetermined.{memory_same}
-use Rattle.kernel_determined.proofs.AreasDetermined.{Comes, cause_same, areas_same, gives_same, store_step_same}
+use Rattle.kernel_determined.proofs.Same.{areas_same, memory_same, done_same}
+use Rattle.kernel_determined.proofs.AreasDetermined.{Comes, cause_same, gives_same}
 
 module _ (m : Memory) (from : TaskNo) (base : ℕ) (to : TaskNo) (target pages rights : ℕ) (sound : spaces.IsSound m)
     (added : IsAdded m to) where
@@ -76,7 +76,7 @@ module _ (m : Memory) (from : TaskNo) (base : ℕ) (to : TaskNo) (target pages r
     pub share_is_determined : x ≡ y
     share_is_determined =
         let told = share_told x f ∙ sym (share_told y g) in
-        store_step_same x y (by_told y.told told refl) told
+        done_same x y (by_told y.told told refl) told
 
   pub share_is_whole : IsWholeShare m from base to target pages rights (share m from base to target pages rights)
   share_is_whole = record {

@@ -14,26 +14,7 @@ use Rattle.kernel_core.specs.Kernel.{named, spawning, spawn_event}
 use Rattle.kernel_laws.proofs.SpawnLaws.{spawn_makes_task}
 use Rattle.kernel_laws.specs.SpawnLaws.{new_number}
 use Rattle.kernel_determined.specs.SpawnLaw.{IsSpawn}
-use Rattle.kernel_determined.proofs.Same.{rows_same, state_same}
-use Rattle.kernel_determined.proofs.WriteDetermined.{memory_same}
-
--- two lists, as long, with the same items or the same default
-pub or_same : {A : Type 0} (d : A) (xs ys : List A) → length xs ≡ length ys
-    → ((i : ℕ) → unwrap_or (slice_get xs i) d ≡ unwrap_or (slice_get ys i) d) → xs ≡ ys
-or_same d [] [] many at = refl
-or_same d [] (y ∷ ys) many at = absurd (omega (arith, many))
-or_same d (x ∷ xs) [] many at = absurd (omega (arith, many))
-or_same d (x ∷ xs) (y ∷ ys) many at =
-    let head : x ≡ y = at 0 in
-    let tail : xs ≡ ys = or_same d xs ys (omega (arith, many)) (λ i. at (suc i)) in
-    cc
-
-transition_of : KernelState → List Entry → Transition
-transition_of k es = record { state = k; entries = es }
-
-pub transition_same : (a b : Transition) → a.state ≡ b.state → a.entries ≡ b.entries → a ≡ b
-unfolding transition_of
-transition_same a b e f = ap (λ k. transition_of k a.entries) e ∙ ap (transition_of b.state) f
+use Rattle.kernel_determined.proofs.Same.{rows_same, state_same, each_task, marks_same, areas_same, memory_same, transition_same}
 
 -- the task that is named is alive, or none is
 record IsNamed (k : KernelState) (names : Option TaskNo) : Type 0 where
@@ -49,20 +30,14 @@ named_or_none k (Some w) = by (is_alive k w) refl where
   by true e = inl (record { who = w; is = refl; lives = e })
   by false e = inr (λ u f. let same : w ≡ u = cc f in ap (is_alive k) (sym same) ∙ e)
 
-no_of : (u t : TaskNo) → u.0 ≡ t.0 → u ≡ t
-no_of u t e = ap (λ n. let r : TaskNo = record { 0 = n } in r) e
-
 module _ (limit : ℕ) (some : 1 ≤ limit) (names : Option TaskNo) (k : KernelState) (a b : Transition)
     (x : IsSpawn limit names k a) (y : IsSpawn limit names k b) where
   who : TaskNo
   who = new_number k
 
   alive_at : (u : TaskNo) → is_alive a.state u ≡ is_alive b.state u
-  alive_at u = elim (cases_eq u.0 (new_number k).0) [
-    | inl e ↦ let same = no_of u (new_number k) e in ap (is_alive a.state) same ∙ x.makes.made ∙ sym y.makes.made
-        ∙ ap (is_alive b.state) (sym same)
-    | inr ne ↦ x.makes.others u ne ∙ sym (y.makes.others u ne)
-  ]
+  alive_at u = each_task (is_alive a.state) (is_alive b.state) (new_number k) (x.makes.made ∙ sym y.makes.made) u
+      (λ ne. x.makes.others u ne ∙ sym (y.makes.others u ne))
 
   own_phone : (p : ℕ) → phone_at a.state (new_number k) p ≡ phone_at b.state (new_number k) p
   own_phone zero = elim (named_or_none k names) [
@@ -75,25 +50,8 @@ module _ (limit : ℕ) (some : 1 ≤ limit) (names : Option TaskNo) (k : KernelS
   ]
 
   phone_same : (u : TaskNo) (p : ℕ) → phone_at a.state u p ≡ phone_at b.state u p
-  phone_same u p = elim (cases_eq u.0 (new_number k).0) [
-    | inl e ↦ let same = no_of u (new_number k) e in ap (λ (v : TaskNo). phone_at a.state v p) same ∙ own_phone p
-        ∙ ap (λ (v : TaskNo). phone_at b.state v p) (sym same)
-    | inr ne ↦ x.makes.phones u p ne ∙ sym (y.makes.phones u p ne)
-  ]
-
-  alive_in_list : (i : ℕ)
-      → unwrap_or (slice_get a.state.tasks.alive i) false ≡ unwrap_or (slice_get b.state.tasks.alive i) false
-  alive_in_list i = sym (back a.state.tasks.alive) ∙ alive_at (record { 0 = suc i }) ∙ back b.state.tasks.alive where
-    back : (zs : List Bool)
-        → (if suc i == 0 then false else unwrap_or (slice_get zs (suc i - 1)) false) ≡ unwrap_or (slice_get zs i) false
-    back zs = let last : suc i - 1 ≡ i = omega arith in rw (ne_eqb (suc i) 0 (λ e. omega arith), last) refl
-
-  areas_in_list : (i : ℕ)
-      → unwrap_or (slice_get a.state.memory.areas i) [] ≡ unwrap_or (slice_get b.state.memory.areas i) []
-  areas_in_list i = sym (back a.state.memory.areas) ∙ (x.makes.areas (record { 0 = suc i })
-      ∙ sym (y.makes.areas (record { 0 = suc i }))) ∙ back b.state.memory.areas where
-        back : (zs : List (List Area)) → unwrap_or (slice_get zs (suc i - 1)) [] ≡ unwrap_or (slice_get zs i) []
-        back zs = let last : suc i - 1 ≡ i = omega arith in rw last refl
+  phone_same u p = each_task (λ v. phone_at a.state v p) (λ v. phone_at b.state v p) (new_number k) (own_phone p) u
+      (λ ne. x.makes.phones u p ne ∙ sym (y.makes.phones u p ne))
 
   told_same : a.entries ≡ b.entries
   told_same = elim (named_or_none k names) [
@@ -104,11 +62,13 @@ module _ (limit : ℕ) (some : 1 ≤ limit) (names : Option TaskNo) (k : KernelS
   pub spawn_is_determined : a ≡ b
   spawn_is_determined = transition_same a b
       (state_same a.state b.state
-      (or_same false a.state.tasks.alive b.state.tasks.alive (x.tasks ∙ sym y.tasks) alive_in_list)
+      (marks_same a.state.tasks.alive b.state.tasks.alive (x.tasks ∙ sym y.tasks) alive_at)
       (rows_same a.state.tasks.phones b.state.tasks.phones (x.rows ∙ sym y.rows) phone_same)
       (x.makes.calls ∙ sym y.makes.calls)
-      (memory_same a.state.memory b.state.memory (or_same [] a.state.memory.areas b.state.memory.areas
-      (x.spaces ∙ sym y.spaces) areas_in_list) (x.makes.stores ∙ sym y.makes.stores) (x.stores ∙ sym y.stores))
+      (memory_same a.state.memory b.state.memory
+      (areas_same a.state.memory b.state.memory (x.spaces ∙ sym y.spaces)
+      (λ u some. x.makes.areas u ∙ sym (y.makes.areas u)))
+      (x.makes.stores ∙ sym y.makes.stores) (x.stores ∙ sym y.stores))
       (x.events ∙ sym y.events))
       told_same
 

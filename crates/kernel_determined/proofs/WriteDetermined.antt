@@ -14,23 +14,8 @@ use Rattle.address_space.specs.Memory.{Memory, Step, areas_of}
 use Rattle.kernel_laws.specs.MemoryLaws.{IsWritable, NoArea, byte_in, byte_at, Writes}
 use Rattle.kernel_laws.proofs.OneArea.{found_writable, none_writable}
 use Rattle.kernel_determined.specs.MemoryLaw.{IsWholeWrite}
-use Rattle.kernel_determined.proofs.Same.{list_same}
-
-some_at : (xs : List ℕ) (i : ℕ) → i < length xs → (b : ℕ) × (slice_get xs i ≡ Some b)
-some_at [] i few = absurd (omega arith)
-some_at (x ∷ xs) zero few = (x, refl)
-some_at (x ∷ xs) (suc i) few = some_at xs i (omega (arith, few))
-
-none_some : {A : Type 0} (x : A) → None ≡ Some x → ⊥
-none_some x e = cc
-
-memory_of : List (List Area) → FinMap nat_cmp (List ℕ) → ℕ → Memory
-memory_of areas stores next = record { areas = areas; stores = stores; next_store = next }
-
-pub memory_same : (m n : Memory) → m.areas ≡ n.areas → m.stores ≡ n.stores → m.next_store ≡ n.next_store → m ≡ n
-unfolding memory_of
-memory_same m n areas stores next = ap (λ x. memory_of x m.stores m.next_store) areas
-    ∙ ap (λ x. memory_of n.areas x m.next_store) stores ∙ ap (λ x. memory_of n.areas n.stores x) next
+use Rattle.kernel_determined.proofs.Same.{list_same, memory_same, done_same}
+use Rattle.std.proofs.lemmas.Option.{none-some, slice_get-get_or}
 
 -- stores with the same bytes, where none comes and none goes
 pub stores_same : (a b : Memory) → ((s n : ℕ) → byte_at a s n ≡ byte_at b s n)
@@ -40,7 +25,7 @@ stores_same a b bytes to from = same_map nat_cmp_total nat_cmp-IsAntisymmetric a
     (λ s. at s (get a.stores s) (get b.stores s) refl refl) where
       at : (s : ℕ) (o q : Option (List ℕ)) → get a.stores s ≡ o → get b.stores s ≡ q → o ≡ q
       at s None q e f = sym (to s e) ∙ f
-      at s (Some xs) None e f = absurd (none_some xs (sym (from s f) ∙ e))
+      at s (Some xs) None e f = absurd (none-some xs (sym (from s f) ∙ e))
       at s (Some xs) (Some ys) e f = ap Some (list_same xs ys
           (λ n. ap (λ o. byte_in o n) (sym e) ∙ bytes s n ∙ ap (λ o. byte_in o n) f))
 
@@ -51,8 +36,8 @@ module _ (m : Memory) (a : Area) (at : ℕ) (new : List ℕ) (x y : Memory) (f :
       let i : ℕ = a.base + n - at in
       let few : i < length new = omega arith in
       let there : a.base + n ≡ at + i = omega arith in
-      let b = some_at new i few in
-      f.named i n b.0 b.1 there ∙ sym (g.named i n b.0 b.1 there)
+      let there_is = slice_get-get_or new i 0 few in
+      f.named i n _ there_is there ∙ sym (g.named i n _ there_is there)
 
   unnamed : (s n : ℕ) → (s ≡ a.store → (a.base + n < at) ⊎ (at + length new ≤ a.base + n))
       → byte_at x s n ≡ byte_at y s n
@@ -71,13 +56,6 @@ module _ (m : Memory) (a : Area) (at : ℕ) (new : List ℕ) (x y : Memory) (f :
     | inr ne ↦ unnamed s n (λ e. absurd (ne e))
   ]
 
-step_of : Memory → Result (Option StoreNo) Code → Step (Option StoreNo)
-step_of m told = record { memory = m; told = told }
-
-pub step_same : (x y : Step (Option StoreNo)) → x.memory ≡ y.memory → x.told ≡ y.told → x ≡ y
-unfolding step_of
-step_same x y memory told = ap (λ m. step_of m x.told) memory ∙ ap (step_of y.memory) told
-
 module _ (m : Memory) (t : TaskNo) (at : ℕ) (new : List ℕ) (x y : Step (Option StoreNo))
     (f : IsWholeWrite m t at new x) (g : IsWholeWrite m t at new y) where
   by_holder : (o : Option Area) → 1 ≤ length new → holder at (length new) Write (areas_of m t) ≡ o → x ≡ y
@@ -85,12 +63,12 @@ module _ (m : Memory) (t : TaskNo) (at : ℕ) (new : List ℕ) (x y : Step (Opti
       let none : NoArea (IsWritable m t at (length new)) = λ a r. none_writable m t at (length new) a e r in
       let u = f.lawful.refused some none in
       let v = g.lawful.refused some none in
-      step_same x y (u.1 ∙ sym v.1) (u.0 ∙ sym v.0)
+      done_same x y (u.1 ∙ sym v.1) (u.0 ∙ sym v.0)
   by_holder (Some a) some e =
       let may = found_writable m t at (length new) a e in
       let u = f.lawful.bytes a some may in
       let v = g.lawful.bytes a some may in
-      step_same x y
+      done_same x y
       (memory_same x.memory y.memory (u.1.areas ∙ sym v.1.areas)
       (stores_same x.memory y.memory (bytes_same m a at new x.memory y.memory u.1 v.1)
       (λ s none. g.came s (f.went s none)) (λ s none. f.came s (g.went s none)))
@@ -101,5 +79,5 @@ module _ (m : Memory) (t : TaskNo) (at : ℕ) (new : List ℕ) (x y : Step (Opti
   write_is_determined = elim (cases_lt 0 (length new)) [
     | inl some ↦ by_holder (holder at (length new) Write (areas_of m t)) (omega (arith, some)) refl
     | inr none ↦ let u = f.lawful.none (omega (arith, none)) in let v = g.lawful.none (omega (arith, none)) in
-        step_same x y (u.1 ∙ sym v.1) (u.0 ∙ sym v.0)
+        done_same x y (u.1 ∙ sym v.1) (u.0 ∙ sym v.0)
   ]
