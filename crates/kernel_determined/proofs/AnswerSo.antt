@@ -32,10 +32,8 @@ use Rattle.cleanup.specs.Sound.{IsSound, IsSoundCall, NeedsPhone}
 use Rattle.cleanup.specs.Kept.{keeper_of, kept_phone, kept_note, with_kept, accepts, who_keeps}
 use Rattle.cleanup.specs.Serving.{Served, Handed, telling, refusal, as_it_is}
 use Rattle.cleanup.specs.Joins.{lives, answer_to, code_of, accepted_me_to, vanishing, settle}
-use Rattle.cleanup.specs.Data.{code_told, bytes_told, accepted_write, accepted_read}
-use Rattle.cleanup.specs.Areas.{wrote_note}
-use Rattle.cleanup.specs.Sharing.{shared_note, accepted_share}
-use Rattle.cleanup.specs.declared.sharing.Share.TheVariants.{Out, In}
+use Rattle.cleanup.specs.Data.{code_told, bytes_told, accepted_read}
+use Rattle.cleanup.specs.Sharing.{shared_note}
 use Rattle.cleanup.proofs.Lookups.{same_call}
 use Rattle.cleanup.proofs.Soundness.{value_of}
 use Rattle.kernel_core.specs.Answering.{accept_for, answer_call, answer_held, held_call}
@@ -113,14 +111,14 @@ module _ (k : KernelState) (sound : IsSound k) (t : TaskNo) (n : ℕ) (reply : R
     with_code code bytes = record c { reply = record { code = code; args = reply.args }; buffer = bytes }
 
     -- the call reaches its caller, by a moment that changes the memory alone
-    reaches : (code : Code) (bytes : List ℕ) (memory : Memory) (note : Option Entry)
+    reaches : (code : Code) (bytes : List ℕ) (memory : Memory) (noted : Option Entry)
         → Reaches t n reply c u code bytes memory
-        (option_to_list note) k (Answered (record {
+        (option_to_list noted) k (Answered (record {
           state = record { tasks = k.tasks; calls = k.calls; memory = memory; events = k.events };
           call = with_code code bytes;
-          note = note;
+          note = noted;
         }))
-    reaches code bytes memory note = record {
+    reaches code bytes memory noted = record {
       told = refl;
       event = record { counted = refl; alive = refl; tasks = refl };
       calls = moves k.calls _ n (with_code code bytes) (Answers u) its.number refl;
@@ -128,16 +126,34 @@ module _ (k : KernelState) (sound : IsSound k) (t : TaskNo) (n : ℕ) (reply : R
       entries = refl;
     }
 
-    -- or by one that changes a phone
-    reaches_with : (code : Code) (kept : Option Label) → Reaches t n reply c u code c.buffer k.memory
-        (option_to_list (kept_note kept (Connected u))) k (Answered (record {
-          state = with_kept k kept (Connected u);
-          call = with_code code c.buffer;
-          note = kept_note kept (Connected u);
+    -- with what is told of a change of memory
+    reaches_told : {A : Type 0} (told : Result A Code) (bytes : List ℕ) (memory : Memory) (noted : Option Entry)
+        (es : List Entry) → option_to_list noted ≡ es
+        → Reaches t n reply c u (code_after told) bytes memory es k (Answered (record {
+          state = record { tasks = k.tasks; calls = k.calls; memory = memory; events = k.events };
+          call = with_code (code_told told) bytes;
+          note = noted;
         }))
-    reaches_with code kept = record {
+    reaches_told told bytes memory noted es same =
+        let done : Served = Answered (record {
+          state = record { tasks = k.tasks; calls = k.calls; memory = memory; events = k.events };
+          call = with_code (code_told told) bytes;
+          note = noted;
+        }) in
+        subst (λ (x : List Entry). Reaches t n reply c u (code_after told) bytes memory x k done) same
+        (subst (λ (code : Code). Reaches t n reply c u code bytes memory (option_to_list noted) k done) (same_told told)
+        (reaches (code_told told) bytes memory noted))
+
+    -- or by one that changes a phone
+    reaches_with : (to : TaskNo) (code : Code) (kept : Option Label) → Reaches t n reply c u code c.buffer k.memory
+        (option_to_list (kept_note kept (Connected to))) k (Answered (record {
+          state = with_kept k kept (Connected to);
+          call = with_code code c.buffer;
+          note = kept_note kept (Connected to);
+        }))
+    reaches_with to code kept = record {
       told = refl;
-      event = record { counted = refl; alive = refl; tasks = as_many k.tasks.phones kept (Connected u) };
+      event = record { counted = refl; alive = refl; tasks = as_many k.tasks.phones kept (Connected to) };
       calls = moves k.calls _ n (with_code code c.buffer) (Answers u) its.number refl;
       memory_after = refl;
       entries = refl;
@@ -178,11 +194,11 @@ module _ (k : KernelState) (sound : IsSound k) (t : TaskNo) (n : ℕ) (reply : R
     }
 
     -- a phone comes to lead to a task
-    leads : (to : TaskNo) (l : Label) (note : Option Entry) (call : Call) → c.reserved ≡ Some l
+    leads : (to : TaskNo) (l : Label) (noted : Option Entry) (call : Call) → c.reserved ≡ Some l
         → kept_phone c ≡ c.reserved
         → PhoneComesTo l.task l.phone.0 (Connected to) k
-        (Answered (record { state = with_kept k (Some l) (Connected to); call = call; note = note })).state
-    leads to l note call r kept = (may_come k (Some l) (Connected to) _ refl (λ m e.
+        (Answered (record { state = with_kept k (Some l) (Connected to); call = call; note = noted })).state
+    leads to l noted call r kept = (may_come k (Some l) (Connected to) _ refl (λ m e.
         kept_there k k.tasks refl n c its pending m (kept ∙ r ∙ e))).0
 
     by_kept : kind_of c.request.method ≡ ConnectToMe → (o : Option Label) → c.reserved ≡ o → kept_phone c ≡ c.reserved
@@ -191,25 +207,19 @@ module _ (k : KernelState) (sound : IsSound k) (t : TaskNo) (n : ℕ) (reply : R
           call = with_code (code_of o) c.buffer;
           note = kept_note o (Connected u);
         }))
-    by_kept kind None r kept = inr (record { none = r; phones = λ v q. refl; reaches = reaches_with elimit None })
+    by_kept kind None r kept = inr (record { none = r; phones = λ v q. refl; reaches = reaches_with u elimit None })
     by_kept kind (Some l) r kept = inl (record {
       phone = l;
       kept = r;
       leads = leads u l (kept_note (Some l) (Connected u)) (with_code eok c.buffer) r kept;
-      reaches = reaches_with eok (Some l);
+      reaches = reaches_with u eok (Some l);
     })
 
     as_given : reply.code ≡ eok → AnswersPlainly t n reply c u k (Answered (as_it_is k (record c { reply = reply })))
     as_given ok = record {
       phones = λ v q. refl;
       reaches = subst (λ (code : Code). Reaches t n reply c u code c.buffer k.memory [] k
-          (Answered (as_it_is k (record c { reply = reply })))) ok (record {
-            told = refl;
-            event = record { counted = refl; alive = refl; tasks = refl };
-            calls = moves k.calls _ n (record c { reply = reply }) (Answers u) its.number refl;
-            memory_after = refl;
-            entries = refl;
-          });
+          (Answered (as_it_is k (record c { reply = reply })))) ok (reaches reply.code c.buffer k.memory None);
     }
 
     accepted : reply.code ≡ eok → (kind : MethodKind) → kind_of c.request.method ≡ kind
@@ -245,84 +255,51 @@ module _ (k : KernelState) (sound : IsSound k) (t : TaskNo) (n : ℕ) (reply : R
                   state = with_kept k (Some l) (Connected t);
                   call = record c { reply = reply };
                   note = kept_note (Some l) (Connected t);
-                }))) ok (record {
-                  told = refl;
-                  event = record {
-                    counted = refl;
-                    alive = refl;
-                    tasks = as_many k.tasks.phones (Some l) (Connected t);
-                  };
-                  calls = moves k.calls _ n (record c { reply = reply }) (Answers u) its.number refl;
-                  memory_after = refl;
-                  entries = refl;
-                });
+                }))) ok (reaches_with t reply.code (Some l));
           })
     accepted ok DataWrite e =
         let step : Step (Option StoreNo) = write_accept k.memory t c.buffer reply in
-        let done : Served = Answered (accepted_write k c reply t) in
         record {
           step = step;
           placing = placing_is_whole k.memory t c.buffer reply sound.memory.spaces;
           phones = λ v q. refl;
-          reaches = subst (λ (es : List Entry). Reaches t n reply c u (code_after step.told) c.buffer step.memory es k
-              done)
-              (written_is t (first reply.args) (second reply.args) step.told)
-              (subst (λ (code : Code). Reaches t n reply c u code c.buffer step.memory
-              (option_to_list (wrote_note t (first reply.args) (second reply.args) step.told)) k done)
-              (same_told step.told)
-              (reaches (code_told step.told) c.buffer step.memory
-              (wrote_note t (first reply.args) (second reply.args) step.told)));
+          reaches = reaches_told step.told c.buffer step.memory _ _
+              (written_is t (first reply.args) (second reply.args) step.told);
         }
     accepted ok DataRead e =
         let told : Result (List ℕ) Code = read_accept k.memory t c.request.args reply (used k.calls) in
-        let done : Served = Answered (accepted_read k c reply t) in
         record {
           told = told;
           taking = subst (λ m. IsLawfulTaking k.memory t c.request.args reply m told) (sym (pool-used k))
               (taking_is_lawful k.memory t c.request.args reply (used k.calls) sound.memory.spaces);
           phones = λ v q. refl;
-          reaches = subst (λ (bytes : List ℕ). Reaches t n reply c u (code_after told) bytes k.memory [] k done)
-              (bytes_after_is told c.buffer)
-              (subst (λ (code : Code). Reaches t n reply c u code (bytes_told told c.buffer) k.memory [] k done)
-              (same_told told)
-              (reaches (code_told told) (bytes_told told c.buffer) k.memory None));
+          reaches = subst (λ (bytes : List ℕ). Reaches t n reply c u (code_after told) bytes k.memory [] k
+              (Answered (accepted_read k c reply t)))
+              (bytes_after_is told c.buffer) (reaches_told told (bytes_told told c.buffer) k.memory None [] refl);
         }
     accepted ok ShareOut e =
         let pages : ℕ = second c.request.args in
         let rights : ℕ = third c.request.args in
         let step : Step StoreNo = out_accept k.memory u t c.request.args reply in
-        let done : Served = Answered (accepted_share Out k c reply t u) in
         record {
           step = step;
           share = share_is_whole k.memory u (first c.request.args) t (first reply.args) pages rights sound.memory.spaces
               (added k t sound (holder_lives k sound t n c (is, at)));
           phones = λ v q. refl;
-          reaches = subst (λ (es : List Entry). Reaches t n reply c u (code_after step.told) c.buffer step.memory es k
-              done)
-              (shared_is t (first reply.args) pages rights step.told)
-              (subst (λ (code : Code). Reaches t n reply c u code c.buffer step.memory
-              (option_to_list (shared_note t (first reply.args) pages rights step.told)) k done) (same_told step.told)
-              (reaches (code_told step.told) c.buffer step.memory
-              (shared_note t (first reply.args) pages rights step.told)));
+          reaches = reaches_told step.told c.buffer step.memory _ _
+              (shared_is t (first reply.args) pages rights step.told);
         }
     accepted ok ShareIn e =
         let pages : ℕ = second c.request.args in
         let rights : ℕ = third c.request.args in
         let step : Step StoreNo = in_accept k.memory u t c.request.args reply in
-        let done : Served = Answered (accepted_share In k c reply t u) in
         record {
           step = step;
           share = share_is_whole k.memory t (first reply.args) u (first c.request.args) pages rights sound.memory.spaces
               (added k u sound lives_u);
           phones = λ v q. refl;
-          reaches = subst (λ (es : List Entry). Reaches t n reply c u (code_after step.told) c.buffer step.memory es k
-              done)
-              (shared_is u (first c.request.args) pages rights step.told)
-              (subst (λ (code : Code). Reaches t n reply c u code c.buffer step.memory
-              (option_to_list (shared_note u (first c.request.args) pages rights step.told)) k done)
-              (same_told step.told)
-              (reaches (code_told step.told) c.buffer step.memory
-              (shared_note u (first c.request.args) pages rights step.told)));
+          reaches = reaches_told step.told c.buffer step.memory _ _
+              (shared_is u (first c.request.args) pages rights step.told);
         }
     accepted ok _ e = as_given ok
 

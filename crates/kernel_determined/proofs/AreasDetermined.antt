@@ -1,6 +1,6 @@
 -- The making of an area does what is said of it, and is determined by it.
-use Rattle.std.proofs.Common.{◌≡◌, ℕ, suc, ◌-◌, ◌*◌, ◌≤◌, Bool, true, false, ◌⊎◌, inl, inr, List, [], length, Option, None, Some, refl, sym, ap, subst, ◌∙◌, arith}
-use Rattle.std.specs.Prelude.{Result, Ok, Err, slice_get, unwrap_or, replicate, if◌then◌else◌}
+use Rattle.std.proofs.Common.{◌≡◌, ℕ, ◌-◌, ◌*◌, ◌≤◌, Bool, true, false, ◌⊎◌, inl, inr, List, Option, None, Some, refl, sym, ap, subst, ◌∙◌, arith}
+use Rattle.std.specs.Prelude.{Result, Ok, Err, replicate, if◌then◌else◌}
 use Rattle.std.specs.FinMap.{get}
 use Rattle.std.proofs.Math.ListN.{length-set}
 use Rattle.std.proofs.lemmas.Bool.{cases_eq, cases_lt}
@@ -12,7 +12,7 @@ use Rattle.ipc_ids.specs.Codes.{einval, eexist, elimit}
 use Rattle.address_space.specs.Areas.{Area, refusal, is_malformed, is_taken, is_full}
 use Rattle.address_space.specs.Memory.{Memory, Step, areas_of, make_unless, make}
 use Rattle.address_space.specs.Sound as spaces
-use Rattle.cleanup.specs.State.{Tasks, KernelState, is_alive}
+use Rattle.cleanup.specs.State.{KernelState, is_alive}
 use Rattle.cleanup.specs.Sound.{IsSound}
 use Rattle.cleanup.specs.Serving.{Served}
 use Rattle.kernel_core.specs.Kernel.{serve}
@@ -21,7 +21,7 @@ use Rattle.kernel_laws.specs.MemoryRequests.{Tells, made}
 use Rattle.kernel_laws.proofs.LawfulAreas.{make_is_lawful}
 use Rattle.kernel_laws.proofs.MemoryRequests.{tells, made_is, added}
 use Rattle.kernel_determined.specs.MemoryLaw.{IsWholeMake, IsAreaMake}
-use Rattle.kernel_determined.proofs.Same.{state_same, served_same, each_task, areas_same, memory_same, done_same, leaves_same}
+use Rattle.kernel_determined.proofs.Same.{each_task, areas_same, memory_same, done_same, leaves_same}
 use Rattle.kernel_determined.proofs.WriteDetermined.{stores_same}
 use Rattle.kernel_determined.proofs.TakesSo.{put_elsewhere}
 use Rattle.kernel_determined.proofs.MemoryDetermined.{outcome_same}

@@ -1,5 +1,5 @@
 -- The definition of a call does what is said of it.
-use Rattle.std.proofs.Common.{◌≡◌, ℕ, ◌+◌, ◌*◌, ◌<◌, Bool, true, false, not, inl, inr, List, [], ◌∷◌, length, Option, None, Some, refl, sym, ap, subst, ◌∙◌, arith, nat_le, ◌≤◌}
+use Rattle.std.proofs.Common.{◌≡◌, ℕ, ◌+◌, ◌*◌, ◌<◌, false, not, inl, inr, List, [], ◌∷◌, length, Option, None, Some, refl, sym, ap, subst, ◌∙◌, arith, nat_le, ◌≤◌}
 use Rattle.std.specs.Prelude.{IsSome, slice_set, Result, Ok, Err}
 use Rattle.std.specs.Option.{option_to_list}
 use Rattle.std.proofs.lemmas.Bool.Decides.{nat_tests}
@@ -27,10 +27,9 @@ use Rattle.address_space.specs.Sound as spaces
 use Rattle.cleanup.specs.State.{KernelState, phone_at, label_of}
 use Rattle.cleanup.specs.Sound.{IsSound}
 use Rattle.cleanup.specs.Kept.{first_usable_of, kept_note}
-use Rattle.cleanup.specs.Joins.{new_call, acceptance, answer_at_once}
+use Rattle.cleanup.specs.Joins.{new_call, acceptance, answer_at_once, bare_reply}
 use Rattle.cleanup.specs.Serving.{Served, refusal, as_it_is}
 use Rattle.cleanup.proofs.Endings.{length_rows}
-use Rattle.cleanup.proofs.Lookups.{put_here, put_other}
 use Rattle.cleanup.proofs.Repeats.{by_test}
 use Rattle.kernel_core.specs.Moments.{keeping_to_send, carrying, bringing, asking, cut_call, before_send_of}
 use Rattle.kernel_core.specs.Calling.{is_callable, sent_to, call_through, call_tested, call_over}
@@ -38,9 +37,7 @@ use Rattle.kernel_core.specs.Kernel.{and_event, serve}
 use Rattle.kernel_laws.specs.PoolLaws.{pool}
 use Rattle.kernel_laws.specs.CallCodes.{IsNoWay, IsNoCall, IsCheck}
 use Rattle.kernel_laws.specs.DataLaws.{IsLawfulCopy, IsLawfulAsking, IsLawfulOffer, IsLawfulWish}
-use Rattle.kernel_laws.specs.UsablePhones.{IsUsable}
 use Rattle.kernel_laws.proofs.Methods.{method_of}
-use Rattle.kernel_laws.proofs.KillRoutes.{is_there}
 use Rattle.kernel_laws.proofs.LawfulCalls.{method_test, some_usable, none_usable, check_by}
 use Rattle.kernel_laws.proofs.LawfulData.{copy_is_lawful, asking_is_lawful, cut_is_lawful}
 use Rattle.kernel_laws.proofs.LawfulShares.{offer_is_lawful, wish_is_lawful}
@@ -48,11 +45,14 @@ use Rattle.kernel_laws.proofs.PoolChanges.{pool-used}
 use Rattle.kernel_laws.proofs.UsablePhones.{own, usable_one, least_one}
 use Rattle.kernel_laws.specs.ActiveCalls.{AreTheActive}
 use Rattle.kernel_laws.proofs.ActiveCalls.{has_active, active_count}
-use Rattle.kernel_determined.specs.Frames.{IsMade, IsRefusal, MayCome}
+use Rattle.kernel_determined.specs.Frames.{IsMade, MayCome}
 use Rattle.kernel_determined.specs.CallLaw.{IsAnsweredAtOnce, Content, IsContent, GoesOver, IsAccepted, IsCall}
 use Rattle.kernel_determined.proofs.TakesSo.{has_fifth}
-use Rattle.kernel_determined.proofs.SettleSo.{may_come}
+use Rattle.kernel_determined.proofs.SettleSo.{may_come, usable_there}
 use Rattle.kernel_determined.proofs.CallDetermined.{call_is_determined}
+use Rattle.std.proofs.lemmas.Bool.{not-true, not-false}
+use Rattle.kernel_determined.proofs.HangupDetermined.{refuses, comes}
+use Rattle.kernel_core.proofs.ByRequest as join
 
 module _ (k : KernelState) (t : TaskNo) (p : ℕ) (msg : Msg) where
   made : (place : Place) → IsMade k t p msg false place (new_call k t p msg place)
@@ -78,13 +78,7 @@ module _ (k : KernelState) (t : TaskNo) (p : ℕ) (msg : Msg) where
     phones = λ u q. refl;
     call = new_call k t p msg (Answers t);
     made = made (Answers t);
-    calls = record {
-      made = put_here k.calls k.calls.next_number k.calls.next_number _ refl;
-      last = refl;
-      others = λ n ne. put_other k.calls k.calls.next_number n _ (λ e. ne (sym e));
-      numbers = refl;
-      arrivals = refl;
-    };
+    calls = comes k.calls _ (record (new_call k t p msg (Answers t)) { reply = bare_reply code }) refl refl;
     memory = refl;
     entries = refl;
   }
@@ -122,13 +116,8 @@ module _ (k : KernelState) (t : TaskNo) (p : ℕ) (msg : Msg) where
               buffer = c.bytes;
               reserved = c.kept;
             })) (Some u))).state []) (sym none) (λ v q. refl, refl);
-        calls = record {
-          made = put_here k.calls k.calls.next_number k.calls.next_number _ refl;
-          last = refl;
-          others = λ n ne. put_other k.calls k.calls.next_number n _ (λ e. ne (sym e));
-          numbers = refl;
-          arrivals = refl;
-        };
+        calls = comes k.calls _
+            (record new { request = c.request; msg = c.seen; buffer = c.bytes; reserved = c.kept }) refl refl;
         memory = refl;
         entries = ap (λ m. entry.Accepted (record { 0 = k.calls.next_number }) (label_of t p) m (Some u) ∷ []) method;
       };
@@ -204,10 +193,6 @@ module _ (k : KernelState) (t : TaskNo) (p : ℕ) (msg : Msg) where
       by_wish is (Err code) law = refused_by code (check_by k t p msg ShareIn is (Some code)
           (Err code, law, refl))
 
-      exists : (q : ℕ) → IsUsable k k.calls t q → IsSome (phone_at k t q)
-      exists q (inl free) = is_there (phone_at k t q) Free free
-      exists q (inr hung) = is_there (phone_at k t q) HungUp hung.0
-
       kept : (l : Label) → kind_of msg.method ≡ ConnectMeTo → first_usable_of k t ≡ Some l
           → Over (sent_to u k new (keeping_to_send k new (Some l)))
       kept l is e =
@@ -242,13 +227,7 @@ module _ (k : KernelState) (t : TaskNo) (p : ℕ) (msg : Msg) where
               });
               note = option_to_list (kept_note (Some (label_of t q)) Connecting);
               phones = may_come k (Some (label_of t q)) Connecting _ refl (λ m x. there m x);
-              calls = record {
-                made = put_here k.calls k.calls.next_number k.calls.next_number _ refl;
-                last = refl;
-                others = λ n ne. put_other k.calls k.calls.next_number n _ (λ x. ne (sym x));
-                numbers = refl;
-                arrivals = refl;
-              };
+              calls = comes k.calls _ (join.kept_to_send k new (label_of t q)).call refl refl;
               memory = refl;
               entries = refl;
             };
@@ -257,7 +236,7 @@ module _ (k : KernelState) (t : TaskNo) (p : ℕ) (msg : Msg) where
                 → IsSome (state_at k.tasks.phones m.task.0 m.phone.0)
             there m x = let same : label_of t l.phone.0 ≡ m = cc x in
                 subst (λ (n : Label). IsSome (state_at k.tasks.phones n.task.0 n.phone.0)) same
-                (exists l.phone.0 (usable_one k t l e))
+                (usable_there k t l.phone.0 (usable_one k t l e))
 
       by_phone : kind_of msg.method ≡ ConnectMeTo → (o : Option Label) → first_usable_of k t ≡ o
           → Over (sent_to u k new (keeping_to_send k new o))
@@ -333,36 +312,16 @@ module _ (k : KernelState) (t : TaskNo) (p : ℕ) (msg : Msg) where
             (over w (kind_of msg.method) refl);
       }
 
-    not_true : (b : Bool) → not b ≡ true → b ≡ false
-    not_true true h = absurd (cc h)
-    not_true false h = refl
-
-    not_false : (b : Bool) → not b ≡ false → b ≡ true
-    not_false true h = refl
-    not_false false h = absurd (cc h)
-
-    nothing_so : (code : Code) → IsRefusal code k (and_event (refusal k code))
-    nothing_so code = record {
-      told = refl;
-      nothing = record {
-        event = record { counted = refl; alive = refl; tasks = refl };
-        phones = λ u q. refl;
-        calls = record { each = λ n. refl; numbers = refl; arrivals = refl };
-        memory = refl;
-        entries = refl;
-      };
-    }
-
     tested : (s : PhoneState) → phone_at k t p ≡ Some s → (IsNoWay (Some s) → ⊥) → Comes (call_tested k t p msg s)
     tested s e way =
         by_test Comes (not (is_callable (kind_of msg.method))) _ _
         (λ h. inr (inl (record {
           way = λ x. way (subst IsNoWay e x);
-          none = (method_test msg.method).0 (not_true _ h);
-          refusal = nothing_so eperm;
+          none = (method_test msg.method).0 (not-true _ h);
+          refusal = refuses k eperm;
         })))
         (λ h.
-        let may = (method_test msg.method).1 (not_false _ h) in
+        let may = (method_test msg.method).1 (not-false _ h) in
         by_test Comes (nat_le most_active active) _ _
         (λ full. inr (inr (inl (record {
           way = λ x. way (subst IsNoWay e x);
@@ -373,7 +332,7 @@ module _ (k : KernelState) (t : TaskNo) (p : ℕ) (msg : Msg) where
             (let same = these.2 in let over : 64 ≤ active = grind (arith, nat_tests, full) in
                 omega (arith, same, over)),
           );
-          refusal = nothing_so elimit;
+          refusal = refuses k elimit;
         }))))
         (λ few. through s e way may (
           these.0,
@@ -383,7 +342,7 @@ module _ (k : KernelState) (t : TaskNo) (p : ℕ) (msg : Msg) where
         )))
 
     none : (o : Option PhoneState) → phone_at k t p ≡ o → IsNoWay o → Comes (refusal k enoent)
-    none o e h = inl (record { nowhere = subst IsNoWay (sym e) h; refusal = nothing_so enoent })
+    none o e h = inl (record { nowhere = subst IsNoWay (sym e) h; refusal = refuses k enoent })
 
     called : (o : Option PhoneState) → phone_at k t p ≡ o → Comes (call_over k t p msg o)
     called (Some (Connected u)) e = tested (Connected u) e (λ h. h)

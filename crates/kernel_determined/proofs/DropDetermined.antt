@@ -14,7 +14,7 @@ use Rattle.address_space.specs.Memory.{Memory, Step, areas_of, is_used, drop_at,
 use Rattle.address_space.specs.Sound as spaces
 use Rattle.address_space.proofs.Rows.{length_drop}
 use Rattle.address_space.proofs.Soundness.{lawful_of}
-use Rattle.cleanup.specs.State.{Tasks, KernelState}
+use Rattle.cleanup.specs.State.{KernelState}
 use Rattle.cleanup.specs.Serving.{Served}
 use Rattle.kernel_core.specs.Kernel.{serve}
 use Rattle.kernel_laws.specs.MemoryLaws.{Has, Drops}
@@ -25,7 +25,7 @@ use Rattle.kernel_laws.proofs.LawfulAreas.{drop_is_lawful, one_base, range_of}
 use Rattle.kernel_laws.proofs.MemoryRequests.{tells, gone_is}
 use Rattle.kernel_laws.proofs.OneArea.{order, apart_at, no_common}
 use Rattle.kernel_determined.specs.MemoryLaw.{IsWholeDrop, IsAreaDrop}
-use Rattle.kernel_determined.proofs.Same.{list_same, state_same, served_same, each_task, areas_same, memory_same, done_same, leaves_same}
+use Rattle.kernel_determined.proofs.Same.{list_same, each_task, areas_same, memory_same, done_same, leaves_same}
 use Rattle.kernel_determined.proofs.MemoryDetermined.{outcome_same}
 
 -- ---- what is told

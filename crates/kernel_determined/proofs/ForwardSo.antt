@@ -10,7 +10,7 @@ use Rattle.ipc_ids.specs.declared.message.Mode.{Mode}
 use Rattle.ipc_ids.specs.declared.message.Mode.TheVariants.{Plain, Route}
 use Rattle.ipc_ids.specs.declared.message.Msg.{Msg}
 use Rattle.ipc_ids.specs.declared.message.PhoneState.{PhoneState}
-use Rattle.ipc_ids.specs.declared.message.PhoneState.TheVariants.{Free, Connecting, Connected, HungUp, Slammed}
+use Rattle.ipc_ids.specs.declared.message.PhoneState.TheVariants.{Free, Connected}
 use Rattle.ipc_ids.specs.declared.message.Request.TheVariants as request
 use Rattle.ipc_ids.specs.declared.message.Outcome.TheVariants as outcome
 use Rattle.ipc_ids.specs.declared.methods.MethodKind.{MethodKind}
@@ -43,6 +43,8 @@ use Rattle.kernel_determined.proofs.TakesSo.{has_fifth}
 use Rattle.kernel_determined.proofs.ForwardDetermined.{forward_is_determined}
 use Rattle.kernel_laws.proofs.Places.{stands_true}
 use Rattle.kernel_core.proofs.InEvent.{same_place-true}
+use Rattle.std.proofs.lemmas.Option.{same_Some}
+use Rattle.kernel_determined.proofs.HangupDetermined.{refuses}
 
 -- a call that task t holds
 module _ (k : KernelState) (sound : IsSound k) (t : TaskNo) (n : ℕ) (c : Call) (is : call_at k.calls n ≡ Some c)
@@ -72,15 +74,8 @@ module _ (k : KernelState) (sound : IsSound k) (t : TaskNo) (n : ℕ) (c : Call)
               → (if a then PhoneHungUp else if b then ConnectToMe else if c then ConnectMeTo else if d then DataWrite
               else if e then DataRead else if f then ShareOut else if g then ShareIn else if h then NotBuilt else User)
               ≡ User → ⊥
-          user true b c d e f g h is x = cc x
-          user false true c d e f g h is x = cc x
-          user false false true d e f g h is x = cc x
-          user false false false true e f g h is x = cc x
-          user false false false false true f g h is x = cc x
-          user false false false false false true g h is x = cc x
-          user false false false false false false true h is x = cc x
-          user false false false false false false false true is x = cc x
           user false false false false false false false false is x = cc is
+          user a b c d e f g h is x = cc x
 
     by_kind : (kind : MethodKind) → kind_of m ≡ kind → changed_msg kind change msg ≡ msg
     by_kind User e = absurd (user_method e)
@@ -98,26 +93,23 @@ module _ (k : KernelState) (sound : IsSound k) (t : TaskNo) (n : ℕ) (c : Call)
   message (Some change) = record {
     unchanged = λ e. absurd (cc e);
     user = λ new e user. ap (λ kind. changed_msg kind change c.msg) (user_kind c.request.method user)
-        ∙ some_same change new e;
+        ∙ same_Some change new e;
     connect = λ new e asks. subst (λ (x : Msg). ((msg_after (Some change) c).method ≡ c.msg.method) × HasFifth
-        (slice_index c.msg.args 4) x.args (msg_after (Some change) c).args) (some_same change new e) (connected asks);
+        (slice_index c.msg.args 4) x.args (msg_after (Some change) c).args) (same_Some change new e) (connected asks);
     others = λ new e other. system_kind c.request.method other change c.msg;
   } where
-    some_same : (a b : Msg) → Some a ≡ Some b → a ≡ b
-    some_same a b e = cc
-
-    IsConnected : Msg → Type 0
-    IsConnected m = (m.method ≡ c.msg.method) × HasFifth (slice_index c.msg.args 4) change.args m.args
+    of_kind : (kind : MethodKind) → (kind ≡ ConnectToMe) ⊎ (kind ≡ ConnectMeTo)
+        → ((changed_msg kind change c.msg).method ≡ c.msg.method)
+        × HasFifth (slice_index c.msg.args 4) change.args (changed_msg kind change c.msg).args
+    of_kind ConnectToMe h = (refl, has_fifth (slice_index c.msg.args 4) change.args)
+    of_kind ConnectMeTo h = (refl, has_fifth (slice_index c.msg.args 4) change.args)
+    of_kind _ h = absurd (elim h [ inl e ↦ cc e | inr e ↦ cc e ])
 
     connected : (c.request.method ≡ connect_to_me) ⊎ (c.request.method ≡ connect_me_to)
-        → ((msg_after (Some change) c).method
-        ≡ c.msg.method) × HasFifth (slice_index c.msg.args 4) change.args (msg_after (Some change) c).args
-    connected (inl asks) = subst (λ (kind : MethodKind). ((changed_msg kind change c.msg).method ≡ c.msg.method)
-        × HasFifth (slice_index c.msg.args 4) change.args (changed_msg kind change c.msg).args)
-        (sym (ap kind_of asks)) (refl, has_fifth (slice_index c.msg.args 4) change.args)
-    connected (inr asks) = subst (λ (kind : MethodKind). ((changed_msg kind change c.msg).method ≡ c.msg.method)
-        × HasFifth (slice_index c.msg.args 4) change.args (changed_msg kind change c.msg).args)
-        (sym (ap kind_of asks)) (refl, has_fifth (slice_index c.msg.args 4) change.args)
+        → ((msg_after (Some change) c).method ≡ c.msg.method)
+        × HasFifth (slice_index c.msg.args 4) change.args (msg_after (Some change) c).args
+    connected h =
+        of_kind (kind_of c.request.method) (elim h [ inl asks ↦ inl (ap kind_of asks) | inr asks ↦ inr (ap kind_of asks) ])
 
   label_is : (p : ℕ) (mode : Mode) → label_after t p mode c ≡ label_by mode c.label (label_of t p)
   label_is p Plain = refl
@@ -155,19 +147,7 @@ module _ (k : KernelState) (sound : IsSound k) (t : TaskNo) (n p : ℕ) (mode : 
   Comes done = IsForward t n p mode change k (and_event done)
 
   unheld : ((c : Call) → IsHeld t k n c → ⊥) → Comes (refusal k enoent)
-  unheld none = inl (record {
-    unheld = none;
-    refusal = record {
-      told = refl;
-      nothing = record {
-        event = record { counted = refl; alive = refl; tasks = refl };
-        phones = λ u q. refl;
-        calls = record { each = λ m. refl; numbers = refl; arrivals = refl };
-        memory = refl;
-        entries = refl;
-      };
-    };
-  })
+  unheld none = inl (record { unheld = none; refusal = refuses k enoent })
 
   module _ (c : Call) (is : call_at k.calls n ≡ Some c) where
     module _ (at : c.place ≡ Dispatched t) (may : MayPass change c) where
@@ -182,11 +162,6 @@ module _ (k : KernelState) (sound : IsSound k) (t : TaskNo) (n p : ℕ) (mode : 
 
       by_phone : (o : Option PhoneState) → phone_at k t p ≡ o
           → Comes (forward_told k t p mode change (Some c) (as_forwarded n (callee_of o)))
-      by_phone None e = nowhere (λ u f. let g : None ≡ Some (Connected u) = sym e ∙ f in cc)
-      by_phone (Some Free) e = nowhere (λ u f. let g : Some Free ≡ Some (Connected u) = sym e ∙ f in cc)
-      by_phone (Some Connecting) e = nowhere (λ u f. let g : Some Connecting ≡ Some (Connected u) = sym e ∙ f in cc)
-      by_phone (Some HungUp) e = nowhere (λ u f. let g : Some HungUp ≡ Some (Connected u) = sym e ∙ f in cc)
-      by_phone (Some Slammed) e = nowhere (λ u f. let g : Some Slammed ≡ Some (Connected u) = sym e ∙ f in cc)
       by_phone (Some (Connected u)) e = inr (inr (inr (record {
         call = c;
         held = (is, at);
@@ -195,6 +170,7 @@ module _ (k : KernelState) (sound : IsSound k) (t : TaskNo) (n p : ℕ) (mode : 
         leads = e;
         passes = passed k sound t n c is at p mode change u;
       })))
+      by_phone _ e = nowhere (λ u leads. let f = sym e ∙ leads in cc)
 
     by_tests : (held may : Bool) → is_held t c ≡ held → is_forwardable change c ≡ may
         → Comes (forward_told k t p mode change (Some c) (as_forwarded n

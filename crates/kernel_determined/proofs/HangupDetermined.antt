@@ -15,13 +15,12 @@ use Rattle.ipc_ids.specs.Codes.{enoent, einval}
 use Rattle.call_slab.specs.declared.call.Call.{Call}
 use Rattle.call_slab.specs.declared.call.Place.{Place}
 use Rattle.call_slab.specs.declared.call.Place.TheVariants.{Incoming}
-use Rattle.answerbox.specs.Calls.{CallTable, call_at, enqueue}
+use Rattle.answerbox.specs.Calls.{CallTable, enqueue}
 use Rattle.phone_table.specs.Phones.{state_at}
 use Rattle.cleanup.specs.State.{KernelState, phone_at, with_state_at, Tasks, Transition}
 use Rattle.cleanup.specs.Serving.{Served, refusal, telling}
 use Rattle.cleanup.specs.Joins.{hangup_call, hang_up}
-use Rattle.cleanup.proofs.Keepers.{state_here, state_elsewhere}
-use Rattle.cleanup.proofs.Rows.{state_changed_at}
+use Rattle.cleanup.proofs.Keepers.{state_here}
 use Rattle.cleanup.proofs.Endings.{length_rows}
 use Rattle.cleanup.proofs.Lookups.{put_here, put_other}
 use Rattle.kernel_core.specs.HangingUp.{hangup_over}

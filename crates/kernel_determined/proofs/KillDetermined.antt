@@ -1,7 +1,5 @@
 -- A kill is determined by what is said of it.
-use Rattle.std.proofs.Common.{◌≡◌, ℕ, suc, ◌+◌, ◌-◌, ◌<◌, ◌≤◌, Bool, false, ◌⊎◌, inl, inr, List, [], ◌∷◌, length, None, Some, refl, sym, ap, subst, ◌∙◌, arith}
-use Rattle.std.specs.Prelude.{slice_get, unwrap_or}
-use Rattle.std.proofs.lemmas.Bool.{cases_eq, ne_eqb}
+use Rattle.std.proofs.Common.{◌≡◌, ℕ, ◌+◌, ◌<◌, ◌≤◌, ◌⊎◌, inl, inr, List, [], ◌∷◌, None, Some, sym, ap, subst, ◌∙◌, arith}
 use Rattle.ipc_ids.specs.declared.numbers.TaskNo.{TaskNo}
 use Rattle.ipc_ids.specs.declared.message.PhoneState.TheVariants.{Connected, Slammed}
 use Rattle.ipc_ids.specs.declared.entry.Entry.{Entry}
@@ -13,7 +11,7 @@ use Rattle.call_slab.specs.declared.call.Place.TheVariants.{Incoming, Dispatched
 use Rattle.address_space.specs.Memory.{Step, drop_area}
 use Rattle.address_space.specs.Sound as spaces
 use Rattle.address_space.proofs.Soundness.{sound_drop}
-use Rattle.cleanup.specs.State.{Tasks, KernelState, Transition, alive_in, phone_at, is_alive}
+use Rattle.cleanup.specs.State.{Tasks, KernelState, Transition, phone_at, is_alive}
 use Rattle.cleanup.proofs.Lookups.{same_call}
 use Rattle.kernel_laws.specs.CallCodes.{own_reply}
 use Rattle.kernel_laws.specs.Routes.{Leads, Stands}

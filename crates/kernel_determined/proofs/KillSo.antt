@@ -7,7 +7,7 @@ use Rattle.std.proofs.Math.ListN.{length-set}
 use Rattle.std.proofs.lemmas.Bool.{cases_eq, cases_lt, false≢true, ne_eqb, eq-eqb, eqb-true}
 use Rattle.ipc_ids.specs.declared.numbers.TaskNo.{TaskNo}
 use Rattle.ipc_ids.specs.declared.message.PhoneState.{PhoneState}
-use Rattle.ipc_ids.specs.declared.message.PhoneState.TheVariants.{Free, Connecting, Connected, HungUp, Slammed}
+use Rattle.ipc_ids.specs.declared.message.PhoneState.TheVariants.{Free, Connected, HungUp, Slammed}
 use Rattle.ipc_ids.specs.declared.entry.Entry.TheVariants as entry
 use Rattle.ipc_ids.specs.Codes.{ehangup}
 use Rattle.call_slab.specs.declared.call.Call.{Call}
@@ -35,13 +35,13 @@ use Rattle.cleanup.proofs.KilledPhones.{written_elsewhere}
 use Rattle.cleanup.proofs.Killing.{after_hangups, after_slams, after_incoming, after_dispatched, after_answers, after_calls, calls_steady}
 use Rattle.cleanup.proofs.Lookups.{same_call, put_here, put_other, gone_here, gone_other}
 use Rattle.cleanup.proofs.MarkChanges.{ended_here, alive_elsewhere}
-use Rattle.cleanup.proofs.Queues.{IsLive, stands_at, is_call_of, front_at, answered, IsUncalled, IsIdle, IsUnanswered, incoming_alone, incoming_settled, dispatched_uncalled, dispatched_settled, drop_idle, answers_dropped, forget_step, forget_unanswered, call_from, over_less, put_less, settle_less}
+use Rattle.cleanup.proofs.Queues.{IsLive, stands_at, is_call_of, front_at, answered, IsUncalled, IsIdle, IsUnanswered, incoming_alone, dispatched_uncalled, drop_idle, forget_step, forget_unanswered, call_from, over_less, put_less, settle_less}
 use Rattle.cleanup.proofs.Repeats as repeats
-use Rattle.cleanup.proofs.Silence.{with_marks, IsEnding, past_width, own_phones_hung_up, IsAlone, phones_slammed}
+use Rattle.cleanup.proofs.Silence.{with_marks, IsEnding, past_width, IsAlone}
 use Rattle.cleanup.proofs.SoundJoins.{incoming_pending, held_pending}
 use Rattle.cleanup.proofs.SoundMemory.{from_one}
 use Rattle.kernel_core.specs.Kernel.{kill_event}
-use Rattle.kernel_core.proofs.InEvent.{same_place-true}
+use Rattle.kernel_core.proofs.InEvent.{same_place-true, same_task}
 use Rattle.kernel_laws.specs.MemoryLaws.{Has, HasAt, Drops}
 use Rattle.kernel_laws.specs.Routes.{Leads, Stands}
 use Rattle.kernel_laws.proofs.KillRoutes.{is_there}
@@ -57,12 +57,9 @@ use Rattle.kernel_determined.proofs.DropDetermined.{drop_is_whole, one_place}
 use Rattle.kernel_determined.proofs.LeastSo.{least_number, least_area}
 use Rattle.kernel_determined.proofs.KillDetermined.{kill_is_determined}
 use Rattle.kernel_laws.proofs.Places.{stands_true}
-
-none_some : {A : Type 0} (o : Option A) (x : A) → o ≡ None → o ≡ Some x → ⊥
-none_some o x a b = cc
-
-no_of : (u v : TaskNo) → u.0 ≡ v.0 → u ≡ v
-no_of u v e = ap (λ n. let r : TaskNo = record { 0 = n } in r) e
+use Rattle.std.proofs.lemmas.Option.{none-some, slice_get_past}
+use Rattle.kernel_laws.proofs.KilledCalls.{leaves_other}
+use Rattle.kernel_laws.proofs.KillParts.{alone_then, uncalled_then, idle_then, unanswered_then}
 
 -- ---- the phones of the task
 
@@ -122,11 +119,6 @@ module _ (t : TaskNo) where
 
   slams : (u : TaskNo) (k : KernelState) (p : ℕ) (o : Option PhoneState) → phone_at k u p ≡ o
       → Slams u k p (slam t u k p o)
-  slams u k p None is = inr (λ x. let e : None ≡ Some (Connected t) = sym is ∙ x in cc, refl)
-  slams u k p (Some Free) is = inr (λ x. let e : Some Free ≡ Some (Connected t) = sym is ∙ x in cc, refl)
-  slams u k p (Some Connecting) is = inr (λ x. let e : Some Connecting ≡ Some (Connected t) = sym is ∙ x in cc, refl)
-  slams u k p (Some HungUp) is = inr (λ x. let e : Some HungUp ≡ Some (Connected t) = sym is ∙ x in cc, refl)
-  slams u k p (Some Slammed) is = inr (λ x. let e : Some Slammed ≡ Some (Connected t) = sym is ∙ x in cc, refl)
   slams u k p (Some (Connected v)) is = repeats.by_test (Slams u k p) (v.0 == t.0) _ _ it other where
     elsewhere : (q : ℕ) → (q ≡ p → ⊥) → phone_at (with_phone k u p Slammed) u q ≡ phone_at k u q
     elsewhere q ne = written_elsewhere k.tasks.phones u.0 p u.0 q Slammed (λ e. ne e.1)
@@ -134,7 +126,7 @@ module _ (t : TaskNo) where
     it : (v.0 == t.0) ≡ true
         → Slams u k p (record { state = with_phone k u p Slammed; entries = entry.PhoneIs (label_of u p) Slammed ∷ [] })
     it e = inl (record {
-      so = is ∙ ap (λ (w : TaskNo). Some (Connected w)) (no_of v t (eqb-true v.0 t.0 e));
+      so = is ∙ ap (λ (w : TaskNo). Some (Connected w)) (same_task v t (eqb-true v.0 t.0 e));
       back = λ q ne x. sym (elsewhere q ne) ∙ x;
       forth = λ q ne x. elsewhere q ne ∙ x;
       turn = record {
@@ -155,6 +147,7 @@ module _ (t : TaskNo) where
           false≢true (sym ne ∙ eq-eqb v.0 t.0 (ap (λ (w : TaskNo). w.0) one)),
       refl,
     )
+  slams u k p o is = inr (λ x. let e = sym is ∙ x in cc, refl)
 
   slams_of : (u : TaskNo) (k : KernelState) → SlamsOf t k u (slam_phones_of t u k).state (slam_phones_of t u k).entries
   slams_of u k = same_turns _ (λ p. Leads k u p t) ◌<◌ (SlamsPhone u) k _ _ (λ p f. f.3)
@@ -162,7 +155,7 @@ module _ (t : TaskNo) where
       (all_done (λ j p. Leads j u p t) ◌<◌ (SlamsPhone u) (slam_at t u) (λ p. p) (λ i j less. less)
       (λ i j less e. omega (arith, less, e))
       (λ j. ⊤) (λ j i h. h) (λ j p h. slams u j p (phone_at j u p) refl) (width k.tasks.phones u.0) 0 k tt
-      (λ p far so. none_some (phone_at k u p) (Connected t) (past_width k.tasks.phones u.0 p (omega (arith, far))) so))
+      (λ p far so. none-some (Connected t) (sym (past_width k.tasks.phones u.0 p (omega (arith, far))) ∙ so)))
 
   -- there are as many tasks
   slam_many : (n : ℕ) (u : TaskNo) (k : KernelState) (p : ℕ) (o : Option PhoneState) → length k.tasks.phones ≡ n
@@ -179,13 +172,8 @@ module _ (t : TaskNo) where
   -- past the last task there is no phone
   no_width : (rows : List (List PhoneState)) (i : ℕ) → length rows ≤ i → width rows (i + 1) ≡ 0
   no_width rows i far = by (row_at rows (i + 1)) none where
-    past : (xs : List (List PhoneState)) (j : ℕ) → length xs ≤ j → slice_get xs j ≡ None
-    past [] j h = refl
-    past (x ∷ xs) zero h = absurd (omega (arith, h))
-    past (x ∷ xs) (suc j) h = past xs j (omega (arith, h))
-
     none : row_at rows (i + 1) ≡ None
-    none = let last : i + 1 - 1 ≡ i = omega arith in rw (ne_eqb (i + 1) 0 (λ e. omega arith), last) (past rows i far)
+    none = let last : i + 1 - 1 ≡ i = omega arith in rw (ne_eqb (i + 1) 0 (λ e. omega arith), last) (slice_get_past rows i far)
 
     by : (o : Option (List PhoneState)) → o ≡ None → option_map_or (λ row. length row) o 0 ≡ 0
     by None e = refl
@@ -224,7 +212,7 @@ module _ (t : TaskNo) where
   pub slams_others : (k : KernelState) → SlamsOthers t k (slam_phones_to t k).state (slam_phones_to t k).entries
   slams_others k = same_turns _ (IsOther t k) IsOlder (SlamsOf t) k _ _ (λ u f. f.3)
       (λ u so. let some = so.from_one in
-      (u.0 - 1, omega arith, no_of u (task_no (u.0 - 1 + 1)) (omega (arith, some)), so))
+      (u.0 - 1, omega arith, same_task u (task_no (u.0 - 1 + 1)) (omega (arith, some)), so))
       (all_done (IsOther t) IsOlder (SlamsOf t) (slam_other t) (λ i. task_no (i + 1)) (λ i j less. omega (arith, less))
       (λ i j less e. let f : j + 1 ≡ i + 1 = ap (λ (u : TaskNo). u.0) e in omega (arith, less, f))
       (λ j. ⊤) (λ j i h. h) (λ j i h. others j i) (length k.tasks.phones) 0 k tt
@@ -300,24 +288,19 @@ module _ (marks : List Bool) (place : Place) (pending : (c : Call) → stands_at
 
   settle_others : (k : KernelState) (c : Call) (m : ℕ) → (m ≡ c.number.0 → ⊥)
       → call_at (settle_call k c).state.calls m ≡ call_at k.calls m
-  settle_others k c m ne = by_caller c.caller (lives k c.caller) where
-    by_caller : (o : Option TaskNo) (b : Bool)
-        → call_at (settle_for k c (bare_reply ehangup) None o b).state.calls m ≡ call_at k.calls m
-    by_caller None b = gone_other k.calls c.number.0 m (λ e. ne (sym e))
-    by_caller (Some u) false = gone_other k.calls c.number.0 m (λ e. ne (sym e))
-    by_caller (Some u) true = put_other k.calls c.number.0 m _ (λ e. ne (sym e))
+  settle_others k c m ne = leaves_other m k c c.caller (lives k c.caller) (λ e. ne (sym e))
 
   settle_away : (k : KernelState) (c d : Call) → call_at (settle_call k c).state.calls c.number.0 ≡ Some d
       → d.place ≡ place → ⊥
   settle_away k c d = by_caller c.caller (lives k c.caller) where
     by_caller : (o : Option TaskNo) (b : Bool)
         → call_at (settle_for k c (bare_reply ehangup) None o b).state.calls c.number.0 ≡ Some d → d.place ≡ place → ⊥
-    by_caller None b is at = none_some _ d (gone_here k.calls c.number.0 c.number.0 refl) is
-    by_caller (Some u) false is at = none_some _ d (gone_here k.calls c.number.0 c.number.0 refl) is
-    by_caller (Some u) true is at =
-        let here = put_here k.calls c.number.0 c.number.0 (answered k c u) refl in
-        let same : answered k c u ≡ d = same_call (answered k c u) d (sym here ∙ is) in
-        let there : Answers u ≡ place = ap (λ (x : Call). x.place) same ∙ at in
+    by_caller None b is here = none-some d (sym (gone_here k.calls c.number.0 c.number.0 refl) ∙ is)
+    by_caller (Some u) false is here = none-some d (sym (gone_here k.calls c.number.0 c.number.0 refl) ∙ is)
+    by_caller (Some u) true is here =
+        let now = put_here k.calls c.number.0 c.number.0 (answered k c u) refl in
+        let same : answered k c u ≡ d = same_call (answered k c u) d (sym now ∙ is) in
+        let there : Answers u ≡ place = ap (λ (x : Call). x.place) same ∙ here in
         false≢true (sym (moved u) ∙ stands_true place (Answers u) there)
 
   settles_turn : (k : KernelState) (c : Call) → I k → front k.calls place ≡ Some c
@@ -362,7 +345,7 @@ module _ (marks : List Bool) (t : TaskNo) where
       record {
         next = leaves marks k (ending_of k i) (Answers t) c is (without_call k.calls c.number.0)
             (λ m ne. gone_other k.calls c.number.0 m (λ e. ne (sym e)))
-            (λ d there at. none_some _ d (gone_here k.calls c.number.0 c.number.0 refl) there);
+            (λ d there stands. none-some d (sym (gone_here k.calls c.number.0 c.number.0 refl) ∙ there));
         turn = drops marks t k (ending_of k i) c f.0 (same_place-true c.place (Answers t) f.1);
       }
 
@@ -384,7 +367,7 @@ module _ (marks : List Bool) (t : TaskNo) where
 
   made_by : (o : Option TaskNo) → is_caller t o ≡ true → o ≡ Some t
   made_by None h = absurd (cc h)
-  made_by (Some u) h = ap Some (no_of u t (eqb-true u.0 t.0 h))
+  made_by (Some u) h = ap Some (same_task u t (eqb-true u.0 t.0 h))
 
   is_made : (o : Option TaskNo) → o ≡ Some t → is_caller t o ≡ true
   is_made o e = ap (is_caller t) e ∙ eq-eqb t.0 t.0 refl
@@ -463,7 +446,7 @@ module _ (marks : List Bool) (t : TaskNo) where
 module _ (t : TaskNo) (some : 1 ≤ t.0) where
   no_areas : (k : KernelState) → areas_of k.memory t ≡ [] → (base : ℕ) → HasBase t k base → ⊥
   no_areas k none base h =
-      none_some (slice_get (areas_of k.memory t) h.1.has.0) h.0 (ap (λ areas. slice_get areas h.1.has.0) none) h.1.has.1
+      none-some h.0 (sym (ap (λ areas. slice_get areas h.1.has.0) none) ∙ h.1.has.1)
 
   module _ (k : KernelState) (sound : spaces.IsSound k.memory) (base : ℕ) (is : first_area k.memory t ≡ Some base) where
     abbrev step : Step Unit
@@ -579,28 +562,15 @@ module _ (k : KernelState) (t : TaskNo) (sound : IsSound k) (alive : is_alive k 
   abbrev dead : KernelState
   dead = mark_ended k t
 
-  alone_then : IsAlone marks t (after_slams t k)
-  alone_then = phones_slammed marks t (after_hangups t k)
-      (own_phones_hung_up marks t dead alive (record { sound = sound }))
-
-  uncalled_then : IsUncalled marks t (after_incoming t k)
-  uncalled_then = incoming_settled marks t (after_slams t k) alone_then
-
-  idle_then : IsIdle marks t (after_dispatched t k)
-  idle_then = dispatched_settled marks t (after_incoming t k) uncalled_then
-
-  unanswered_then : IsUnanswered marks t (after_answers t k)
-  unanswered_then = answers_dropped marks t (after_dispatched t k) idle_then
-
   incoming_is : SettlesAll (Incoming t) (after_slams t k) (after_incoming t k)
       (settle_incoming t (after_slams t k)).entries
   incoming_is = settles_all marks (Incoming t) (λ c at. incoming_pending c.place t at) (λ u. refl) (IsAlone marks t)
-      (λ j i. i.silent.ending) (incoming_alone marks t) (after_slams t k) alone_then
+      (λ j i. i.silent.ending) (incoming_alone marks t) (after_slams t k) (alone_then k t sound alive)
 
   dispatched_is : SettlesAll (Dispatched t) (after_incoming t k) (after_dispatched t k)
       (settle_dispatched t (after_incoming t k)).entries
   dispatched_is = settles_all marks (Dispatched t) (λ c at. held_pending c.place t at) (λ u. refl) (IsUncalled marks t)
-      (λ j i. i.alone.silent.ending) (dispatched_uncalled marks t) (after_incoming t k) uncalled_then
+      (λ j i. i.alone.silent.ending) (dispatched_uncalled marks t) (after_incoming t k) (uncalled_then k t sound alive)
 
   ends_calls : EndsCalls t dead (after_calls t k) (end_phones_and_calls t dead).entries
   ends_calls = (
@@ -626,10 +596,10 @@ module _ (k : KernelState) (t : TaskNo) (sound : IsSound k) (alive : is_alive k 
         dispatched_is,
         refl,
       ),
-      drops_answers marks t (after_dispatched t k) idle_then,
+      drops_answers marks t (after_dispatched t k) (idle_then k t sound alive),
       refl,
     ),
-    forgets_calls marks t (after_answers t k) unanswered_then,
+    forgets_calls marks t (after_answers t k) (unanswered_then k t sound alive),
     refl,
   )
 

@@ -9,7 +9,7 @@ use Rattle.ipc_ids.specs.declared.message.Request.TheVariants as request
 use Rattle.address_space.specs.declared.area.Right.TheVariants.{Read}
 use Rattle.address_space.specs.Areas.{Area, holder}
 use Rattle.address_space.specs.Memory.{Memory, Step, areas_of, write, peek}
-use Rattle.cleanup.specs.State.{Tasks, KernelState}
+use Rattle.cleanup.specs.State.{KernelState}
 use Rattle.cleanup.specs.Sound.{IsSound}
 use Rattle.cleanup.specs.Serving.{Served}
 use Rattle.kernel_core.specs.Kernel.{serve}
@@ -19,7 +19,7 @@ use Rattle.kernel_laws.proofs.OneArea.{found_readable, none_readable}
 use Rattle.kernel_laws.proofs.LawfulReads.{peek_is_lawful}
 use Rattle.kernel_laws.proofs.MemoryRequests.{tells, tells_bytes, written_is}
 use Rattle.kernel_determined.specs.MemoryLaw.{IsPoke, IsPeek}
-use Rattle.kernel_determined.proofs.Same.{state_same, served_same, leaves_same}
+use Rattle.kernel_determined.proofs.Same.{leaves_same}
 use Rattle.kernel_determined.proofs.WriteDetermined.{write_is_determined}
 use Rattle.kernel_determined.proofs.TakesSo.{write_is_whole}
 use Rattle.kernel_determined.proofs.ChecksDetermined.{bytes_read_same}

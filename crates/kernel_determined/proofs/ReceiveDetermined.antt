@@ -1,5 +1,5 @@
 -- A receive is determined by what is said of it.
-use Rattle.std.proofs.Common.{◌≡◌, ℕ, zero, suc, ◌+◌, ◌<◌, ◌≤◌, ◌⊎◌, inl, inr, List, [], ◌∷◌, ◌++◌, length, Option, None, Some, refl, sym, ap, subst, ◌∙◌, arith}
+use Rattle.std.proofs.Common.{◌≡◌, ℕ, ◌<◌, ◌≤◌, ◌⊎◌, inl, inr, List, [], ◌∷◌, ◌++◌, length, Option, None, Some, refl, sym, ap, subst, ◌∙◌, arith}
 use Rattle.std.specs.Prelude.{slice_get}
 use Rattle.std.proofs.lemmas.Bool.{cases_eq, cases_lt}
 use Rattle.ipc_ids.specs.declared.numbers.Label.{Label}
@@ -23,7 +23,7 @@ use Rattle.kernel_laws.specs.ReceiveLaws.{IsFirst, HasNone}
 use Rattle.kernel_determined.specs.Frames.{PhoneComesTo, HasFifth, CameBefore}
 use Rattle.kernel_determined.specs.SettleLaw.{DropsAnswer}
 use Rattle.kernel_determined.specs.ReceiveLaw.{IsDropped, Delivers, DeliversBytes, DeliversRefusal, DeliversPhone, IsDelivery, Receives, ReceivesWithPhone, ReceivesWithout, IsReception, IsAnswerAt, IsWaitingAt, TakesAnswer, TakesCall, Takes, with_entries, IsReceive}
-use Rattle.kernel_determined.proofs.Same.{list_same, table_same, state_same, served_same, one_changed}
+use Rattle.kernel_determined.proofs.Same.{list_same, state_same, served_same, one_changed}
 use Rattle.kernel_determined.proofs.OneOrder.{came_apart, IsDetermined, each_same, each_keeps}
 use Rattle.kernel_determined.proofs.SettleDetermined.{drop_same}
 use Rattle.kernel_determined.proofs.WriteDetermined.{write_is_determined}

@@ -24,11 +24,9 @@ use Rattle.kernel_determined.proofs.SettleSo.{drops}
 use Rattle.cleanup.proofs.Repeats.{drain_keeps}
 use Rattle.kernel_laws.proofs.Places.{stands_true}
 use Rattle.kernel_core.proofs.InEvent.{same_place-true}
+use Rattle.std.proofs.lemmas.Option.{none-some}
 
 -- ---- what is dropped
-
-none_is_some : {A : Type 0} (o : Option A) (x : A) → o ≡ None → o ≡ Some x → ⊥
-none_is_some o x a b = cc
 
 -- an answer that stands first, and is awaited
 first_awaited : (x : Call) → unawaited (Some x) ≡ None → x.discard ≡ false
@@ -97,7 +95,7 @@ module _ (t : TaskNo) where
     was : (n : ℕ) (d : Call) → call_at next_state.calls n ≡ Some d → (n ≡ x.number.0 → ⊥) × (call_at j.calls n ≡ Some d)
     was n d live = by (cases_eq x.number.0 n) where
       by : (x.number.0 ≡ n) ⊎ (x.number.0 ≡ n → ⊥) → (n ≡ x.number.0 → ⊥) × (call_at j.calls n ≡ Some d)
-      by (inl e) = absurd (none_is_some (call_at next_state.calls n) d (gone_here j.calls x.number.0 n e) live)
+      by (inl e) = absurd (none-some d (sym (gone_here j.calls x.number.0 n e) ∙ live))
       by (inr ne) = (λ e. ne (sym e), sym (gone_other j.calls x.number.0 n ne) ∙ live)
 
     is_still : (n : ℕ) (d : Call) → call_at j.calls n ≡ Some d → (n ≡ x.number.0 → ⊥)

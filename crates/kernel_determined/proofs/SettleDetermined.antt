@@ -12,14 +12,14 @@ use Rattle.ipc_ids.specs.declared.entry.Entry.TheVariants as entry
 use Rattle.ipc_ids.specs.Methods.{connect_to_me, connect_me_to}
 use Rattle.call_slab.specs.declared.call.Call.{Call}
 use Rattle.call_slab.specs.declared.call.Place.{Place}
-use Rattle.call_slab.specs.declared.call.Place.TheVariants.{Incoming, Dispatched, Answers}
-use Rattle.answerbox.specs.Calls.{CallTable, call_at}
+use Rattle.call_slab.specs.declared.call.Place.TheVariants.{Answers}
+use Rattle.answerbox.specs.Calls.{CallTable}
 use Rattle.cleanup.specs.State.{KernelState, phone_at}
 use Rattle.cleanup.proofs.Lookups.{same_call}
 use Rattle.kernel_laws.specs.Connecting.{IsUnconnected}
 use Rattle.kernel_determined.specs.Frames.{MayCome, Moves, IsOver, IsNow}
 use Rattle.kernel_determined.specs.SettleLaw.{IsGivenBack, IsKeptFor, IsAnswered, IsEnded, IsSettled, IsKeptAtAnswer, DropsAnswer}
-use Rattle.kernel_determined.proofs.Same.{table_same, one_changed}
+use Rattle.kernel_determined.proofs.Same.{one_changed}
 use Rattle.kernel_determined.proofs.HangupDetermined.{stay_same, come_same, AreAlike, step_same}
 
 module _ (q a b : CallTable) (n : ℕ) where

@@ -2,18 +2,17 @@
 use Rattle.std.proofs.Common.{◌≡◌, ℕ, zero, suc, ◌-◌, ◌<◌, Bool, true, false, inl, inr, List, [], ◌∷◌, length, set, Option, None, Some, refl, sym, ap, subst, ◌∙◌, arith}
 use Rattle.std.specs.Prelude.{◌==◌, if◌then◌else◌, slice_get, slice_set, IsSome}
 use Rattle.std.specs.Option.{option_map_or, option_to_list}
-use Rattle.std.specs.Ordering.{nat_cmp, eq_by_cmp}
+use Rattle.std.specs.Ordering.{nat_cmp}
 use Rattle.std.specs.Cmp.{nat_cmp_total}
 use Rattle.std.specs.FinMap.{FinMap, get, insert, get-insert}
 use Rattle.std.proofs.Math.ListN.{length-set}
 use Rattle.std.proofs.lemmas.Bool.{cases_eq, false≢true}
-use Rattle.std.proofs.lemmas.Bool.Decides.{nat_tests}
 use Rattle.ipc_ids.specs.declared.numbers.Code.{Code}
 use Rattle.ipc_ids.specs.declared.numbers.Label.{Label}
 use Rattle.ipc_ids.specs.declared.numbers.TaskNo.{TaskNo}
 use Rattle.ipc_ids.specs.declared.numbers.StoreNo.{StoreNo}
 use Rattle.ipc_ids.specs.declared.message.Reply.{Reply}
-use Rattle.ipc_ids.specs.declared.message.PhoneState.TheVariants.{Free, Connecting, HungUp}
+use Rattle.ipc_ids.specs.declared.message.PhoneState.TheVariants.{Free, Connecting}
 use Rattle.ipc_ids.specs.declared.message.Request.TheVariants as request
 use Rattle.ipc_ids.specs.declared.message.Outcome.TheVariants as outcome
 use Rattle.address_space.specs.Sound as spaces
@@ -33,13 +32,12 @@ use Rattle.address_space.specs.Stores.{written_over, write_at}
 use Rattle.address_space.specs.Memory.{Memory, Step, areas_of, spot_in, write_spot, write}
 use Rattle.address_space.specs.Areas.{Area, holder}
 use Rattle.address_space.specs.declared.area.Right.TheVariants.{Write}
-use Rattle.cleanup.specs.State.{KernelState, phone_at}
+use Rattle.cleanup.specs.State.{KernelState, label_of}
 use Rattle.cleanup.specs.Sound.{IsSound, IsReservedAt}
-use Rattle.cleanup.specs.Kept.{keeper_of, kept_of, kept_phone, kept_rows, kept_note, phone_of, accepts, who_keeps, first_usable_of}
+use Rattle.cleanup.specs.Kept.{keeper_of, kept_phone, kept_rows, kept_note, phone_of, accepts, who_keeps, first_usable_of, with_kept}
 use Rattle.cleanup.specs.Data.{code_told, delivered_read}
 use Rattle.cleanup.specs.Joins.{delivery, reception, with_delivery}
 use Rattle.cleanup.specs.Serving.{Handed, Served, as_it_is}
-use Rattle.cleanup.proofs.Endings.{length_rows}
 use Rattle.cleanup.proofs.Keepers.{state_here}
 use Rattle.cleanup.proofs.KilledPhones.{written_elsewhere}
 use Rattle.cleanup.proofs.Lookups.{put_here, put_other, gone_here, gone_other}
@@ -49,35 +47,38 @@ use Rattle.kernel_core.specs.Receiving.{drop_unawaited, receive_first, receive_n
 use Rattle.kernel_core.specs.Kernel.{and_event, serve}
 use Rattle.kernel_laws.specs.DataLaws.{code_after, first, IsBrought}
 use Rattle.kernel_laws.specs.ReceiveLaws.{IsFirst, HasNone}
-use Rattle.kernel_laws.specs.UsablePhones.{IsUsable}
-use Rattle.kernel_laws.proofs.AnswerWords.{is_brought, brings, same_reply, same_told, accepts_eok}
+use Rattle.kernel_laws.proofs.AnswerWords.{is_brought, brings, same_told, accepts_eok}
 use Rattle.kernel_laws.proofs.Methods.{method_of}
 use Rattle.kernel_laws.proofs.UsablePhones.{own_phone, own, usable_one, least_one, none_is}
-use Rattle.kernel_laws.proofs.KillRoutes.{is_there}
 use Rattle.kernel_laws.proofs.LawfulWrites.{write_is_lawful}
 use Rattle.kernel_laws.proofs.MemoryRequests.{written_is}
 use Rattle.kernel_determined.specs.Frames.{PhonesStay, HasFifth}
 use Rattle.kernel_determined.specs.MemoryLaw.{IsWholeWrite}
-use Rattle.kernel_determined.specs.ReceiveLaw.{Delivers, IsDelivery, IsReception, IsAnswerAt, IsWaitingAt, Takes, IsReceive}
+use Rattle.kernel_determined.specs.ReceiveLaw.{Delivers, IsDelivery, IsReception, IsAnswerAt, IsWaitingAt, Takes, IsReceive, Receives}
 use Rattle.kernel_determined.proofs.ReceiveSo.{unawaited_dropped, unawaited_sound}
 use Rattle.kernel_determined.proofs.ReceiveDetermined.{receive_is_determined}
 use Rattle.kernel_laws.proofs.Places.{stands_true}
 use Rattle.kernel_core.proofs.InEvent.{same_place-true}
 use Rattle.kernel_core.proofs.KindsOfCalls.{same_code}
+use Rattle.std.proofs.lemmas.Option.{none-some, slice_get-get_or}
+use Rattle.std.proofs.lemmas.List.{get_or-set_same}
+use Rattle.answerbox.proofs.Counts.{ties}
+use Rattle.answerbox.proofs.Chain.{other_key}
+use Rattle.kernel_determined.proofs.SettleSo.{as_many, kept_at, usable_there}
+use Rattle.kernel_determined.proofs.HangupDetermined.{nothing_is_so}
 
 -- ---- arguments
 
 set_here : (xs : List ℕ) (i n : ℕ) → i < length xs → slice_get (set xs i n) i ≡ Some n
-set_here [] i n few = absurd (omega (arith, few))
-set_here (x ∷ xs) zero n few = refl
-set_here (x ∷ xs) (suc i) n few = set_here xs i n (omega (arith, few))
+set_here xs i n few =
+    let many = length-set xs i n in
+    slice_get-get_or (set xs i n) i n (omega (arith, few, many)) ∙ ap Some (get_or-set_same xs i n n few)
 
 set_there : (xs : List ℕ) (i j n : ℕ) → (j ≡ i → ⊥) → slice_get (set xs i n) j ≡ slice_get xs j
 set_there [] i j n ne = refl
 set_there (x ∷ xs) zero zero n ne = absurd (ne refl)
-set_there (x ∷ xs) zero (suc j) n ne = refl
-set_there (x ∷ xs) (suc i) zero n ne = refl
 set_there (x ∷ xs) (suc i) (suc j) n ne = set_there xs i j n (λ e. ne (ap suc e))
+set_there (x ∷ xs) _ _ n ne = refl
 
 pub has_fifth : (n : ℕ) (xs : List ℕ) → HasFifth n xs (slice_set xs 4 n)
 has_fifth n xs = record { many = length-set xs 4 n; fifth = set_here xs 4 n; others = λ i ne. set_there xs 4 i n ne }
@@ -86,15 +87,10 @@ has_fifth n xs = record { many = length-set xs 4 n; fifth = set_here xs 4 n; oth
 
 module _ (stores : FinMap nat_cmp (List ℕ)) (n : ℕ) (bytes : List ℕ) where
   put_there : get (insert stores n bytes) n ≡ Some bytes
-  put_there = let same : eq_by_cmp nat_cmp n n ≡ true = grind (arith, nat_tests) in
-      get-insert nat_cmp_total stores n bytes n ∙ rw same refl
+  put_there = get-insert nat_cmp_total stores n bytes n ∙ rw (ties n) refl
 
   pub put_elsewhere : (q : ℕ) → (q ≡ n → ⊥) → get (insert stores n bytes) q ≡ get stores q
-  put_elsewhere q ne = let other : eq_by_cmp nat_cmp q n ≡ false = grind (arith, nat_tests, ne) in
-      get-insert nat_cmp_total stores n bytes q ∙ rw other refl
-
-none_some : {A : Type 0} (o : Option A) (x : A) → o ≡ None → o ≡ Some x → ⊥
-none_some o x a b = cc
+  put_elsewhere q ne = get-insert nat_cmp_total stores n bytes q ∙ rw (other_key q n ne) refl
 
 -- no store comes and none goes
 KeepsStores : FinMap nat_cmp (List ℕ) → FinMap nat_cmp (List ℕ) → Type 0
@@ -110,13 +106,12 @@ write_keeps stores n at new = by_store (get stores n) refl where
   by_store None is = (λ q h. h, λ q h. h)
   by_store (Some bytes) is = (
     λ q none. elim (cases_eq q n) [
-      | inl e ↦ absurd (none_some (get stores q) bytes none (ap (get stores) e ∙ is))
+      | inl e ↦ absurd (none-some bytes (sym none ∙ ap (get stores) e ∙ is))
       | inr ne ↦ put_elsewhere stores n (written_over bytes at new) q ne ∙ none
     ],
     λ q none. elim (cases_eq q n) [
-      | inl e ↦ absurd (none_some (get (insert stores n (written_over bytes at new)) n) (written_over bytes at new)
-          (ap (get (insert stores n (written_over bytes at new))) (sym e) ∙ none)
-          (put_there stores n (written_over bytes at new)))
+      | inl e ↦ absurd (none-some (written_over bytes at new) (sym none
+          ∙ ap (get (insert stores n (written_over bytes at new))) e ∙ put_there stores n (written_over bytes at new)))
       | inr ne ↦ sym (put_elsewhere stores n (written_over bytes at new) q ne) ∙ none
     ],
   )
@@ -142,50 +137,30 @@ module _ (t : TaskNo) (j : KernelState) (sound : IsSound j) (c : Call) (is : cal
   abbrev Given : Reply → Served
   Given reply = and_event (delivery t (with_delivery j c reply))
 
+  -- it is delivered, and the phone that was kept for it, where there is one, is free
+  delivers : (o : Option Label) → kept_phone c ≡ o → (reply : Reply)
+      → Delivers t j c reply j.memory (option_to_list (kept_note o Free)) (Given reply)
+  delivers o e reply = record {
+    told = refl;
+    event = record { counted = refl; alive = refl; tasks = as_many j.tasks.phones (kept_phone c) Free };
+    gone = gone_here j.calls c.number.0 c.number.0 refl;
+    others = λ n ne. gone_other j.calls c.number.0 n (λ s. ne (sym s));
+    numbers = refl;
+    arrivals = refl;
+    memory_after = refl;
+    entries = ap (λ (x : Option Label). entry.Delivered c.number t ∷ option_to_list (kept_note x Free)) e;
+  }
+
   module _ (e : kept_phone c ≡ None) where
     stays : (reply : Reply) → PhonesStay j (Given reply).state
     stays reply u q = ap (λ (o : Option Label). state_at (kept_rows j.tasks.phones o Free) u.0 q) e
 
-    given : (reply : Reply) → Delivers t j c reply j.memory [] (Given reply)
-    given reply = record {
-      told = refl;
-      event = record {
-        counted = refl;
-        alive = refl;
-        tasks = ap (λ (o : Option Label). length (kept_rows j.tasks.phones o Free)) e;
-      };
-      gone = gone_here j.calls c.number.0 c.number.0 refl;
-      others = λ n ne. gone_other j.calls c.number.0 n (λ s. ne (sym s));
-      numbers = refl;
-      arrivals = refl;
-      memory_after = refl;
-      entries = ap (λ (o : Option Label). entry.Delivered c.number t ∷ option_to_list (kept_note o Free)) e;
-    }
-
     as_given : (reply : Reply) → reply ≡ c.reply → (IsBrought c → ⊥)
         → (c.request.method ≡ connect_me_to → c.reserved ≡ None) → IsDelivery t j c (Given reply)
     as_given reply same bare unkept = subst (λ (r : Reply). IsDelivery t j c (Given r)) (sym same)
-        (inr (inr (inr (record { bare = bare; unkept = unkept; phones = stays c.reply; delivers = given c.reply }))))
+        (inr (inr (inr (record { bare = bare; unkept = unkept; phones = stays c.reply; delivers = delivers None e c.reply }))))
 
   module _ (l : Label) (e : kept_phone c ≡ Some l) (there : IsSome (state_at j.tasks.phones l.task.0 l.phone.0)) where
-    freed : Delivers t j c c.reply j.memory (entry.PhoneIs l Free ∷ []) (Given c.reply)
-    freed = record {
-      told = refl;
-      event = record {
-        counted = refl;
-        alive = refl;
-        tasks =
-            ap (λ (o : Option Label). length (kept_rows j.tasks.phones o Free)) e
-            ∙ length_rows j.tasks.phones l.task.0 l.phone.0 Free;
-      };
-      gone = gone_here j.calls c.number.0 c.number.0 refl;
-      others = λ n ne. gone_other j.calls c.number.0 n (λ s. ne (sym s));
-      numbers = refl;
-      arrivals = refl;
-      memory_after = refl;
-      entries = ap (λ (o : Option Label). entry.Delivered c.number t ∷ option_to_list (kept_note o Free)) e;
-    }
-
     refused : c.request.method ≡ connect_me_to → c.reserved ≡ Some l → (c.reply.code ≡ eok → ⊥)
         → IsDelivery t j c (Given c.reply)
     refused asks kept no_eok = inr (inl (record {
@@ -198,14 +173,8 @@ module _ (t : TaskNo) (j : KernelState) (sound : IsSound j) (c : Call) (is : cal
         others = λ u q ne. ap (λ (o : Option Label). state_at (kept_rows j.tasks.phones o Free) u.0 q) e
             ∙ written_elsewhere j.tasks.phones l.task.0 l.phone.0 u.0 q Free ne;
       };
-      delivers = freed;
+      delivers = delivers (Some l) e c.reply;
     }))
-
-  -- the phone that it keeps, by the kind of its method
-  kept_is : (kind : MethodKind) → kind_of c.request.method ≡ kind
-      → kept_phone c ≡ kept_of (keeper_of kind) c.from.task (Answers t) c.reply.code c.reserved
-  kept_is kind e = ap (λ m. kept_of (keeper_of m) c.from.task c.place c.reply.code c.reserved) e
-      ∙ ap (λ p. kept_of (keeper_of kind) c.from.task p c.reply.code c.reserved) at
 
   module _ (bare : IsBrought c → ⊥) where
     -- a CONNECT_ME_TO
@@ -216,7 +185,7 @@ module _ (t : TaskNo) (j : KernelState) (sound : IsSound j) (c : Call) (is : cal
 
       kept_by : (b : Bool) (o : Option Label) → accepts c.reply.code ≡ b → c.reserved ≡ o
           → kept_phone c ≡ (if b then None else phone_of c.from.task o)
-      kept_by b o p q = kept_is ConnectMeTo kind ∙ ap (λ x. if x then None else phone_of c.from.task c.reserved) p
+      kept_by b o p q = kept_at t c at ConnectMeTo kind ∙ ap (λ x. if x then None else phone_of c.from.task c.reserved) p
           ∙ ap (λ x. if b then None else phone_of c.from.task x) q
 
       reply_by : (b : Bool) (o : Option Label) → accepts c.reply.code ≡ b → c.reserved ≡ o
@@ -245,7 +214,7 @@ module _ (t : TaskNo) (j : KernelState) (sound : IsSound j) (c : Call) (is : cal
             args = slice_set c.reply.args 4 l.phone.0;
             names = has_fifth l.phone.0 c.reply.args;
             phones = stays (kept_by true (Some l) p q) (with_phone_named (Some l) c.reply);
-            delivers = given (kept_by true (Some l) p q) (with_phone_named (Some l) c.reply);
+            delivers = delivers None (kept_by true (Some l) p q) (with_phone_named (Some l) c.reply);
           }))))
       by_code false p (Some l) q =
           let s = (sound.calls.each c.number.0 c is).reserved in
@@ -255,15 +224,10 @@ module _ (t : TaskNo) (j : KernelState) (sound : IsSound j) (c : Call) (is : cal
           (refused l (kept_by false (Some l) p q ∙ own_phone c.from.task l mine) (s.there l q) asks q
           (λ e. false≢true (sym p ∙ accepts_eok c.reply.code e)))
 
-    plain : (kind : MethodKind) → kind_of c.request.method ≡ kind → (kind ≡ ConnectMeTo → ⊥)
-        → kept_of (keeper_of kind) c.from.task (Answers t) c.reply.code c.reserved ≡ None
-        → IsDelivery t j c (Given (reply_of kind c))
-    plain kind e ne none = as_given (kept_is kind e ∙ none) (reply_of kind c) (same_reply kind c ne) bare
-        (λ asks. absurd (ne (sym e ∙ ap kind_of asks)))
-
     by_kind : (kind : MethodKind) → kind_of c.request.method ≡ kind → IsDelivery t j c (Given (reply_of kind c))
     by_kind ConnectMeTo e = to_me e
-    by_kind kind e = plain kind e (λ f. cc f) refl
+    by_kind kind e = as_given (kept_at t c at kind e) (reply_of kind c) refl bare
+        (λ asks. absurd (let x : kind ≡ ConnectMeTo = sym e ∙ ap kind_of asks in cc))
 
   -- the bytes of a DATA_READ
   bytes : IsBrought c → IsDelivery t j c (and_event (delivery t (delivered_read j c t)))
@@ -303,6 +267,24 @@ module _ (t : TaskNo) (j : KernelState) (c : Call) where
   abbrev Received : Handed → Served
   Received h = and_event (reception t h)
 
+  -- task t holds it, and a phone of it, where there is one, waits
+  receives : (args : List ℕ) (o : Option Label) → Receives t j c args o (option_to_list (kept_note o Connecting))
+      (Received (record {
+        state = with_kept j o Connecting;
+        call = record c { msg = record { method = c.msg.method; args = args }; reserved = o };
+        note = kept_note o Connecting;
+      }))
+  receives args o = record {
+    told = refl;
+    event = record { counted = refl; alive = refl; tasks = as_many j.tasks.phones o Connecting };
+    held = put_here j.calls c.number.0 c.number.0 _ refl;
+    others = λ n ne. put_other j.calls c.number.0 n _ (λ s. ne (sym s));
+    numbers = refl;
+    arrivals = refl;
+    memory = refl;
+    entries = refl;
+  }
+
   as_sent : (c.request.method ≡ connect_to_me → ⊥) → IsReception t j c (Received (as_it_is j c))
   as_sent others = inr (inr (record {
     others = others;
@@ -327,21 +309,8 @@ module _ (t : TaskNo) (j : KernelState) (c : Call) where
     args = slice_set c.msg.args 4 64;
     names = has_fifth 64 c.msg.args;
     phones = λ u q. refl;
-    receives = record {
-      told = refl;
-      event = record { counted = refl; alive = refl; tasks = refl };
-      held = put_here j.calls c.number.0 c.number.0 _ refl;
-      others = λ n ne. put_other j.calls c.number.0 n _ (λ s. ne (sym s));
-      numbers = refl;
-      arrivals = refl;
-      memory = refl;
-      entries = refl;
-    };
+    receives = receives (slice_set c.msg.args 4 64) None;
   }))
-
-  exists : (p : ℕ) → IsUsable j j.calls t p → IsSome (phone_at j t p)
-  exists p (inl free) = is_there (phone_at j t p) Free free
-  exists p (inr hung) = is_there (phone_at j t p) HungUp hung.0
 
   kept : (l : Label) → c.request.method ≡ connect_to_me → first_usable_of j t ≡ Some l
       → IsReception t j c (Received (keeping_to_receive j c (Some l)))
@@ -356,27 +325,14 @@ module _ (t : TaskNo) (j : KernelState) (c : Call) where
         args = slice_set c.msg.args 4 p;
         names = has_fifth p c.msg.args;
         waits = record {
-          this = state_here j.tasks.phones t.0 p Connecting (exists p (usable_one j t l e));
+          this = state_here j.tasks.phones t.0 p Connecting (usable_there j t p (usable_one j t l e));
           others = λ u q ne. written_elsewhere j.tasks.phones t.0 p u.0 q Connecting ne;
         };
-        receives = record {
-          told = refl;
-          event = record { counted = refl; alive = refl; tasks = length_rows j.tasks.phones t.0 p Connecting };
-          held = put_here j.calls c.number.0 c.number.0 _ refl;
-          others = λ n ne. put_other j.calls c.number.0 n _ (λ s. ne (sym s));
-          numbers = refl;
-          arrivals = refl;
-          memory = refl;
-          entries = refl;
-        };
+        receives = receives (slice_set c.msg.args 4 p) (Some (label_of t p));
       }))
 
   pub reception_is : IsReception t j c (and_event (reception t (on_receive j c t)))
   reception_is = by_kind (kind_of c.request.method) refl where
-    other : (kind : MethodKind) → kind_of c.request.method ≡ kind → (kind ≡ ConnectToMe → ⊥)
-        → c.request.method ≡ connect_to_me → ⊥
-    other kind e ne asks = ne (sym e ∙ ap kind_of asks)
-
     by_phone : (o : Option Label) → first_usable_of j t ≡ o → c.request.method ≡ connect_to_me
         → IsReception t j c (Received (keeping_to_receive j c o))
     by_phone None e asks = without asks e
@@ -385,7 +341,7 @@ module _ (t : TaskNo) (j : KernelState) (c : Call) where
     by_kind : (kind : MethodKind) → kind_of c.request.method ≡ kind
         → IsReception t j c (Received (on_receive_of kind j c t))
     by_kind ConnectToMe e = by_phone (first_usable_of j t) refl (method_of ConnectToMe c.request.method e)
-    by_kind kind e = as_sent (other kind e (λ f. cc f))
+    by_kind kind e = as_sent (λ asks. let x : kind ≡ ConnectToMe = sym e ∙ ap kind_of asks in cc)
 
 -- ---- the first
 
@@ -428,13 +384,7 @@ module _ (t : TaskNo) (j : KernelState) (sound : IsSound j) where
     none = none_of (Answers t) (IsAnswerAt t) answers e;
     neither = none_of (Incoming t) (IsWaitingAt t) waiting f;
     told = refl;
-    nothing = record {
-      event = record { counted = refl; alive = refl; tasks = refl };
-      phones = λ u q. refl;
-      calls = record { each = λ n. refl; numbers = refl; arrivals = refl };
-      memory = refl;
-      entries = refl;
-    };
+    nothing = nothing_is_so j outcome.Empty;
   }))
 
 pub receive_is_so : (k : KernelState) (t : TaskNo) → IsSound k → IsReceive t k (serve k t request.Receive)

@@ -24,6 +24,7 @@ use Rattle.kernel_determined.specs.Frames.{PhonesStay, MayCome}
 use Rattle.kernel_determined.specs.SettleLaw.{DropsAnswer}
 use Rattle.kernel_determined.specs.Turns.{IsAmong, InTurn}
 use Rattle.kernel_determined.specs.ReceiveLaw.{IsDropped, DropsHangups, IsDelivery, IsReception, IsAnswerAt, IsWaitingAt, TakesAnswer, TakesCall, Takes, with_entries, IsReceive, TellsTheFirst}
+use Rattle.std.proofs.lemmas.Option.{none-some}
 
 -- what the turn of each such thing keeps, all turns keep
 turns_hold : {A : Type 0} (Turn : KernelState → A → KernelState → List Entry → Type 0) (I : KernelState → Type 0)
@@ -42,9 +43,6 @@ pub record IsLeft (k j : KernelState) : Type 0 where
   pub phones : PhonesStay k j
   pub calls : (n : ℕ) (c : Call) → call_at j.calls n ≡ Some c → call_at k.calls n ≡ Some c
 
-none_some : (o : Option Call) (c : Call) → o ≡ None → o ≡ Some c → ⊥
-none_some o c a b = cc
-
 no_connection : connect_me_to ≡ phone_hungup → ⊥
 no_connection e = omega (arith, e)
 
@@ -62,7 +60,7 @@ module _ (t : TaskNo) (k : KernelState) where
       record {
         phones = λ u q. (subst (λ (o : Option Label). MayCome o Free j a x.note) none x.phones).0 u q ∙ h.phones u q;
         calls = λ i c is. elim (cases_eq i n) [
-          | inl e ↦ absurd (none_some (call_at a.calls n) c x.calls.gone (ap (call_at a.calls) (sym e) ∙ is))
+          | inl e ↦ absurd (none-some c (sym x.calls.gone ∙ ap (call_at a.calls) (sym e) ∙ is))
           | inr ne ↦ h.calls i c (sym (x.calls.others i ne) ∙ is)
         ];
       }
@@ -139,8 +137,7 @@ module _ (t : TaskNo) (k : KernelState) (sound : IsSound k) (done : Served) (x :
         answer = record { place = at; hangup = hangup };
         early = early;
       } in
-      none_some (call_at j.calls n) d
-      (all_gone t k n x.drops.things k j x.dropped (x.drops.all n it) x.drops.turns) live
+      none-some d (sym (all_gone t k n x.drops.things k j x.dropped (x.drops.all n it) x.drops.turns) ∙ live)
 
   -- two that are first are one
   one_call : (c d : Call) → call_at k.calls c.number.0 ≡ Some c → call_at k.calls d.number.0 ≡ Some d
