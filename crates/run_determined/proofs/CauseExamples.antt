@@ -23,8 +23,11 @@ use Rattle.call_slab.specs.declared.call.Call.{Call}
 use Rattle.call_slab.specs.declared.call.Place.TheVariants as place
 use Rattle.answerbox.specs.Calls.{CallTable, call_at}
 use Rattle.route_laws.specs.Leads.{Beginning, phone_in}
-use Rattle.run_determined.specs.PhoneCauses.{AllHaveCause, PhonesChangeForCause}
+use Rattle.run_determined.specs.PhoneCauses.{AllHaveCause, PhonesChangeForCause, ChangesForCause, IsHungUpAtOnce, IsDoneAsTold, GoesItsWay, GoesBackWithCode, TellsItsCall, DropsUnawaited, HasItsCause, IsConnectedFor}
 use Rattle.run_determined.specs.ToldPhones.{TellKeptPhones}
+use Rattle.run_determined.proofs.TurnExamples.{apart}
+use Rattle.run_determined.proofs.CauseSteps.{caused}
+use Rattle.std.proofs.lemmas.Option.{none-some}
 
 abbrev client : TaskNo
 client = record { 0 = 1 }
@@ -98,10 +101,7 @@ goes_back n code =
     ∷ entry.Outcome (outcome.Accepted (call_no n))
     ∷ []
 
--- numbers apart, and parts of what is told
-
-apart : (m n : ℕ) → m ≡ n → (m == n) ≡ false → ⊥
-apart m n e ne = false≢true (sym ne ∙ eq-eqb m n e)
+-- parts of what is told
 
 abbrev method_in : Option Making → ℕ
 method_in None = 0
@@ -148,144 +148,48 @@ none_free_below : (p : ℕ) → p < 1
 none_free_below zero few free = cc free
 none_free_below (suc p) few free = absurd (omega (arith, few))
 
+-- the first entry has its cause, by each of the laws in turn, and so have the others
+because : {q : List Entry} {e : Entry} {B : Type 0} → ChangesForCause began q e → IsHungUpAtOnce q e
+    → IsDoneAsTold q e → GoesItsWay began q e → GoesBackWithCode began q e → TellsItsCall q e → DropsUnawaited q e
+    → B → HasItsCause began q e × B
+because {q} {e} changes hung_up done way code told dropped others =
+    (caused began q e changes hung_up done way code told dropped, others)
+
 asked : AllHaveCause began [] (asks 1 1)
-asked = (
-  record { changes = tt; hung_up = tt; done = tt; way = tt; code = tt; told = tt; dropped = tt },
-  (
-    record { changes = tt; hung_up = tt; done = tt; way = refl; code = tt; told = tt; dropped = tt },
-    (
-      record {
-        changes = ((refl, refl), none_free_below);
-        hung_up = λ e. absurd (apart 2 0 e refl);
-        done = tt;
-        way = tt;
-        code = tt;
-        told = tt;
-        dropped = tt;
-      },
-      (
-        record {
-          changes = tt;
-          hung_up = tt;
-          done = tt;
-          way = tt;
-          code = tt;
-          told = (refl, refl, λ e. apart 2 0 e refl);
-          dropped = tt;
-        },
-        tt,
-      ),
-    ),
-  ),
-)
+asked =
+    because tt tt tt tt tt tt tt
+    (because tt tt tt refl tt tt tt
+    (because ((refl, refl), none_free_below) (λ e. absurd (apart 2 0 e refl)) tt tt tt tt tt
+    (because tt tt tt tt tt (refl, refl, λ e. apart 2 0 e refl) tt tt)))
 
 received : AllHaveCause began after_asking (receives 1)
-received = (
-  record { changes = tt; hung_up = tt; done = tt; way = tt; code = tt; told = tt; dropped = tt },
-  (
-    record { changes = tt; hung_up = tt; done = tt; way = tt; code = tt; told = tt; dropped = tt },
-    (
-      record { changes = tt; hung_up = tt; done = tt; way = tt; code = tt; told = tt; dropped = tt },
-      tt,
-    ),
-  ),
-)
+received = because tt tt tt tt tt tt tt (because tt tt tt tt tt tt tt (because tt tt tt tt tt tt tt tt))
 
 connected : AllHaveCause began after_receipt (connects 1 1)
-connected = (
-  record { changes = tt; hung_up = tt; done = tt; way = tt; code = tt; told = tt; dropped = tt },
-  (
-    record { changes = tt; hung_up = tt; done = tt; way = tt; code = tt; told = tt; dropped = tt },
-    (
-      record {
-        changes
-            = (
-              (
-                refl,
-                refl,
-                refl,
-                refl,
-                record { made = how_made; how = refl; held = refl; phone = inl (refl, refl, refl) },
-              ),
-              tt,
-            );
-        hung_up = tt;
-        done = tt;
-        way = tt;
-        code = tt;
-        told = tt;
-        dropped = tt;
-      },
-      (
-        record { changes = tt; hung_up = tt; done = tt; way = tt; code = tt; told = tt; dropped = tt },
-        tt,
-      ),
-    ),
-  ),
-)
+connected =
+    because tt tt tt tt tt tt tt
+    (because tt tt tt tt tt tt tt
+    (because ((refl, refl, refl, refl, call), tt) tt tt tt tt tt tt
+    (because tt tt tt tt tt tt tt tt))) where
+      call : IsConnectedFor (phone client 1) server server 1 after_receipt
+      call = record { made = how_made; how = refl; held = refl; phone = inl (refl, refl, refl) }
 
 hung_up : AllHaveCause began after_connection (hangs_up 2)
-hung_up = (
-  record { changes = tt; hung_up = tt; done = tt; way = tt; code = tt; told = tt; dropped = tt },
-  (
-    record { changes = tt; hung_up = tt; done = tt; way = refl; code = tt; told = tt; dropped = tt },
-    (
-      record {
-        changes = ((refl, refl, refl, (refl, refl)), tt);
-        hung_up = λ e. refl;
-        done = tt;
-        way = tt;
-        code = tt;
-        told = tt;
-        dropped = tt;
-      },
-      (
-        record { changes = tt; hung_up = tt; done = refl; way = tt; code = tt; told = tt; dropped = tt },
-        tt,
-      ),
-    ),
-  ),
-)
+hung_up =
+    because tt tt tt tt tt tt tt
+    (because tt tt tt refl tt tt tt
+    (because ((refl, refl, refl, (refl, refl)), tt) (λ e. refl) tt tt tt tt tt
+    (because tt tt refl tt tt tt tt tt)))
 
 ended : AllHaveCause began after_hangup (ends)
-ended = (
-  record { changes = tt; hung_up = tt; done = tt; way = tt; code = tt; told = tt; dropped = tt },
-  (
-    record { changes = (refl, tt); hung_up = tt; done = tt; way = tt; code = tt; told = tt; dropped = tt },
-    tt,
-  ),
-)
+ended = because tt tt tt tt tt tt tt (because (refl, tt) tt tt tt tt tt tt tt)
 
 gone_back : AllHaveCause began after_end (goes_back 3 enoent)
-gone_back = (
-  record { changes = tt; hung_up = tt; done = tt; way = tt; code = tt; told = tt; dropped = tt },
-  (
-    record { changes = tt; hung_up = tt; done = tt; way = tt; code = tt; told = tt; dropped = tt },
-    (
-      record {
-        changes = tt;
-        hung_up = λ e. absurd (apart 512 0 e refl);
-        done = tt;
-        way = tt;
-        code = refl;
-        told = tt;
-        dropped = tt;
-      },
-      (
-        record {
-          changes = tt;
-          hung_up = tt;
-          done = tt;
-          way = tt;
-          code = tt;
-          told = (refl, refl, λ e. apart 512 0 e refl);
-          dropped = tt;
-        },
-        tt,
-      ),
-    ),
-  ),
-)
+gone_back =
+    because tt tt tt tt tt tt tt
+    (because tt tt tt tt tt tt tt
+    (because tt (λ e. absurd (apart 512 0 e refl)) tt tt refl tt tt
+    (because tt tt tt tt tt (refl, refl, λ e. apart 512 0 e refl) tt tt)))
 
 joined : (es fs q : List Entry) → AllHaveCause began q es → AllHaveCause began (on_top es q) fs
     → AllHaveCause began q (es ++ fs)
@@ -351,9 +255,8 @@ connected_though_declined l = apart 5 0 (ap (λ (code : Code). code.0) l.1.1.1.1
 hung_up_without_its_entry : PhonesChangeForCause began
     (entry.Head client (request.Hangup 0) ∷ entry.Accepted (call_no 1) (phone client 0) 0
     (Some server) ∷ entry.Outcome outcome.Done ∷ []) → ⊥
-hung_up_without_its_entry l = never (l.1.1.0.hung_up refl) where
-  never : entry.Outcome outcome.Done ≡ entry.PhoneIs (phone client 0) HungUp → ⊥
-  never e = cc
+hung_up_without_its_entry l =
+    let e : entry.Outcome outcome.Done ≡ entry.PhoneIs (phone client 0) HungUp = l.1.1.0.hung_up refl in cc
 
 -- the hangup names one phone, and another is hung up
 hung_up_another_phone : PhonesChangeForCause began
@@ -397,9 +300,7 @@ let_go_while_it_waits : PhonesChangeForCause began
     (receives 1 ++
     (entry.Head other request.Receive ∷ entry.Delivered (call_no 2) other ∷ entry.PhoneIs (phone client 1) Free ∷
     []))) → ⊥
-let_go_while_it_waits l = never (phone client 1) l.1.1.1.1.1.1.1.1.1.0.changes.0 where
-  never : (x : Label) → None ≡ Some x → ⊥
-  never x e = cc
+let_go_while_it_waits l = none-some (phone client 1) l.1.1.1.1.1.1.1.1.1.0.changes.0
 
 -- a receive drops the answer of a call that was no hangup
 dropped_though_awaited : PhonesChangeForCause began
@@ -461,23 +362,18 @@ let_go_as_it_is_passed_on : PhonesChangeForCause began
     (receives 1 ++
     (entry.Head server (request.Forward 1 0 Plain None) ∷ entry.Forwarded (call_no 1) server other (phone client 0)
     ∷ entry.PhoneIs (phone client 1) Free ∷ []))) → ⊥
-let_go_as_it_is_passed_on l = never (phone client 1) l.1.1.1.1.1.1.1.1.1.0.changes.0 where
-  never : (x : Label) → None ≡ Some x → ⊥
-  never x e = cc
+let_go_as_it_is_passed_on l = none-some (phone client 1) l.1.1.1.1.1.1.1.1.1.0.changes.0
 
 -- phone 0 of a task that is made leads somewhere, though there is no naming service
 leads_without_a_service : PhonesChangeForCause began
     (entry.Spawn other ∷ entry.PhoneIs (phone other 0) (Connected client) ∷ []) → ⊥
-leads_without_a_service l = never client l.1.0.changes.0.2 where
-  never : (t : TaskNo) → None ≡ Some t → ⊥
-  never t e = cc
+leads_without_a_service l = none-some client l.1.0.changes.0.2
 
 -- a hangup of a slammed phone is told as done, and the phone stays as it is
 slammed_phone_not_hung_up : PhonesChangeForCause began
     (ends ++ (entry.Head client (request.Hangup 0) ∷ entry.Outcome outcome.Done ∷ [])) → ⊥
-slammed_phone_not_hung_up l = never l.1.1.1.0.done where
-  never : entry.Head client (request.Hangup 0) ≡ entry.PhoneIs (phone client 0) HungUp → ⊥
-  never e = cc
+slammed_phone_not_hung_up l =
+    let e : entry.Head client (request.Hangup 0) ≡ entry.PhoneIs (phone client 0) HungUp = l.1.1.1.0.done in cc
 
 -- ---- calls: where they go, and with which code they go back
 

@@ -28,9 +28,7 @@ use Rattle.task_system.specs.Run.{program_of, RunState, RunTransition, step_serv
 use Rattle.ipc_ids.specs.declared.message.Event.TheVariants.{Spawn}
 use Rattle.run_determined.specs.TaskPrograms.{plans_after, RunThePlans}
 use Rattle.run_determined.specs.ScheduleLines.{IsNewProgram, IsMadeFrom, IsHangupLine, IsStepLine}
-
-apart : (m n : ℕ) → m ≡ n → (m == n) ≡ false → ⊥
-apart m n e ne = false≢true (sym ne ∙ eq-eqb m n e)
+use Rattle.run_determined.proofs.TurnExamples.{apart}
 
 -- ---- templates
 
@@ -81,9 +79,9 @@ law_of_ops t _ new = absurd new
 
 other_operations : IsMadeFrom jumper None (before jumper) (from_the_first (before jumper) 1) → ⊥
 other_operations made =
-    never (ap first_of made.programs ∙ law_of_ops (new_number kernel.start) made.program made.has) where
-      never : ◌≡◌ {A = Option Op} (Some op.Receive) (Some (op.Jump 0)) → ⊥
-      never e = cc
+    let e : ◌≡◌ {A = Option Op} (Some op.Receive) (Some (op.Jump 0)) =
+    (ap first_of made.programs ∙ law_of_ops (new_number kernel.start) made.program made.has) in
+    cc
 
 -- it has the kind of the template
 law_of_kind : (t : TaskNo) (p : AnyProgram) → IsNewProgram t with_fibrils.bodies kind.Async p → first_op p ≡ None
@@ -92,15 +90,14 @@ law_of_kind t _ new = absurd new
 
 another_kind : IsMadeFrom with_fibrils None (before with_fibrils) (from_the_first (before with_fibrils) 1) → ⊥
 another_kind made =
-    never (ap first_of made.programs ∙ law_of_kind (new_number kernel.start) made.program made.has) where
-      never : ◌≡◌ {A = Option Op} (Some op.Receive) None → ⊥
-      never e = cc
+    let e : ◌≡◌ {A = Option Op} (Some op.Receive) None =
+    (ap first_of made.programs ∙ law_of_kind (new_number kernel.start) made.program made.has) in
+    cc
 
 -- it has as many phones as the template says
 another_limit : IsMadeFrom wide None (before wide) (from_the_first (before wide) 1) → ⊥
-another_limit made = never (made.kernel.makes.free 1 (omega arith) (omega arith)) where
-  never : ◌≡◌ {A = Option PhoneState} None (Some Free) → ⊥
-  never e = cc
+another_limit made =
+    let e : ◌≡◌ {A = Option PhoneState} None (Some Free) = (made.kernel.makes.free 1 (omega arith) (omega arith)) in cc
 
 -- with the naming service there, its phone 0 leads to it: a machine that makes the task without it breaks the law
 abbrev with_service : RunState
@@ -188,9 +185,9 @@ gives_no_turn line =
 another_program : RunThePlans (plans_after (receiver ∷ jumper ∷ []) [] (Spawn 1 ∷ [])) (program_of 1 receiver ∷ [])
     → ⊥
 another_program runs =
-    never (ap (λ (ops : List Op). slice_get ops 0) (runs.each 0 jumper (program_of 1 receiver) refl refl)) where
-      never : ◌≡◌ {A = Option Op} (Some op.Receive) (Some (op.Jump 0)) → ⊥
-      never e = cc
+    let e : ◌≡◌ {A = Option Op} (Some op.Receive) (Some (op.Jump 0)) =
+    (ap (λ (ops : List Op). slice_get ops 0) (runs.each 0 jumper (program_of 1 receiver) refl refl)) in
+    cc
 
 -- it gives it the program of another kind
 another_kind_of_program : RunThePlans (plans_after (receiver ∷ with_fibrils ∷ []) [] (Spawn 1 ∷ []))

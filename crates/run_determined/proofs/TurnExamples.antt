@@ -28,26 +28,16 @@ spawns t = entry.Spawn (task t) ∷ entry.PhoneIs (phone t) (Connected (task 1))
 one_of : (n t u : ℕ) → u ≡ t → 1 ≤ u → u ≤ n → IsOneOf n t
 one_of n t u same some few = subst (IsOneOf n) same (some, few)
 
+-- the first entry comes in its turn, and so do the others
+first_of : {A B : Type 0} → A → B → A × B
+first_of a b = (a, b)
+
 in_turn : TasksComeInTurn 1 (rests 1 ++ (spawns 2 ++ rests 2))
-in_turn = (
-  λ t is. one_of 1 t 1 is (omega arith) (omega arith),
-  (
-    λ t is. absurd is,
-    (
-      refl,
-      (
-        λ t is. one_of 2 t 2 is (omega arith) (omega arith),
-        (
-          λ t is. one_of 2 t 2 is (omega arith) (omega arith),
-          (
-            λ t is. absurd is,
-            tt,
-          ),
-        ),
-      ),
-    ),
-  ),
-)
+in_turn =
+    first_of (λ t is. one_of 1 t 1 is (omega arith) (omega arith))
+    (first_of (λ t is. absurd is) (first_of refl
+    (first_of (λ t is. one_of 2 t 2 is (omega arith) (omega arith))
+    (first_of (λ t is. one_of 2 t 2 is (omega arith) (omega arith)) (first_of (λ t is. absurd is) tt)))))
 
 too_many : (n t : ℕ) → suc n ≤ t → IsOneOf n t → ⊥
 too_many n t more it = let few : t ≤ n = it.1 in omega (arith, more, few)
@@ -65,7 +55,8 @@ a_call_before : TasksComeInTurn 1
     (entry.Head (task 1) request.Receive ∷ entry.Delivered (record { 0 = 1 }) (task 2) ∷ spawns 2) → ⊥
 a_call_before l = too_many 1 2 (omega arith) (l.1.0 2 refl)
 
-apart : (m n : ℕ) → m ≡ n → (m == n) ≡ false → ⊥
+-- numbers apart
+pub apart : (m n : ℕ) → m ≡ n → (m == n) ≡ false → ⊥
 apart m n e ne = false≢true (sym ne ∙ eq-eqb m n e)
 
 -- a number is skipped, or given twice
