@@ -445,8 +445,7 @@ module _ (marks : List Bool) (t : TaskNo) where
 
 module _ (t : TaskNo) (some : 1 ≤ t.0) where
   no_areas : (k : KernelState) → areas_of k.memory t ≡ [] → (base : ℕ) → HasBase t k base → ⊥
-  no_areas k none base h =
-      none-some h.0 (sym (ap (λ areas. slice_get areas h.1.has.0) none) ∙ h.1.has.1)
+  no_areas k none base h = none-some h.0 (sym (ap (λ areas. slice_get areas h.1.has.0) none) ∙ h.1.has.1)
 
   module _ (k : KernelState) (sound : spaces.IsSound k.memory) (base : ℕ) (is : first_area k.memory t ≡ Some base) where
     abbrev step : Step Unit

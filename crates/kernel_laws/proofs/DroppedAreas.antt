@@ -25,8 +25,7 @@ any_of p (x ∷ areas) h = elim (or_cases (p x) (list_any p areas) h) [
 
 pub any_at : (p : Area → Bool) (areas : List Area) (i : ℕ) (a : Area) → slice_get areas i ≡ Some a → p a ≡ true → list_any p areas ≡ true
 any_at p [] i a is h = absurd (cc is)
-any_at p (x ∷ areas) zero a is h =
-    or_left (p x) (list_any p areas) (ap p (same_Some x a is) ∙ h)
+any_at p (x ∷ areas) zero a is h = or_left (p x) (list_any p areas) (ap p (same_Some x a is) ∙ h)
 any_at p (x ∷ areas) (suc i) a is h = or_right (p x) (list_any p areas) (any_at p areas i a is h)
 
 -- a list without one element

@@ -141,13 +141,13 @@ module _ (k : KernelState) (sound : IsSound k) (t : TaskNo) where
       | inl x ↦ elim (h.waiting n x.0 u (had n x.0 x.1 x.2) (ap (λ (y : Call). y.place) x.3 ∙ at)) [
         | inl w ↦ inl w
         | inr w ↦ inr (subst (IsFarewell t k u) x.3 (record {
-            first = w.first;
-            phone = w.phone;
-            leads = w.leads;
-            from = w.from;
-            label = w.label;
-            method = w.method;
-          }))
+          first = w.first;
+          phone = w.phone;
+          leads = w.leads;
+          from = w.from;
+          label = w.label;
+          method = w.method;
+        }))
       ]
       | inr x ↦ h.waiting n e u x at
     ];

@@ -194,8 +194,7 @@ module _ (base : ℕ) (areas : List Area) where
       let at = cond_some (nat_lt place (length areas)) place i e in
       let few : place < length areas = grind (arith, nat_tests, at.0) in
       let d : Area = record { base = 0; pages = 0; rights = 0; store = 0 } in
-      let a : Area = slice_index_or areas place d in
-      (
+      let a : Area = slice_index_or areas place d in (
         a,
         subst (λ j. slice_get areas j ≡ Some a) at.1 (slice_get-get_or areas place d few),
         eqb-true a.base base (passes_at_first test areas d few),

@@ -104,8 +104,7 @@ module _ (k : KernelState) (t : TaskNo) where
   found_usable l is =
       let u = usable_is k t l is in
       let same : l ≡ label_of t l.phone.0 =
-      ap (λ (v : TaskNo). let r : Label = record { task = v; phone = l.phone } in r) u.own in
-      (
+      ap (λ (v : TaskNo). let r : Label = record { task = v; phone = l.phone } in r) u.own in (
         u.state,
         subst (λ (v : TaskNo). phone_at k v l.phone.0 ≡ Some u.state) u.own u.is,
         subst (λ (x : Label). is_usable u.state (active_calls k.calls x) ≡ true) same u.usable,

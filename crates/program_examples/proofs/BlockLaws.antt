@@ -1,23 +1,21 @@
 -- The laws of block servers, over the definitions.
-use Rattle.std.proofs.Common.{◌≡◌, ◌+◌, ◌/◌, ◌%◌, ◌<◌, ◌≤◌, ℕ, zero, suc, ◌==◌, Bool, true, false, List, [], ◌∷◌, length, Option, Some, None, refl, ap, ◌∙◌, arith}
+use Rattle.std.proofs.Common.{◌≡◌, ◌+◌, ◌/◌, ◌%◌, ◌<◌, ℕ, zero, suc, ◌==◌, Bool, true, false, List, [], ◌∷◌, length, Option, Some, None, refl, ap, ◌∙◌, arith, sym}
 use Rattle.std.specs.Prelude.{◌&&◌, not, nat_lt, is_none, option_map, slice_get, slice_set, position, cond, if◌then◌else◌}
 use Rattle.std.specs.List.{position_or_len}
 use Rattle.std.proofs.Math.Nat.{div-add-mod}
-use Rattle.std.proofs.lemmas.Bool.{eq-eqb, eqb-true}
-use Rattle.std.proofs.lemmas.Option.{get_or_from_slice_get}
+use Rattle.std.proofs.lemmas.Bool.{eq-eqb, eqb-true, and_parts, not-true, false_from_ne_true, lt-ltb, le-ltb}
+use Rattle.std.proofs.lemmas.Option.{get_or_from_slice_get, none-some, same_Some, slice_get_past, slice_get_within}
 use Rattle.ipc_ids.specs.declared.numbers.Label.{Label}
 use Rattle.ipc_ids.specs.Labels.{same_label}
 use Rattle.block_server.specs.Blocks.{BlockState, has_label, slot_of, free_slot, is_offset}
 use Rattle.program_examples.specs.BlockLaws.{Has, HasNone, IsAtRest, IsPlace, RefusesTransfers, ReadsGoToTheOwnWindow, WritesComeFromTheOwnWindow, PlacesAreWithin, SharesAreTaken, IsClient, IsFirstFree, HasNoFree, ClientsConnect, TransfersAreAnswered, OwedWorkStays}
+use Rattle.fibril_core.proofs.Connections.{own_label}
+use Rattle.task_ends.proofs.LawfulEnds.{label_is}
 
 -- ---- searches
 
-pub some_is : {A : Type 0} (a b : A) → Some a ≡ Some b → a ≡ b
-some_is a b e = cc e
-
 pub none_at : {A : Type 0} (i : ℕ) (x : A) → slice_get {X = A} [] i ≡ Some x → ⊥
-none_at zero x at = absurd (cc at)
-none_at (suc i) x at = absurd (cc at)
+none_at i x at = none-some x (sym (slice_get_past [] i (omega arith)) ∙ at)
 
 -- the first place of a list, and the places behind it
 position_step : {A : Type 0} (test : A → Bool) (x : A) (xs : List A)
@@ -39,7 +37,7 @@ position_step test x xs = by_test (test x) refl where
 first_at : {A : Type 0} (test : A → Bool) (xs : List A) (i : ℕ) (x : A) → slice_get xs i ≡ Some x → test x ≡ true
     → ((j : ℕ) (y : A) → j < i → slice_get xs j ≡ Some y → test y ≡ false) → position test xs ≡ Some i
 first_at test [] i x at is before = absurd (none_at i x at)
-first_at test (y ∷ ys) zero x at is before = position_step test y ys ∙ rw (some_is y x at, is) refl
+first_at test (y ∷ ys) zero x at is before = position_step test y ys ∙ rw (same_Some y x at, is) refl
 first_at test (y ∷ ys) (suc i) x at is before =
     position_step test y ys
     ∙ rw (
@@ -55,27 +53,16 @@ none_at_all test (y ∷ ys) none =
     position_step test y ys
     ∙ rw (none 0 y refl, none_at_all test ys (λ j z there. none (suc j) z there)) refl
 
-pub same_is : (a b : Label) → same_label a b ≡ true → a ≡ b
-same_is a b is = by_parts (a.task.0 == b.task.0) refl is where
-  by_parts : (c : Bool) → (a.task.0 == b.task.0) ≡ c → (c && (a.phone.0 == b.phone.0)) ≡ true → a ≡ b
-  by_parts true task phone = rw (eqb-true _ _ task, eqb-true _ _ phone) refl
-  by_parts false task phone = absurd (cc phone)
-
-pub label_same : (a : Label) → same_label a a ≡ true
-label_same a = grind (arith, eq-eqb)
-
 -- a slot that has not this label
 other_label : (s : BlockState) (client : Label) (j : ℕ) (held : Option Label) → (Has s j client → ⊥)
     → slice_get s.slots j ≡ Some held → has_label client held ≡ false
 other_label s client j None not at = refl
-other_label s client j (Some l) not at = by_test (same_label l client) refl where
-  by_test : (b : Bool) → same_label l client ≡ b → b ≡ false
-  by_test true is = absurd (not (at ∙ ap (λ (x : Label). Some (Some x)) (same_is l client is)))
-  by_test false is = refl
+other_label s client j (Some l) not at = false_from_ne_true (same_label l client)
+    (λ is. not (at ∙ ap (λ (x : Label). Some (Some x)) (label_is l client is)))
 
 known : (s : BlockState) (k : ℕ) (client : Label) → IsAtRest s → Has s k client → slot_of s.slots client ≡ Some k
 known s k client rest has =
-    first_at (has_label client) s.slots k (Some client) has (label_same client)
+    first_at (has_label client) s.slots k (Some client) has (own_label client)
     (λ j y less at. other_label s client j y
     (λ there. absurd (less_not j less (rest.apart j k client there has))) at) where
       less_not : (j : ℕ) → j < k → j ≡ k → ⊥
@@ -86,84 +73,55 @@ unknown s client none = none_at_all (has_label client) s.slots (λ j y at. other
 
 -- ---- transfers
 
--- what the conditions of a transfer come to
-pub before_all : (a b : ℕ) → a < b → nat_lt a b ≡ true
-before_all a b h = grind (arith, h)
-
-behind_all : (a b : ℕ) → b ≤ a → nat_lt a b ≡ false
-behind_all a b h = grind (arith, h)
-
 place_is_offset : (offset : ℕ) → IsPlace offset → is_offset offset ≡ true
-place_is_offset offset p = rw (even, behind_all 4032 offset (omega (arith, p.whole))) refl where
+place_is_offset offset p = rw (even, le-ltb 4032 offset (omega (arith, p.whole))) refl where
   even : (offset % 64 == 0) ≡ true
   even = eq-eqb (offset % 64) 0 (omega (arith, p.there))
 
 offset_is_place : (offset : ℕ) → is_offset offset ≡ true → IsPlace offset
-offset_is_place offset is = by_parts (offset % 64 == 0) refl (nat_lt 4032 offset) refl is where
-  by_parts : (c : Bool) → (offset % 64 == 0) ≡ c → (d : Bool) → nat_lt 4032 offset ≡ d → (c && not d) ≡ true
-      → IsPlace offset
-  by_parts true even false small both = record {
-    number = offset / 64;
-    there = omega (arith, eqb-true _ _ even, div-add-mod offset 64);
-    whole = grind (arith, small);
-  }
-  by_parts true even true small both = absurd (cc both)
-  by_parts false even d small both = absurd (cc both)
+offset_is_place offset is =
+    let both = and_parts (offset % 64 == 0) (not (nat_lt 4032 offset)) is in
+    let small = not-true (nat_lt 4032 offset) both.1 in
+    record {
+      number = offset / 64;
+      there = omega (arith, eqb-true _ _ both.0, div-add-mod offset 64);
+      whole = grind (arith, small);
+    }
 
 no_offset : (offset : ℕ) → (IsPlace offset → ⊥) → is_offset offset ≡ false
-no_offset offset none = by_test (is_offset offset) refl where
-  by_test : (b : Bool) → is_offset offset ≡ b → b ≡ false
-  by_test true is = absurd (none (offset_is_place offset is))
-  by_test false is = refl
+no_offset offset none = false_from_ne_true (is_offset offset) (λ is. none (offset_is_place offset is))
 
 pub read_refusals : RefusesTransfers 512
 read_refusals = record {
-  nobody = λ s now c none. rw (
-    c.made,
-    c.rest.idle,
-    unknown s c.client none,
-  ) (record { asked = refl; blocks = refl; slots = refl });
-  no_block = λ s now c k has h. rw (
-    c.made,
-    c.rest.idle,
-    known s k c.client c.rest has,
-    behind_all c.first (length s.blocks) h,
-  ) (record { asked = refl; blocks = refl; slots = refl });
+  nobody = λ s now c none. rw (c.made, c.rest.idle, unknown s c.client none)
+      (record { asked = refl; blocks = refl; slots = refl });
+  no_block = λ s now c k has h.
+      rw (c.made, c.rest.idle, known s k c.client c.rest has, le-ltb c.first (length s.blocks) h)
+      (record { asked = refl; blocks = refl; slots = refl });
   no_place = λ s now c k has h none. rw (
     c.made,
     c.rest.idle,
     known s k c.client c.rest has,
-    before_all c.first (length s.blocks) h,
+    lt-ltb c.first (length s.blocks) h,
     no_offset c.second none,
   ) (record { asked = refl; blocks = refl; slots = refl });
 }
 
 pub write_refusals : RefusesTransfers 513
 write_refusals = record {
-  nobody = λ s now c none. rw (
-    c.made,
-    c.rest.idle,
-    unknown s c.client none,
-  ) (record { asked = refl; blocks = refl; slots = refl });
-  no_block = λ s now c k has h. rw (
-    c.made,
-    c.rest.idle,
-    known s k c.client c.rest has,
-    behind_all c.first (length s.blocks) h,
-  ) (record { asked = refl; blocks = refl; slots = refl });
+  nobody = λ s now c none. rw (c.made, c.rest.idle, unknown s c.client none)
+      (record { asked = refl; blocks = refl; slots = refl });
+  no_block = λ s now c k has h.
+      rw (c.made, c.rest.idle, known s k c.client c.rest has, le-ltb c.first (length s.blocks) h)
+      (record { asked = refl; blocks = refl; slots = refl });
   no_place = λ s now c k has h none. rw (
     c.made,
     c.rest.idle,
     known s k c.client c.rest has,
-    before_all c.first (length s.blocks) h,
+    lt-ltb c.first (length s.blocks) h,
     no_offset c.second none,
   ) (record { asked = refl; blocks = refl; slots = refl });
 }
-
-pub within_list : {A : Type 0} (xs : List A) (i : ℕ) (x : A) → slice_get xs i ≡ Some x → i < length xs
-within_list [] i x at = absurd (none_at i x at)
-within_list (y ∷ ys) zero x at = omega arith
-within_list (y ∷ ys) (suc i) x at = let h : i < length ys = within_list ys i x at in omega (arith, h)
 
 pub reads : ReadsGoToTheOwnWindow
 reads s now c k bytes has at place =
@@ -171,7 +129,7 @@ reads s now c k bytes has at place =
       c.made,
       c.rest.idle,
       known s k c.client c.rest has,
-      before_all c.first (length s.blocks) (within_list s.blocks c.first bytes at),
+      lt-ltb c.first (length s.blocks) (slice_get_within s.blocks c.first bytes at),
       place_is_offset c.second place,
     )
     (record { asked = rw (get_or_from_slice_get s.blocks c.first bytes _ at) refl; blocks = refl; slots = refl })
@@ -182,7 +140,7 @@ writes s now c k has h place =
       c.made,
       c.rest.idle,
       known s k c.client c.rest has,
-      before_all c.first (length s.blocks) h,
+      lt-ltb c.first (length s.blocks) h,
       place_is_offset c.second place,
     )
     (record { asked = refl; blocks = refl; slots = refl })
@@ -196,31 +154,19 @@ page_to_share : (a b : ℕ) → a ≡ 1 → b ≡ 3 → ((a == 1) && (b == 3)) �
 page_to_share a b one three = rw (one, three) refl
 
 no_page_to_share : (a b : ℕ) → (a ≡ 1 → b ≡ 3 → ⊥) → ((a == 1) && (b == 3)) ≡ false
-no_page_to_share a b none = by_parts (a == 1) refl (b == 3) refl where
-  by_parts : (c : Bool) → (a == 1) ≡ c → (d : Bool) → (b == 3) ≡ d → (c && d) ≡ false
-  by_parts true one true three = absurd (none (eqb-true _ _ one) (eqb-true _ _ three))
-  by_parts true one false three = refl
-  by_parts false one d three = refl
+no_page_to_share a b none = false_from_ne_true ((a == 1) && (b == 3)) (λ is.
+    let both = and_parts (a == 1) (b == 3) is in none (eqb-true _ _ both.0) (eqb-true _ _ both.1))
 
 pub shares : SharesAreTaken
 shares = record {
-  nobody = λ s now c none. rw (
-    c.made,
-    c.rest.idle,
-    unknown s c.client none,
-  ) (record { asked = refl; blocks = refl; slots = refl });
-  taken = λ s now c k has one three. rw (
-    c.made,
-    c.rest.idle,
-    known s k c.client c.rest has,
-    page_to_share c.second c.third one three,
-  ) (record { asked = refl; blocks = refl; slots = refl });
-  other = λ s now c k has none. rw (
-    c.made,
-    c.rest.idle,
-    known s k c.client c.rest has,
-    no_page_to_share c.second c.third none,
-  ) (record { asked = refl; blocks = refl; slots = refl });
+  nobody = λ s now c none. rw (c.made, c.rest.idle, unknown s c.client none)
+      (record { asked = refl; blocks = refl; slots = refl });
+  taken = λ s now c k has one three.
+      rw (c.made, c.rest.idle, known s k c.client c.rest has, page_to_share c.second c.third one three)
+      (record { asked = refl; blocks = refl; slots = refl });
+  other = λ s now c k has none.
+      rw (c.made, c.rest.idle, known s k c.client c.rest has, no_page_to_share c.second c.third none)
+      (record { asked = refl; blocks = refl; slots = refl });
 }
 
 -- ---- clients that connect
@@ -256,24 +202,15 @@ set_here (z ∷ zs) (suc i) x y at = set_here zs i x y at
 set_there : {A : Type 0} (xs : List A) (i j : ℕ) (y : A) → (j ≡ i → ⊥) → slice_get (slice_set xs i y) j ≡ slice_get xs j
 set_there [] i j y apart = refl
 set_there (z ∷ zs) zero zero y apart = absurd (apart refl)
-set_there (z ∷ zs) zero (suc j) y apart = refl
-set_there (z ∷ zs) (suc i) zero y apart = refl
 set_there (z ∷ zs) (suc i) (suc j) y apart = set_there zs i j y (λ same. apart (ap suc same))
+set_there (z ∷ zs) _ _ y apart = refl
 
 pub connects : ClientsConnect
 connects = record {
-  again = λ s now c client k is has. rw (
-    c.made,
-    c.rest.idle,
-    given client c.fifth is,
-    known s k client c.rest has,
-  ) (record { asked = refl; blocks = refl; slots = refl });
-  answered = λ s now c client k o is has. rw (
-    c.made,
-    c.rest.idle,
-    given client c.fifth is,
-    known s k client c.rest has,
-  ) (record { asked = refl; blocks = refl; slots = refl });
+  again = λ s now c client k is has. rw (c.made, c.rest.idle, given client c.fifth is, known s k client c.rest has)
+      (record { asked = refl; blocks = refl; slots = refl });
+  answered = λ s now c client k o is has. rw (c.made, c.rest.idle, given client c.fifth is, known s k client c.rest has)
+      (record { asked = refl; blocks = refl; slots = refl });
   enters = λ s now c client k is none free.
       let gave : Label = record { task = record { 0 = c.fifth / 64 }; phone = record { 0 = c.fifth % 64 } } in
       rw (c.made, c.rest.idle, given client c.fifth is, unknown s client none, first_free s k free)
@@ -283,20 +220,11 @@ connects = record {
         others = λ j apart. set_there s.slots k j (Some gave) apart;
         blocks = refl;
       });
-  welcomed = λ s now c client k is none free. rw (
-    c.made,
-    c.rest.idle,
-    given client c.fifth is,
-    unknown s client none,
-    first_free s k free,
-  ) refl;
-  full = λ s now c client is none free. rw (
-    c.made,
-    c.rest.idle,
-    given client c.fifth is,
-    unknown s client none,
-    none_free s free,
-  ) (record { asked = refl; blocks = refl; slots = refl });
+  welcomed = λ s now c client k is none free.
+      rw (c.made, c.rest.idle, given client c.fifth is, unknown s client none, first_free s k free) refl;
+  full = λ s now c client is none free.
+      rw (c.made, c.rest.idle, given client c.fifth is, unknown s client none, none_free s free)
+      (record { asked = refl; blocks = refl; slots = refl });
 }
 
 -- ---- what is owed

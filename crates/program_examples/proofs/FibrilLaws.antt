@@ -38,16 +38,10 @@ reply_is t coded args said is = rw (
 
 pub asks : FibrilsAskAsGiven
 asks = record {
-  answer = λ a f t call coded args n said does number saying. rw (
-    does,
-    value_is t.registers call n number,
-    reply_is t coded args said saying,
-  ) refl;
-  forward = λ a f t call phone mode n p does number over. rw (
-    does,
-    value_is t.registers call n number,
-    value_is t.registers phone p over,
-  ) refl;
+  answer = λ a f t call coded args n said does number saying.
+      rw (does, value_is t.registers call n number, reply_is t coded args said saying) refl;
+  forward = λ a f t call phone mode n p does number over.
+      rw (does, value_is t.registers call n number, value_is t.registers phone p over) refl;
   forward_with = λ a f t call phone method mode args n p msg does number over message. rw (
     does,
     value_is t.registers call n number,
@@ -62,9 +56,6 @@ asks = record {
   ) refl;
   unarea = λ a f t base b does one. rw (does, value_is t.registers base b one) refl;
   poke = λ a f t address bytes n does one. rw (does, value_is t.registers address n one) refl;
-  peek = λ a f t address count n m does one two. rw (
-    does,
-    value_is t.registers address n one,
-    value_is t.registers count m two,
-  ) refl;
+  peek = λ a f t address count n m does one two.
+      rw (does, value_is t.registers address n one, value_is t.registers count m two) refl;
 }

@@ -1,7 +1,7 @@
 -- The laws of what fibrils are refused, and of begins that met the limit, over the definitions.
 use Rattle.std.proofs.Common.{◌≡◌, inl, inr, ◌-◌, ◌^◌, ◌<◌, ◌≤◌, ℕ, zero, suc, ◌==◌, Bool, true, false, List, [], ◌∷◌, length, Option, Some, None, refl, sym, ap, ◌∙◌, subst, arith}
-use Rattle.std.specs.Prelude.{◌&&◌, ◌||◌, slice_get, slice_index, position, if◌then◌else◌}
-use Rattle.std.proofs.lemmas.Bool.{eq-eqb, ne_eqb, eqb-true, eqb-false}
+use Rattle.std.specs.Prelude.{◌&&◌, slice_get, slice_index, position, if◌then◌else◌}
+use Rattle.std.proofs.lemmas.Bool.{eq-eqb, ne_eqb, eqb-true, eqb-false, or_left, or_right, false_from_ne_true, true_from_ne_false, lt-ltb}
 use Rattle.ipc_ids.specs.declared.numbers.CallNo.{CallNo}
 use Rattle.ipc_ids.specs.declared.numbers.Code.{Code}
 use Rattle.ipc_ids.specs.declared.numbers.FibrilNo.{FibrilNo}
@@ -40,8 +40,9 @@ use Rattle.async_task.specs.Wanted.{wanted, phone_by, unless_held, plan_begin, i
 use Rattle.async_task.specs.Steps.{step}
 use Rattle.program_examples.specs.Apart.{code}
 use Rattle.program_examples.specs.FibrilLaws.{Does, IsRefused, HasBegun, HasNotBegun, CallsGoAsGiven, SendsGoOverTheExchange, WaitsInABegin, ClosesMindWhoWaits, BeginsAreRefused, OthersAreRefused, TasksAnswerWhatTheyOwe, ShortEndsWithItsBegin}
-use Rattle.program_examples.proofs.BlockLaws.{some_is, set_here, within_list, before_all, none_at_all}
+use Rattle.program_examples.proofs.BlockLaws.{set_here, none_at_all}
 use Rattle.program_examples.proofs.FibrilLaws.{value_is, message_is}
+use Rattle.std.proofs.lemmas.Option.{same_Some, slice_get_within}
 
 -- ---- whose turn it is, and what it keeps
 
@@ -78,7 +79,7 @@ now_keeps a f t u keeps = rw keeps
 
 now_is : (a : AsyncState) (f : FibrilNo) (t u v : Context) → context_at a f ≡ Some t
     → context_at (with_context a f v) f ≡ Some u → v ≡ u
-now_is a f t u v keeps is = some_is v u (sym (ap kept_in (now_keeps a f t v keeps)) ∙ is)
+now_is a f t u v keeps is = same_Some v u (sym (ap kept_in (now_keeps a f t v keeps)) ∙ is)
 
 -- ---- refusals
 
@@ -89,12 +90,9 @@ refusal n a f t o b does asks steps = record {
   nothing = asks;
   told = λ out. rw (steps out) refl;
   after = after_refused (record t { short = b }) (code n);
-  keeps = λ out. rw (steps out) (now_keeps a f t (after_refused (record t {
-    short =
-        b;
-  }) (code n)) (turn_keeps a f t (Some o) does));
+  keeps = λ out. rw (steps out) (now_keeps a f t (after_refused (record t { short = b }) (code n)) (turn_keeps a f t (Some o) does));
   registers = refl;
-  place = λ h. rw (before_all t.place (2 ^ 62) h) refl;
+  place = λ h. rw (lt-ltb t.place (2 ^ 62) h) refl;
   slots = refl;
   handles = refl;
 }
@@ -135,12 +133,8 @@ phone_none f t x a h = by_handle (slice_get t.handles x) refl where
 
 pub calls : CallsGoAsGiven
 calls = record {
-  asked = λ a f t k phone method args p msg does free over message. rw (
-    does,
-    free,
-    value_is t.registers phone p over,
-    message_is t method args msg message,
-  ) refl;
+  asked = λ a f t k phone method args p msg does free over message.
+      rw (does, free, value_is t.registers phone p over, message_is t method args msg message) refl;
   busy = λ a f t k phone method args does used. elim used [
     | inl one ↦ refusal 8 a f t (op.CallSlot k phone method args) t.short does (rw (
       does,
@@ -155,12 +149,8 @@ calls = record {
 
 pub sends : SendsGoOverTheExchange
 sends = record {
-  asked = λ a f t k x phone method args msg does begun free message. rw (
-    does,
-    phone_is f t x phone a begun,
-    free,
-    message_is t method args msg message,
-  ) refl;
+  asked = λ a f t k x phone method args msg does begun free message.
+      rw (does, phone_is f t x phone a begun, free, message_is t method args msg message) refl;
   none = λ a f t k x method args does not. refusal 1 a f t (op.Send k x method args) t.short does (rw (
     does,
     phone_none f t x a not,
@@ -181,13 +171,6 @@ sends = record {
 
 -- ---- closes
 
-or_true : (b : Bool) → (b || true) ≡ true
-or_true true = refl
-or_true false = refl
-
-or_first : (b c : Bool) → b ≡ true → (b || c) ≡ true
-or_first b c is = rw is refl
-
 -- a fibril that waits in a begin is found
 waits_here : (s : ℕ) (a : AsyncState) (w : WaitsInABegin s a) → waits_for a s w.fibril ≡ true
 waits_here s a w = rw (w.blocked, w.keeps, w.begins, eq-eqb s s refl) refl
@@ -205,15 +188,15 @@ waits_within s a w (suc n) h = by_last (w.fibril.0 == suc n) refl (waits_within 
   by_last true is earlier =
       let own : w.fibril ≡ record { 0 = suc n } =
       ap (λ (m : ℕ). record { 0 = m }) (eqb-true w.fibril.0 (suc n) is) in
-      rw (subst (λ (g : FibrilNo). waits_for a s g ≡ true) own (waits_here s a w)) (or_true (any_waits n a s))
+      rw (subst (λ (g : FibrilNo). waits_for a s g ≡ true) own (waits_here s a w)) (or_right (any_waits n a s) true refl)
   by_last false is earlier =
-      or_first (any_waits n a s) (waits_for a s (record { 0 = suc n }))
+      or_left (any_waits n a s) (waits_for a s (record { 0 = suc n }))
       (earlier (smaller (eqb-false w.fibril.0 (suc n) is)))
 
 waits_at_all : (s : ℕ) (a : AsyncState) → WaitsInABegin s a → any_waits (length a.contexts) a s ≡ true
 waits_at_all s a w = waits_within s a w (length a.contexts) numbered where
   there : w.fibril.0 - 1 < length a.contexts
-  there = within_list a.contexts (w.fibril.0 - 1) (Some w.kept) (kept_is a.contexts (w.fibril.0 - 1) w.kept w.keeps)
+  there = slice_get_within a.contexts (w.fibril.0 - 1) (Some w.kept) (kept_is a.contexts (w.fibril.0 - 1) w.kept w.keeps)
 
   numbered : w.fibril.0 ≤ length a.contexts
   numbered = omega (arith, there, w.numbered)
@@ -247,37 +230,27 @@ found_waits s a f numbered is = by_why (why_of a.order f) refl is where
 
 none_waits : (s : ℕ) (a : AsyncState) → (WaitsInABegin s a → ⊥) → (n : ℕ) → any_waits n a s ≡ false
 none_waits s a none zero = refl
-none_waits s a none (suc n) = rw (none_waits s a none n) (by_last (waits_for a s (record { 0 = suc n })) refl) where
-  by_last : (b : Bool) → waits_for a s (record { 0 = suc n }) ≡ b → waits_for a s (record { 0 = suc n }) ≡ false
-  by_last true is = absurd (none (found_waits s a (record { 0 = suc n }) (omega arith) is))
-  by_last false is = is
+none_waits s a none (suc n) = rw (none_waits s a none n) (false_from_ne_true (waits_for a s (record { 0 = suc n }))
+    (λ is. none (found_waits s a (record { 0 = suc n }) (omega arith) is)))
 
 is_begun : (s : ℕ) (xs : List Exchange) → HasOneBegun s xs → any_begun s xs ≡ true
-is_begun s xs one = by_test (any_begun s xs) refl where
-  by_test : (b : Bool) → any_begun s xs ≡ b → b ≡ true
-  by_test true is = refl
-  by_test false is = absurd (none_begun s xs is one.0 one.1)
+is_begun s xs one = true_from_ne_false (any_begun s xs) (λ is. none_begun s xs is one.0 one.1)
 
 is_not_begun : (s : ℕ) (xs : List Exchange) → HasNoneBegun s xs → any_begun s xs ≡ false
-is_not_begun s xs none = by_test (any_begun s xs) refl where
-  by_test : (b : Bool) → any_begun s xs ≡ b → b ≡ false
-  by_test true is = let one = one_begun s xs is in absurd (none one.0 one.1)
-  by_test false is = refl
+is_not_begun s xs none = false_from_ne_true (any_begun s xs) (λ is. let one = one_begun s xs is in none one.0 one.1)
 
 pub closes : ClosesMindWhoWaits
 closes = record {
-  none = λ a f t s does none. refusal 1 a f t (op.Close s) t.short does (rw (does, none) refl) (λ out. rw (
-    does,
-    none,
-  ) refl);
+  none = λ a f t s does none.
+      refusal 1 a f t (op.Close s) t.short does (rw (does, none) refl) (λ out. rw (does, none) refl);
   waiting = λ a f t s x does there w. refusal 8 a f t (op.Close s) t.short does (rw (
     does,
     there,
     waits_at_all s a w,
   ) refl) (λ out. rw (does, there, waits_at_all s a w) refl);
   begun = λ a f t s x does there one. refusal 8 a f t (op.Close s) t.short does
-      (rw (does, there, is_begun s a.pool.exchanges one, or_true (any_waits (length a.contexts) a s)) refl)
-      (λ out. rw (does, there, is_begun s a.pool.exchanges one, or_true (any_waits (length a.contexts) a s)) refl);
+      (rw (does, there, is_begun s a.pool.exchanges one, or_right (any_waits (length a.contexts) a s) true refl) refl)
+      (λ out. rw (does, there, is_begun s a.pool.exchanges one, or_right (any_waits (length a.contexts) a s) true refl) refl);
   goes = λ a f t s x does there nobody none.
       by_idle a f t s x does there nobody none (first_idle (Some s) a.pool.exchanges) refl;
 } where
@@ -287,23 +260,11 @@ closes = record {
       (Some s) a.pool.exchanges ≡ i → (phone : ℕ) × (wanted a ≡ ask.Hangup phone)
   by_idle a f t s x does there nobody none None is = (
     x.phone,
-    rw (
-      does,
-      there,
-      none_waits s a nobody (length a.contexts),
-      is_not_begun s a.pool.exchanges none,
-      is,
-    ) refl,
+    rw (does, there, none_waits s a nobody (length a.contexts), is_not_begun s a.pool.exchanges none, is) refl,
   )
   by_idle a f t s x does there nobody none (Some y) is = (
     y.phone,
-    rw (
-      does,
-      there,
-      none_waits s a nobody (length a.contexts),
-      is_not_begun s a.pool.exchanges none,
-      is,
-    ) refl,
+    rw (does, there, none_waits s a nobody (length a.contexts), is_not_begun s a.pool.exchanges none, is) refl,
   )
 
 -- ---- begins
@@ -331,10 +292,8 @@ held_decides o s short u phone mode.Parallel = by_idle (first_idle (Some s) o.ex
 
 pub begins : BeginsAreRefused
 begins = record {
-  none = λ a f t x s does none. refusal 1 a f t (op.Begin x s) false does (rw (does, none) refl) (λ out. rw (
-    does,
-    none,
-  ) refl);
+  none = λ a f t x s does none.
+      refusal 1 a f t (op.Begin x s) false does (rw (does, none) refl) (λ out. rw (does, none) refl);
   busy = λ a f t x s phone u does there begun.
       let plan : plan_begin a f t x s ≡ begin.Refused (code 8) = rw (
         there,
@@ -382,7 +341,7 @@ owed a n c rest is = record { asked = rw is refl; stays = λ o. rw is refl }
 -- a fibril that stands where it stood has not ended its begin
 stays : (a : AsyncState) (f : FibrilNo) (t u : Context) → context_at a f ≡ Some t → context_at a f ≡ Some u
     → (u.place ≡ t.place → ⊥) → u.short ≡ false
-stays a f t u keeps is moved = absurd (moved (ap (λ (c : Context). c.place) (some_is u t (sym is ∙ keeps))))
+stays a f t u keeps is moved = absurd (moved (ap (λ (c : Context). c.place) (same_Some u t (sym is ∙ keeps))))
 
 marked : (a : AsyncState) (f : FibrilNo) (t u : Context) (b : Bool) → context_at a f ≡ Some t
     → context_at (with_context a f (with_short t b)) f ≡ Some u → (u.place ≡ t.place → ⊥) → u.short ≡ false
@@ -432,10 +391,7 @@ by_connect : (a : AsyncState) (f : FibrilNo) (t u : Context) (x s phone : ℕ) (
     → context_at a f ≡ Some t
     → context_at (connect a f t x s phone m).state f ≡ Some u → (u.place ≡ t.place → ⊥) → u.short ≡ false
 by_connect a f t u x s phone (Some mode.Parallel) keeps is moved =
-    ended_begin (with_pool a (added a.pool f s phone mode.Parallel)) f t u x (record {
-      0 =
-          a.pool.next_number;
-    }) keeps is
+    ended_begin (with_pool a (added a.pool f s phone mode.Parallel)) f t u x (record { 0 = a.pool.next_number }) keeps is
 by_connect a f t u x s phone _ keeps is moved = stays a f t u keeps is moved
 
 by_answer : (a : AsyncState) (f : FibrilNo) (t u : Context) (x s : ℕ) (said : Reply) (b : Bool)

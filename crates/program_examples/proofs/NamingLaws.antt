@@ -1,14 +1,17 @@
 -- The laws of the naming service, over the definitions.
 use Rattle.std.proofs.Common.{◌≡◌, ℕ, zero, suc, ◌==◌, Bool, true, false, List, [], ◌∷◌, Some, None, refl, sym, ap, ◌∙◌, arith}
-use Rattle.std.specs.Prelude.{◌&&◌, not, is_some, slice_get, if◌then◌else◌}
-use Rattle.std.proofs.lemmas.Bool.{eq-eqb, ne_eqb, eqb-true}
+use Rattle.std.specs.Prelude.{not, is_some, slice_get, if◌then◌else◌}
+use Rattle.std.proofs.lemmas.Bool.{eq-eqb, ne_eqb, eqb-true, and_parts, not-true, false_from_ne_true}
 use Rattle.ipc_ids.specs.declared.numbers.Label.{Label}
 use Rattle.ipc_ids.specs.Labels.{same_label}
 use Rattle.task_ends.specs.declared.introduced.Introduced.{Introduced}
 use Rattle.task_ends.specs.Ends.{is_open, entry_of, open_entry, leaving, leave}
 use Rattle.naming_service.specs.Naming.{NamingState, phone_of}
 use Rattle.program_examples.specs.NamingLaws.{Stands, IsAtRest, TasksIntroduceThemselvesOnce, TasksLeaveTheirValue, WaitsAreForTheKnown, CallsWaitForServices, OwedWorkStays}
-use Rattle.program_examples.proofs.BlockLaws.{some_is, none_at, same_is, label_same}
+use Rattle.program_examples.proofs.BlockLaws.{none_at}
+use Rattle.std.proofs.lemmas.Option.{same_Some}
+use Rattle.fibril_core.proofs.Connections.{own_label}
+use Rattle.task_ends.proofs.LawfulEnds.{label_is}
 
 -- ---- entries
 
@@ -16,7 +19,7 @@ use Rattle.program_examples.proofs.BlockLaws.{some_is, none_at, same_is, label_s
 entry_found : (w : ℕ) (xs : List Introduced) (i : ℕ) (x : Introduced) → slice_get xs i ≡ Some x → x.label.task.0 ≡ w
     → ((j : ℕ) (y : Introduced) → slice_get xs j ≡ Some y → y.label.task.0 ≡ w → j ≡ i) → entry_of w xs ≡ Some x
 entry_found w [] i x at is one = absurd (none_at i x at)
-entry_found w (y ∷ ys) zero x at is one = rw (some_is y x at, eq-eqb x.label.task.0 w is) refl
+entry_found w (y ∷ ys) zero x at is one = rw (same_Some y x at, eq-eqb x.label.task.0 w is) refl
 entry_found w (y ∷ ys) (suc i) x at is one =
     by_test (y.label.task.0 == w) refl (entry_found w ys i x at is later) where
       later : (j : ℕ) (z : Introduced) → slice_get ys j ≡ Some z → z.label.task.0 ≡ w → j ≡ i
@@ -42,27 +45,21 @@ known s w i x rest at is = entry_found w s.ends.introduced i x at is (λ j y the
 -- ---- open entries
 
 open_is : (label : Label) (x : Introduced) → x.label ≡ label → x.ended ≡ false → is_open label x ≡ true
-open_is label x same alive = rw (same, alive, label_same label) refl
+open_is label x same alive = rw (same, alive, own_label label) refl
 
 is_open_is : (label : Label) (x : Introduced) → is_open label x ≡ true → (x.label ≡ label) × (x.ended ≡ false)
-is_open_is label x is = by_parts (same_label x.label label) refl x.ended refl is where
-  by_parts : (b : Bool) → same_label x.label label ≡ b → (c : Bool) → x.ended ≡ c → (b && not c) ≡ true
-      → (x.label ≡ label) × (x.ended ≡ false)
-  by_parts true same false alive both = (same_is x.label label same, alive)
-  by_parts true same true alive both = absurd (cc both)
-  by_parts false same c alive both = absurd (cc both)
+is_open_is label x is =
+    let both = and_parts (same_label x.label label) (not x.ended) is in
+    (label_is x.label label both.0, not-true x.ended both.1)
 
 not_open : (label : Label) (x : Introduced) → (x.label ≡ label → x.ended ≡ false → ⊥) → is_open label x ≡ false
-not_open label x none = by_test (is_open label x) refl where
-  by_test : (b : Bool) → is_open label x ≡ b → b ≡ false
-  by_test true is = absurd (none (is_open_is label x is).0 (is_open_is label x is).1)
-  by_test false is = refl
+not_open label x none = false_from_ne_true (is_open label x) (λ is. let both = is_open_is label x is in none both.0 both.1)
 
 -- there is an entry that is open
 open_found : (label : Label) (xs : List Introduced) (i : ℕ) (x : Introduced) → slice_get xs i ≡ Some x
     → is_open label x ≡ true → is_some (open_entry label xs) ≡ true
 open_found label [] i x at is = absurd (none_at i x at)
-open_found label (y ∷ ys) zero x at is = rw (some_is y x at, is) refl
+open_found label (y ∷ ys) zero x at is = rw (same_Some y x at, is) refl
 open_found label (y ∷ ys) (suc i) x at is =
     by_test (is_open label y) refl (open_found label ys i x at is) where
       by_test : (b : Bool) → is_open label y ≡ b → is_some (open_entry label ys) ≡ true
@@ -86,7 +83,7 @@ left_as_it_was label v (y ∷ ys) none = rw (none 0 y refl, left_as_it_was label
 left_at : (label : Label) (v : ℕ) (xs : List Introduced) (i : ℕ) (x : Introduced) → slice_get xs i ≡ Some x
     → slice_get (leave label v xs) i ≡ Some (leaving label v x)
 left_at label v [] i x at = absurd (none_at i x at)
-left_at label v (y ∷ ys) zero x at = rw (some_is y x at) refl
+left_at label v (y ∷ ys) zero x at = rw (same_Some y x at) refl
 left_at label v (y ∷ ys) (suc i) x at = left_at label v ys i x at
 
 -- and at all others, where it is the only one that is open
@@ -100,10 +97,8 @@ left_elsewhere label v (y ∷ ys) i zero apart one = by_test (is_open label y) r
   by_test true is = absurd (apart (one 0 y refl is))
   by_test false is = refl
 left_elsewhere label v (y ∷ ys) zero (suc j) apart one =
-    rw (left_as_it_was label v ys (λ k z at. closed k z at (is_open label z) refl)) refl where
-      closed : (k : ℕ) (z : Introduced) → slice_get ys k ≡ Some z → (b : Bool) → is_open label z ≡ b → b ≡ false
-      closed k z at true is = let h : suc k ≡ 0 = one (suc k) z at is in absurd (cc h)
-      closed k z at false is = refl
+    rw (left_as_it_was label v ys (λ k z at. false_from_ne_true (is_open label z)
+    (λ is. let h : suc k ≡ 0 = one (suc k) z at is in cc h))) refl
 left_elsewhere label v (y ∷ ys) (suc i) (suc j) apart one =
     left_elsewhere label v ys i j (λ same. apart (ap suc same))
     (λ k z at is. let h : suc k ≡ suc i = one (suc k) z at is in omega (arith, h))

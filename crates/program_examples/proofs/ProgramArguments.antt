@@ -235,8 +235,7 @@ Serves s = All ServesFive s.work
 
 module _ (s : block.BlockState) (owes : Serves s) where
   serves_more : (w : BlockWork) → ServesFive w → All ServesFive (s.work ++ w ∷ [])
-  serves_more w five =
-      All-append ServesFive s.work (w ∷ []) owes (All-cons ServesFive w [] five (All-nil ServesFive))
+  serves_more w five = All-append ServesFive s.work (w ∷ []) owes (All-cons ServesFive w [] five (All-nil ServesFive))
 
   serves_both : (v w : BlockWork) → ServesFive v → ServesFive w → All ServesFive (s.work ++ v ∷ w ∷ [])
   serves_both v w one two =

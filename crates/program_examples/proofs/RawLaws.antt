@@ -1,23 +1,11 @@
 -- The law of what raw programs ask, over the definitions.
-use Rattle.std.proofs.Common.{◌≡◌, ℕ, List, [], ◌∷◌, map, refl}
+use Rattle.std.proofs.Common.{◌≡◌, List, refl}
 use Rattle.ipc_ids.specs.declared.message.Msg.{Msg}
 use Rattle.ipc_ids.specs.declared.message.Reply.{Reply}
 use Rattle.ipc_ids.specs.declared.op.Value.{Value}
-use Rattle.ipc_ids.specs.declared.op.Value.TheVariants.{Number, Register}
-use Rattle.std.proofs.lemmas.Option.{get_or_from_slice_get}
-use Rattle.raw_program.specs.Raw.{RawState, value_in, msg_of, reply_of}
-use Rattle.program_examples.specs.FibrilLaws.{Is, Are, IsMessage, IsReply, RawProgramsAskAsGiven}
-
-value_is : (registers : List ℕ) (v : Value) (n : ℕ) → Is registers v n → value_in registers v ≡ n
-value_is registers (Number m) n is = is
-value_is registers (Register k) n is = get_or_from_slice_get registers k n 0 is
-
-values_are : (registers : List ℕ) (vs : List Value) (ns : List ℕ) → Are registers vs ns
-    → map (value_in registers) vs ≡ ns
-values_are registers [] [] are = refl
-values_are registers [] (n ∷ ns) are = absurd are
-values_are registers (v ∷ vs) [] are = absurd are
-values_are registers (v ∷ vs) (n ∷ ns) are = rw (value_is registers v n are.0, values_are registers vs ns are.1) refl
+use Rattle.raw_program.specs.Raw.{RawState, msg_of, reply_of}
+use Rattle.program_examples.specs.FibrilLaws.{IsMessage, IsReply, RawProgramsAskAsGiven}
+use Rattle.program_examples.proofs.FibrilLaws.{value_is, values_are}
 
 message_is : (r : RawState) (method : Value) (args : List Value) (msg : Msg)
     → IsMessage r.registers method args msg → msg_of r method args ≡ msg
@@ -35,22 +23,13 @@ reply_is r coded args said is = rw (
 
 pub asks : RawProgramsAskAsGiven
 asks = record {
-  call = λ r phone method args p msg does over message. rw (
-    does,
-    value_is r.registers phone p over,
-    message_is r method args msg message,
-  ) refl;
+  call = λ r phone method args p msg does over message.
+      rw (does, value_is r.registers phone p over, message_is r method args msg message) refl;
   receive = λ r does. rw does refl;
-  answer = λ r call coded args n said does number saying. rw (
-    does,
-    value_is r.registers call n number,
-    reply_is r coded args said saying,
-  ) refl;
-  forward = λ r call phone mode n p does number over. rw (
-    does,
-    value_is r.registers call n number,
-    value_is r.registers phone p over,
-  ) refl;
+  answer = λ r call coded args n said does number saying.
+      rw (does, value_is r.registers call n number, reply_is r coded args said saying) refl;
+  forward = λ r call phone mode n p does number over.
+      rw (does, value_is r.registers call n number, value_is r.registers phone p over) refl;
   forward_with = λ r call phone method mode args n p msg does number over message. rw (
     does,
     value_is r.registers call n number,
@@ -66,9 +45,6 @@ asks = record {
   ) refl;
   unarea = λ r base b does one. rw (does, value_is r.registers base b one) refl;
   poke = λ r address bytes n does one. rw (does, value_is r.registers address n one) refl;
-  peek = λ r address count n m does one two. rw (
-    does,
-    value_is r.registers address n one,
-    value_is r.registers count m two,
-  ) refl;
+  peek = λ r address count n m does one two.
+      rw (does, value_is r.registers address n one, value_is r.registers count m two) refl;
 }

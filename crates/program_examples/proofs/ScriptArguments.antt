@@ -112,10 +112,6 @@ two_words (first ∷ second ∷ others) = choice Third (nat_le (length others) 5
 abbrev Good : Result Op Reason → Type 0
 Good r = IfGood GivesFive r
 
-call_five : (ws : List (List ℕ)) → Good (operation.call_op ws)
-unfolding operation.call_op
-call_five ws = then_good Third GivesFive (operation.two_and_arguments ws) _ (two_words ws) (λ x h. h)
-
 answer_five : (ws : List (List ℕ)) → Good (operation.answer_op ws)
 unfolding operation.answer_op
 answer_five ws = then_good Third GivesFive (operation.two_and_arguments ws) _ (two_words ws) (λ x h. h)
@@ -132,36 +128,7 @@ forward_five (call ∷ phone ∷ mode ∷ method ∷ others) = choice GivesFive 
     (λ _. tt)
 forward_five _ = tt
 
-call_slot_five : (ws : List (List ℕ)) → Good (operation.call_slot_op ws)
-unfolding operation.call_slot_op
-call_slot_five (slot ∷ phone ∷ method ∷ others) = choice GivesFive (nat_le (length others) 5) _ _
-    (λ few. step GivesFive (needed (operation.slot_of slot)) _ (λ a. step GivesFive (needed (value phone)) _
-    (λ b. step GivesFive (needed (value method)) _
-    (λ c. then_good IsFive GivesFive (needed (arguments others)) _ (five_words others few) (λ args h. h)))))
-    (λ _. tt)
-call_slot_five _ = tt
-
-send_five : (ws : List (List ℕ)) → Good (operation.send_op ws)
-unfolding operation.send_op
-send_five (slot ∷ handle ∷ method ∷ others) = choice GivesFive (nat_le (length others) 5) _ _
-    (λ few. step GivesFive (needed (operation.slot_of slot)) _
-    (λ a. step GivesFive (needed (operation.handle_of handle)) _
-    (λ b. step GivesFive (needed (value method)) _
-    (λ c. then_good IsFive GivesFive (needed (arguments others)) _ (five_words others few) (λ args h. h)))))
-    (λ _. tt)
-send_five _ = tt
-
 -- the others give no arguments
-
-receive_five : (ws : List (List ℕ)) → Good (operation.receive_op ws)
-unfolding operation.receive_op
-receive_five [] = tt
-receive_five (a ∷ ws) = tt
-
-hangup_five : (ws : List (List ℕ)) → Good (operation.hangup_op ws)
-unfolding operation.hangup_op
-hangup_five (a ∷ []) = step GivesFive (needed (value a)) _ (λ _. tt)
-hangup_five _ = tt
 
 area_five : (ws : List (List ℕ)) → Good (operation.area_op ws)
 unfolding operation.area_op
@@ -198,44 +165,6 @@ unfolding operation.jump_op
 jump_five (a ∷ []) = step GivesFive (needed (number_below 65536 a)) _ (λ _. tt)
 jump_five _ = tt
 
-wait_five : (ws : List (List ℕ)) → Good (operation.wait_op ws)
-unfolding operation.wait_op
-wait_five (a ∷ []) = step GivesFive (needed (operation.slot_of a)) _ (λ _. tt)
-wait_five _ = tt
-
-next_five : (ws : List (List ℕ)) → Good (operation.next_op ws)
-unfolding operation.next_op
-next_five [] = tt
-next_five (a ∷ ws) = tt
-
-yield_five : (ws : List (List ℕ)) → Good (operation.yield_op ws)
-unfolding operation.yield_op
-yield_five [] = tt
-yield_five (a ∷ ws) = tt
-
-open_five : (ws : List (List ℕ)) → Good (operation.open_op ws)
-unfolding operation.open_op
-open_five (a ∷ b ∷ c ∷ []) = step GivesFive (needed (operation.session_of a)) _
-    (λ _. step GivesFive (needed (value b)) _
-    (λ _. step GivesFive (needed (exchange_mode_of c)) _ (λ _. tt)))
-open_five _ = tt
-
-begin_five : (ws : List (List ℕ)) → Good (operation.begin_op ws)
-unfolding operation.begin_op
-begin_five (a ∷ b ∷ []) = step GivesFive (needed (operation.handle_of a)) _
-    (λ _. step GivesFive (needed (operation.session_of b)) _ (λ _. tt))
-begin_five _ = tt
-
-end_five : (ws : List (List ℕ)) → Good (operation.end_op ws)
-unfolding operation.end_op
-end_five (a ∷ []) = step GivesFive (needed (operation.handle_of a)) _ (λ _. tt)
-end_five _ = tt
-
-close_five : (ws : List (List ℕ)) → Good (operation.close_op ws)
-unfolding operation.close_op
-close_five (a ∷ []) = step GivesFive (needed (operation.session_of a)) _ (λ _. tt)
-close_five _ = tt
-
 jump_equal_five : (ws : List (List ℕ)) → Good (operation.jump_equal_op ws)
 unfolding operation.jump_equal_op
 jump_equal_five ws = step GivesFive (operation.two_and_place ws) _ (λ _. tt)
@@ -245,11 +174,12 @@ unfolding operation.jump_differ_op
 jump_differ_five ws = step GivesFive (operation.two_and_place ws) _ (λ _. tt)
 
 raw_five : (v : OpVerb) (ws : List (List ℕ)) → Good (operation.raw_op_of v ws)
-raw_five verbs.Call ws = call_five ws
-raw_five verbs.Receive ws = receive_five ws
+unfolding operation.call_op operation.receive_op operation.hangup_op
+raw_five verbs.Call ws = then_good Third GivesFive (operation.two_and_arguments ws) _ (two_words ws) (λ x h. h)
+raw_five verbs.Receive [] = tt
 raw_five verbs.Answer ws = answer_five ws
 raw_five verbs.Forward ws = forward_five ws
-raw_five verbs.Hangup ws = hangup_five ws
+raw_five verbs.Hangup (a ∷ []) = step GivesFive (needed (value a)) _ (λ _. tt)
 raw_five verbs.Area ws = area_five ws
 raw_five verbs.Unarea ws = unarea_five ws
 raw_five verbs.Poke ws = poke_five ws
@@ -258,10 +188,16 @@ raw_five verbs.Set ws = set_five ws
 raw_five verbs.Jump ws = jump_five ws
 raw_five verbs.JumpEqual ws = jump_equal_five ws
 raw_five verbs.JumpDiffer ws = jump_differ_five ws
-raw_five _ ws = tt
+raw_five _ _ = tt
 
 async_five : (v : OpVerb) (ws : List (List ℕ)) → Good (operation.async_op_of v ws)
-async_five verbs.Call ws = call_slot_five ws
+unfolding operation.call_slot_op operation.wait_op operation.next_op operation.yield_op operation.send_op
+    operation.open_op operation.begin_op operation.end_op operation.close_op
+async_five verbs.Call (slot ∷ phone ∷ method ∷ others) = choice GivesFive (nat_le (length others) 5) _ _
+    (λ few. step GivesFive (needed (operation.slot_of slot)) _ (λ a. step GivesFive (needed (value phone)) _
+    (λ b. step GivesFive (needed (value method)) _
+    (λ c. then_good IsFive GivesFive (needed (arguments others)) _ (five_words others few) (λ args h. h)))))
+    (λ _. tt)
 async_five verbs.Answer ws = answer_five ws
 async_five verbs.Forward ws = forward_five ws
 async_five verbs.Area ws = area_five ws
@@ -272,15 +208,23 @@ async_five verbs.Set ws = set_five ws
 async_five verbs.Jump ws = jump_five ws
 async_five verbs.JumpEqual ws = jump_equal_five ws
 async_five verbs.JumpDiffer ws = jump_differ_five ws
-async_five verbs.Wait ws = wait_five ws
-async_five verbs.Next ws = next_five ws
-async_five verbs.Yield ws = yield_five ws
-async_five verbs.Send ws = send_five ws
-async_five verbs.Open ws = open_five ws
-async_five verbs.Begin ws = begin_five ws
-async_five verbs.End ws = end_five ws
-async_five verbs.Close ws = close_five ws
-async_five _ ws = tt
+async_five verbs.Wait (a ∷ []) = step GivesFive (needed (operation.slot_of a)) _ (λ _. tt)
+async_five verbs.Next [] = tt
+async_five verbs.Yield [] = tt
+async_five verbs.Send (slot ∷ handle ∷ method ∷ others) = choice GivesFive (nat_le (length others) 5) _ _
+    (λ few. step GivesFive (needed (operation.slot_of slot)) _
+    (λ a. step GivesFive (needed (operation.handle_of handle)) _
+    (λ b. step GivesFive (needed (value method)) _
+    (λ c. then_good IsFive GivesFive (needed (arguments others)) _ (five_words others few) (λ args h. h)))))
+    (λ _. tt)
+async_five verbs.Open (a ∷ b ∷ c ∷ []) = step GivesFive (needed (operation.session_of a)) _
+    (λ _. step GivesFive (needed (value b)) _
+    (λ _. step GivesFive (needed (exchange_mode_of c)) _ (λ _. tt)))
+async_five verbs.Begin (a ∷ b ∷ []) = step GivesFive (needed (operation.handle_of a)) _
+    (λ _. step GivesFive (needed (operation.session_of b)) _ (λ _. tt))
+async_five verbs.End (a ∷ []) = step GivesFive (needed (operation.handle_of a)) _ (λ _. tt)
+async_five verbs.Close (a ∷ []) = step GivesFive (needed (operation.session_of a)) _ (λ _. tt)
+async_five _ _ = tt
 
 op_five : (k : Option Kind) (v : OpVerb) (ws : List (List ℕ)) → Good (operation.op_in k v ws)
 op_five (Some Raw) v ws = raw_five v ws

@@ -149,8 +149,7 @@ op_steps o a f t (op.OpenSession s phone m) =
     (made (session_at a.pool s))
 op_steps o a f t (op.Begin x s) = begin_steps o a f t x s (plan_begin a f t x s)
 op_steps o a f t (op.End x) = end_steps o a f t x (handle_at t x)
-op_steps o a f t (op.Close s) =
-    close_steps o (with_pool a (close_after a.pool s (plan_close a s))) f t (plan_close a s)
+op_steps o a f t (op.Close s) = close_steps o (with_pool a (close_after a.pool s (plan_close a s))) f t (plan_close a s)
 op_steps o a f t _ = ((refl, refl), tt)
 
 -- ---- answers

@@ -302,8 +302,7 @@ lent_own _ is n from t code l m q has = absurd (cc is)
 
 module _ (b : Beginning) (t : TaskNo) (q : List Entry) (k : KernelState) (f : Fit b q k) (c : Call) where
   received_had : HadCause b (entry.Received c.number t ∷ q)
-  received_had =
-      (f.fit.had, caused b q (entry.Received c.number t) tt (whole_next q _ f.whole) tt tt tt tt tt)
+  received_had = (f.fit.had, caused b q (entry.Received c.number t) tt (whole_next q _ f.whole) tt tt tt tt tt)
 
   module _ (at : c.place ≡ Incoming t) (live : IsLive k c) where
     -- a call is received with this record, and no phone is kept

@@ -81,8 +81,7 @@ module _ (b : Beginning) (h : List Entry) (now : RunState) (told : RunFits b h n
       (causes_plain b (h ++ served_entries t (wanted p) s) own s.state (entries_plain p s.outcome)
       (causes_serve b h now.kernel told.kernel f t (wanted p)))
   happens_kept e next (happens.killed t alive) = causes_kill b h now.kernel told.kernel f t alive
-  happens_kept e next (happens.hung_up t phone _) =
-      causes_serve b h now.kernel told.kernel f t (request.Hangup phone)
+  happens_kept e next (happens.hung_up t phone _) = causes_serve b h now.kernel told.kernel f t (request.Hangup phone)
   happens_kept e next (happens.nothing _ _) = rw (append-nil h) f
   happens_kept e next (happens.spawned place template _ at) =
       subst (λ (o : Option TaskNo). CausesKept b (h ++ (spawn_event now.kernel template.limit o).entries)

@@ -157,9 +157,7 @@ hangs_up_nothing line =
 -- the program of the task asks to hang up phone 1
 abbrev asks_for_the_second : RunState
 asks_for_the_second =
-    record slammed {
-      programs = any.Raw (started (op.Hangup (Number 1) ∷ [])) ∷ [];
-    }
+    record slammed { programs = any.Raw (started (op.Hangup (Number 1) ∷ [])) ∷ [] }
 
 -- a machine that tells of what the program wants, and hangs up phone 0
 serves_another_request : IsStepLine one asks_for_the_second

@@ -179,8 +179,7 @@ module _ (b : Beginning) (n : ℕ) (begins : BeginAt n b.wires) (h : List Entry)
       let s : Served = serve now.kernel u (request.Hangup phone) in
       request_turn (request_served now u (request.Hangup phone) s) u (request.Hangup phone) []
       (sym (append-nil (served_entries u (request.Hangup phone) s))) refl tt
-  turned e next (happens.nothing _ _) =
-      λ comes. subst (λ (es : List Entry). Turns n es now) (sym (append-nil h)) it
+  turned e next (happens.nothing _ _) = λ comes. subst (λ (es : List Entry). Turns n es now) (sym (append-nil h)) it
   turned e next (happens.spawned place template _ _) = λ comes.
       made_by (named now.kernel now.names) template (lives_told b _ _ comes) comes.causes.fit.had
 

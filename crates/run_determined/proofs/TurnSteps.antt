@@ -167,8 +167,7 @@ dropped_by p m t _ a = absurd a
 -- a task that it names is one of those that are there
 named : (n : ℕ) (q : List Entry) → CameInTurn n q → (t : ℕ) → Names t (tales q) → (u : ℕ) → t ≡ u
     → IsOneOf (count_after n q) u
-named n q came t it u is =
-    subst (IsOneOf (count_after n q)) (it.2 ∙ is) (event_in_turn n q it.0 came it.1)
+named n q came t it u is = subst (IsOneOf (count_after n q)) (it.2 ∙ is) (event_in_turn n q it.0 came it.1)
 
 -- an entry that makes no task
 abbrev pub IsNoSpawn : Entry → Type 0

@@ -2,12 +2,7 @@ use Rattle.std.proofs.Common.{refl}
 use Rattle.program_examples.proofs.constants.words_of_services_are_numbers.Goals as goal
 
 pub returns-clause-ends : goal.returns-clause-ends
-returns-clause-ends c = record {
-  with_value = λ n. refl;
-  without = λ n. refl;
-  none = refl;
-  no_phone_is = refl;
-}
+returns-clause-ends c = record { with_value = λ n. refl; without = λ n. refl; none = refl; no_phone_is = refl }
 
 pub returns-clause-windows : goal.returns-clause-windows
 returns-clause-windows c = record {

@@ -61,9 +61,4 @@ returns-clause-silence c = record {
 }
 
 pub returns-clause-turns : goal.returns-clause-turns
-returns-clause-turns c = record {
-  owed_first = refl;
-  ready_longest = refl;
-  at_the_end = refl;
-  none_ready = refl;
-}
+returns-clause-turns c = record { owed_first = refl; ready_longest = refl; at_the_end = refl; none_ready = refl }

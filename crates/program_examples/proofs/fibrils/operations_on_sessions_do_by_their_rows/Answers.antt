@@ -2,10 +2,7 @@ use Rattle.std.proofs.Common.{refl}
 use Rattle.program_examples.proofs.fibrils.operations_on_sessions_do_by_their_rows.Goals as goal
 
 pub returns-clause-opens : goal.returns-clause-opens
-returns-clause-opens c = record {
-  made = refl;
-  in_use = refl;
-}
+returns-clause-opens c = record { made = refl; in_use = refl }
 
 pub returns-clause-begins : goal.returns-clause-begins
 returns-clause-begins c = record {

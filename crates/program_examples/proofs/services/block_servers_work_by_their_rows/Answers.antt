@@ -25,7 +25,4 @@ returns-clause-outcomes c = record {
 }
 
 pub returns-clause-start : goal.returns-clause-start
-returns-clause-start c = record {
-  with_service = refl;
-  without = refl;
-}
+returns-clause-start c = record { with_service = refl; without = refl }

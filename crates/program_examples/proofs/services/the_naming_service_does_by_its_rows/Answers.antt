@@ -11,11 +11,7 @@ returns-clause-registrations c = record {
 }
 
 pub returns-clause-connections : goal.returns-clause-connections
-returns-clause-connections c = record {
-  there = refl;
-  waiting = refl;
-  not_waiting = refl;
-}
+returns-clause-connections c = record { there = refl; waiting = refl; not_waiting = refl }
 
 pub returns-clause-ends : goal.returns-clause-ends
 returns-clause-ends c = record {
