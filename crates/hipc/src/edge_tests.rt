@@ -1,7 +1,6 @@
 //! Loads and puts that fail, each with what is answered and what was written by then; and a generated run that is
 //! made whole.
-use crate::rows::{FIRST_CALL_SCHEDULE, FIRST_CALL_SCRIPT};
-use crate::tests::{files, words};
+use crate::tests::{FIRST_CALL_SCHEDULE, FIRST_CALL_SCRIPT, files, words};
 use command_line::{Status, run};
 use io_edge::MemSink;
 use schedule_replay::{ReplayFault, SliceFeed, generate, replay};
