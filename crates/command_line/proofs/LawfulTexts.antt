@@ -18,7 +18,7 @@ use Rattle.command_line.specs.declared.status.Status.{Status}
 use Rattle.command_line.specs.declared.status.Status.TheVariants.{Done, WriteFailed, NoMemory}
 use Rattle.command_line.specs.LawfulRun.{IsLawfulText, WritesLawfulRun, WritesLawfulRunOfFiles, WritesLawfulSummary, WritesLawfulRunFor, WritesLawfulRunOf}
 use Rattle.command_line.proofs.Dues.{SpellTheSame, held}
-use Rattle.schedule_replay.proofs.LawfulRuns.{run_is_lawful}
+use Rattle.run_laws.proofs.LawfulRuns.{run_is_lawful}
 
 -- the text of the run of a script that was read
 pub text_is_lawful : (script schedule text : List ℕ) (plan : Plan) (events : List Event)

@@ -6,7 +6,7 @@ use Rattle.script_lines.specs.Plan.{Plan}
 use Rattle.script_reader.specs.Reading.{script_of, schedule_of}
 use Rattle.io_edge.specs.Edge.{Holds}
 use Rattle.task_system.specs.Run.{run}
-use Rattle.schedule_replay.specs.LawfulRun.{KeepsLaws, LosesNoWake}
+use Rattle.run_laws.specs.LawfulRun.{KeepsLaws, LosesNoWake}
 use Rattle.schedule_replay.specs.Generator.{generated_plan}
 use Rattle.trace_print.specs.Text.{text_of}
 use Rattle.command_line.specs.Command.{Command, Replay, Generate, Check, command_of}

@@ -1,6 +1,6 @@
 -- What is due, from what the calls of the program say.
 use Rattle.std.proofs.Common.{◌≡◌, ℕ, ◌≤◌, List, length, Option, Result, Ok, Err, sym, ap, subst, ◌∙◌, arith}
-use Rattle.std.specs.Prelude.{IfOk, ◌≢◌, All, codes}
+use Rattle.std.specs.Prelude.{IfOk, ◌≢◌, codes}
 use Rattle.std.specs.Io.KnownBytes.{Appends}
 use Rattle.io_edge.specs.Edge.{AppendsStart}
 use Rattle.ipc_ids.specs.declared.message.Event.{Event}
@@ -8,11 +8,10 @@ use Rattle.script_lines.specs.declared.fault.Reason.{Reason}
 use Rattle.script_lines.specs.Names.{task_names}
 use Rattle.script_lines.specs.Plan.{Plan}
 use Rattle.script_lines.specs.Sound as script
+use Rattle.script_reader.specs.EventLine.{EventsAndNames}
 use Rattle.script_reader.specs.Schedule.{MayAllCome}
-use Rattle.std.proofs.lemmas.List.{length-map}
-use Rattle.script_lines.specs.declared.plan.TaskPlan.{TaskPlan}
 use Rattle.search_goals.specs.GoalText.{Asked}
-use Rattle.search_goals.specs.Writing.{IsOnTask}
+use Rattle.schedule_search.specs.declared.problem.MostMade.{MostMade}
 use Rattle.schedule_search.specs.Search.{Search, IsSound}
 use Rattle.hipc_search.specs.declared.moves.Listed.TheVariants.{Kills, Hangups}
 use Rattle.hipc_search.specs.declared.status.Status.{Status}
@@ -21,9 +20,8 @@ use Rattle.hipc_search.specs.Asking.{search_by, search_with}
 use Rattle.hipc_search.specs.Command.{Command}
 use Rattle.hipc_search.specs.Due.{Answers, IsOfText, Whole, Part}
 use Rattle.hipc_search.specs.Line.{fault_line}
-use Rattle.hipc_search.specs.Moves.{listed_in, moves_of}
-use Rattle.hipc_search.proofs.Lists.{listed_on}
-use Rattle.hipc_search.proofs.Steps.{moves_on, moves_few}
+use Rattle.hipc_search.specs.Moves.{listed_in, bounds_in, moves_of}
+use Rattle.hipc_search.proofs.Steps.{moves_few}
 
 -- ---- what is written
 
@@ -56,51 +54,63 @@ no_memory_told A status told h ok m =
 
 -- ---- what is asked
 
-module _ (c : Command) (plan : Plan) (from : List Event) (asked : Asked) where
-  pub kills_at_fault : (fault : ℕ × Reason) → listed_in Kills (task_names plan.tasks) c.kill ≡ Err fault
-      → search_with c plan from (Ok asked) ≡ Err (fault_line (codes "kill word") fault)
-  kills_at_fault fault e =
-      ap (λ k. search_by plan from c.kills asked k (listed_in Hangups (task_names plan.tasks) c.hangup)) e
+module _ (c : Command) (plan : Plan) (first : EventsAndNames) (asked : Asked) where
+  abbrev templates : List (List ℕ)
+  templates = task_names plan.templates
 
-  pub hangups_at_fault : (killed : List Event) (fault : ℕ × Reason)
-      → listed_in Kills (task_names plan.tasks) c.kill ≡ Ok killed
-      → listed_in Hangups (task_names plan.tasks) c.hangup ≡ Err fault
-      → search_with c plan from (Ok asked) ≡ Err (fault_line (codes "hangup word") fault)
+  abbrev kills_told : Result (List Event) (ℕ × Reason)
+  kills_told = listed_in Kills first.names c.kill
+
+  abbrev hangups_told : Result (List Event) (ℕ × Reason)
+  hangups_told = listed_in Hangups first.names c.hangup
+
+  abbrev bounds_told : Result (List MostMade) (ℕ × Reason)
+  bounds_told = bounds_in templates c.spawn
+
+  pub kills_at_fault : (fault : ℕ × Reason) → kills_told ≡ Err fault
+      → search_with c plan first (Ok asked) ≡ Err (fault_line (codes "kill word") fault)
+  kills_at_fault fault e = ap (λ k. search_by plan first c.kills asked k hangups_told bounds_told) e
+
+  pub hangups_at_fault : (killed : List Event) (fault : ℕ × Reason) → kills_told ≡ Ok killed → hangups_told ≡ Err fault
+      → search_with c plan first (Ok asked) ≡ Err (fault_line (codes "hangup word") fault)
   hangups_at_fault killed fault e f =
-      ap (λ k. search_by plan from c.kills asked k (listed_in Hangups (task_names plan.tasks) c.hangup)) e
-      ∙ ap (λ h. search_by plan from c.kills asked (Ok killed) h) f
+      ap (λ k. search_by plan first c.kills asked k hangups_told bounds_told) e
+      ∙ ap (λ h. search_by plan first c.kills asked (Ok killed) h bounds_told) f
 
-  pub search_is : (killed hangups moves : List Event)
-      → listed_in Kills (task_names plan.tasks) c.kill ≡ Ok killed
-      → listed_in Hangups (task_names plan.tasks) c.hangup ≡ Ok hangups
-      → moves ≡ moves_of (length plan.tasks) killed hangups
-      → search_with c plan from (Ok asked)
-      ≡ Ok (record { plan = plan; from = from; moves = moves; kills = c.kills; asked = asked })
-  search_is killed hangups moves e f g =
-      ap (λ k. search_by plan from c.kills asked k (listed_in Hangups (task_names plan.tasks) c.hangup)) e
-      ∙ ap (λ h. search_by plan from c.kills asked (Ok killed) h) f
-      ∙ ap (λ (m : List Event). search_made m) (sym g) where
+  pub bounds_at_fault : (killed hangups : List Event) (fault : ℕ × Reason) → kills_told ≡ Ok killed
+      → hangups_told ≡ Ok hangups → bounds_told ≡ Err fault
+      → search_with c plan first (Ok asked) ≡ Err (fault_line (codes "spawn word") fault)
+  bounds_at_fault killed hangups fault e f g =
+      ap (λ k. search_by plan first c.kills asked k hangups_told bounds_told) e
+      ∙ ap (λ h. search_by plan first c.kills asked (Ok killed) h bounds_told) f
+      ∙ ap (λ b. search_by plan first c.kills asked (Ok killed) (Ok hangups) b) g
+
+  pub search_is : (killed hangups moves : List Event) (bounds : List MostMade) → kills_told ≡ Ok killed
+      → hangups_told ≡ Ok hangups → bounds_told ≡ Ok bounds
+      → moves ≡ moves_of (length first.names) killed hangups bounds
+      → search_with c plan first (Ok asked)
+      ≡ Ok (record { plan = plan; from = first.events; moves = moves; kills = c.kills; spawns = bounds; asked = asked })
+  search_is killed hangups moves bounds e f g is =
+      ap (λ k. search_by plan first c.kills asked k hangups_told bounds_told) e
+      ∙ ap (λ h. search_by plan first c.kills asked (Ok killed) h bounds_told) f
+      ∙ ap (λ b. search_by plan first c.kills asked (Ok killed) (Ok hangups) b) g
+      ∙ ap (λ (m : List Event). search_made m) (sym is) where
         search_made : List Event → Result Search (List ℕ)
-        search_made m = Ok (record { plan = plan; from = from; moves = m; kills = c.kills; asked = asked })
+        search_made m =
+            Ok (record { plan = plan; from = first.events; moves = m; kills = c.kills; spawns = bounds; asked = asked })
 
 -- the search that is asked is sound
-pub search_sound : (plan : Plan) (from moves : List Event) (kills : Option ℕ) (asked : Asked) (killed hangups : List Event)
-    (text : Option (List ℕ)) → script.IsSound plan → MayAllCome (length plan.tasks) (length plan.templates) from
-    → length from ≤ 32768 → listed_in Hangups (task_names plan.tasks) text ≡ Ok hangups
-    → length hangups ≤ 4096 → moves ≡ moves_of (length plan.tasks) killed hangups
-    → IsSound (record { plan = plan; from = from; moves = moves; kills = kills; asked = asked })
-search_sound plan from moves kills asked killed hangups text sound may few listed few_hangups is =
-    let n : ℕ = length plan.tasks in
-    let tasks : n ≤ 64 = sound.few in
-    let names : length (task_names plan.tasks) ≡ n = length-map plan.tasks (λ (t : TaskPlan). t.name) in
-    let on : All (IsOnTask n) hangups =
-    subst (λ (m : ℕ). All (IsOnTask m) hangups) names (listed_on Hangups (task_names plan.tasks) text hangups listed) in
-    let all = moves_few n killed hangups in
+pub search_sound : (plan : Plan) (from moves : List Event) (kills : Option ℕ) (asked : Asked) (tasks : ℕ)
+    (killed hangups : List Event) (bounds : List MostMade) → script.IsSound plan
+    → MayAllCome (length plan.tasks) (length plan.templates) from → length from ≤ 32768 → tasks ≤ 64
+    → length hangups ≤ 4096 → length bounds ≤ 64 → moves ≡ moves_of tasks killed hangups bounds
+    → IsSound (record { plan = plan; from = from; moves = moves; kills = kills; spawns = bounds; asked = asked })
+search_sound plan from moves kills asked tasks killed hangups bounds sound may few some few_hangups few_bounds is =
+    let all = moves_few tasks killed hangups bounds some in
     let long = ap (λ (ms : List Event). length ms) is in
     record {
       script = sound;
       may = may;
       few = omega (arith, few);
-      on = subst (All (IsOnTask n)) (sym is) (moves_on n killed hangups on);
-      few_moves = omega (arith, tasks, few_hangups, all, long);
+      few_moves = omega (arith, few_hangups, few_bounds, all, long);
     }

@@ -1,29 +1,29 @@
 -- Lines behind those of a schedule go on from what these made.
-use Rattle.std.proofs.Common.{◌≡◌, ℕ, ◌+◌, ◌≤◌, Bool, true, false, cond, List, [], ◌∷◌, ◌++◌, length, Option, Some, None, Result, Ok, Err, refl, sym, ap, ◌∙◌, inl, inr, append_assoc, append-nil, length-append, arith, le-ltb}
+use Rattle.std.proofs.Common.{◌≡◌, ℕ, ◌+◌, ◌≤◌, Bool, true, false, cond, List, [], ◌∷◌, ◌++◌, length, Result, Ok, Err, refl, sym, ap, ◌∙◌, inl, inr, append-nil, length-append, arith, le-ltb}
 use Rattle.std.specs.Prelude.{codes, nat_lt, ◌==◌}
-use Rattle.std.specs.List.{list_all, onto_first}
+use Rattle.std.specs.List.{onto_first, list_all}
 use Rattle.std.proofs.lemmas.Bool.{cases_Bool}
+use Rattle.std.proofs.lemmas.List.{length-map}
 use Rattle.std.proofs.lemmas.List.Splits.{slice_split-cons_yes, slice_split-cons_no}
 use Rattle.ipc_ids.specs.Tables.{most_bytes, most_events}
 use Rattle.ipc_ids.specs.declared.message.Event.{Event}
-use Rattle.ipc_ids.specs.declared.message.Event.TheVariants.{Spawn}
 use Rattle.script_lines.specs.declared.fault.Reason.{Reason}
 use Rattle.script_lines.specs.declared.fault.Reason.TheVariants.{TooLong}
+use Rattle.script_lines.specs.declared.plan.TaskPlan.{TaskPlan}
 use Rattle.script_lines.specs.Names.{task_names}
-use Rattle.script_lines.specs.Operation.{◌>>=◌}
 use Rattle.script_lines.specs.Plan.{Plan}
-use Rattle.script_lines.specs.Text.{lines, is_allowed, first_line, behind, words}
-use Rattle.script_lines.proofs.Faultless.{ok_is, then_ok, chosen_ok}
+use Rattle.script_lines.specs.Text.{is_allowed, lines, first_line, behind}
 use Rattle.script_lines.proofs.Lines.{lines_of, lines_cut}
-use Rattle.script_reader.specs.declared.schedule.EventVerb.{EventVerb}
-use Rattle.script_reader.specs.declared.schedule.EventVerb.TheVariants as verbs
-use Rattle.script_reader.specs.EventLine.{EventsAndNames, no_events, spawn_place, with_spawn, spawn_of, with_repeated, after_event_verb, after_event_words, after_event_line}
+use Rattle.script_reader.specs.EventLine.{EventsAndNames, no_events, after_event, after_event_line}
 use Rattle.script_reader.specs.Reading.{at_line, lines_from, reading, events_alone, schedule_of}
-use Rattle.script_reader.specs.Schedule.{step_of, kill_of, hangup_of, event_verb_of, with_events}
+use Rattle.search_goals.specs.Lines.{comment_text}
 use Rattle.search_goals.specs.Writing.{with_more, Adds}
-use Rattle.search_goals.proofs.Texts.{ends, whole_read}
-use Rattle.hipc_search.specs.Schedule.{Precedes}
+use Rattle.search_goals.proofs.Adding.{none_added}
+use Rattle.search_goals.proofs.Texts.{comment_adds, ends}
+use Rattle.hipc_search.specs.Asking.{few_first, first_events}
+use Rattle.hipc_search.specs.Schedule.{events_and_names, Precedes}
 use Rattle.hipc_search.proofs.Lists.{line_ok}
+use Rattle.hipc_search.proofs.Knowing.{lines_named}
 
 -- ---- the lines of two texts
 
@@ -70,125 +70,123 @@ read_on {A} after n x y (l ∷ ls) e =
           ∙ later.same ms;
     }
 
--- ---- names come behind the names that are known
-
-record Grows (before after : List (List ℕ)) : Type 0 where
-  others : List (List ℕ)
-  is : after ≡ before ++ others
-
-stays : (before after : List (List ℕ)) → before ≡ after → Grows before after
-stays before after e = record { others = []; is = sym e ∙ sym (append-nil before) }
-
-grows_more : (a b c : List (List ℕ)) → Grows a b → Grows b c → Grows a c
-grows_more a b c g h =
-    record {
-      others = g.others ++ h.others;
-      is = h.is ∙ ap (λ (ns : List (List ℕ)). ns ++ h.others) g.is ∙ append_assoc a g.others h.others;
-    }
-
-module _ (templates : List (List ℕ)) (before : EventsAndNames) where
-  event_grows : (r : Result (Event × ℕ) Reason) (after : EventsAndNames) → (r >>= with_repeated before) ≡ Ok after
-      → Grows before.names after.names
-  event_grows r after e =
-      let said = then_ok r (with_repeated before) after e in
-      let made = then_ok (with_events before.events said.0.0 said.0.1) _ after said.2 in
-      stays before.names after.names
-      (ap (λ (m : EventsAndNames). m.names) (ok_is _ after made.2))
-
-  spawn_grows : (others : List (List ℕ)) (after : EventsAndNames) → spawn_of templates before others ≡ Ok after
-      → Grows before.names after.names
-  spawn_grows (template ∷ name ∷ []) after e =
-      let chosen = then_ok (spawn_place templates before.names template name) (λ place. with_spawn before place name) after e in
-      let made = then_ok (with_events before.events (Spawn chosen.0) 1) _ after chosen.2 in
-      record {
-        others = name ∷ [];
-        is = sym (ap (λ (m : EventsAndNames). m.names) (ok_is _ after made.2));
-      }
-  spawn_grows _ after e = absurd cc
-
-  verb_grows : (verb : Option EventVerb) (others : List (List ℕ)) (after : EventsAndNames)
-      → after_event_verb templates before verb others ≡ Ok after → Grows before.names after.names
-  verb_grows None others after e = absurd cc
-  verb_grows (Some verbs.Step) others after e = event_grows (step_of before.names others) after e
-  verb_grows (Some verbs.Kill) others after e = event_grows (kill_of before.names others) after e
-  verb_grows (Some verbs.Hangup) others after e = event_grows (hangup_of before.names others) after e
-  verb_grows (Some verbs.Spawn) others after e = spawn_grows others after e
-
-  words_grow : (ws : List (List ℕ)) (after : EventsAndNames) → after_event_words templates before ws ≡ Ok after
-      → Grows before.names after.names
-  words_grow [] after e = stays before.names after.names (ap (λ (m : EventsAndNames). m.names) (ok_is before after e))
-  words_grow (first ∷ others) after e = verb_grows (event_verb_of first) others after e
-
-  line_grows : (line : List ℕ) (after : EventsAndNames) → after_event_line templates before line ≡ Ok after
-      → Grows before.names after.names
-  unfolding after_event_line
-  line_grows line after e =
-      words_grow (words line) after
-      (chosen_ok (list_all is_allowed line) (after_event_words templates before (words line)) after e)
-
-lines_grow : (templates : List (List ℕ)) (n : ℕ) (before after : EventsAndNames) (ls : List (List ℕ))
-    → lines_from (after_event_line templates) n before ls ≡ Ok after → Grows before.names after.names
-lines_grow templates n before after [] e =
-    stays before.names after.names (let same : before ≡ after = cc in ap (λ (m : EventsAndNames). m.names) same)
-lines_grow templates n before after (l ∷ ls) e =
-    let one = line_ok n (after_event_line templates before l)
-    (λ next. lines_from (after_event_line templates) (n + 1) next ls) after e in
-    grows_more before.names one.0.names after.names (line_grows templates before l one.0 one.1)
-    (lines_grow templates (n + 1) one.0 after ls one.2)
+-- lines that are no fault are none from any number on
+any_number : {A : Type 0} (after : A → List ℕ → Result A Reason) (n m : ℕ) (x y : A) (ls : List (List ℕ))
+    → lines_from after n x ls ≡ Ok y → lines_from after m x ls ≡ Ok y
+any_number {A} after n m x y [] e = e
+any_number {A} after n m x y (l ∷ ls) e =
+    let one = line_ok n (after x l) (λ next. lines_from after (n + 1) next ls) y e in
+    ap (λ (r : Result A Reason). at_line m r (λ next. lines_from after (m + 1) next ls)) one.1
+    ∙ any_number after (n + 1) (m + 1) one.0 y ls one.2
 
 -- ---- a schedule that comes first
 
--- nothing comes first
-pub nothing_first : (plan : Plan) → Precedes plan [] []
-nothing_first plan =
-    record { goes_on = λ text more adds short few. whole_read plan text more (omega (arith, short)) (omega (arith, few)) adds }
+short_ok : (long : Bool) (r : Result EventsAndNames (ℕ × Reason)) (first : EventsAndNames)
+    → cond long (Err (0, TooLong)) r ≡ Ok first → r ≡ Ok first
+short_ok true r first e = absurd cc
+short_ok false r first e = e
 
-made_by : (long : Bool) (r : Result EventsAndNames (ℕ × Reason)) (es : List Event)
-    → events_alone (cond long (Err (0, TooLong)) r) ≡ Ok es
-    → (made : EventsAndNames) × (r ≡ Ok made) × (made.events ≡ es)
-made_by true r es e = absurd cc
-made_by false (Ok made) es e = (made, refl, cc)
-made_by false (Err fault) es e = absurd cc
-
-module _ (plan : Plan) (bytes : List ℕ) (from : List Event) where
+module _ (plan : Plan) (bytes : List ℕ) (first : EventsAndNames) where
   abbrev after : EventsAndNames → List ℕ → Result EventsAndNames Reason
   after = after_event_line (task_names plan.templates)
 
-  made : schedule_of plan bytes ≡ Ok from
-      → (made : EventsAndNames) × (lines_from after 1 (no_events plan) (lines bytes) ≡ Ok made) × (made.events ≡ from)
+  pub lines_made : reading after (no_events plan) bytes ≡ Ok first → lines_from after 1 (no_events plan) (lines bytes) ≡ Ok first
   unfolding reading
-  made e = made_by (nat_lt most_bytes (length bytes)) (lines_from after 1 (no_events plan) (lines bytes)) from e
+  lines_made e = short_ok (nat_lt most_bytes (length bytes)) (lines_from after 1 (no_events plan) (lines bytes)) first e
 
   all_read : (text : List ℕ) (r : Result EventsAndNames (ℕ × Reason)) → length (bytes ++ codes "\n") + length text ≤ most_bytes
       → lines_from after 1 (no_events plan) (lines bytes ++ lines text) ≡ r
-      → schedule_of plan ((bytes ++ codes "\n") ++ text) ≡ events_alone r
+      → events_and_names plan ((bytes ++ codes "\n") ++ text) ≡ r
   unfolding reading
   all_read text r short e =
       let long = length-append (bytes ++ codes "\n") text in
       rw (le-ltb 1048576 (length ((bytes ++ codes "\n") ++ text)) (omega (arith, long, short)))
-      (ap (λ (ls : List (List ℕ)). events_alone (lines_from after 1 (no_events plan) ls)) (lines_both bytes text)
-      ∙ ap events_alone e)
+      (ap (lines_from after 1 (no_events plan)) (lines_both bytes text) ∙ e)
 
   -- a text behind lines that were read, which adds events
-  text_read : (m : ℕ) (before : EventsAndNames) (others : List (List ℕ)) (text : List ℕ) (more : List Event)
-      → before.names ≡ task_names plan.tasks ++ others → length before.events + length more ≤ most_events
-      → Adds (task_names plan.tasks) text more → lines_from after m before (lines text) ≡ Ok (with_more before more)
-  text_read m before others text more names room adds =
-      ap (λ (t : List ℕ). lines_from after m before (lines t)) (sym (append-nil text))
-      ∙ adds.read (task_names plan.templates) others m before [] names room
-      ∙ ends (task_names plan.templates) (m + adds.count) (with_more before more)
+  text_read : (m : ℕ) (text : List ℕ) (more : List Event) (known : List (List ℕ))
+      → length first.events + length more ≤ most_events → Adds (task_names plan.templates) first.names text more known
+      → lines_from after m first (lines text) ≡ Ok (with_more first more known)
+  text_read m text more known room adds =
+      ap (λ (t : List ℕ). lines_from after m first (lines t)) (sym (append-nil text))
+      ∙ adds.read m first [] refl room
+      ∙ ends (task_names plan.templates) (m + adds.count) (with_more first more known)
 
   -- a schedule comes first, and the end of its last line
-  pub schedule_first : schedule_of plan bytes ≡ Ok from → Precedes plan (bytes ++ codes "\n") from
+  pub schedule_first : reading after (no_events plan) bytes ≡ Ok first → Precedes plan (bytes ++ codes "\n") first
   schedule_first e =
-      let read = made e in
-      let on = read_on after 1 (no_events plan) read.0 (lines bytes) read.1 in
-      let names = lines_grow (task_names plan.templates) 1 (no_events plan) read.0 (lines bytes) read.1 in
-      let count : length read.0.events ≡ length from = ap (λ (es : List Event). length es) read.2 in
+      let made = lines_made e in
+      let on = read_on after 1 (no_events plan) first (lines bytes) made in
       record {
-        goes_on = λ text more adds short few.
-            all_read text (Ok (with_more read.0 more)) short
-            (on.same (lines text)
-            ∙ text_read on.from_here read.0 names.others text more names.is (omega (arith, count, few)) adds)
-            ∙ ap (λ (es : List Event). Ok (es ++ more)) read.2;
+        goes_on = λ text more known adds short few.
+            all_read text (Ok (with_more first more known)) short
+            (on.same (lines text) ∙ text_read on.from_here text more known few adds);
+        all_named = lines_named (task_names plan.templates) (length plan.tasks) 1 (no_events plan) first (lines bytes)
+            (length-map plan.tasks (λ (t : TaskPlan). t.name)) made;
       }
+
+-- nothing comes first
+alone_read : (plan : Plan) (text : List ℕ) (more : List Event) (known : List (List ℕ)) → length text ≤ most_bytes
+    → length more ≤ most_events → Adds (task_names plan.templates) (task_names plan.tasks) text more known
+    → events_and_names plan text ≡ Ok (with_more (no_events plan) more known)
+unfolding reading
+alone_read plan text more known short few adds =
+    rw (le-ltb 1048576 (length text) short)
+    (text_read plan [] (no_events plan) 1 text more known (omega (arith, few)) adds)
+
+pub nothing_first : (plan : Plan) → Precedes plan [] (no_events plan)
+nothing_first plan =
+    record {
+      goes_on = λ text more known adds short few.
+          alone_read plan text more known (omega (arith, short)) (omega (arith, few)) adds;
+      all_named = length-map plan.tasks (λ (t : TaskPlan). t.name);
+    }
+
+-- the names that are known behind the bytes that come first
+pub names_first : (plan : Plan) (before : List ℕ) (first : EventsAndNames) (names : List (List ℕ)) → Precedes plan before first
+    → length before ≤ most_bytes → length first.events ≤ most_events
+    → ((made : EventsAndNames) → lines_from (after_event plan) 1 (no_events plan) (lines before) ≡ Ok made → names ≡ made.names)
+    → names ≡ first.names
+names_first plan before first names precedes short few known =
+    let here : EventsAndNames = with_more first [] first.names in
+    let read : events_and_names plan (before ++ []) ≡ Ok here =
+    precedes.goes_on [] [] first.names (none_added (task_names plan.templates) first.names) (omega (arith, short))
+    (omega (arith, few)) in
+    known here
+    (ap (λ (text : List ℕ). lines_from (after_event plan) 1 (no_events plan) (lines text)) (sym (append-nil before))
+    ∙ lines_made plan (before ++ []) here read)
+
+-- a comment changes nothing in front of a schedule
+pub comment_read : (plan : Plan) (comment text : List ℕ) (made : EventsAndNames) → list_all is_allowed comment ≡ true
+    → length (comment_text comment) + length text ≤ most_bytes → events_and_names plan text ≡ Ok made
+    → events_and_names plan (comment_text comment ++ text) ≡ Ok made
+unfolding reading
+comment_read plan comment text made allowed short e =
+    let after : EventsAndNames → List ℕ → Result EventsAndNames Reason = after_event_line (task_names plan.templates) in
+    let long = length-append (comment_text comment) text in
+    let line = comment_adds (task_names plan.templates) (task_names plan.tasks) comment allowed in
+    rw (le-ltb 1048576 (length (comment_text comment ++ text)) (omega (arith, long, short)))
+    (line.read 1 (no_events plan) text refl (omega arith)
+    ∙ any_number after 1 (1 + line.count) (no_events plan) made (lines text) (lines_made plan text made e))
+
+-- ---- what is read of it
+
+pub read_made : (plan : Plan) (bytes : List ℕ) (events : List Event) (names : List (List ℕ)) → schedule_of plan bytes ≡ Ok events
+    → ((made : EventsAndNames) → lines_from (after_event plan) 1 (no_events plan) (lines bytes) ≡ Ok made → names ≡ made.names)
+    → reading (after_event plan) (no_events plan) bytes ≡ Ok (record { events = events; names = names })
+read_made plan bytes events names e known = by_read (reading (after_event plan) (no_events plan) bytes) refl e where
+  by_read : (r : Result EventsAndNames (ℕ × Reason)) → reading (after_event plan) (no_events plan) bytes ≡ r
+      → events_alone r ≡ Ok events
+      → reading (after_event plan) (no_events plan) bytes ≡ Ok (record { events = events; names = names })
+  by_read (Ok made) is alone =
+      let same : made.events ≡ events = cc alone in
+      is
+      ∙ ap (λ (es : List Event). Ok (record { events = es; names = made.names })) same
+      ∙ ap (λ (ns : List (List ℕ)). Ok (record { events = events; names = ns })) (sym (known made (lines_made plan bytes made is)))
+  by_read (Err fault) is alone = absurd (cc alone)
+
+pub few_read : (plan : Plan) (bytes : List ℕ) (first : EventsAndNames) → length bytes ≤ 524288 → length first.events ≤ 32768
+    → reading (after_event plan) (no_events plan) bytes ≡ Ok first → first_events plan bytes ≡ Ok first
+unfolding first_events
+few_read plan bytes first short few e =
+    rw (le-ltb 524288 (length bytes) short) (ap few_first e ∙ rw (le-ltb 32768 (length first.events) few) refl)

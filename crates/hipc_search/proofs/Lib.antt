@@ -5,5 +5,8 @@ pub mod Looking
 pub mod Following
 pub mod Written
 pub mod Answering
+pub mod LastOutcomes
+pub mod States
 pub mod Loading
 pub mod Named
+pub mod Knowing

@@ -1,32 +1,22 @@
 -- The words of a list, one behind the other, and the events that they say.
-use Rattle.std.proofs.Common.{◌≡◌, ℕ, suc, ◌+◌, ◌≤◌, ◌<◌, Bool, true, false, cond, List, [], ◌∷◌, ◌++◌, length, take, drop, Option, Some, None, Result, Ok, Err, refl, sym, ap, subst, ◌∙◌, arith}
+use Rattle.std.proofs.Common.{◌≡◌, ℕ, suc, ◌+◌, ◌≤◌, ◌<◌, List, [], ◌∷◌, ◌++◌, length, take, drop, Option, Some, None, Result, Ok, Err, refl, sym, ap, ◌∙◌, arith}
 use Rattle.std.specs.Borrow.{Bor}
-use Rattle.std.specs.Prelude.{All, IfSome, option_map, unwrap_or, slice_get, position, nat_le}
+use Rattle.std.specs.Prelude.{IfSome, unwrap_or, slice_get, position}
 use Rattle.std.specs.List.{position_or_len}
-use Rattle.std.specs.Option.{ok_or}
-use Rattle.std.specs.Str.{bytes_eq}
 use Rattle.std.proofs.lemmas.Bool.{lt-leb, le-leb}
 use Rattle.std.proofs.lemmas.List.{length-drop}
-use Rattle.std.proofs.lemmas.List.Elements.{All-push}
 use Rattle.std.proofs.lemmas.List.Quantifiers.{position-Some}
 use Rattle.std.proofs.lemmas.List.Splits.{slice_split_none, slice_split_first, length-slice_split}
 use Rattle.std.proofs.lemmas.List.Sums.{fails_before_first}
-use Rattle.ipc_ids.specs.declared.numbers.TaskNo.{TaskNo}
 use Rattle.ipc_ids.specs.declared.message.Event.{Event}
-use Rattle.ipc_ids.specs.declared.message.Event.TheVariants.{Kill, Hangup}
 use Rattle.script_lines.specs.declared.fault.Reason.{Reason}
-use Rattle.script_lines.specs.declared.fault.Reason.TheVariants.{BadWord, UnknownName, TooMany}
-use Rattle.script_lines.specs.Names.{task_named, place_of}
+use Rattle.script_lines.specs.declared.fault.Reason.TheVariants.{TooMany}
 use Rattle.script_lines.specs.Operation.{◌>>=◌}
-use Rattle.script_lines.specs.Sound.{IsTask}
-use Rattle.script_lines.proofs.Faultless.{ok_is, then_ok, found_is}
 use Rattle.script_lines.proofs.Lines.{here}
 use Rattle.script_reader.specs.Reading.{lines_from, at_line}
-use Rattle.search_goals.specs.Writing.{IsOnTask}
 use Rattle.search_goals.proofs.GoalWords.{none_found, found_at}
 use Rattle.hipc_search.specs.declared.moves.Listed.{Listed}
-use Rattle.hipc_search.specs.declared.moves.Listed.TheVariants.{Kills, Hangups}
-use Rattle.hipc_search.specs.Moves.{kill_in, dot_place, phone_in, hangup_in, event_in, with_listed, is_comma, words_of, listed_in}
+use Rattle.hipc_search.specs.Moves.{event_in, with_listed, is_comma, words_of}
 
 -- ---- the first word
 
@@ -119,71 +109,22 @@ module _ (kind : Listed) (names : List (List ℕ)) (n : ℕ) (so_far : List Even
   pub one_too_many : 4096 ≤ length so_far → whole ≡ Err (n, TooMany)
   one_too_many l = sym (by (Err TooMany) (full l))
 
--- ---- each event is on a task with one of the names
+-- ---- one word of a list, whatever it adds
 
-numbered : (count : ℕ) (o : Option ℕ) (t : TaskNo) → ((i : ℕ) → o ≡ Some i → i < count)
-    → option_map (λ place. record { 0 = place + 1 }) o ≡ Some t → IsTask count t.0
-numbered count None t within e = absurd cc
-numbered count (Some i) t within e =
-    let is : i + 1 ≡ t.0 = ap (λ (o : Option TaskNo). number_in o) e in
-    let below = within i refl in
-    (omega (arith, is), omega (arith, is, below)) where
-      number_in : Option TaskNo → ℕ
-      number_in None = 0
-      number_in (Some n) = n.0
+module _ {A : Type 0} (after : A → List ℕ → Result A Reason) (n : ℕ) (x : A) (word : List ℕ) (words all : List (List ℕ))
+    (whole : Result A (ℕ × Reason)) (is : all ≡ word ∷ words) (told : lines_from after n x all ≡ whole) where
+  said : (r : Result A Reason) → after x word ≡ r → at_line n r (λ next. lines_from after (n + 1) next words) ≡ whole
+  said r e =
+      ap (λ (z : Result A Reason). at_line n z (λ next. lines_from after (n + 1) next words)) (sym e)
+      ∙ ap (lines_from after n x) (sym is) ∙ told
 
-named_on : (names : List (List ℕ)) (name : List ℕ) (t : TaskNo) → task_named names name ≡ Some t
-    → IsTask (length names) t.0
-unfolding task_named
-named_on names name t e =
-    numbered (length names) (place_of names name) t
-    (λ i is. (position-Some (λ known. bytes_eq name known) names i [] is).0) e
+  pub word_added : (y : A) → after x word ≡ Ok y → lines_from after (n + 1) y words ≡ whole
+  word_added y e = said (Ok y) e
 
-event_on : (kind : Listed) (names : List (List ℕ)) (word : List ℕ) (event : Event)
-    → event_in kind names word ≡ Ok event → IsOnTask (length names) event
-unfolding kill_in hangup_in
-event_on Kills names word event e =
-    let found = then_ok (ok_or (task_named names word) UnknownName) _ event e in
-    subst (IsOnTask (length names)) (ok_is (Kill found.0) event found.2)
-    (named_on names word found.0 (found_is _ found.0 found.1))
-event_on Hangups names word event e =
-    let phone = then_ok (ok_or (phone_in (drop (dot_place word) word)) BadWord) _ event e in
-    let found = then_ok (ok_or (task_named names (take (dot_place word) word)) UnknownName) _ event phone.2 in
-    subst (IsOnTask (length names)) (ok_is (Hangup found.0 phone.0) event found.2)
-    (named_on names (take (dot_place word) word) found.0 (found_is _ found.0 found.1))
-
-abbrev AreOn : List (List ℕ) → List Event → Type 0
-AreOn names events = All (IsOnTask (length names)) events
-
-chosen_room : (b : Bool) (r : Result (List Event) Reason) (y : List Event) → cond b (Err TooMany) r ≡ Ok y → r ≡ Ok y
-chosen_room true r y e = absurd cc
-chosen_room false r y e = e
-
-one_on : (kind : Listed) (names : List (List ℕ)) (so_far next : List Event) (word : List ℕ) → AreOn names so_far
-    → with_listed kind names so_far word ≡ Ok next → AreOn names next
-unfolding with_listed
-one_on kind names so_far next word on e =
-    let made = then_ok (event_in kind names word) _ next
-    (chosen_room (nat_le 4096 (length so_far)) (event_in kind names word >>= λ event. Ok (so_far ++ event ∷ [])) next e) in
-    subst (AreOn names) (ok_is (so_far ++ made.0 ∷ []) next made.2)
-    (All-push (IsOnTask (length names)) so_far made.0 on (event_on kind names word made.0 made.1))
+  pub word_at_fault : (reason : Reason) → after x word ≡ Err reason → whole ≡ Err (n, reason)
+  word_at_fault reason e = sym (said (Err reason) e)
 
 pub line_ok : {A : Type 0} (n : ℕ) (r : Result A Reason) (go : A → Result A (ℕ × Reason)) (y : A)
     → at_line n r go ≡ Ok y → (x : A) × (r ≡ Ok x) × (go x ≡ Ok y)
 line_ok n (Ok x) go y e = (x, refl, e)
 line_ok n (Err reason) go y e = absurd cc
-
-all_on : (kind : Listed) (names : List (List ℕ)) (n : ℕ) (so_far : List Event) (words : List (List ℕ)) (events : List Event)
-    → AreOn names so_far → lines_from (with_listed kind names) n so_far words ≡ Ok events → AreOn names events
-all_on kind names n so_far [] events on e = subst (AreOn names) (let same : so_far ≡ events = cc in same) on
-all_on kind names n so_far (word ∷ words) events on e =
-    let one = line_ok n (with_listed kind names so_far word)
-    (λ next. lines_from (with_listed kind names) (n + 1) next words) events e in
-    all_on kind names (n + 1) one.0 words events (one_on kind names so_far one.0 word on one.1) one.2
-
-pub listed_on : (kind : Listed) (names : List (List ℕ)) (text : Option (List ℕ)) (events : List Event)
-    → listed_in kind names text ≡ Ok events → All (IsOnTask (length names)) events
-listed_on kind names None events e =
-    subst (AreOn names) (let same : [] ≡ events = cc in same) (λ (k : ℕ) (d : Event) (l : k < 0). absurd (omega (arith, l)))
-listed_on kind names (Some text) events e =
-    all_on kind names 1 [] (words_of text) events (λ (k : ℕ) (d : Event) (l : k < 0). absurd (omega (arith, l))) e

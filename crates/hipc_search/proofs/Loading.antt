@@ -5,11 +5,11 @@ use Rattle.std.specs.Option.{option_map}
 use Rattle.std.proofs.lemmas.Bool.{cases_lt, lt-ltb}
 use Rattle.std.proofs.lemmas.List.{take_all, length-take-le}
 use Rattle.io_edge.specs.Edge.{Gives, Holds, file_of}
-use Rattle.ipc_ids.specs.declared.message.Event.{Event}
 use Rattle.script_lines.specs.declared.fault.Reason.{Reason}
 use Rattle.script_lines.specs.declared.fault.Reason.TheVariants.{TooLong}
 use Rattle.script_lines.specs.Plan.{Plan}
-use Rattle.script_reader.specs.Reading.{script_of, schedule_of}
+use Rattle.script_reader.specs.EventLine.{EventsAndNames, no_events, after_event}
+use Rattle.script_reader.specs.Reading.{reading, script_of}
 use Rattle.command_line.specs.Due.{Files, cannot_line}
 use Rattle.command_line.proofs.Dues as loads
 use Rattle.hipc_search.specs.declared.status.Status.{Status}
@@ -50,7 +50,8 @@ held (Some files) name bytes h = found (file_of files name) bytes h
 too_long : (plan : Plan) (bytes : List ℕ) → 524288 < length bytes → first_events plan bytes ≡ Err (0, TooLong)
 unfolding first_events
 too_long plan bytes l =
-    ap (λ (b : Bool). cond b (Err (0, TooLong)) (few_first (schedule_of plan bytes))) (lt-ltb 524288 (length bytes) l)
+    ap (λ (b : Bool). cond b (Err (0, TooLong)) (few_first (reading (after_event plan) (no_events plan) bytes)))
+    (lt-ltb 524288 (length bytes) l)
 
 first_alike : (c : Command) (plan : Plan) (bytes all : List ℕ) (s : Status) (t : List ℕ) → AreEnough bytes all
     → DueForPlan c plan (Some bytes) s t → DueForPlan c plan (Some all) s t
@@ -59,8 +60,8 @@ first_alike c plan bytes all s t (inr long) d =
     let mine = too_long plan bytes long.0 in
     let theirs = too_long plan all long.1 in
     let fault : DueForEvents c plan (all ++ codes "\n") (Err (0, TooLong)) s t =
-    subst (λ (r : Result (List Event) (ℕ × Reason)). DueForEvents c plan (bytes ++ codes "\n") r s t) mine d in
-    subst (λ (r : Result (List Event) (ℕ × Reason)). DueForEvents c plan (all ++ codes "\n") r s t) (sym theirs) fault
+    subst (λ (r : Result EventsAndNames (ℕ × Reason)). DueForEvents c plan (bytes ++ codes "\n") r s t) mine d in
+    subst (λ (r : Result EventsAndNames (ℕ × Reason)). DueForEvents c plan (all ++ codes "\n") r s t) (sym theirs) fault
 
 script_alike : (c : Command) (r : Result Plan (ℕ × Reason)) (bytes all : List ℕ) (s : Status) (t : List ℕ)
     → AreEnough bytes all → DueForScript c r (Some bytes) s t → DueForScript c r (Some all) s t

@@ -5,6 +5,7 @@ use Rattle.std.specs.List.{list_all}
 use Rattle.ipc_ids.specs.Tables.{most_bytes}
 use Rattle.script_lines.specs.declared.fault.Reason.{Reason}
 use Rattle.script_lines.specs.declared.fault.Reason.TheVariants.{TooLong, BadByte}
+use Rattle.script_lines.specs.declared.plan.TaskPlan.{TaskPlan}
 use Rattle.script_lines.specs.Text.{is_allowed}
 use Rattle.search_goals.specs.Goals.{text_words}
 use Rattle.search_goals.specs.GoalText.{Asked, goal_of_words, goal_of}
@@ -16,8 +17,9 @@ allowed_by false true r asked e = refl
 allowed_by false false r asked e = absurd cc
 
 -- its bytes may stand in a line
-pub is_allowed_text : (names : List (List ℕ)) (text : List ℕ) (asked : Asked) → goal_of names text ≡ Ok asked
-    → list_all is_allowed text ≡ true
+pub is_allowed_text : (names : List (List ℕ)) (tasks : List TaskPlan) (text : List ℕ) (asked : Asked)
+    → goal_of names tasks text ≡ Ok asked → list_all is_allowed text ≡ true
 unfolding goal_of
-is_allowed_text names text asked e =
-    allowed_by (nat_lt most_bytes (length text)) (list_all is_allowed text) (goal_of_words names (text_words text)) asked e
+is_allowed_text names tasks text asked e =
+    allowed_by (nat_lt most_bytes (length text)) (list_all is_allowed text)
+    (goal_of_words names tasks (text_words text)) asked e

@@ -1,4 +1,4 @@
--- Each task of a script that bytes spell has a name as lines have them.
+-- Each task and each template of a script that bytes spell has a name as lines have them.
 use Rattle.std.proofs.Common.{◌≡◌, ℕ, ◌+◌, Bool, true, false, cond, List, [], ◌∷◌, ◌++◌, length, Option, Some, None, Result, Ok, Err, refl, sym, ap, subst, ◌∙◌}
 use Rattle.std.specs.Prelude.{is_some, nat_lt, nat_le, ◌||◌}
 use Rattle.std.specs.List.{AllByRecursion, list_all}
@@ -25,7 +25,7 @@ use Rattle.script_lines.specs.Text.{is_allowed, lines, words}
 use Rattle.script_lines.specs.Word.{verb_of, number, is_name, name_of}
 use Rattle.script_lines.proofs.Faultless.{given, ok_is, then_ok, chosen_ok}
 use Rattle.script_reader.specs.Reading.{lines_from, reading, plan_from_parts, script_of}
-use Rattle.search_goals.specs.Writing.{AreNamed}
+use Rattle.search_goals.specs.Writing as writing
 use Rattle.hipc_search.proofs.Lists.{line_ok}
 
 abbrev IsNamed : TaskPlan → Type 0
@@ -40,7 +40,7 @@ one_more (u ∷ tasks) t h k = (h.0, one_more tasks t h.1 k)
 
 -- ---- the line of a task
 
-name_is : (word name : List ℕ) → needed (name_of word) ≡ Ok name → is_name name ≡ true
+pub name_is : (word name : List ℕ) → needed (name_of word) ≡ Ok name → is_name name ≡ true
 unfolding name_of
 name_is word name e = by_test (is_name word) refl e where
   by_test : (b : Bool) → is_name word ≡ b → needed (cond b (Some word) None) ≡ Ok name → is_name name ≡ true
@@ -274,14 +274,17 @@ lines_named n w v (l ∷ ls) named e =
 
 whole_named : (long : Bool) (r : Result ScriptParts (ℕ × Reason)) (plan : Plan)
     → plan_from_parts (cond long (Err (0, TooLong)) r) ≡ Ok plan
-    → ((v : ScriptParts) → r ≡ Ok v → PartsNamed v) → AreNamed plan.tasks
+    → ((v : ScriptParts) → r ≡ Ok v → PartsNamed v) → writing.IsNamed plan
 whole_named true r plan e all = absurd cc
 whole_named false (Ok v) plan e all =
     let same : script_of_parts v ≡ plan = cc in
-    subst (λ (p : Plan). AreNamed p.tasks) same (All-from_recursion IsNamed v.tasks.tasks (all v refl).tasks)
+    subst writing.IsNamed same (record {
+      tasks = All-from_recursion IsNamed v.tasks.tasks (all v refl).tasks;
+      templates = All-from_recursion IsNamed v.templates.tasks (all v refl).templates;
+    })
 whole_named false (Err fault) plan e all = absurd cc
 
-pub script_named : (bytes : List ℕ) (plan : Plan) → script_of bytes ≡ Ok plan → AreNamed plan.tasks
+pub script_named : (bytes : List ℕ) (plan : Plan) → script_of bytes ≡ Ok plan → writing.IsNamed plan
 unfolding reading
 script_named bytes plan e =
     whole_named (nat_lt most_bytes (length bytes)) (lines_from after_line 1 no_parts (lines bytes)) plan e

@@ -1,13 +1,17 @@
 -- Events for tasks that are chosen, one task more at a time.
 use Rattle.std.proofs.Common.{◌≡◌, ℕ, zero, suc, ◌+◌, ◌≤◌, ◌<◌, Bool, true, false, cond, List, [], ◌∷◌, ◌++◌, length, refl, sym, ap, ◌∙◌, append_assoc, add-one, length-append, arith}
-use Rattle.std.specs.Prelude.{All, map, filter}
+use Rattle.std.specs.Prelude.{All, map, filter, nat_lt}
 use Rattle.std.specs.List.{AllByRecursion, range_with_len}
+use Rattle.std.proofs.lemmas.Bool.{ltb-false}
 use Rattle.std.proofs.lemmas.List.{length-map, map-append}
-use Rattle.std.proofs.lemmas.List.Elements.{All-from_recursion, All-append, All-filter, All-map, filter-append}
+use Rattle.std.proofs.lemmas.List.Elements.{All-from_recursion, All-filter, All-map, filter-append}
 use Rattle.std.proofs.lemmas.List.FromFn.{length-range_with_len}
 use Rattle.ipc_ids.specs.declared.message.Event.{Event}
-use Rattle.search_goals.specs.Writing.{IsOnTask}
-use Rattle.hipc_search.specs.Moves.{is_living, is_killed, step_by, kill_of, for_chosen, living_steps, moves_of}
+use Rattle.ipc_ids.specs.declared.message.Event.TheVariants.{Spawn}
+use Rattle.script_reader.specs.Schedule.{MayAllCome}
+use Rattle.script_reader.proofs.EventTasks.{IsOn, all_may}
+use Rattle.schedule_search.specs.declared.problem.MostMade.{MostMade}
+use Rattle.hipc_search.specs.Moves.{is_living, is_killed, step_by, kill_of, for_chosen, living_steps, all_made, most_ever, spawns_in, moves_of}
 
 range_more : (a n : ℕ) → range_with_len a (suc n) ≡ range_with_len a n ++ (a + n) ∷ []
 range_more a zero = ap (λ (m : ℕ). m ∷ []) (let e : a ≡ a + 0 = omega arith in e)
@@ -49,13 +53,13 @@ in_range P a zero h = tt
 in_range P a (suc n) h =
     (h a (omega arith) (omega arith), in_range P (a + 1) n (λ (t : ℕ) (l : a + 1 ≤ t) (m : t < a + 1 + n). h t (omega arith) (omega arith)))
 
-chosen_on : (event : ℕ → Event) (chosen : ℕ → Bool) (n : ℕ) → ((t : ℕ) → 1 ≤ t → t ≤ n → IsOnTask n (event t))
-    → All (IsOnTask n) (for_chosen event chosen n)
+chosen_on : (event : ℕ → Event) (chosen : ℕ → Bool) (n : ℕ) → ((t : ℕ) → 1 ≤ t → t ≤ n → IsOn n (event t))
+    → All (IsOn n) (for_chosen event chosen n)
 chosen_on event chosen n h =
-    All-map (IsOnTask n) event (filter chosen (range_with_len 1 n))
-    (All-filter chosen (λ (t : ℕ). IsOnTask n (event t)) (range_with_len 1 n)
-    (All-from_recursion (λ (t : ℕ). IsOnTask n (event t)) (range_with_len 1 n)
-    (in_range (λ (t : ℕ). IsOnTask n (event t)) 1 n (λ (t : ℕ) (l : 1 ≤ t) (m : t < 1 + n). h t l (omega arith)))))
+    All-map (IsOn n) event (filter chosen (range_with_len 1 n))
+    (All-filter chosen (λ (t : ℕ). IsOn n (event t)) (range_with_len 1 n)
+    (All-from_recursion (λ (t : ℕ). IsOn n (event t)) (range_with_len 1 n)
+    (in_range (λ (t : ℕ). IsOn n (event t)) 1 n (λ (t : ℕ) (l : 1 ≤ t) (m : t < 1 + n). h t l (omega arith)))))
 
 filter_fewer : (p : ℕ → Bool) (xs : List ℕ) → length (filter p xs) ≤ length xs
 filter_fewer p [] = omega arith
@@ -71,24 +75,33 @@ chosen_few event chosen n =
     let long = length-range_with_len 1 n in
     omega (arith, all, less, long)
 
-pub living_on : (first later : List Event) (n : ℕ) → All (IsOnTask n) (living_steps first later n)
-living_on first later n = chosen_on step_by (is_living first later) n (λ (t : ℕ) (l : 1 ≤ t) (m : t ≤ n). (l, m))
+-- so they may come
+pub living_come : (first later : List Event) (n templates : ℕ) → MayAllCome n templates (living_steps first later n)
+living_come first later n templates =
+    all_may n templates (living_steps first later n)
+    (chosen_on step_by (is_living first later) n (λ (t : ℕ) (l : 1 ≤ t) (m : t ≤ n). (l, m)))
 
 pub living_few : (first later : List Event) (n : ℕ) → length (living_steps first later n) ≤ n
 living_few first later n = chosen_few step_by (is_living first later) n
 
-pub moves_on : (n : ℕ) (killed hangups : List Event) → All (IsOnTask n) hangups
-    → All (IsOnTask n) (moves_of n killed hangups)
-moves_on n killed hangups on =
-    All-append (IsOnTask n) (living_steps [] [] n ++ for_chosen kill_of (is_killed killed) n) hangups
-    (All-append (IsOnTask n) (living_steps [] [] n) (for_chosen kill_of (is_killed killed) n) (living_on [] [] n)
-    (chosen_on kill_of (is_killed killed) n (λ (t : ℕ) (l : 1 ≤ t) (m : t ≤ n). (l, m))))
-    on
+-- ---- how many moves there are
 
-pub moves_few : (n : ℕ) (killed hangups : List Event) → length (moves_of n killed hangups) ≤ n + n + length hangups
-moves_few n killed hangups =
-    let a = length-append (living_steps [] [] n ++ for_chosen kill_of (is_killed killed) n) hangups in
-    let b = length-append (living_steps [] [] n) (for_chosen kill_of (is_killed killed) n) in
-    let c = living_few [] [] n in
-    let d = chosen_few kill_of (is_killed killed) n in
-    omega (arith, a, b, c, d)
+most_few : (n : ℕ) (bounds : List MostMade) → n ≤ 64 → most_ever n bounds ≤ 64
+most_few n bounds few = by_test (nat_lt 64 (n + all_made bounds)) refl where
+  by_test : (b : Bool) → nat_lt 64 (n + all_made bounds) ≡ b → cond b 64 (n + all_made bounds) ≤ 64
+  by_test true e = omega arith
+  by_test false e = let all = ltb-false 64 (n + all_made bounds) e in omega (arith, all)
+
+pub moves_few : (n : ℕ) (killed hangups : List Event) (bounds : List MostMade) → n ≤ 64
+    → length (moves_of n killed hangups bounds) ≤ 128 + length hangups + length bounds
+moves_few n killed hangups bounds few =
+    let steps : List Event = living_steps [] [] (most_ever n bounds) in
+    let kills : List Event = for_chosen kill_of (is_killed killed) n in
+    let a = length-append ((steps ++ kills) ++ hangups) (spawns_in bounds) in
+    let b = length-append (steps ++ kills) hangups in
+    let c = length-append steps kills in
+    let d = length-map bounds (λ (bound : MostMade). Spawn bound.place) in
+    let e = living_few [] [] (most_ever n bounds) in
+    let f = chosen_few kill_of (is_killed killed) n in
+    let g = most_few n bounds few in
+    omega (arith, a, b, c, d, e, f, g, few)

@@ -1,25 +1,24 @@
 -- The text of a schedule that was found is read as its events.
-use Rattle.std.proofs.Common.{◌≡◌, ℕ, zero, suc, ◌^◌, ◌≤◌, ◌<◌, Bool, true, false, List, [], ◌∷◌, ◌++◌, length, take, Ok, refl, ap, ◌∙◌, append_assoc, length-append, arith, decimal, le-leb, ne_eqb}
-use Rattle.std.specs.Prelude.{All, codes, if◌then◌else◌, nat_le}
+use Rattle.std.proofs.Common.{◌≡◌, ℕ, zero, suc, ◌^◌, ◌≤◌, ◌<◌, Bool, true, false, List, [], ◌∷◌, ◌++◌, length, take, Ok, refl, sym, ap, subst, ◌∙◌, append_assoc, length-append, arith, decimal, le-leb, ne_eqb}
+use Rattle.std.specs.Prelude.{codes, if◌then◌else◌, nat_le}
 use Rattle.std.specs.Char.{is_ascii_digit}
 use Rattle.std.specs.List.{list_all}
 use Rattle.std.proofs.lemmas.Bool.{and_parts, and_from, leb-true}
-use Rattle.std.proofs.lemmas.List.Elements.{All-from_recursion, All-nil}
 use Rattle.std.proofs.lemmas.List.Folds.{list_all-append}
 use Rattle.ipc_ids.specs.declared.message.Event.{Event}
 use Rattle.script_lines.specs.Names.{task_names}
 use Rattle.script_lines.specs.Text.{is_allowed}
-use Rattle.script_reader.specs.Reading.{schedule_of}
+use Rattle.script_reader.specs.Reading.{events_alone, schedule_of}
 use Rattle.search_goals.specs.Lines.{comment_text}
-use Rattle.search_goals.specs.Writing.{IsOnTask, Writes}
+use Rattle.script_reader.specs.Schedule.{MayAllCome}
+use Rattle.search_goals.specs.Writing.{tasks_behind, Writes}
 use Rattle.search_goals.proofs.Adding.{both_added, writes_both}
 use Rattle.search_goals.proofs.Decimals.{are_digits, length_20}
 use Rattle.search_goals.proofs.Texts.{comment_adds}
-use Rattle.schedule_search.specs.Search.{Search, IsSound, AreOf}
-use Rattle.schedule_search.proofs.Behind.{each_on}
+use Rattle.schedule_search.specs.Search.{Search, first_tasks}
 use Rattle.hipc_search.specs.Moves.{living_steps}
-use Rattle.hipc_search.specs.Schedule.{found_comment, asks_for_rest, closing, IsSchedule, Precedes}
-use Rattle.hipc_search.proofs.Steps.{living_on, living_few}
+use Rattle.hipc_search.specs.Schedule.{found_comment, asks_for_end, closing, IsSchedule, Precedes}
+use Rattle.hipc_search.proofs.Steps.{living_come, living_few}
 
 -- ---- the comment
 
@@ -34,7 +33,7 @@ digit_allowed b h =
       le-leb b 126 (omega (arith, high)),
     ) refl
 
-digits_allowed : (w : List ℕ) → list_all is_ascii_digit w ≡ true → list_all is_allowed w ≡ true
+pub digits_allowed : (w : List ℕ) → list_all is_ascii_digit w ≡ true → list_all is_allowed w ≡ true
 digits_allowed [] h = refl
 digits_allowed (b ∷ w) h =
     let parts = and_parts (is_ascii_digit b) (list_all is_ascii_digit w) h in
@@ -47,10 +46,10 @@ cut_allowed (suc n) (b ∷ w) h =
     let parts = and_parts (is_allowed b) (list_all is_allowed w) h in
     and_from _ _ parts.0 (cut_allowed n w parts.1)
 
-both_allowed : (v w : List ℕ) → list_all is_allowed v ≡ true → list_all is_allowed w ≡ true → list_all is_allowed (v ++ w) ≡ true
+pub both_allowed : (v w : List ℕ) → list_all is_allowed v ≡ true → list_all is_allowed w ≡ true → list_all is_allowed (v ++ w) ≡ true
 both_allowed v w h k = list_all-append is_allowed v w ∙ and_from _ _ h k
 
-comment_allowed : (goal : List ℕ) (events : ℕ) → events < 2 ^ 64 → list_all is_allowed goal ≡ true
+pub comment_allowed : (goal : List ℕ) (events : ℕ) → events < 2 ^ 64 → list_all is_allowed goal ≡ true
     → list_all is_allowed (found_comment goal events) ≡ true
 comment_allowed goal events fits h =
     both_allowed (take 1024 goal) (codes ": " ++ (decimal events ++ codes " events")) (cut_allowed 1024 goal h)
@@ -62,7 +61,7 @@ cut_short zero w = omega arith
 cut_short (suc n) [] = omega arith
 cut_short (suc n) (b ∷ w) = let less = cut_short n w in omega (arith, less)
 
-comment_short : (goal : List ℕ) (events : ℕ) → events < 2 ^ 64 → length (comment_text (found_comment goal events)) ≤ 1100
+pub comment_short : (goal : List ℕ) (events : ℕ) → events < 2 ^ 64 → length (comment_text (found_comment goal events)) ≤ 1100
 comment_short goal events fits =
     let a = length-append (codes "# ") (found_comment goal events ++ codes "\n") in
     let b = length-append (found_comment goal events) (codes "\n") in
@@ -79,38 +78,46 @@ by_rest : (P : List Event → Type 0) (b : Bool) (steps : List Event) → P step
 by_rest P true steps h k = h
 by_rest P false steps h k = k
 
-pub closing_on : (s : Search) (es : List Event) → All (IsOnTask (length s.plan.tasks)) (closing s es)
-closing_on s es =
-    let n : ℕ = length s.plan.tasks in
-    by_rest (All (IsOnTask n)) (asks_for_rest s.asked) (living_steps s.from es n) (living_on s.from es n) (All-nil (IsOnTask n))
+-- how many tasks there are behind what was found
+abbrev pub tasks_then : Search → List Event → ℕ
+tasks_then s es = tasks_behind (first_tasks s) es
 
-pub closing_few : (s : Search) (es : List Event) → length (closing s es) ≤ length s.plan.tasks
+pub closing_come : (s : Search) (es : List Event) (n templates : ℕ) → n ≡ tasks_then s es
+    → MayAllCome n templates (closing s es)
+closing_come s es n templates all =
+    by_rest (MayAllCome n templates) (asks_for_end s.asked) (living_steps s.from es (tasks_then s es))
+    (subst (λ (m : ℕ). MayAllCome m templates (living_steps s.from es (tasks_then s es))) (sym all)
+    (living_come s.from es (tasks_then s es) templates)) tt
+
+pub closing_few : (s : Search) (es : List Event) → length (closing s es) ≤ tasks_then s es
 closing_few s es =
-    let n : ℕ = length s.plan.tasks in
-    by_rest (λ (steps : List Event). length steps ≤ n) (asks_for_rest s.asked) (living_steps s.from es n) (living_few s.from es n) (omega arith)
-
--- ---- what was found
-
-pub found_on : (s : Search) (es : List Event) → IsSound s → AreOf s.moves es → All (IsOnTask (length s.plan.tasks)) es
-found_on s es sound of =
-    All-from_recursion (IsOnTask (length s.plan.tasks)) es (each_on (length s.plan.tasks) s.moves es sound.on of)
+    by_rest (λ (steps : List Event). length steps ≤ tasks_then s es) (asks_for_end s.asked)
+    (living_steps s.from es (tasks_then s es)) (living_few s.from es (tasks_then s es)) (omega arith)
 
 -- ---- the whole text
 
-module _ (s : Search) (before goal : List ℕ) (es : List Event) (first comment found text : List ℕ)
-    (tasks : length s.plan.tasks ≤ 64) (few_first : length s.from ≤ 32768) (short : length before ≤ 524289)
-    (precedes : Precedes s.plan before s.from) (allowed : list_all is_allowed goal ≡ true) (few : length es ≤ 10000)
+module _ (s : Search) (before goal : List ℕ) (es : List Event) (names mid known : List (List ℕ))
+    (first comment found text : List ℕ) (few_names : length mid ≤ 64) (few_first : length s.from ≤ 32768)
+    (short : length before ≤ 524289) (precedes : Precedes s.plan before (record { events = s.from; names = names }))
+    (allowed : list_all is_allowed goal ≡ true) (few : length es ≤ 10000)
     (is_first : first ≡ before) (is_comment : comment ≡ first ++ comment_text (found_comment goal (length es)))
-    (wrote : Writes (task_names s.plan.tasks) comment found es)
-    (closed : Writes (task_names s.plan.tasks) found text (closing s es)) where
+    (wrote : Writes (task_names s.plan.templates) names comment found es mid)
+    (closed : Writes (task_names s.plan.templates) mid found text (closing s es) known) where
   abbrev line : List ℕ
   line = comment_text (found_comment goal (length es))
 
   abbrev more : List Event
   more = es ++ closing s es
 
-  both : Writes (task_names s.plan.tasks) comment text more
-  both = writes_both (task_names s.plan.tasks) comment found text es (closing s es) wrote closed
+  abbrev templates : List (List ℕ)
+  templates = task_names s.plan.templates
+
+  -- behind what was found there are as many names as tasks
+  pub all_then : length mid ≡ tasks_then s es
+  all_then = wrote.all ∙ ap (λ (n : ℕ). tasks_behind n es) precedes.all_named
+
+  both : Writes templates names comment text more known
+  both = writes_both templates names mid known comment found text es (closing s es) wrote closed
 
   begins : text ≡ before ++ (line ++ both.line)
   begins =
@@ -122,7 +129,8 @@ module _ (s : Search) (before goal : List ℕ) (es : List Event) (first comment 
   few_more =
       let all = length-append es (closing s es) in
       let steps = closing_few s es in
-      omega (arith, all, steps, few, tasks)
+      let tasks = all_then in
+      omega (arith, all, steps, few, tasks, few_names)
 
   reads : schedule_of s.plan (before ++ (line ++ both.line)) ≡ Ok (s.from ++ more)
   reads =
@@ -131,11 +139,12 @@ module _ (s : Search) (before goal : List ℕ) (es : List Event) (first comment 
       let bytes = length-append line both.line in
       let rest = both.short in
       let count = few_more in
-      precedes.goes_on (line ++ both.line) more
-      (both_added (task_names s.plan.tasks) line both.line [] more
-      (comment_adds (task_names s.plan.tasks) (found_comment goal (length es)) (comment_allowed goal (length es) fits allowed))
+      ap events_alone
+      (precedes.goes_on (line ++ both.line) more known
+      (both_added templates names names known line both.line [] more
+      (comment_adds templates names (found_comment goal (length es)) (comment_allowed goal (length es) fits allowed))
       both.adds)
-      (omega (arith, long, bytes, rest, count, short)) (omega (arith, count, few_first))
+      (omega (arith, long, bytes, rest, count, short)) (omega (arith, count, few_first)))
 
   pub is_schedule : IsSchedule s before goal es text
   is_schedule = record {

@@ -5,20 +5,25 @@ use Rattle.std.specs.Option.{option_map, option_and_then}
 use Rattle.std.specs.Str.{bytes_eq}
 use Rattle.script_lines.specs.Word.{number}
 use Rattle.hipc_search.specs.declared.command.Options.{Options as GivenOptions}
+use Rattle.hipc_search.specs.declared.command.Asks.{Asks as GivenAsks}
+use Rattle.hipc_search.specs.declared.command.Asks.TheVariants as asked
 use Rattle.hipc_search.specs.declared.command.Command.{Command as GivenCommand}
 
--- what the options say: the tasks that may be killed, the phones that may be hung up, the file of the events that come
--- first, how many kills there may be, how many events behind the first, and how many states
+-- what the options say: the tasks that may be killed, the phones that may be hung up, the templates of which tasks may
+-- be made, the file of the events that come first, how many kills there may be, how many events behind the first, and
+-- how many states
 pub record Options : Type 0 where
   pub kill : Option (List ℕ)
   pub hangup : Option (List ℕ)
+  pub spawn : Option (List ℕ)
   pub from : Option (List ℕ)
   pub kills : Option ℕ
   pub events : Option ℕ
   pub states : Option ℕ
 
 abbrev pub no_options : Options
-no_options = record { kill = None; hangup = None; from = None; kills = None; events = None; states = None }
+no_options =
+    record { kill = None; hangup = None; spawn = None; from = None; kills = None; events = None; states = None }
 
 -- a value where there is none so far: an option comes once
 abbrev pub once : {A : Type 0} → (before value : Option A) → Option (Option A)
@@ -31,6 +36,9 @@ with_kill o value = option_map (λ kill. record o { kill = kill }) (once o.kill 
 
 unfoldable pub with_hangup : Options → List ℕ → Option Options
 with_hangup o value = option_map (λ hangup. record o { hangup = hangup }) (once o.hangup (Some value))
+
+unfoldable pub with_spawn : Options → List ℕ → Option Options
+with_spawn o value = option_map (λ spawn. record o { spawn = spawn }) (once o.spawn (Some value))
 
 unfoldable pub with_from : Options → List ℕ → Option Options
 with_from o value = option_map (λ from. record o { from = from }) (once o.from (Some value))
@@ -49,10 +57,11 @@ unfoldable pub with_option : Options → (option value : List ℕ) → Option Op
 with_option o option value =
     if bytes_eq option (codes "--kill") then with_kill o value
     else (if bytes_eq option (codes "--hangup") then with_hangup o value
+    else (if bytes_eq option (codes "--spawn") then with_spawn o value
     else (if bytes_eq option (codes "--from") then with_from o value
     else (if bytes_eq option (codes "--kills") then with_kills o value
     else (if bytes_eq option (codes "--events") then with_events o value
-    else (if bytes_eq option (codes "--states") then with_states o value else None)))))
+    else (if bytes_eq option (codes "--states") then with_states o value else None))))))
 
 -- words that are options, each with its value behind it
 abbrev pub options_of : Options → List (List ℕ) → Option Options
@@ -61,13 +70,19 @@ options_of so_far (option ∷ []) = None
 options_of so_far (option ∷ value ∷ others) =
     option_and_then (λ more. options_of more others) (with_option so_far option value)
 
--- what is searched: the script by the name of its file, the goal, and what the options say, where the numbers of events
--- and of states are there
+-- what is asked of the schedules: the first that meets the goal of a text, or each state at rest
+pub data Asks : Type 0 where
+  Goal : List ℕ → Asks
+  Survey : Asks
+
+-- what is searched: the script by the name of its file, what is asked, and what the options say, where the numbers of
+-- events and of states are there
 pub record Command : Type 0 where
   pub script : List ℕ
-  pub goal : List ℕ
+  pub asks : Asks
   pub kill : Option (List ℕ)
   pub hangup : Option (List ℕ)
+  pub spawn : Option (List ℕ)
   pub from : Option (List ℕ)
   pub kills : Option ℕ
   pub events : ℕ
@@ -87,13 +102,14 @@ abbrev pub given : ℕ → Option ℕ → Option (Option ℕ)
 given most None = Some None
 given most (Some n) = option_map (λ n. Some n) (up_to most n)
 
-abbrev pub command_by : (script goal : List ℕ) → Options → Option ℕ → (events states : ℕ) → Command
-command_by script goal o kills events states =
+abbrev pub command_by : List ℕ → Asks → Options → Option ℕ → (events states : ℕ) → Command
+command_by script asks o kills events states =
     record {
       script = script;
-      goal = goal;
+      asks = asks;
       kill = o.kill;
       hangup = o.hangup;
+      spawn = o.spawn;
       from = o.from;
       kills = kills;
       events = events;
@@ -101,12 +117,12 @@ command_by script goal o kills events states =
     }
 
 -- at most 65,536 kills, or any number; at most 10,000 events, or 64; at most 100,000,000 states, or 1,000,000
-unfoldable pub command_for : (script goal : List ℕ) → Options → Option Command
-command_for script goal o =
+unfoldable pub command_for : List ℕ → Asks → Options → Option Command
+command_for script asks o =
     option_and_then
     (λ kills. option_and_then
     (λ events. option_map
-    (λ states. command_by script goal o kills events states)
+    (λ states. command_by script asks o kills events states)
     (given_or 100000000 1000000 o.states))
     (given_or 10000 64 o.events))
     (given 65536 o.kills)
@@ -115,19 +131,28 @@ command_for script goal o =
 abbrev pub is_option : List ℕ → Bool
 is_option word = starts_with nat_eq word (codes "--")
 
--- the goal where the words begin with one, else `stuck`; and the words that are left
+-- the goal where the words begin with one, else `lost`; and the words that are left
 abbrev pub goal_and_others : List (List ℕ) → List ℕ × List (List ℕ)
-goal_and_others [] = (codes "stuck", [])
-goal_and_others (word ∷ words) = if is_option word then (codes "stuck", word ∷ words) else (word, words)
+goal_and_others [] = (codes "lost", [])
+goal_and_others (word ∷ words) = if is_option word then (codes "lost", word ∷ words) else (word, words)
+
+abbrev pub as_goal : List ℕ × List (List ℕ) → Asks × List (List ℕ)
+as_goal words = (Goal words.0, words.1)
+
+-- a survey where the words begin so, else a goal; and the words that are left
+abbrev pub asks_and_others : List (List ℕ) → Asks × List (List ℕ)
+asks_and_others [] = as_goal (goal_and_others [])
+asks_and_others (word ∷ words) =
+    if bytes_eq word (codes "--survey") then (Survey, words) else as_goal (goal_and_others (word ∷ words))
 
 -- what the words behind the name of a script ask
-abbrev pub command_with : List ℕ → List ℕ × List (List ℕ) → Option Command
+abbrev pub command_with : List ℕ → Asks × List (List ℕ) → Option Command
 command_with script words = option_and_then (command_for script words.0) (options_of no_options words.1)
 
--- the words are `SCRIPT`, or `SCRIPT GOAL`, and options; or they are no command
+-- the words are `SCRIPT`, `SCRIPT GOAL` or `SCRIPT --survey`, and options; or they are no command
 abbrev pub command_of : List (List ℕ) → Option Command
 command_of [] = None
-command_of (script ∷ words) = if is_option script then None else command_with script (goal_and_others words)
+command_of (script ∷ words) = if is_option script then None else command_with script (asks_and_others words)
 
 -- what the code has, which lends the words
 abbrev pub said_options : GivenOptions → Options
@@ -135,19 +160,25 @@ said_options o =
     record {
       kill = option_map (λ w. w.now) o.kill;
       hangup = option_map (λ w. w.now) o.hangup;
+      spawn = option_map (λ w. w.now) o.spawn;
       from = option_map (λ w. w.now) o.from;
       kills = o.kills;
       events = o.events;
       states = o.states;
     }
 
+abbrev pub said_asks : GivenAsks → Asks
+said_asks (asked.Goal text) = Goal text.now
+said_asks asked.Survey = Survey
+
 abbrev pub said : GivenCommand → Command
 said c =
     record {
       script = c.script.now;
-      goal = c.goal.now;
+      asks = said_asks c.asks;
       kill = option_map (λ w. w.now) c.kill;
       hangup = option_map (λ w. w.now) c.hangup;
+      spawn = option_map (λ w. w.now) c.spawn;
       from = option_map (λ w. w.now) c.from;
       kills = c.kills;
       events = c.events;

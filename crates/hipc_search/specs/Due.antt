@@ -1,23 +1,27 @@
 -- Which status with which text is due for a command line, and how much of the text was written.
-use Rattle.std.specs.Prelude.{ℕ, ◌≡◌, ◌≢◌, ⊤, ◌++◌, List, [], Bool, true, false, Option, None, Some, Result, Ok, Err, codes}
+use Rattle.std.specs.Prelude.{ℕ, ◌≡◌, ◌≢◌, ⊤, ◌++◌, List, [], Bool, true, false, Option, None, Some, Result, Ok, Err, codes, length}
 use Rattle.std.specs.Option.{option_map, unwrap_or}
 use Rattle.std.specs.Io.KnownBytes.{Appends}
 use Rattle.io_edge.specs.Edge.{Holds, AppendsStart}
-use Rattle.ipc_ids.specs.declared.message.Event.{Event}
 use Rattle.script_lines.specs.declared.fault.Reason.{Reason}
 use Rattle.script_lines.specs.Plan.{Plan}
+use Rattle.script_reader.specs.EventLine.{EventsAndNames, no_events}
 use Rattle.script_reader.specs.Reading.{script_of}
 use Rattle.command_line.specs.Due.{Files, Names, cannot_line, lost}
 use Rattle.schedule_search.specs.declared.outcome.Outcome.{Outcome}
 use Rattle.schedule_search.specs.declared.outcome.Outcome.TheVariants as outcomes
+use Rattle.schedule_search.specs.declared.at_rest.RestingStates.{RestingStates}
+use Rattle.schedule_search.specs.declared.at_rest.RestingStates.TheVariants as surveys
 use Rattle.schedule_search.specs.Search.{Search}
 use Rattle.schedule_search.specs.Right.{IsRight}
+use Rattle.schedule_search.specs.Survey.{IsSurvey, schedules_of}
 use Rattle.hipc_search.specs.declared.status.Status.{Status}
-use Rattle.hipc_search.specs.declared.status.Status.TheVariants.{Found, NoneAtAll, NoneWithin, NotKnown, Usage, CannotRead, BadScript, BadSchedule, BadGoal, WriteFailed, NoMemory}
-use Rattle.hipc_search.specs.Command.{Command, command_of}
+use Rattle.hipc_search.specs.declared.status.Status.TheVariants.{Found, FoundWithin, NoneAtAll, NoneWithin, NotKnown, Usage, CannotRead, BadScript, BadSchedule, BadGoal, WriteFailed, NoMemory}
+use Rattle.hipc_search.specs.Command.{Command, Asks, Goal, Survey, command_of}
 use Rattle.hipc_search.specs.Line.{usage_line, fault_line, none_line, none_within_line, not_known_line}
 use Rattle.hipc_search.specs.Asking.{first_events, search_for}
 use Rattle.hipc_search.specs.Schedule.{IsSchedule}
+use Rattle.hipc_search.specs.Survey.{IsListing, all_line, all_within_line}
 
 -- which status may come with which text
 abbrev pub Answers : Type 1
@@ -30,6 +34,7 @@ Says said line status text = (status ≡ said) × (text ≡ line)
 -- a status that comes with a text that is due: each but the last two
 abbrev pub IsOfText : Status → Type 0
 IsOfText Found = ⊤
+IsOfText FoundWithin = ⊤
 IsOfText NoneAtAll = ⊤
 IsOfText NoneWithin = ⊤
 IsOfText NotKnown = ⊤
@@ -58,23 +63,45 @@ abbrev pub DueForSearch : Search → (most room : ℕ) → (before goal : List �
 DueForSearch s most room before goal status text =
     (outcome : Outcome) × IsRight s most outcome × DueForOutcome s most room before goal outcome status text
 
+-- ---- the survey
+
+-- due for what a survey answers
+abbrev pub DueForResting : Search → (most room : ℕ) → (before : List ℕ) → RestingStates → Answers
+DueForResting s most room before (surveys.All schedules states) status text =
+    let listed = schedules_of schedules.items in
+    (status ≡ Found) × IsListing s before listed (all_line (length listed) states) text
+DueForResting s most room before (surveys.Within schedules states) status text =
+    let listed = schedules_of schedules.items in
+    (status ≡ FoundWithin) × IsListing s before listed (all_within_line most (length listed) states) text
+DueForResting s most room before surveys.NoRoom status text = Says NotKnown (not_known_line room) status text
+
+-- due for a survey: for an answer that is right
+abbrev pub DueForSurvey : Search → (most room : ℕ) → (before : List ℕ) → Answers
+DueForSurvey s most room before status text =
+    (resting : RestingStates) × IsSurvey s most resting × DueForResting s most room before resting status text
+
+-- due by what is asked
+abbrev pub DueForAsks : Search → (most room : ℕ) → (before : List ℕ) → Asks → Answers
+DueForAsks s most room before (Goal goal) status text = DueForSearch s most room before goal status text
+DueForAsks s most room before Survey status text = DueForSurvey s most room before status text
+
 -- ---- the files
 
 -- due for what is searched, or the line of its first fault
 abbrev pub DueForAsked : Command → (before : List ℕ) → Result Search (List ℕ) → Answers
 DueForAsked c before (Err line) status text = Says BadGoal line status text
-DueForAsked c before (Ok s) status text = DueForSearch s c.events c.states before c.goal status text
+DueForAsked c before (Ok s) status text = DueForAsks s c.events c.states before c.asks status text
 
--- due for the events that come first, or the first fault of their file
-abbrev pub DueForEvents : Command → Plan → (before : List ℕ) → Result (List Event) (ℕ × Reason) → Answers
+-- due for the events that come first and the names behind them, or the first fault of their file
+abbrev pub DueForEvents : Command → Plan → (before : List ℕ) → Result EventsAndNames (ℕ × Reason) → Answers
 DueForEvents c plan before (Err fault) status text =
     Says BadSchedule (fault_line (codes "schedule line") fault) status text
-DueForEvents c plan before (Ok from) status text = DueForAsked c before (search_for c plan from) status text
+DueForEvents c plan before (Ok first) status text = DueForAsked c before (search_for c plan first) status text
 
 -- due for a script and the bytes of a schedule that comes first, if one does; what is found stands on lines of its own
 -- behind them
 abbrev pub DueForPlan : Command → Plan → Option (List ℕ) → Answers
-DueForPlan c plan None status text = DueForEvents c plan [] (Ok []) status text
+DueForPlan c plan None status text = DueForEvents c plan [] (Ok (no_events plan)) status text
 DueForPlan c plan (Some bytes) status text =
     DueForEvents c plan (bytes ++ codes "\n") (first_events plan bytes) status text
 

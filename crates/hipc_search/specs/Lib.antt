@@ -1,7 +1,10 @@
 pub mod Status
 pub mod Command
 pub mod Line
+pub mod Known
 pub mod Moves
 pub mod Asking
 pub mod Schedule
+pub mod Told
+pub mod Survey
 pub mod Due

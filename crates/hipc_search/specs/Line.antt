@@ -6,8 +6,8 @@ use Rattle.script_lines.specs.Text.{text_of_reason}
 -- the line for words that are no command
 abbrev pub usage_line : List ℕ
 usage_line =
-    codes "usage: hipc-search SCRIPT [GOAL] [--kill NAME,..] [--kills N] "
-    ++ codes "[--hangup NAME.PHONE,..] [--from SCHEDULE] [--events N] [--states N]\n"
+    codes "usage: hipc-search SCRIPT [GOAL | --survey] [--kill NAME,..] [--kills N] "
+    ++ codes "[--hangup NAME.PHONE,..] [--spawn TEMPLATE:N,..] [--from SCHEDULE] [--events N] [--states N]\n"
 
 -- the line of a first fault: where it is, as `script line` or `goal word`, the number, and the reason
 abbrev pub fault_line : List ℕ → ℕ × Reason → List ℕ

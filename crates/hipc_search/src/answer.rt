@@ -17,10 +17,11 @@ use crate::status::Status;
 use ipc_ids::NoMemory;
 use schedule_search::{Outcome, Problem, search_schedules};
 use script_reader::Reason;
+use search_goals::TaskNames;
 use std::alloc::Global;
 
-const USAGE: &[u8] = b"usage: hipc-search SCRIPT [GOAL] [--kill NAME,..] [--kills N] \
-[--hangup NAME.PHONE,..] [--from SCHEDULE] [--events N] [--states N]\n";
+const USAGE: &[u8] = b"usage: hipc-search SCRIPT [GOAL | --survey] [--kill NAME,..] [--kills N] \
+[--hangup NAME.PHONE,..] [--spawn TEMPLATE:N,..] [--from SCHEDULE] [--events N] [--states N]\n";
 
 /// A status, and the text that is due with it.
 #[derive(Drop)]
@@ -109,35 +110,38 @@ fn none_within_text(alloc: Global, most: u32, states: u64) -> Result<Vec<u8>, No
 }
 
 /// The line for a search that had no room for all states.
-fn not_known_text(alloc: Global, room: u32) -> Result<Vec<u8>, NoMemory>
+pub(crate) fn not_known_text(alloc: Global, room: u32) -> Result<Vec<u8>, NoMemory>
     ensures { IfOk result (λ text. text.items ≡ not_known_line room) }
 {
     let text = format!(in alloc; "# not known: more than {room} states\n")?;
     Ok(text.into_bytes())
 }
 
-/// Searches, and answers the outcome.
+/// Searches, and answers the outcome; behind the events that come first the tasks have these names.
 pub(crate) fn search_answer(
     alloc: Global,
     problem: &Problem<'_>,
     command: &Command<'_>,
+    names: TaskNames,
     before: &[u8],
+    goal: &str,
 ) -> Result<Answer, NoMemory>
     requires sound { IsSound (search_of problem.now) }
-    requires named { AreNamed problem.now.script.now.tasks }
+    requires named { AreNamed problem.now.script.now.templates }
     requires few { command.now.events ≤ 10000 }
     requires few_first { length problem.now.from.now ≤ 32768 }
     requires short { length before.now ≤ 524289 }
-    requires first { Precedes problem.now.script.now before.now problem.now.from.now }
-    requires allowed { list_all is_allowed command.now.goal.now ≡ true }
+    requires first { Precedes problem.now.script.now before.now
+        (record { events = problem.now.from.now; names = names }) }
+    requires allowed { list_all is_allowed goal.now ≡ true }
     ensures due { IfOk result (λ answer. DueForSearch (search_of problem.now) command.now.events
-        command.now.states before.now command.now.goal.now answer.status answer.text.items) }
+        command.now.states before.now goal.now answer.status answer.text.items) }
     ensures told { IfOk result (λ answer. IsOfText answer.status) }
 {
     let outcome = search_schedules(alloc, problem, command.events, command.states)?;
     match outcome {
         Outcome::Found(events) => {
-            let text = found_text(alloc, problem, before, command.goal, events.as_slice())?;
+            let text = found_text(alloc, problem, before, goal, names, events.as_slice())?;
             Ok(Answer {
                 status: Status::Found,
                 text,

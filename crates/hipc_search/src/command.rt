@@ -2,8 +2,8 @@
 ghost use Rattle.std.specs.Prelude.{◌≡◌, ◌≤◌, ◌<◌, ◌∷◌, IfSome, IfNone, length};
 ghost use Rattle.std.specs.Option.{option_map};
 ghost use Rattle.command_line.specs.Command.{texts};
-ghost use Rattle.hipc_search.specs.Command.{no_options, with_kill, with_hangup, with_from, with_kills, with_events, with_states, with_option, options_of};
-ghost use Rattle.hipc_search.specs.Command.{up_to, given_or, given, command_for, is_option, goal_and_others, command_of, said_options, said};
+ghost use Rattle.hipc_search.specs.Command.{no_options, with_kill, with_hangup, with_spawn, with_from, with_kills, with_events, with_states, with_option, options_of};
+ghost use Rattle.hipc_search.specs.Command.{up_to, given_or, given, command_for, is_option, goal_and_others, as_goal, asks_and_others, command_of, said_options, said_asks, said};
 
 use script_reader::number;
 
@@ -18,10 +18,20 @@ const MOST_STATES: u32 = 100_000_000;
 pub(crate) struct Options<'a> {
     kill: Option<&'a str>,
     hangup: Option<&'a str>,
+    spawn: Option<&'a str>,
     from: Option<&'a str>,
     kills: Option<u64>,
     events: Option<u64>,
     states: Option<u64>,
+}
+
+/// What is asked of the schedules of a script.
+#[derive(Clone, Copy)]
+pub(crate) enum Asks<'a> {
+    /// The first that meets the goal of this text.
+    Goal(&'a str),
+    /// Each state at rest.
+    Survey,
 }
 
 /// What is searched.
@@ -29,11 +39,13 @@ pub(crate) struct Options<'a> {
 pub(crate) struct Command<'a> {
     /// The file of the script.
     pub script: &'a str,
-    pub goal: &'a str,
+    pub asks: Asks<'a>,
     /// The names of the tasks that may be killed, with commas between them.
     pub kill: Option<&'a str>,
     /// The phones that may be hung up, each `NAME.PHONE`, with commas between them.
     pub hangup: Option<&'a str>,
+    /// The templates of which tasks may be made, each `TEMPLATE:N`, with commas between them.
+    pub spawn: Option<&'a str>,
     /// The file of the events that come first.
     pub from: Option<&'a str>,
     /// How many kills there may be, at most 65,536; any number where it is `None`.
@@ -51,6 +63,7 @@ fn no_options<'a>() -> Options<'a>
     Options {
         kill: None,
         hangup: None,
+        spawn: None,
         from: None,
         kills: None,
         events: None,
@@ -80,6 +93,19 @@ fn with_hangup<'a>(options: Options<'a>, value: &'a str) -> Option<Options<'a>>
         Some(_) => None,
         None => Some(Options {
             hangup: Some(value),
+            ..options
+        }),
+    }
+}
+
+#[tactic(auto, unfolding(crate::specs::Command::with_spawn))]
+fn with_spawn<'a>(options: Options<'a>, value: &'a str) -> Option<Options<'a>>
+    ensures { option_map said_options result ≡ with_spawn (said_options options.entry) value.now }
+{
+    match options.spawn {
+        Some(_) => None,
+        None => Some(Options {
+            spawn: Some(value),
             ..options
         }),
     }
@@ -148,6 +174,9 @@ fn with_option<'a>(options: Options<'a>, option: &str, value: &'a str) -> Option
     }
     if option == "--hangup" {
         return with_hangup(options, value);
+    }
+    if option == "--spawn" {
+        return with_spawn(options, value);
     }
     if option == "--from" {
         return with_from(options, value);
@@ -252,11 +281,11 @@ fn given(most: u32, number: Option<u64>) -> Option<Option<u32>>
     }
 }
 
-/// The command of a script, a goal and options.
+/// The command of a script, what is asked, and options.
 #[tactic(auto, unfolding(crate::specs::Command::command_for))]
-fn command_for<'a>(script: &'a str, goal: &'a str, options: Options<'a>) -> Option<Command<'a>>
+fn command_for<'a>(script: &'a str, asks: Asks<'a>, options: Options<'a>) -> Option<Command<'a>>
     ensures command { option_map said result
-        ≡ command_for script.now goal.now (said_options options.entry) }
+        ≡ command_for script.now (said_asks asks.entry) (said_options options.entry) }
     ensures few { IfSome result (λ command. command.events ≤ 10000) }
 {
     let kills = given(MOST_KILLS, options.kills)?;
@@ -264,9 +293,10 @@ fn command_for<'a>(script: &'a str, goal: &'a str, options: Options<'a>) -> Opti
     let states = given_or(MOST_STATES, 1_000_000, options.states)?;
     Some(Command {
         script,
-        goal,
+        asks,
         kill: options.kill,
         hangup: options.hangup,
+        spawn: options.spawn,
         from: options.from,
         kills,
         events,
@@ -284,16 +314,16 @@ fn is_option(word: &str) -> bool
     }
 }
 
-/// The goal where the words begin with one, else `stuck`; and the words that are left.
+/// The goal where the words begin with one, else `lost`; and the words that are left.
 fn goal_and_others(words: &[String]) -> (&str, &[String])
     ensures goal { result.0.now ≡ (goal_and_others (texts words.now)).0 }
     ensures others { texts result.1.now ≡ (goal_and_others (texts words.now)).1 }
 {
     match words {
-        [] => ("stuck", words),
+        [] => ("lost", words),
         [word, others @ ..] => {
             if is_option(word.as_str()) {
-                ("stuck", words)
+                ("lost", words)
             } else {
                 (word.as_str(), others)
             }
@@ -301,8 +331,34 @@ fn goal_and_others(words: &[String]) -> (&str, &[String])
     }
 }
 
-/// The command that the words are, `SCRIPT` or `SCRIPT GOAL`, and options; `None` where they are no
-/// command.
+/// A goal, and the words that are left.
+fn as_goal(words: &[String]) -> (Asks<'_>, &[String])
+    ensures asks { said_asks result.0 ≡ (as_goal (goal_and_others (texts words.now))).0 }
+    ensures others { texts result.1.now ≡ (as_goal (goal_and_others (texts words.now))).1 }
+{
+    let (goal, others) = goal_and_others(words);
+    (Asks::Goal(goal), others)
+}
+
+/// A survey where the words begin with `--survey`, else a goal; and the words that are left.
+fn asks_and_others(words: &[String]) -> (Asks<'_>, &[String])
+    ensures asks { said_asks result.0 ≡ (asks_and_others (texts words.now)).0 }
+    ensures others { texts result.1.now ≡ (asks_and_others (texts words.now)).1 }
+{
+    match words {
+        [] => as_goal(words),
+        [word, others @ ..] => {
+            if word.as_str() == "--survey" {
+                (Asks::Survey, others)
+            } else {
+                as_goal(words)
+            }
+        }
+    }
+}
+
+/// The command that the words are, `SCRIPT`, `SCRIPT GOAL` or `SCRIPT --survey`, and options; `None`
+/// where they are no command.
 pub(crate) fn command_of(words: &[String]) -> Option<Command<'_>>
     ensures command { option_map said result ≡ command_of (texts words.now) }
     ensures few { IfSome result (λ command. command.events ≤ 10000) }
@@ -313,7 +369,7 @@ pub(crate) fn command_of(words: &[String]) -> Option<Command<'_>>
     if is_option(script.as_str()) {
         return None;
     }
-    let (goal, others) = goal_and_others(behind);
+    let (asks, others) = asks_and_others(behind);
     let options = options_behind(no_options(), others)?;
-    command_for(script.as_str(), goal, options)
+    command_for(script.as_str(), asks, options)
 }

@@ -1,124 +1,136 @@
 //! Does what is due for a command line: words, files, and the sink that takes the text.
-ghost use Rattle.std.specs.Prelude.{◌≡◌, ◌≢◌, ◌≤◌, ◌<◌, ◌++◌, ◌∷◌, ◌⊎◌, [], true, Ok, Some, IfOk, length};
+ghost use Rattle.std.specs.Prelude.{◌≡◌, ◌≢◌, ◌≤◌, ◌<◌, ◌++◌, ◌∷◌, ◌⊎◌, [], Ok, Some, IfOk, length};
 ghost use Rattle.std.specs.Io.KnownBytes.{Appends, Keeps};
-ghost use Rattle.std.specs.List.{list_all};
 ghost use Rattle.std.specs.Option.{option_map};
 ghost use Rattle.io_edge.specs.Edge.{AppendsStart, Rose};
 ghost use Rattle.script_lines.specs.Names.{task_names};
 ghost use Rattle.script_lines.specs.Sound.{IsSound};
-ghost use Rattle.script_lines.specs.Text.{is_allowed};
 ghost use Rattle.script_reader.specs.Schedule.{MayAllCome};
 ghost use Rattle.search_goals.specs.GoalText.{said as said_goal};
-ghost use Rattle.search_goals.specs.Writing.{AreNamed};
+ghost use Rattle.search_goals.specs.Writing.{IsNamed};
 ghost use Rattle.command_line.specs.Command.{texts};
 ghost use Rattle.command_line.specs.Due.{LosesOneAtMost};
-ghost use Rattle.hipc_search.specs.Asking.{search_with};
+ghost use Rattle.hipc_search.specs.Asking.{search_with, MayStand};
 ghost use Rattle.hipc_search.specs.Command.{said};
 ghost use Rattle.hipc_search.specs.Schedule.{Precedes};
 ghost use Rattle.hipc_search.specs.Due.{DueForAsked, DueForEvents, DueForPlan, DueForBytes, DueForFiles, Due, files_of, loaded_by, IsOfText, Whole, Part};
 ghost use Rattle.hipc_search.specs.declared.status.Status.TheVariants.{WriteFailed, NoMemory as Memory};
 
-use crate::answer::{Answer, cannot_answer, fault_answer, search_answer, usage_answer};
+use crate::answer::{Answer, cannot_answer, fault_answer, usage_answer};
 use crate::command::{Command, command_of};
-use crate::goal::{first_events, goal_for};
-use crate::moves::{Listed, listed_in, moves_of};
+use crate::goal::{asked_for, first_events};
+use crate::moves::{Listed, bounds_in, listed_in, moves_of};
 use crate::status::Status;
+use crate::survey::asks_answer;
 use io_edge::{LoadFault, PutFailed, Shelf, Sink};
 use ipc_ids::{Event, NoMemory};
 use schedule_search::Problem;
 use script_lines::{Names, names_of};
 use script_reader::{ScheduleFault, Script, ScriptFault, read_script};
-use search_goals::{Goal, GoalFault};
+use search_goals::{Goal, GoalFault, TaskNames};
 use std::alloc::Global;
 
 // One more byte than a file may have, so that a longer one shows.
 const MOST: usize = 1_048_577;
 
-/// The names of the tasks of a script.
-fn names_in(alloc: Global, script: &Script) -> Result<Names, NoMemory>
-    ensures { IfOk result (λ names. names ≡ task_names script.now.tasks) }
+/// The names of the templates of a script. It is sound, as each is.
+fn templates_in(alloc: Global, script: &Script) -> Result<Names, NoMemory>
+    ensures names { IfOk result (λ names. names ≡ task_names script.now.templates) }
+    ensures sound { IfOk result (λ _. IsSound script.now) }
 {
-    names_of(alloc, script.tasks.as_slice())
+    names_of(alloc, script.templates.as_slice())
 }
 
-/// How many tasks a script has. It is sound, as each is.
-fn count_tasks(script: &Script) -> u64
-    ensures count { result ≡ length script.now.tasks }
-    ensures few { result ≤ 64 }
-    ensures sound { IsSound script.now }
-{
-    script.tasks.as_slice().len() as u64
-}
-
-/// Reads the lists of kills and of hangups, and searches.
+/// Reads the lists of kills, of hangups and of templates, and searches or surveys.
 fn with_goal(
     alloc: Global,
     command: &Command<'_>,
     script: &Script,
     from: &[Event],
+    names: TaskNames,
     before: &[u8],
     goal: &Goal,
 ) -> Result<Answer, NoMemory>
     requires events { command.now.events ≤ 10000 }
-    requires named { AreNamed script.now.tasks }
+    requires named { IsNamed script.now }
     requires may { MayAllCome (length script.now.tasks) (length script.now.templates) from.now }
     requires few { length from.now ≤ 32768 }
     requires short { length before.now ≤ 524289 }
-    requires first { Precedes script.now before.now from.now }
-    requires allowed { list_all is_allowed command.now.goal.now ≡ true }
+    requires first { Precedes script.now before.now
+        (record { events = from.now; names = names }) }
+    requires allowed { MayStand (said command.now).asks }
     ensures due { IfOk result (λ answer. DueForAsked (said command.now) before.now
-        (search_with (said command.now) script.now from.now (Ok (said_goal goal.now)))
+        (search_with (said command.now) script.now
+        (record { events = from.now; names = names }) (Ok (said_goal goal.now)))
         answer.status answer.text.items) }
     ensures told { IfOk result (λ answer. IsOfText answer.status) }
 {
-    let names = names_in(alloc, script)?;
-    let killed = match listed_in(alloc, Listed::Kills, &names, command.kill) {
+    let table = names.to_table(alloc)?;
+    let killed = match listed_in(alloc, Listed::Kills, &table, command.kill) {
         Ok(killed) => killed,
         Err(GoalFault::Bad { word, reason }) => {
             return fault_answer(alloc, Status::BadGoal, "kill word", word, reason);
         }
         Err(GoalFault::NoMemory) => return Err(NoMemory),
     };
-    let hangups = match listed_in(alloc, Listed::Hangups, &names, command.hangup) {
+    let hangups = match listed_in(alloc, Listed::Hangups, &table, command.hangup) {
         Ok(hangups) => hangups,
         Err(GoalFault::Bad { word, reason }) => {
             return fault_answer(alloc, Status::BadGoal, "hangup word", word, reason);
         }
         Err(GoalFault::NoMemory) => return Err(NoMemory),
     };
-    let tasks = count_tasks(script);
-    let moves = moves_of(alloc, tasks, killed.as_slice(), hangups.as_slice())?;
+    let templates = templates_in(alloc, script)?;
+    let bounds = match bounds_in(alloc, &templates, command.spawn) {
+        Ok(bounds) => bounds,
+        Err(GoalFault::Bad { word, reason }) => {
+            return fault_answer(alloc, Status::BadGoal, "spawn word", word, reason);
+        }
+        Err(GoalFault::NoMemory) => return Err(NoMemory),
+    };
+    let tasks = names.len() as u64;
+    let moves = moves_of(
+        alloc,
+        tasks,
+        killed.as_slice(),
+        hangups.as_slice(),
+        bounds.as_slice(),
+    )?;
     let problem = Problem {
         script,
         from,
         moves: moves.as_slice(),
         kills: command.kills,
+        spawns: bounds.as_slice(),
         goal,
     };
-    search_answer(alloc, &problem, command, before)
+    asks_answer(alloc, &problem, command, names, before)
 }
 
-/// Reads the goal, and searches behind the events that come first, whose bytes stand before what is
-/// found.
+/// Reads what is looked for, and searches behind the events that come first, whose bytes stand before
+/// what is found, and behind which the tasks have these names.
 fn with_events(
     alloc: Global,
     command: &Command<'_>,
     script: &Script,
     from: &[Event],
+    names: TaskNames,
     before: &[u8],
 ) -> Result<Answer, NoMemory>
     requires events { command.now.events ≤ 10000 }
-    requires named { AreNamed script.now.tasks }
+    requires named { IsNamed script.now }
     requires may { MayAllCome (length script.now.tasks) (length script.now.templates) from.now }
     requires few { length from.now ≤ 32768 }
     requires short { length before.now ≤ 524289 }
-    requires first { Precedes script.now before.now from.now }
+    requires first { Precedes script.now before.now
+        (record { events = from.now; names = names }) }
     ensures due { IfOk result (λ answer. DueForEvents (said command.now) script.now before.now
-        (Ok from.now) answer.status answer.text.items) }
+        (Ok (record { events = from.now; names = names })) answer.status answer.text.items) }
     ensures told { IfOk result (λ answer. IsOfText answer.status) }
 {
-    match goal_for(alloc, script, command.goal) {
-        Ok(goal) => with_goal(alloc, command, script, from, before, &goal),
+    let table = names.to_table(alloc)?;
+    match asked_for(alloc, &table, script, command.asks) {
+        Ok(goal) => with_goal(alloc, command, script, from, names, before, &goal),
         Err(GoalFault::Bad { word, reason }) => {
             fault_answer(alloc, Status::BadGoal, "goal word", word, reason)
         }
@@ -143,20 +155,39 @@ fn with_first(
     bytes: &[u8],
 ) -> Result<Answer, NoMemory>
     requires events { command.now.events ≤ 10000 }
-    requires named { AreNamed script.now.tasks }
+    requires named { IsNamed script.now }
     ensures due { IfOk result (λ answer. DueForPlan (said command.now) script.now (Some bytes.now)
         answer.status answer.text.items) }
     ensures told { IfOk result (λ answer. IsOfText answer.status) }
 {
-    let from = match first_events(alloc, script, bytes) {
-        Ok(from) => from,
+    let (from, names) = match first_events(alloc, script, bytes) {
+        Ok(first) => first,
         Err(ScheduleFault::Bad { line, reason }) => {
             return fault_answer(alloc, Status::BadSchedule, "schedule line", line, reason);
         }
         Err(ScheduleFault::NoMemory) => return Err(NoMemory),
     };
     let before = with_feed(alloc, bytes)?;
-    with_events(alloc, command, script, from.as_slice(), before.as_slice())
+    with_events(
+        alloc,
+        command,
+        script,
+        from.as_slice(),
+        names,
+        before.as_slice(),
+    )
+}
+
+/// Searches from the start of a script.
+fn with_no_events(alloc: Global, command: &Command<'_>, script: &Script) -> Result<Answer, NoMemory>
+    requires events { command.now.events ≤ 10000 }
+    requires named { IsNamed script.now }
+    ensures due { IfOk result (λ answer. DueForPlan (said command.now) script.now None
+        answer.status answer.text.items) }
+    ensures told { IfOk result (λ answer. IsOfText answer.status) }
+{
+    let names = TaskNames::of_script(alloc, script)?;
+    with_events(alloc, command, script, &[], names, &[])
 }
 
 /// Searches over a script that was read.
@@ -167,13 +198,13 @@ fn with_script(
     first: Option<&[u8]>,
 ) -> Result<Answer, NoMemory>
     requires events { command.now.events ≤ 10000 }
-    requires named { AreNamed script.now.tasks }
+    requires named { IsNamed script.now }
     ensures due { IfOk result (λ answer. DueForPlan (said command.now) script.now
         (option_map (λ bytes. bytes.now) first.entry) answer.status answer.text.items) }
     ensures told { IfOk result (λ answer. IsOfText answer.status) }
 {
     match first {
-        None => with_events(alloc, command, script, &[], &[]),
+        None => with_no_events(alloc, command, script),
         Some(bytes) => with_first(alloc, command, script, bytes),
     }
 }
@@ -302,8 +333,8 @@ fn tell<K: Sink>(status: Status, text: &[u8], sink: &mut K) -> Status
 }
 
 /// Does what the words of a command line ask: loads the script, and the schedule that comes first,
-/// from the shelf, searches, and writes the schedule that was found, the line of why there is none,
-/// or the line of what is wrong.
+/// from the shelf, searches, and writes what was found, the line of why there is nothing, or the
+/// line of what is wrong.
 pub fn run<S: Shelf, K: Sink>(
     alloc: Global,
     words: &[String],

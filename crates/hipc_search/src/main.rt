@@ -1,5 +1,5 @@
 //! Searches the schedules of a script of tasks that call each other for one that leads to what is
-//! asked, and writes it, or says that there is none.
+//! asked, and writes it, or says that there is none; or lists the states at rest to which they lead.
 #![tactic(auto)]
 
 ghost use Rattle.std.specs.Prelude.{◌≡◌, ◌≤◌, ◌<◌};
@@ -17,11 +17,13 @@ mod answer;
 mod command;
 mod due;
 mod goal;
+mod known;
+mod listing;
 mod moves;
 mod schedule;
 mod status;
-#[cfg(test)]
-mod tests;
+mod survey;
+mod told;
 
 use crate::due::run;
 use crate::status::Status;

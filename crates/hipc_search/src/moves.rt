@@ -1,15 +1,16 @@
-//! The moves of a search: a step of each task, and the kills and hangups that are listed.
-ghost use Rattle.std.specs.Prelude.{◌≡◌, ◌≤◌, ◌<◌, ◌==◌, ◌++◌, ◌∷◌, [], cond, All, IfOk, OnOk, IfSome, length, position};
+//! The moves of a search: a step of each task, and the kills, hangups and spawns that are listed.
+ghost use Rattle.std.specs.Prelude.{◌≡◌, ◌≤◌, ◌<◌, ◌==◌, ◌+◌, ◌++◌, ◌∷◌, [], cond, IfOk, OnOk, IfSome, length, position};
 ghost use Rattle.std.specs.List.{position_or_len};
 ghost use Rattle.std.specs.Option.{option_map};
-ghost use Rattle.script_lines.specs.Names.{task_names};
+ghost use Rattle.script_lines.specs.Draft.{Follows};
 ghost use Rattle.search_goals.specs.GoalText.{Answers};
-ghost use Rattle.search_goals.specs.Writing.{IsOnTask};
 ghost use Rattle.hipc_search.specs.Moves.{kill_in, dot_place, phone_in, hangup_in, event_in, is_comma, words_of, words_left, listed_of, listed_in};
+ghost use Rattle.hipc_search.specs.Moves.{colon_place, some_tasks, count_in, bound_in, is_bound, with_bound, bounds_of, bounds_in, spawns_in, most_ever};
 ghost use Rattle.hipc_search.specs.Moves.{kills_task, is_killed, is_living, step_by, kill_of, for_chosen, living_steps, moves_of};
 
 use ipc_ids::{Event, NoMemory, TaskNo};
-use script_lines::Names;
+use schedule_search::MostMade;
+use script_lines::{LineFault, MOST_TASKS, Names};
 use script_reader::{Reason, number};
 use search_goals::GoalFault;
 use std::alloc::Global;
@@ -158,6 +159,125 @@ pub(crate) fn listed_in(
     }
 }
 
+/// Where the first `:` stands.
+fn colon_at(word: &[u8]) -> Option<usize>
+    ensures { result ≡ position (λ b. b == 58) word.now }
+{
+    word.iter().position(|byte| *byte == b':')
+}
+
+/// Where `:` stands in a word; its length where it has none.
+#[tactic(auto, using(search_goals::proofs::GoalWords::none_found, search_goals::proofs::GoalWords::found_at))]
+fn colon_place(word: &[u8]) -> usize
+    ensures value { result ≡ colon_place word.now }
+    ensures within { result ≤ length word.now }
+{
+    match colon_at(word) {
+        Some(at) => at,
+        None => word.len(),
+    }
+}
+
+/// A number from 1 to 64.
+fn some_tasks(number: Option<u64>) -> Option<u32>
+    ensures { result ≡ some_tasks number }
+{
+    match number {
+        Some(number) if 1 <= number && number <= 64 => Some(number as u32),
+        _ => None,
+    }
+}
+
+/// The number behind a `:` at the front.
+fn count_in(word: &[u8]) -> Option<u32>
+    ensures { result ≡ count_in word.now }
+{
+    match word {
+        [b':', digits @ ..] => some_tasks(number(digits)),
+        _ => None,
+    }
+}
+
+/// How many tasks of a template may be made, as a word says it.
+#[tactic(auto, unfolding(crate::specs::Moves::bound_in))]
+fn bound_in(templates: &Names, word: &[u8]) -> Result<MostMade, Reason>
+    ensures { result ≡ bound_in templates.now word.now }
+{
+    let (name, behind) = word.split_at(colon_place(word));
+    let most = count_in(behind).ok_or(Reason::BadWord)?;
+    let place = templates.place_of(name).ok_or(Reason::UnknownName)?;
+    Ok(MostMade {
+        place: place as u32,
+        most,
+    })
+}
+
+/// Whether one of these is for that template.
+fn is_bound(bounds: &[MostMade], place: u32) -> bool
+    ensures { result ≡ is_bound bounds.now place }
+{
+    bounds.iter().any(|bound| bound.place == place)
+}
+
+/// Adds how many tasks of a template may be made, as a word says it.
+#[tactic(auto, unfolding(crate::specs::Moves::with_bound))]
+fn add_bound(templates: &Names, bounds: &mut Vec<MostMade>, word: &[u8]) -> Result<(), LineFault>
+    ensures value { Follows result bounds.new.items
+        (with_bound templates.now bounds.old.items word.now) }
+    ensures one { OnOk result (length bounds.new.items ≡ length bounds.old.items + 1) }
+    ensures few { OnOk result (length bounds.new.items ≤ 64) }
+{
+    if bounds.len() >= MOST_TASKS {
+        return Err(LineFault::Bad(Reason::TooMany));
+    }
+    let bound = bound_in(templates, word)?;
+    if is_bound(bounds.as_slice(), bound.place) {
+        return Err(LineFault::Bad(Reason::NameTaken));
+    }
+    bounds.push(bound)?;
+    Ok(())
+}
+
+/// The templates of which tasks may be made, as a list says it.
+fn bounds_of(alloc: Global, templates: &Names, text: &[u8]) -> Result<Vec<MostMade>, GoalFault>
+    ensures value { Answers (λ bounds. bounds.items) result (bounds_of templates.now text.now) }
+    ensures few { IfOk result (λ bounds. length bounds.items ≤ 64) }
+{
+    let mut bounds = Vec::new(alloc);
+    let mut left = Some(text);
+    let mut place = 1;
+    while let Some(rest) = left {
+        let (word, others) = first_word(rest);
+        match add_bound(templates, &mut bounds, word) {
+            Ok(()) => {}
+            Err(LineFault::Bad(reason)) => return Err(GoalFault::Bad {
+                word: place,
+                reason,
+            }),
+            Err(LineFault::NoMemory) => return Err(GoalFault::NoMemory),
+        }
+        left = others;
+        place += 1;
+    }
+    Ok(bounds)
+}
+
+/// The same of a list that may be missing.
+pub(crate) fn bounds_in(
+    alloc: Global,
+    templates: &Names,
+    text: Option<&str>,
+) -> Result<Vec<MostMade>, GoalFault>
+    ensures value { Answers (λ bounds. bounds.items) result
+        (bounds_in templates.now (option_map (λ text. text.now) text.entry)) }
+    ensures few { IfOk result (λ bounds. length bounds.items ≤ 64) }
+{
+    match text {
+        None => Ok(Vec::new(alloc)),
+        Some(text) => bounds_of(alloc, templates, text.as_bytes()),
+    }
+}
+
 /// Whether an event is a kill of a task.
 fn kills_task(task: u64, event: Event) -> bool
     ensures { result ≡ kills_task task event }
@@ -225,20 +345,47 @@ fn push_kills(killed: &[Event], tasks: u64, events: &mut Vec<Event>) -> Result<(
     Ok(())
 }
 
-/// The moves of a search over so many tasks: a step of each, a kill of each that is killed, and the
-/// hangups.
+/// Adds a spawn for each template of which tasks may be made.
+fn push_spawns(bounds: &[MostMade], events: &mut Vec<Event>) -> Result<(), NoMemory>
+    ensures { OnOk result (events.new.items ≡ events.old.items ++ spawns_in bounds.now) }
+{
+    for bound in bounds {
+        events.push(Event::Spawn(bound.place))?;
+    }
+    Ok(())
+}
+
+/// How many tasks there may ever be, where there are so many at first.
+fn most_ever(tasks: u64, bounds: &[MostMade]) -> u64
+    requires tasks { tasks ≤ 64 }
+    requires few { length bounds.now ≤ 64 }
+    ensures value { result ≡ most_ever tasks bounds.now }
+    ensures few { result ≤ 64 }
+{
+    let mut all = tasks;
+    for bound in bounds {
+        all += bound.most as u64;
+    }
+    if 64 < all { 64 } else { all }
+}
+
+/// The moves of a search over so many tasks: a step of each that there is or may be, a kill of each
+/// that is killed, the hangups, and the spawns.
 pub(crate) fn moves_of(
     alloc: Global,
     tasks: u64,
     killed: &[Event],
     hangups: &[Event],
+    bounds: &[MostMade],
 ) -> Result<Vec<Event>, NoMemory>
-    requires { tasks ≤ 64 }
-    ensures { IfOk result (λ moves. moves.items ≡ moves_of tasks killed.now hangups.now) }
+    requires tasks { tasks ≤ 64 }
+    requires few { length bounds.now ≤ 64 }
+    ensures { IfOk result (λ moves. moves.items ≡ moves_of tasks killed.now hangups.now bounds.now) }
 {
     let mut moves = Vec::new(alloc);
-    push_living(&[], &[], tasks, &mut moves)?;
+    push_living(&[], &[], most_ever(tasks, bounds), &mut moves)?;
     push_kills(killed, tasks, &mut moves)?;
     moves.extend_from_slice(hangups)?;
+    push_spawns(bounds, &mut moves)?;
     Ok(moves)
 }

@@ -4,15 +4,15 @@ ghost use Rattle.std.specs.List.{list_all};
 ghost use Rattle.script_lines.specs.Text.{is_allowed};
 ghost use Rattle.search_goals.specs.GoalText.{said as said_goal};
 ghost use Rattle.search_goals.specs.Lines.{comment_text};
-ghost use Rattle.search_goals.specs.Writing.{AreNamed};
-ghost use Rattle.schedule_search.specs.Search.{IsSound, AreOf};
+ghost use Rattle.search_goals.specs.Writing.{AreNamed, tasks_behind};
+ghost use Rattle.schedule_search.specs.Search.{IsSound, may_try, first_tasks};
 ghost use Rattle.schedule_search.specs.Problem.{search_of};
-ghost use Rattle.hipc_search.specs.Schedule.{found_comment, asks_for_rest, closing, IsSchedule, Precedes};
+ghost use Rattle.hipc_search.specs.Schedule.{found_comment, asks_for_end, closing, IsSchedule, Precedes};
 
 use crate::moves::push_living;
 use ipc_ids::{Event, NoMemory};
 use schedule_search::Problem;
-use search_goals::{Goal, push_events};
+use search_goals::{Goal, TaskNames, push_events};
 use std::alloc::Global;
 
 const MOST_GOAL: usize = 1024;
@@ -27,8 +27,9 @@ fn cut(goal: &[u8]) -> &[u8]
     goal.split_at(MOST_GOAL).0
 }
 
-/// Adds the comment that says the goal and how many events there are.
-fn push_comment(
+/// Adds the comment that says the goal and how many events there are; of a state its name in place of
+/// the goal.
+pub(crate) fn push_comment(
     alloc: Global,
     text: &mut Vec<u8>,
     goal: &[u8],
@@ -45,54 +46,69 @@ fn push_comment(
     Ok(())
 }
 
-/// Whether a state at rest is looked for.
-fn asks_for_rest(goal: &Goal) -> bool
-    ensures { result ≡ asks_for_rest (said_goal goal.now) }
+/// Whether a state is looked for behind which something never comes.
+fn asks_for_end(goal: &Goal) -> bool
+    ensures { result ≡ asks_for_end (said_goal goal.now) }
 {
     match goal {
-        Goal::Rest | Goal::Stuck(_) => true,
+        Goal::Lost | Goal::Rest | Goal::Stuck(_) => true,
         Goal::When(_) | Goal::Line { .. } => false,
     }
 }
 
-/// The steps behind events that were found, by which a replay shows that nothing comes.
-fn closing(alloc: Global, problem: &Problem<'_>, events: &[Event]) -> Result<Vec<Event>, NoMemory>
-    requires { length problem.now.script.now.tasks ≤ 64 }
+/// The steps behind events that were found, by which a replay shows that nothing comes; so many tasks
+/// there are then.
+fn closing(
+    alloc: Global,
+    problem: &Problem<'_>,
+    events: &[Event],
+    tasks: u64,
+) -> Result<Vec<Event>, NoMemory>
+    requires few { tasks ≤ 64 }
+    requires all { tasks ≡ tasks_behind (first_tasks (search_of problem.now)) events.now }
     ensures { IfOk result (λ steps. steps.items ≡ closing (search_of problem.now) events.now) }
 {
     let mut steps = Vec::new(alloc);
-    if !asks_for_rest(problem.goal) {
+    if !asks_for_end(problem.goal) {
         return Ok(steps);
     }
-    let script = problem.script;
-    let tasks = script.tasks.as_slice().len() as u64;
     push_living(problem.from, events, tasks, &mut steps)?;
     Ok(steps)
 }
 
-/// The schedule of the events that were found, behind the bytes of those that come first.
+/// The schedule of the events that were found, behind the bytes of those that come first, where the
+/// tasks have these names.
 pub(crate) fn found_text(
     alloc: Global,
     problem: &Problem<'_>,
     before: &[u8],
     goal: &str,
+    names: TaskNames,
     events: &[Event],
 ) -> Result<Vec<u8>, NoMemory>
     requires sound { IsSound (search_of problem.now) }
-    requires named { AreNamed problem.now.script.now.tasks }
+    requires named { AreNamed problem.now.script.now.templates }
     requires few_first { length problem.now.from.now ≤ 32768 }
     requires short { length before.now ≤ 524289 }
-    requires first { Precedes problem.now.script.now before.now problem.now.from.now }
+    requires first { Precedes problem.now.script.now before.now
+        (record { events = problem.now.from.now; names = names }) }
     requires allowed { list_all is_allowed goal.now ≡ true }
-    requires moves { AreOf problem.now.moves.now events.now }
+    requires tried { may_try (search_of problem.now) events.now ≡ true }
     requires few { length events.now ≤ 10000 }
     ensures { IfOk result (λ text. IsSchedule (search_of problem.now) before.now goal.now events.now
         text.items) }
 {
-    let steps = closing(alloc, problem, events)?;
+    let mut names = names;
     let mut text = Vec::from_slice(alloc, before)?;
     push_comment(alloc, &mut text, goal.as_bytes(), events.len())?;
-    push_events(alloc, &mut text, problem.script, events)?;
-    push_events(alloc, &mut text, problem.script, steps.as_slice())?;
+    push_events(alloc, &mut text, problem.script, &mut names, events)?;
+    let steps = closing(alloc, problem, events, names.len() as u64)?;
+    push_events(
+        alloc,
+        &mut text,
+        problem.script,
+        &mut names,
+        steps.as_slice(),
+    )?;
     Ok(text)
 }

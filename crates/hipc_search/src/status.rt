@@ -8,8 +8,12 @@ use std::process::ExitCode;
 /// How a search ended. All but the last two say that the text that is due was written whole.
 #[derive(Clone, Copy, Debug, PartialEq, Eq, Drop)]
 pub enum Status {
-    /// A schedule leads to what is looked for; it was written.
+    /// A schedule leads to what is looked for, or schedules lead to the states at rest; they were
+    /// written.
     Found,
+    /// The states at rest to which schedules of as many events lead as there may be; they were
+    /// written.
+    FoundWithin,
     /// No schedule does, of any length.
     NoneAtAll,
     /// No schedule does of as many events as there may be.
@@ -51,6 +55,7 @@ impl Status {
             Status::NoneWithin => 9,
             Status::BadGoal => 10,
             Status::NotKnown => 11,
+            Status::FoundWithin => 12,
         }
     }
 

@@ -22,7 +22,7 @@ use Rattle.task_system.specs.declared.any.AnyProgram.{AnyProgram}
 use Rattle.task_system.specs.declared.any.AnyProgram.TheVariants as any
 use Rattle.task_system.specs.Any.{wanted, after}
 use Rattle.task_system.specs.Run.{RunState, RunTransition, program_by, program_of, programs_from, ops_of, start, turn}
-use Rattle.schedule_replay.proofs.RunHistories.{turn_templates}
+use Rattle.run_laws.proofs.RunHistories.{turn_templates}
 use Rattle.program_examples.specs.FiveArguments.{GivesFive, GiveFive, ScriptGivesFive, CarriesFive, naming_after, server_after}
 use Rattle.program_examples.proofs.ProgramArguments.{raw_asks, fibrils_ask, naming_asks, server_asks}
 use Rattle.run_determined.specs.AskedMessages.{AskWithFive}

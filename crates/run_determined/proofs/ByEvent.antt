@@ -19,8 +19,8 @@ use Rattle.task_system.specs.Any.{wanted}
 use Rattle.task_system.specs.Run.{RunState, RunTransition, start, run, run_from, state_after, turn, MayAllHappen}
 use Rattle.task_system.specs.Run as runs
 use Rattle.route_laws.specs.Leads.{Beginning}
-use Rattle.schedule_replay.specs.RunHistory.{beginning, RunFits}
-use Rattle.schedule_replay.proofs.RunHistories.{turn_fits, start_told, turn_templates, later_may, may_from}
+use Rattle.run_laws.specs.RunHistory.{beginning, RunFits}
+use Rattle.run_laws.proofs.RunHistories.{turn_fits, start_told, turn_templates, later_may, may_from}
 
 -- ---- one event
 

@@ -24,8 +24,8 @@ use Rattle.task_system.specs.declared.any.AnyProgram.TheVariants as any
 use Rattle.task_system.specs.Any.{wanted, entries}
 use Rattle.task_system.specs.Run.{RunState, RunTransition, start, run, state_after, turn}
 use Rattle.route_laws.specs.Leads.{Beginning}
-use Rattle.schedule_replay.specs.RunHistory.{beginning, RunFits}
-use Rattle.schedule_replay.proofs.RunHistories.{start_told, run_told}
+use Rattle.run_laws.specs.RunHistory.{beginning, RunFits}
+use Rattle.run_laws.proofs.RunHistories.{start_told, run_told}
 use Rattle.run_determined.specs.PhoneCauses.{PhonesChangeForCause}
 use Rattle.run_determined.proofs.ByEvent as happens
 use Rattle.run_determined.proofs.ByEvent.{Happens, what_happens, run_keeps, all_at}

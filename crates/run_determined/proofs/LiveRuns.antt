@@ -37,7 +37,7 @@ use Rattle.task_system.specs.declared.any.AnyProgram.TheVariants as any
 use Rattle.task_system.specs.Any.{wanted, entries}
 use Rattle.task_system.specs.Run.{RunState, RunTransition, start, run, state_after, turn, step_served}
 use Rattle.route_laws.specs.Leads.{Beginning}
-use Rattle.schedule_replay.specs.RunHistory.{beginning, ProgramFits, RunFits}
+use Rattle.run_laws.specs.RunHistory.{beginning, ProgramFits, RunFits}
 use Rattle.run_determined.specs.PhoneCauses.{HadCause}
 use Rattle.run_determined.specs.LiveWaits.{IsStillToBeAnswered, WaitsForLiveCalls, WaitsAreForLiveCalls}
 use Rattle.run_determined.proofs.AsyncSteps.{AreSentAs, step_sends}

@@ -27,8 +27,8 @@ use Rattle.async_task.specs.Steps.{bare_task, start_in, start_at, start_bodies}
 use Rattle.task_system.specs.declared.any.AnyProgram.{AnyProgram}
 use Rattle.task_system.specs.Any.{wanted}
 use Rattle.task_system.specs.Run.{RunState, RunTransition, start, run, state_after, turn, step_by, step_served, killed, spawn_by, spawned, request_served, gone, program_by, ops_of, service_of}
-use Rattle.schedule_replay.specs.RunHistory.{beginning, RunFits}
-use Rattle.schedule_replay.proofs.RunHistories.{part_told}
+use Rattle.run_laws.specs.RunHistory.{beginning, RunFits}
+use Rattle.run_laws.proofs.RunHistories.{part_told}
 use Rattle.run_determined.proofs.ByEvent.{templates_stay, all_at}
 use Rattle.run_determined.specs.ScheduleLines.{IsGone, AreFirstOps, IsNewProgram, IsMadeFrom, SpawnsMakeTheirTemplate, IsHungUpFor, IsHangupLine, HangupLinesHangUpTheirPhone, IsServedFor, IsStepLine, StepsServeTheirTask, IsKilledFor, IsKillLine, KillLinesKillTheirTask}
 

@@ -25,8 +25,8 @@ use Rattle.task_system.specs.declared.any.AnyProgram.{AnyProgram}
 use Rattle.task_system.specs.declared.any.AnyProgram.TheVariants as any
 use Rattle.task_system.specs.Any.{wanted, after}
 use Rattle.task_system.specs.Run.{RunState, RunTransition, program_by, program_of, programs_from, start, state_after, turn, spawn_by, MayAllHappen}
-use Rattle.schedule_replay.specs.RunHistory.{beginning, RunFits}
-use Rattle.schedule_replay.proofs.RunHistories.{turn_fits, start_told, turn_templates, later_may, may_from}
+use Rattle.run_laws.specs.RunHistory.{beginning, RunFits}
+use Rattle.run_laws.proofs.RunHistories.{turn_fits, start_told, turn_templates, later_may, may_from}
 use Rattle.route_laws.specs.Leads.{Beginning}
 use Rattle.ipc_ids.specs.declared.entry.Entry.{Entry}
 use Rattle.run_determined.specs.ScheduleLines.{AreFirstOps}

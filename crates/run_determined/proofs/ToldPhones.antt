@@ -23,8 +23,8 @@ use Rattle.kernel_determined.proofs.SettleSo.{kept_is}
 use Rattle.task_system.specs.Any.{wanted}
 use Rattle.task_system.specs.Run.{RunState, RunTransition, start, run, state_after, turn}
 use Rattle.route_laws.specs.Leads.{Beginning}
-use Rattle.schedule_replay.specs.RunHistory.{beginning, RunFits}
-use Rattle.schedule_replay.proofs.RunHistories.{start_told, run_told}
+use Rattle.run_laws.specs.RunHistory.{beginning, RunFits}
+use Rattle.run_laws.proofs.RunHistories.{start_told, run_told}
 use Rattle.run_determined.specs.PhoneCauses.{asked_for}
 use Rattle.run_determined.specs.ToldPhones.{TellKeptPhones, ConnectCallsTellTheirPhone}
 use Rattle.program_examples.specs.FiveArguments.{ScriptGivesFive}

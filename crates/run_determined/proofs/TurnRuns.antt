@@ -32,8 +32,8 @@ use Rattle.task_system.specs.Any.{wanted, after, entries}
 use Rattle.task_system.specs.Run.{RunState, RunTransition, run, turn, step_served, request_served, killed, gone}
 use Rattle.task_system.specs.Wiring.{service_wires, wires_to_service}
 use Rattle.route_laws.specs.Leads.{Lead, Beginning}
-use Rattle.schedule_replay.specs.RunHistory.{lead_of, beginning}
-use Rattle.schedule_replay.proofs.RunHistories.{start_counted}
+use Rattle.run_laws.specs.RunHistory.{lead_of, beginning}
+use Rattle.run_laws.proofs.RunHistories.{start_counted}
 use Rattle.run_determined.specs.PhoneCauses.{HadCause}
 use Rattle.run_determined.specs.TasksInTurn.{count_after, IsInTurn, AllInTurn, TasksComeInTurn, NoneIsOf, NothingComesBeforeItsSpawn, CameInTurn}
 use Rattle.run_determined.proofs.ByEvent as happens

@@ -6,7 +6,7 @@ ghost use Rattle.script_lines.specs.Sound.{IsSound};
 ghost use Rattle.script_reader.specs.Grammar.{SpellsScript};
 ghost use Rattle.script_reader.specs.Schedule.{MayAllCome};
 ghost use Rattle.task_system.specs.Run.{run};
-ghost use Rattle.schedule_replay.specs.RunHistory.{beginning};
+ghost use Rattle.run_laws.specs.RunHistory.{beginning};
 ghost use Rattle.program_examples.specs.FiveArguments.{ScriptGivesFive};
 ghost use Rattle.run_determined.specs.AskedMessages.{AskWithFive};
 ghost use Rattle.run_determined.specs.LiveWaits.{WaitsAreForLiveCalls};

@@ -13,7 +13,7 @@ use Rattle.cleanup.specs.Sound.{IsSound}
 use Rattle.task_system.specs.Run.{RunState, program_of, start, turn, state_after, MayHappen, MayAllHappen}
 use Rattle.turn_counts.specs.Constants.{Constant, constant, constants, made_from, made_by_all, with_made}
 use Rattle.turn_counts.proofs.KeptConstants.{events_keep}
-use Rattle.schedule_replay.proofs.RunHistories.{run_told, may_from, turn_count, turn_templates, later_may, start_counted}
+use Rattle.run_laws.proofs.RunHistories.{run_told, may_from, turn_count, turn_templates, later_may, start_counted}
 use Rattle.run_words.specs.Reached.{spawn_of, spawns_of, IsReached}
 
 abbrev tasks_of : RunState → ℕ

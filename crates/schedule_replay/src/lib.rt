@@ -2,8 +2,8 @@
 //!
 //! Contracts see a `Replay` as a `ReplayState`: the run so far, which is the kernel's state and
 //! that of each program, and whether memory was wanting. `Replay::step` does one event. The history
-//! so far fits the run's state (`RunFits`), and each event keeps that; the laws of calls, of phones,
-//! of shared areas, of replies and of exchanges follow from it.
+//! so far fits the run's state, as `run_laws` says it (`RunFits`), and each event keeps that; the
+//! laws of every run follow from it.
 //!
 //! `replay` runs the events of a `Feed` and writes the text of each on the way, through a buffer of
 //! 4,096 bytes; `KeepsUp` says how little of it can be missing where the run ends early. `generate`

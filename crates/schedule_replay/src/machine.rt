@@ -4,7 +4,7 @@ ghost use Rattle.std.specs.Prelude.{IfOk, OnOk, OnErr, IsErr};
 ghost use Rattle.ipc_ids.specs.declared.entry.Entry.{Entry};
 ghost use Rattle.route_laws.specs.Leads.{Beginning};
 ghost use Rattle.task_system.specs.Run.{start, turn, MayHappen, Tells, TellsPart};
-ghost use Rattle.schedule_replay.specs.RunHistory.{beginning, RunFits};
+ghost use Rattle.run_laws.specs.RunHistory.{beginning, RunFits};
 
 use ipc_ids::{Event, NoMemory, Trace};
 use script_reader::Script;

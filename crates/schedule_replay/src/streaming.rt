@@ -5,7 +5,7 @@ ghost use Rattle.io_edge.specs.Edge.{AppendsStart, Rose};
 ghost use Rattle.trace_print.specs.Text.{text_of};
 ghost use Rattle.script_reader.specs.Schedule.{MayAllCome};
 ghost use Rattle.task_system.specs.Run.{run};
-ghost use Rattle.schedule_replay.specs.LawfulRun.{IsLawfulRun};
+ghost use Rattle.run_laws.specs.LawfulRun.{IsLawfulRun};
 ghost use Rattle.schedule_replay.specs.Streaming.{KeepsUp};
 ghost use Rattle.schedule_replay.specs.declared.streaming.ReplayFault.TheVariants as fault;
 

@@ -1,10 +1,11 @@
--- Moves to states of one code: a move more leads to such again, and to what is looked for at both or at neither.
-use Rattle.std.proofs.Common.{ℕ, ◌≡◌, ◌⊎◌, inl, inr, ◌<◌, ◌+◌, Bool, true, false, ◌&&◌, nat_le, nat_eq, Option, None, Some, List, [], ◌∷◌, ◌++◌, length, refl, sym, ◌∙◌, ap, arith}
+-- Moves to states of one code: a move more leads to such again, and to what is looked for from both or from neither.
+use Rattle.std.proofs.Common.{ℕ, ◌≡◌, ◌⊎◌, inl, inr, ◌+◌, Bool, true, false, ◌&&◌, nat_le, nat_eq, Option, None, Some, List, [], ◌∷◌, ◌++◌, length, refl, sym, ◌∙◌, ap, arith}
 use Rattle.std.specs.Prelude.{if◌then◌else◌}
 use Rattle.std.specs.Cmp.Lexicographic.{pointwise}
 use Rattle.std.specs.List.{list_all, range_with_len}
-use Rattle.std.proofs.lemmas.Bool.{lt-leb, leb-false}
+use Rattle.std.proofs.lemmas.Bool.{both_ways}
 use Rattle.ipc_ids.specs.declared.entry.Entry.{Entry}
+use Rattle.ipc_ids.specs.declared.numbers.TaskNo.{TaskNo}
 use Rattle.ipc_ids.specs.declared.message.Event.{Event}
 use Rattle.ipc_ids.specs.declared.message.Event.TheVariants.{Step}
 use Rattle.answerbox.specs.Calls.{CallTable}
@@ -13,14 +14,17 @@ use Rattle.task_system.specs.Run.{RunState, turn}
 use Rattle.search_core.specs.Moves.{AreMoves}
 use Rattle.run_words.specs.Reached.{IsReached, spawns_of}
 use Rattle.run_words.specs.RunWords.{run_words}
-use Rattle.search_goals.specs.GoalText.{Asked, IsRest, IsStuck, HoldAll, HasLine}
+use Rattle.search_goals.specs.GoalText.{Asked, LosesCall, IsRest, IsStuck, HoldAll, HasLine}
 use Rattle.search_goals.specs.Goals.{meets_line}
 use Rattle.state_goals.proofs.Alike.{all_alike}
-use Rattle.schedule_search.specs.Search.{Search, IsSound, AreOf, kills_in, is_within, first_state, state_behind, last_told, event_at, events_of}
-use Rattle.schedule_search.specs.Meeting.{changes_nothing, is_at_rest, has_open_call, is_met, meets}
-use Rattle.schedule_search.specs.Code.{counted, code_by, code_behind, finds, rest_words, Fits}
+use Rattle.schedule_search.specs.Search.{Search, IsSound, AreOf, kills_in, is_within, may_try, first_state, state_behind, last_told, event_at, events_of}
+use Rattle.schedule_search.specs.OpenCalls.{has_open_call}
+use Rattle.schedule_search.specs.Meeting.{changes_nothing, is_at_rest, IsMet, Meets, Finds}
+use Rattle.schedule_search.specs.Code.{counted, words_behind, code_behind, rest_words, Fits}
 use Rattle.schedule_search.proofs.Words.{WordsTell, words_tell}
-use Rattle.schedule_search.proofs.Behind.{after_both, told_more, kills_more, moves_are_of, reached}
+use Rattle.schedule_search.proofs.Tries.{kills_more, stays_untried, spawns_alike, tries_alike}
+use Rattle.schedule_search.proofs.Behind.{after_both, told_more, moves_are_of, spawned_by, reached, reached_alike}
+use Rattle.schedule_search.proofs.Steps.{lost_alike}
 
 -- ---- goals
 
@@ -39,34 +43,81 @@ module _ (plan : Plan) (spawned : List ℕ) (tell : WordsTell plan spawned) (a b
       all_same (changes_nothing a) (changes_nothing b) (range_with_len 1 (length a.kernel.tasks.alive)) change_alike
       ∙ ap (λ (n : ℕ). list_all (changes_nothing b) (range_with_len 1 n)) (tell.tasks a b h k)
 
-  pub met_alike : (asked : Asked) (told other : List Entry) → told ≡ other → is_met asked a told ≡ is_met asked b other
-  met_alike IsRest told other e = rest_alike
-  met_alike (IsStuck task) told other e =
+  stuck_alike : (task : Option TaskNo)
+      → (has_open_call task a.kernel.calls && is_at_rest a) ≡ (has_open_call task b.kernel.calls && is_at_rest b)
+  stuck_alike task =
       ap (λ (z : CallTable). has_open_call task z && is_at_rest a) (tell.calls a b h k same)
       ∙ ap (λ (z : Bool). has_open_call task b.kernel.calls && z) rest_alike
-  met_alike (HoldAll conditions) told other e = all_alike a b (tell.alike a b h k same) conditions
-  met_alike (HasLine head asked) told other e = ap (meets_line head asked) e
+
+  pub met_alike : (asked : Asked) (told other : List Entry) → told ≡ other → IsMet asked a told → IsMet asked b other
+  met_alike LosesCall told other e met = lost_alike plan spawned tell a b h k same met
+  met_alike IsRest told other e met = sym rest_alike ∙ met
+  met_alike (IsStuck task) told other e met = sym (stuck_alike task) ∙ met
+  met_alike (HoldAll conditions) told other e met = sym (all_alike a b (tell.alike a b h k same) conditions) ∙ met
+  met_alike (HasLine head asked) told other e met = sym (ap (meets_line head asked) e) ∙ met
 
 -- ---- codes
 
--- two numbers of kills that are told alike, or are both too many
-abbrev AreAlike : Option ℕ → (k j : ℕ) → (v w : List ℕ) → Type 0
-AreAlike most k j v w =
-    ((counted most k ≡ counted most j) × (v ≡ w)) ⊎ ((is_within most k ≡ false) × (is_within most j ≡ false))
+same_front : (a b v w : List ℕ) → length a ≡ length b → a ++ v ≡ b ++ w → (a ≡ b) × (v ≡ w)
+same_front [] [] v w l e = (refl, e)
+same_front [] (y ∷ b) v w l e = absurd (omega (arith, l))
+same_front (x ∷ a) [] v w l e = absurd (omega (arith, l))
+same_front (x ∷ a) (y ∷ b) v w l e =
+    let first : x ≡ y = cc e in
+    let later = same_front a b v w (omega (arith, l)) (cc e) in
+    (ap (λ (z : ℕ). z ∷ a) first ∙ ap (λ (z : List ℕ). y ∷ z) later.0, later.1)
 
-alike_by : (most : Option ℕ) (k j : ℕ) (v w : List ℕ) → code_by most k v ≡ code_by most j w → AreAlike most k j v w
-alike_by most k j v w e = by_tests (is_within most k) (is_within most j) refl refl e where
-  by_tests : (x y : Bool) → is_within most k ≡ x → is_within most j ≡ y
-      → (if x then counted most k ∷ v else []) ≡ (if y then counted most j ∷ w else []) → AreAlike most k j v w
-  by_tests true true p q e = inl (cc e, cc e)
-  by_tests true false p q e = absurd (cc e)
-  by_tests false true p q e = absurd (cc e)
-  by_tests false false p q e = inr (p, q)
+-- a list with its length before it is told from what stands behind it
+told_apart : (a b v w : List ℕ) → length a ∷ (a ++ v) ≡ length b ∷ (b ++ w) → (a ≡ b) × (v ≡ w)
+told_apart a b v w e = same_front a b v w (cc e) (cc e)
 
--- too many kills stay too many
-too_many : (most : Option ℕ) (k more : ℕ) → is_within most k ≡ false → is_within most (k + more) ≡ false
-too_many None k more e = absurd (cc e)
-too_many (Some most) k more e = lt-leb (k + more) most (let l : most < k = leb-false k most e in omega arith)
+-- two lists that may both be missing are the same: both are, or their parts are the same
+abbrev AreSame : (x y : Bool) (k j : ℕ) (v w : List ℕ) → Type 0
+AreSame x y k j v w = ((x ≡ true) × (y ≡ true) × (k ≡ j) × (v ≡ w)) ⊎ ((x ≡ false) × (y ≡ false))
+
+parts_same : (x y : Bool) (k j : ℕ) (v w : List ℕ) → (if x then k ∷ v else []) ≡ (if y then j ∷ w else [])
+    → AreSame x y k j v w
+parts_same true true k j v w e = inl (refl, refl, cc e, cc e)
+parts_same true false k j v w e = absurd (cc e)
+parts_same false true k j v w e = absurd (cc e)
+parts_same false false k j v w e = inr (refl, refl)
+
+-- the same templates and the same words
+pub record AreToldAlike (s : Search) (es fs : List Event) : Type 0 where
+  pub spawns : spawns_of es ≡ spawns_of fs
+  pub words : run_words (state_behind s es) ≡ run_words (state_behind s fs)
+
+-- both may be tried, and the codes tell the same of them
+pub record AreOneCode (s : Search) (es fs : List Event) : Type 0 where
+  pub one : may_try s es ≡ true
+  pub other : may_try s fs ≡ true
+  pub kills : counted s.kills (kills_in es) ≡ counted s.kills (kills_in fs)
+  pub told : AreToldAlike s es fs
+
+-- so it is, or neither may be tried
+abbrev pub AreAlike : Search → (es fs : List Event) → Type 0
+AreAlike s es fs = AreOneCode s es fs ⊎ ((may_try s es ≡ false) × (may_try s fs ≡ false))
+
+module _ (s : Search) (es fs : List Event) where
+  pub behind_alike : words_behind s es ≡ words_behind s fs → AreToldAlike s es fs
+  behind_alike e =
+      let parts = told_apart (spawns_of es) (spawns_of fs) (run_words (state_behind s es)) (run_words (state_behind s fs)) e in
+      record { spawns = parts.0; words = parts.1 }
+
+  pub told_behind : AreToldAlike s es fs → words_behind s es ≡ words_behind s fs
+  told_behind t =
+      ap (λ (z : List ℕ). length z ∷ (z ++ run_words (state_behind s es))) t.spawns
+      ∙ ap (λ (z : List ℕ). length (spawns_of fs) ∷ (spawns_of fs ++ z)) t.words
+
+  by_parts : AreSame (may_try s es) (may_try s fs) (counted s.kills (kills_in es)) (counted s.kills (kills_in fs))
+      (words_behind s es) (words_behind s fs) → AreAlike s es fs
+  by_parts (inl h) = inl (record { one = h.0; other = h.1; kills = h.2; told = behind_alike h.3 })
+  by_parts (inr h) = inr h
+
+  pub alike_by : code_behind s es ≡ code_behind s fs → AreAlike s es fs
+  alike_by e =
+      by_parts (parts_same (may_try s es) (may_try s fs) (counted s.kills (kills_in es)) (counted s.kills (kills_in fs))
+      (words_behind s es) (words_behind s fs) e)
 
 counted_more : (most : Option ℕ) (k j more : ℕ) → counted most k ≡ counted most j → counted most (k + more) ≡ counted most (j + more)
 counted_more None k j more e = refl
@@ -76,95 +127,114 @@ within_alike : (most : Option ℕ) (k j : ℕ) → counted most k ≡ counted mo
 within_alike None k j e = refl
 within_alike (Some most) k j e = ap (λ (n : ℕ). nat_le n most) e
 
-code_same : (most : Option ℕ) (k j : ℕ) (v w : List ℕ) → counted most k ≡ counted most j → v ≡ w → code_by most k v ≡ code_by most j w
-code_same most k j v w e f =
-    ap (λ (b : Bool). if b then counted most k ∷ v else []) (within_alike most k j e)
-    ∙ ap (λ (n : ℕ). if is_within most j then n ∷ v else []) e
-    ∙ ap (code_by most j) f
-
-no_code : (most : Option ℕ) (k : ℕ) (w : List ℕ) → is_within most k ≡ false → code_by most k w ≡ []
-no_code most k w e = ap (λ (z : Bool). if z then counted most k ∷ w else []) e
-
 module _ (s : Search) (sound : IsSound s) where
-  abbrev tell : WordsTell s.plan (spawns_of s.from)
-  tell = words_tell s.plan (spawns_of s.from) sound.script
+  abbrev tell : (es : List Event) → WordsTell s.plan (spawned_by s es)
+  tell es = words_tell s.plan (spawned_by s es) sound.script
+
+  more : (es : List Event) (x : Event) → state_behind s (es ++ x ∷ []) ≡ (turn (state_behind s es) x).state
+  more es x = after_both (first_state s) es (x ∷ [])
 
   -- one event more behind two lists of events
-  module _ (es fs : List Event) (x : Event) (of_es : AreOf s.moves es) (of_fs : AreOf s.moves fs) (es_more : AreOf s.moves (es ++ x ∷ [])) (fs_more : AreOf s.moves (fs ++ x ∷ [])) where
+  module _ (es fs : List Event) (x : Event) (alike : AreOneCode s es fs) where
     abbrev a : RunState
     a = state_behind s es
 
     abbrev b : RunState
     b = state_behind s fs
 
-    more : (gs : List Event) → state_behind s (gs ++ x ∷ []) ≡ (turn (state_behind s gs) x).state
-    more gs = after_both (first_state s) gs (x ∷ [])
+    here : IsReached s.plan (spawned_by s es) a
+    here = reached s sound es alike.one
 
-    kills_alike : counted s.kills (kills_in es) ≡ counted s.kills (kills_in fs) → counted s.kills (kills_in (es ++ x ∷ [])) ≡ counted s.kills (kills_in (fs ++ x ∷ []))
-    kills_alike e =
+    there : IsReached s.plan (spawned_by s es) b
+    there = reached_alike s sound es fs alike.told.spawns alike.other
+
+    kills_alike : counted s.kills (kills_in (es ++ x ∷ [])) ≡ counted s.kills (kills_in (fs ++ x ∷ []))
+    kills_alike =
         ap (counted s.kills) (kills_more es x)
-        ∙ counted_more s.kills (kills_in es) (kills_in fs) (kills_in (x ∷ [])) e
+        ∙ counted_more s.kills (kills_in es) (kills_in fs) (kills_in (x ∷ [])) alike.kills
         ∙ ap (counted s.kills) (sym (kills_more fs x))
 
-    words_alike : run_words a ≡ run_words b → run_words (state_behind s (es ++ x ∷ [])) ≡ run_words (state_behind s (fs ++ x ∷ []))
-    words_alike e = ap run_words (more es) ∙ tell.words a b x (reached s sound es of_es) (reached s sound fs of_fs) e ∙ ap run_words (sym (more fs))
+    tried_alike : may_try s (es ++ x ∷ []) ≡ may_try s (fs ++ x ∷ [])
+    tried_alike =
+        tries_alike s es fs x alike.one alike.other alike.told.spawns
+        (within_alike s.kills (kills_in (es ++ x ∷ [])) (kills_in (fs ++ x ∷ [])) kills_alike)
 
-    told_alike : run_words a ≡ run_words b → last_told [] (first_state s) (es ++ x ∷ []) ≡ last_told [] (first_state s) (fs ++ x ∷ [])
-    told_alike e = told_more [] (first_state s) es x ∙ tell.entries a b x (reached s sound es of_es) (reached s sound fs of_fs) e ∙ sym (told_more [] (first_state s) fs x)
+    words_alike : run_words (state_behind s (es ++ x ∷ [])) ≡ run_words (state_behind s (fs ++ x ∷ []))
+    words_alike =
+        ap run_words (more es x) ∙ (tell es).words a b x here there alike.told.words ∙ ap run_words (sym (more fs x))
 
-    meets_alike : run_words a ≡ run_words b → meets s (es ++ x ∷ []) ≡ meets s (fs ++ x ∷ [])
-    meets_alike e =
-        met_alike s.plan (spawns_of s.from) tell _ _ (reached s sound (es ++ x ∷ []) es_more) (reached s sound (fs ++ x ∷ []) fs_more) (words_alike e) s.asked _ _ (told_alike e)
+    entries_alike : last_told [] (first_state s) (es ++ x ∷ []) ≡ last_told [] (first_state s) (fs ++ x ∷ [])
+    entries_alike =
+        told_more [] (first_state s) es x ∙ (tell es).entries a b x here there alike.told.words
+        ∙ sym (told_more [] (first_state s) fs x)
 
-    too_many_more : (gs : List Event) → is_within s.kills (kills_in gs) ≡ false → is_within s.kills (kills_in (gs ++ x ∷ [])) ≡ false
-    too_many_more gs e = ap (is_within s.kills) (kills_more gs x) ∙ too_many s.kills (kills_in gs) (kills_in (x ∷ [])) e
+    pub told_more_alike : AreToldAlike s (es ++ x ∷ []) (fs ++ x ∷ [])
+    told_more_alike =
+        record { spawns = spawns_alike s es fs x alike.one alike.other alike.told.spawns; words = words_alike }
 
-    code_alike : AreAlike s.kills (kills_in es) (kills_in fs) (run_words a) (run_words b) → code_behind s (es ++ x ∷ []) ≡ code_behind s (fs ++ x ∷ [])
-    code_alike (inl h) = code_same s.kills _ _ _ _ (kills_alike h.0) (words_alike h.1)
-    code_alike (inr h) = no_code s.kills _ _ (too_many_more es h.0) ∙ sym (no_code s.kills _ _ (too_many_more fs h.1))
+    code_alike : code_behind s (es ++ x ∷ []) ≡ code_behind s (fs ++ x ∷ [])
+    code_alike =
+        ap (λ (z : Bool). if z then counted s.kills (kills_in (es ++ x ∷ [])) ∷ words_behind s (es ++ x ∷ []) else []) tried_alike
+        ∙ ap (λ (n : ℕ). if may_try s (fs ++ x ∷ []) then n ∷ words_behind s (es ++ x ∷ []) else []) kills_alike
+        ∙ ap (λ (z : List ℕ). if may_try s (fs ++ x ∷ []) then counted s.kills (kills_in (fs ++ x ∷ [])) ∷ z else [])
+        (told_behind s (es ++ x ∷ []) (fs ++ x ∷ []) told_more_alike)
 
-    finds_alike : AreAlike s.kills (kills_in es) (kills_in fs) (run_words a) (run_words b) → finds s (es ++ x ∷ []) ≡ finds s (fs ++ x ∷ [])
-    finds_alike (inl h) =
-        ap (λ (z : Bool). z && meets s (es ++ x ∷ [])) (within_alike s.kills _ _ (kills_alike h.0))
-        ∙ ap (λ (z : Bool). is_within s.kills (kills_in (fs ++ x ∷ [])) && z) (meets_alike h.1)
-    finds_alike (inr h) =
-        ap (λ (z : Bool). z && meets s (es ++ x ∷ [])) (too_many_more es h.0)
-        ∙ ap (λ (z : Bool). z && meets s (fs ++ x ∷ [])) (sym (too_many_more fs h.1))
+    meets_alike : may_try s (es ++ x ∷ []) ≡ true → Meets s (es ++ x ∷ []) → Meets s (fs ++ x ∷ [])
+    meets_alike tried =
+        met_alike s.plan (spawned_by s (es ++ x ∷ [])) (tell (es ++ x ∷ [])) (state_behind s (es ++ x ∷ [])) (state_behind s (fs ++ x ∷ []))
+        (reached s sound (es ++ x ∷ []) tried)
+        (reached_alike s sound (es ++ x ∷ []) (fs ++ x ∷ []) told_more_alike.spawns (sym tried_alike ∙ tried))
+        words_alike s.asked (last_told [] (first_state s) (es ++ x ∷ [])) (last_told [] (first_state s) (fs ++ x ∷ [])) entries_alike
+
+    finds_alike : AreOf s.moves (fs ++ x ∷ []) → Finds s (es ++ x ∷ []) → Finds s (fs ++ x ∷ [])
+    finds_alike of_fs finds =
+        record {
+          made = record { of_moves = of_fs; tried = sym tried_alike ∙ finds.made.tried };
+          met = meets_alike finds.made.tried finds.met;
+        }
+
+  no_code : (es : List Event) → may_try s es ≡ false → code_behind s es ≡ []
+  no_code es e = ap (λ (z : Bool). if z then counted s.kills (kills_in es) ∷ words_behind s es else []) e
+
+  codes_more : (es fs : List Event) (x : Event) → AreAlike s es fs → code_behind s (es ++ x ∷ []) ≡ code_behind s (fs ++ x ∷ [])
+  codes_more es fs x (inl h) = code_alike es fs x h
+  codes_more es fs x (inr h) =
+      no_code (es ++ x ∷ []) (stays_untried s es x h.0) ∙ sym (no_code (fs ++ x ∷ []) (stays_untried s fs x h.1))
+
+  finds_more : (es fs : List Event) (x : Event) → AreOf s.moves (fs ++ x ∷ []) → AreAlike s es fs
+      → Finds s (es ++ x ∷ []) → Finds s (fs ++ x ∷ [])
+  finds_more es fs x of_fs (inl h) finds = finds_alike es fs x h of_fs finds
+  finds_more es fs x of_fs (inr h) finds =
+      absurd (both_ways (may_try s (es ++ x ∷ [])) (stays_untried s es x h.0) finds.made.tried)
 
   pub code_goes_on : (p q : List ℕ) (m : ℕ) → AreMoves (length s.moves) (m ∷ p) → AreMoves (length s.moves) (m ∷ q) → code_behind s (events_of s.moves p) ≡ code_behind s (events_of s.moves q) → code_behind s (events_of s.moves (m ∷ p)) ≡ code_behind s (events_of s.moves (m ∷ q))
   code_goes_on p q m h k e =
-      code_alike (events_of s.moves p) (events_of s.moves q) (event_at s.moves m)
-      (moves_are_of s.moves p h.1) (moves_are_of s.moves q k.1) (moves_are_of s.moves (m ∷ p) h) (moves_are_of s.moves (m ∷ q) k)
-      (alike_by s.kills _ _ _ _ e)
+      codes_more (events_of s.moves p) (events_of s.moves q) (event_at s.moves m)
+      (alike_by s (events_of s.moves p) (events_of s.moves q) e)
 
-  pub goal_goes_on : (p q : List ℕ) (m : ℕ) → AreMoves (length s.moves) (m ∷ p) → AreMoves (length s.moves) (m ∷ q) → code_behind s (events_of s.moves p) ≡ code_behind s (events_of s.moves q) → finds s (events_of s.moves (m ∷ p)) ≡ finds s (events_of s.moves (m ∷ q))
+  pub goal_goes_on : (p q : List ℕ) (m : ℕ) → AreMoves (length s.moves) (m ∷ p) → AreMoves (length s.moves) (m ∷ q) → code_behind s (events_of s.moves p) ≡ code_behind s (events_of s.moves q) → Finds s (events_of s.moves (m ∷ p)) → Finds s (events_of s.moves (m ∷ q))
   goal_goes_on p q m h k e =
-      finds_alike (events_of s.moves p) (events_of s.moves q) (event_at s.moves m)
-      (moves_are_of s.moves p h.1) (moves_are_of s.moves q k.1) (moves_are_of s.moves (m ∷ p) h) (moves_are_of s.moves (m ∷ q) k)
-      (alike_by s.kills _ _ _ _ e)
+      finds_more (events_of s.moves p) (events_of s.moves q) (event_at s.moves m) (moves_are_of s.moves (m ∷ q) k)
+      (alike_by s (events_of s.moves p) (events_of s.moves q) e)
 
   -- states of one code are at rest with the same words, or are not
-  words_at_rest : (es fs : List Event) → AreOf s.moves es → AreOf s.moves fs
-      → AreAlike s.kills (kills_in es) (kills_in fs) (run_words (state_behind s es)) (run_words (state_behind s fs))
-      → rest_words s es ≡ rest_words s fs
-  words_at_rest es fs of_es of_fs (inl h) =
-      let a : RunState = state_behind s es in
-      let b : RunState = state_behind s fs in
-      let same : is_at_rest a ≡ is_at_rest b =
-      rest_alike s.plan (spawns_of s.from) tell a b (reached s sound es of_es) (reached s sound fs of_fs) h.1 in
-      ap (λ (z : Bool). if z && is_at_rest a then Some (run_words a) else None) (within_alike s.kills (kills_in es) (kills_in fs) h.0)
-      ∙ ap (λ (z : Bool). if is_within s.kills (kills_in fs) && z then Some (run_words a) else None) same
-      ∙ ap (λ (z : List ℕ). if is_within s.kills (kills_in fs) && is_at_rest b then Some z else None) h.1
-  words_at_rest es fs of_es of_fs (inr h) =
-      ap (λ (z : Bool). if z && is_at_rest (state_behind s es) then Some (run_words (state_behind s es)) else None) h.0
-      ∙ sym (ap (λ (z : Bool). if z && is_at_rest (state_behind s fs) then Some (run_words (state_behind s fs)) else None) h.1)
+  words_at_rest : (es fs : List Event) → AreAlike s es fs → rest_words s es ≡ rest_words s fs
+  words_at_rest es fs (inl h) =
+      let same : is_at_rest (state_behind s es) ≡ is_at_rest (state_behind s fs) =
+      rest_alike s.plan (spawned_by s es) (tell es) (state_behind s es) (state_behind s fs) (reached s sound es h.one)
+      (reached_alike s sound es fs h.told.spawns h.other) h.told.words in
+      ap (λ (z : Bool). if z && is_at_rest (state_behind s es) then Some (words_behind s es) else None) (h.one ∙ sym h.other)
+      ∙ ap (λ (z : Bool). if may_try s fs && z then Some (words_behind s es) else None) same
+      ∙ ap (λ (z : List ℕ). if may_try s fs && is_at_rest (state_behind s fs) then Some z else None) (told_behind s es fs h.told)
+  words_at_rest es fs (inr h) =
+      ap (λ (z : Bool). if z && is_at_rest (state_behind s es) then Some (words_behind s es) else None) h.0
+      ∙ sym (ap (λ (z : Bool). if z && is_at_rest (state_behind s fs) then Some (words_behind s fs) else None) h.1)
 
   pub rest_words_alike : (p q : List ℕ) → AreMoves (length s.moves) p → AreMoves (length s.moves) q
       → code_behind s (events_of s.moves p) ≡ code_behind s (events_of s.moves q)
       → rest_words s (events_of s.moves p) ≡ rest_words s (events_of s.moves q)
   rest_words_alike p q h k e =
-      words_at_rest (events_of s.moves p) (events_of s.moves q) (moves_are_of s.moves p h) (moves_are_of s.moves q k)
-      (alike_by s.kills _ _ _ _ e)
+      words_at_rest (events_of s.moves p) (events_of s.moves q) (alike_by s (events_of s.moves p) (events_of s.moves q) e)
 
 -- so a search may rest on it
 pub fits : (s : Search) → IsSound s → Fits s

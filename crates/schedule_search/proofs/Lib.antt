@@ -3,8 +3,13 @@ pub mod Behind
 pub mod Alike
 pub mod Resting
 pub mod Paths
+pub mod Steps
+pub mod Stuck
+pub mod Losses
 pub mod Doing
 pub mod Ranges
 pub mod Visiting
 pub mod Rights
 pub mod Resters
+pub mod Tries
+pub mod Runs

@@ -1,12 +1,12 @@
 -- The events of a path, which has the numbers of its moves, the oldest first.
-use Rattle.std.proofs.Common.{ℕ, zero, suc, ◌≡◌, ◌<◌, ◌+◌, ◌^◌, List, [], ◌∷◌, ◌++◌, length, take, get_or, reverse, Some, slice_get, refl, sym, ◌∙◌, ap, subst, arith}
+use Rattle.std.proofs.Common.{ℕ, zero, suc, ◌≡◌, ◌<◌, ◌+◌, ◌^◌, true, List, [], ◌∷◌, ◌++◌, length, take, get_or, reverse, refl, sym, ◌∙◌, ap, subst, arith}
 use Rattle.std.proofs.lemmas.List.{take_more, reverse-append, length-reverse}
 use Rattle.std.proofs.lemmas.Option.{get_or_from_slice_get, slice_get_within, slice_get-get_or}
 use Rattle.ipc_ids.specs.declared.message.Event.{Event}
 use Rattle.ipc_ids.specs.declared.message.Event.TheVariants.{Spawn}
 use Rattle.search_core.specs.Moves.{AreMoves}
-use Rattle.schedule_search.specs.Search.{Search, IsSound, AreOf, event_at, events_of}
-use Rattle.schedule_search.specs.Problem.{CanDo}
+use Rattle.schedule_search.specs.Search.{Search, IsSound, AreOf, may_try, event_at, events_of}
+use Rattle.schedule_search.specs.Problem.{CanTry, CanDo}
 use Rattle.schedule_search.proofs.Behind.{moves_are_of, events_counted}
 
 -- ---- one move more of a path
@@ -23,7 +23,7 @@ move_within n [] i d h l = absurd (omega arith)
 move_within n (m ∷ path) zero d h l = (oldest_and_later n m path h).1.0
 move_within n (m ∷ path) (suc i) d h l = move_within n path i d (oldest_and_later n m path h).0 (omega arith)
 
-taken_more : (path : List ℕ) (i d : ℕ) → i < length path → reverse (take (i + 1) path) ≡ get_or path i d ∷ reverse (take i path)
+pub taken_more : (path : List ℕ) (i d : ℕ) → i < length path → reverse (take (i + 1) path) ≡ get_or path i d ∷ reverse (take i path)
 taken_more path i d l = ap reverse (take_more path i d l) ∙ reverse-append (take i path) (get_or path i d ∷ [])
 
 -- what is read at a place is the event of that move
@@ -39,11 +39,14 @@ event_more moves path i d so_far now e l is at pushed =
     ∙ ap (λ (z : Event). events_of moves (reverse (take i path)) ++ z ∷ []) at
     ∙ ap (events_of moves) (sym (taken_more path i d l))
 
--- ---- the events of a path can be done
+-- ---- the events of a path can be tried, and done where the test holds
 
-pub can_do : (s : Search) (path : List ℕ) (es : List Event) → IsSound s → AreMoves (length s.moves) (reverse path)
-    → length path < 2 ^ 20 → es ≡ events_of s.moves (reverse path) → CanDo s es
-can_do s path es sound moves few is =
+pub done : (s : Search) (es : List Event) → CanTry s es → may_try s es ≡ true → CanDo s es
+done s es can tried = record { sound = can.sound; of_moves = can.of_moves; few = can.few; tried = tried }
+
+pub can_try : (s : Search) (path : List ℕ) (es : List Event) → IsSound s → AreMoves (length s.moves) (reverse path)
+    → length path < 2 ^ 20 → es ≡ events_of s.moves (reverse path) → CanTry s es
+can_try s path es sound moves few is =
     let long : length es ≡ length (events_of s.moves (reverse path)) = ap (λ (z : List Event). length z) is in
     let same : length (events_of s.moves (reverse path)) ≡ length (reverse path) = events_counted s.moves (reverse path) in
     let again : length (reverse path) ≡ length path = length-reverse path in
@@ -64,7 +67,7 @@ oldest_more : (moves : List Event) (p : List ℕ) (m : ℕ) → events_of moves 
 oldest_more moves [] m = refl
 oldest_more moves (n ∷ p) m = ap (λ (z : List Event). z ++ event_at moves n ∷ []) (oldest_more moves p m)
 
-oldest_is : (n : ℕ) (p : List ℕ) (m : ℕ) → m < n → AreMoves n p → AreMoves n (p ++ m ∷ [])
+pub oldest_is : (n : ℕ) (p : List ℕ) (m : ℕ) → m < n → AreMoves n p → AreMoves n (p ++ m ∷ [])
 oldest_is n [] m l h = (l, tt)
 oldest_is n (k ∷ p) m l h = (h.0, oldest_is n p m l h.1)
 

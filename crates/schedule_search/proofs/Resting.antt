@@ -37,15 +37,21 @@ all_of f a (suc n) h =
     ap (λ (z : Bool). z && list_all f (range_with_len (a + 1) n)) (h a (omega arith) (omega arith))
     ∙ all_of f (a + 1) n (λ (t : ℕ) (l : a + 1 ≤ t) (m : t < a + 1 + n). h t (omega arith) (omega arith))
 
-pub rests : (plan : Plan) (spawned : List ℕ) (now : RunState) (t : ℕ) → IsSound plan → IsReached plan spawned now
-    → is_at_rest now ≡ true → IsTask (length now.kernel.tasks.alive) t
-    → AreAlikeStates (turn now (Step (record { 0 = t }))).state now
-rests plan spawned now t sound h e is =
+pub words_stay : (now : RunState) (t : ℕ) → is_at_rest now ≡ true → IsTask (length now.kernel.tasks.alive) t
+    → run_words (turn now (Step (record { 0 = t }))).state ≡ run_words now
+words_stay now t e is =
     let n : ℕ = length now.kernel.tasks.alive in
     let low : 1 ≤ t = is.0 in
     let high : t ≤ n = is.1 in
     let next : RunState = (turn now (Step (record { 0 = t }))).state in
-    let same : run_words next ≡ run_words now = (bytes_eq-Decides (run_words next) (run_words now)).0 (each_of (changes_nothing now) 1 n t e low (omega arith)) in
+    (bytes_eq-Decides (run_words next) (run_words now)).0 (each_of (changes_nothing now) 1 n t e low (omega arith))
+
+pub rests : (plan : Plan) (spawned : List ℕ) (now : RunState) (t : ℕ) → IsSound plan → IsReached plan spawned now
+    → is_at_rest now ≡ true → IsTask (length now.kernel.tasks.alive) t
+    → AreAlikeStates (turn now (Step (record { 0 = t }))).state now
+rests plan spawned now t sound h e is =
+    let next : RunState = (turn now (Step (record { 0 = t }))).state in
+    let same : run_words next ≡ run_words now = words_stay now t e is in
     let there : IsReached plan spawned next = subst (λ (z : List ℕ). IsReached plan z next) (append-nil spawned) (goes_on plan spawned now (Step (record { 0 = t })) h is) in
     (told_apart plan spawned next now [] [] sound there h (ap (λ (z : List ℕ). z ++ []) same)).0
 

@@ -1,6 +1,9 @@
 pub mod Search
+pub mod OpenCalls
+pub mod Lost
 pub mod Meeting
 pub mod Code
 pub mod Problem
 pub mod Right
 pub mod Survey
+pub mod Ahead

@@ -1,9 +1,9 @@
 -- What the code of a search is asked, as the definitions have it, and what it may do.
-use Rattle.std.specs.Prelude.{◌<◌, ◌^◌, List, length}
+use Rattle.std.specs.Prelude.{◌≡◌, ◌<◌, ◌^◌, true, List, length}
 use Rattle.ipc_ids.specs.declared.message.Event.{Event}
 use Rattle.search_goals.specs.GoalText.{said}
 use Rattle.schedule_search.specs.declared.problem.Problem.{Problem}
-use Rattle.schedule_search.specs.Search.{Search, IsSound, AreOf}
+use Rattle.schedule_search.specs.Search.{Search, IsSound, AreOf, may_try}
 
 -- what the problem points to
 abbrev pub search_of : Problem → Search
@@ -13,11 +13,19 @@ search_of problem =
       from = problem.from.now;
       moves = problem.moves.now;
       kills = problem.kills;
+      spawns = problem.spawns.now;
       asked = said problem.goal.now;
     }
 
--- these events can be done behind those that come first: each is a move of a sound search, and they are few
+-- these events can be tried behind those that come first: each is a move of a sound search, and they are few
+pub record CanTry (s : Search) (es : List Event) : Type 0 where
+  pub sound : IsSound s
+  pub of_moves : AreOf s.moves es
+  pub few : length es < 2 ^ 20
+
+-- they can be done: each is on a task that there is by then
 pub record CanDo (s : Search) (es : List Event) : Type 0 where
   pub sound : IsSound s
   pub of_moves : AreOf s.moves es
   pub few : length es < 2 ^ 20
+  pub tried : may_try s es ≡ true

@@ -7,7 +7,7 @@ ghost use Rattle.schedule_search.specs.Problem.{search_of};
 ghost use Rattle.schedule_search.specs.Survey.{IsSurvey, schedules_of};
 
 use crate::path::events_by;
-use crate::problem::Problem;
+use crate::problem::{Problem, Schedules};
 use ipc_ids::Event;
 use search_core::{Survey, survey};
 use std::alloc::{AllocError, Global};
@@ -46,7 +46,8 @@ pub fn survey_schedules(
     requires few { most < 2 ^ 20 }
     ensures { IfOk result (λ resting. IsSurvey (search_of problem.now) most resting) }
 {
-    let answer = survey(alloc, problem, most, room)?;
+    let maze = Schedules { problem, room };
+    let answer = survey(alloc, &maze, most, room)?;
     match answer {
         Survey::All { paths, places } => {
             let schedules = schedules_by(alloc, problem.moves, paths.as_slice())?;

@@ -1,14 +1,17 @@
-//! What rest is, and what states of one code have in common.
-ghost use Rattle.std.specs.Prelude.{◌≡◌, ℕ, List, true, length};
+//! What rest is, what is lost where nothing moves, and what states of one code have in common.
+ghost use Rattle.std.specs.Prelude.{◌≡◌, ℕ, List, Option, true, length};
+ghost use Rattle.ipc_ids.specs.declared.numbers.TaskNo.{TaskNo};
+ghost use Rattle.ipc_ids.specs.declared.entry.Entry.{Entry};
 ghost use Rattle.ipc_ids.specs.declared.message.Event.TheVariants.{Step};
 ghost use Rattle.script_lines.specs.Plan.{Plan};
 ghost use Rattle.script_lines.specs.Sound.{IsSound, IsTask};
 ghost use Rattle.task_system.specs.Run.{RunState, turn};
 ghost use Rattle.turn_counts.specs.Alike.{AreAlikeStates};
 ghost use Rattle.run_words.specs.Reached.{IsReached};
+ghost use Rattle.search_goals.specs.GoalText.{LosesCall, IsStuck};
 ghost use Rattle.schedule_search.specs.Search as search;
 ghost use Rattle.schedule_search.specs.Search.{Search};
-ghost use Rattle.schedule_search.specs.Meeting.{is_at_rest};
+ghost use Rattle.schedule_search.specs.Meeting.{is_at_rest, IsMet};
 ghost use Rattle.schedule_search.specs.Code.{Fits};
 
 /// A state of a script is at rest where each step of each task leaves a state that differs from it in
@@ -24,8 +27,15 @@ pub fn nothing_moves_at_rest()
         → is_at_rest now ≡ true }
 {}
 
-/// From states of one code each move leads to states of one code, and to what is looked for at both
-/// or at neither.
+/// A state that is stuck has lost a call: where none is lost nothing is stuck.
+pub fn stuck_states_have_lost_a_call()
+    ensures { (plan : Plan) (spawned : List ℕ) (now : RunState) (told : List Entry)
+        (task : Option TaskNo) → IsSound plan → IsReached plan spawned now
+        → IsMet (IsStuck task) now told → IsMet LosesCall now told }
+{}
+
+/// From states of one code each move leads to states of one code, and to what is looked for from both
+/// or from neither.
 pub fn codes_stand_for_schedules()
     ensures { (s : Search) → search.IsSound s → Fits s }
 {}

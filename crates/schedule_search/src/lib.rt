@@ -2,25 +2,35 @@
 //!
 //! `search_schedules` answers the first schedule that leads to what is looked for, or that there is
 //! none. A `Problem` says which schedules there are; definitions see a `Search` in it.
+//! `survey_schedules` answers each state at rest to which schedules lead, with the first that does, and
+//! `told_by` the entries of a whole run.
+//! Where a call is looked for that is never answered, whatever steps of tasks come, each visit searches
+//! the steps behind a state.
 //!
-//! The code of a state is its words (`run_words`) and the number of kills so far. The laws here say that
-//! states of one code go on alike, for each move and each goal, and what it is that a state is at rest.
+//! The code of a state is its words (`run_words`), the templates of the tasks that were made, and the
+//! number of kills so far. The laws here say that states of one code go on alike, for each move and each
+//! goal, and what it is that a state is at rest.
 #![tactic(auto)]
 
+mod ahead;
 mod at_rest;
 mod kills;
 mod laws;
+mod lost_calls;
 mod open_calls;
 mod outcome;
 mod path;
 mod place;
 mod problem;
 mod rest;
-#[cfg(test)]
-mod tests;
+mod spawns;
+mod told;
+mod trying;
 mod visits;
 
 pub use at_rest::{RestingStates, survey_schedules};
-pub use laws::{codes_stand_for_schedules, nothing_moves_at_rest};
+pub use laws::{codes_stand_for_schedules, nothing_moves_at_rest, stuck_states_have_lost_a_call};
 pub use outcome::{Outcome, search_schedules};
-pub use problem::Problem;
+pub use problem::{MostMade, Problem};
+pub use spawns::tasks_behind;
+pub use told::told_by;

@@ -1,7 +1,7 @@
 //! Calls that are not answered.
 ghost use Rattle.std.specs.Prelude.{◌≡◌};
 ghost use Rattle.std.specs.Option.{option_copied};
-ghost use Rattle.schedule_search.specs.Meeting.{is_waiting, is_asked, is_open, has_open_call};
+ghost use Rattle.schedule_search.specs.OpenCalls.{is_waiting, is_asked, is_open, has_open_call};
 
 use answerbox::Boxes;
 use call_slab::{Call, Place};
@@ -30,7 +30,7 @@ fn is_asked(asked: Option<TaskNo>, caller: Option<TaskNo>) -> bool
 
 /// Whether a call that is not over is not answered, someone waits for its answer, and it is of such
 /// a caller.
-fn is_open(asked: Option<TaskNo>, call: Option<&Call>) -> bool
+pub(crate) fn is_open(asked: Option<TaskNo>, call: Option<&Call>) -> bool
     ensures { result ≡ is_open asked (option_copied call.entry) }
 {
     match call {

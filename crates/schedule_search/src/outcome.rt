@@ -5,7 +5,7 @@ ghost use Rattle.schedule_search.specs.Problem.{search_of};
 ghost use Rattle.schedule_search.specs.Right.{IsRight};
 
 use crate::path::events_by;
-use crate::problem::Problem;
+use crate::problem::{Problem, Schedules};
 use ipc_ids::Event;
 use search_core::{Answer, search};
 use std::alloc::{AllocError, Global};
@@ -25,7 +25,8 @@ pub enum Outcome {
 
 /// The first schedule that leads to what the problem looks for: of at most `most` events, and of the
 /// least number of them. Of those the first in the order of the moves. At most `room` states are
-/// gone on from, and no more once more than `room` were seen.
+/// gone on from, and no more once more than `room` were seen; as many behind each, where the goal
+/// asks what may come.
 ///
 /// # Errors
 ///
@@ -40,7 +41,8 @@ pub fn search_schedules(
     requires few { most < 2 ^ 20 }
     ensures { IfOk result (λ outcome. IsRight (search_of problem.now) most outcome) }
 {
-    let answer = search(alloc, problem, most, room)?;
+    let maze = Schedules { problem, room };
+    let answer = search(alloc, &maze, most, room)?;
     match answer {
         Answer::Found(path) => {
             let events = events_by(alloc, problem.moves, path.as_slice())?;

@@ -14,7 +14,7 @@ use script_reader::Script;
 use std::alloc::{AllocError, Global};
 
 /// The tasks of a script before the first event.
-fn started(alloc: Global, script: &Script) -> Result<Replay, AllocError>
+pub(crate) fn started(alloc: Global, script: &Script) -> Result<Replay, AllocError>
     ensures state { IfOk result (λ replay. replay.state ≡ start script.now) }
     ensures count { IfOk result (λ replay. replay.state.kernel.events ≡ 0) }
 {
@@ -45,7 +45,11 @@ pub(crate) fn do_event(
 }
 
 /// One event after the other, where the entries of the last stay.
-fn do_events(replay: &mut Replay, told: &mut Trace, events: &[Event]) -> Result<(), AllocError>
+pub(crate) fn do_events(
+    replay: &mut Replay,
+    told: &mut Trace,
+    events: &[Event],
+) -> Result<(), AllocError>
     requires few { replay.old.state.kernel.events + length events.now ≤ 2 ^ 24 }
     requires may { MayAllHappen replay.old.state events.now }
     ensures state { OnOk result (replay.new.state ≡ state_after replay.old.state events.now) }

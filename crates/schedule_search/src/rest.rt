@@ -3,15 +3,17 @@ ghost use Rattle.std.specs.Prelude.{◌≡◌, ◌&&◌, length, IfOk};
 ghost use Rattle.script_lines.specs.Sound.{IsTask};
 ghost use Rattle.run_words.specs.RunWords.{run_words};
 ghost use Rattle.schedule_search.specs.Search.{state_behind};
-ghost use Rattle.schedule_search.specs.Meeting.{changes_nothing, is_at_rest, has_open_call};
+ghost use Rattle.schedule_search.specs.OpenCalls.{has_open_call};
+ghost use Rattle.schedule_search.specs.Meeting.{changes_nothing, is_at_rest};
 ghost use Rattle.schedule_search.specs.Code.{rest_words};
-ghost use Rattle.schedule_search.specs.Problem.{search_of, CanDo};
+ghost use Rattle.schedule_search.specs.Problem.{search_of, CanTry, CanDo};
 ghost use Rattle.search_core.specs.Survey.{words_in};
 
-use crate::kills::{is_within, kills_in};
 use crate::open_calls::has_open_call;
 use crate::place::{all_calls, do_event, replayed, tasks, words_of};
 use crate::problem::Problem;
+use crate::trying::may_try;
+use crate::visits::words_behind;
 use ipc_ids::{Event, TaskNo, Trace};
 use schedule_replay::Replay;
 use std::alloc::{AllocError, Global};
@@ -82,17 +84,16 @@ pub(crate) fn is_stuck(
     is_at_rest(alloc, problem, events, replay)
 }
 
-/// The words of the state behind these events, where they may be tried and nothing moves there.
+/// What tells the state behind these events apart, where they may be tried and nothing moves there.
 pub(crate) fn rest_words(
     alloc: Global,
     problem: &Problem<'_>,
     events: &[Event],
 ) -> Result<Option<Vec<u64>>, AllocError>
-    requires can { CanDo (search_of problem.now) events.now }
+    requires can { CanTry (search_of problem.now) events.now }
     ensures { IfOk result (λ o. words_in o ≡ rest_words (search_of problem.now) events.now) }
 {
-    let kills = kills_in(events);
-    if !is_within(problem.kills, kills) {
+    if !may_try(problem, events) {
         return Ok(None);
     }
     let mut told = Trace::new(alloc);
@@ -101,6 +102,6 @@ pub(crate) fn rest_words(
     if !rests {
         return Ok(None);
     }
-    let words = words_of(alloc, &replay)?;
+    let words = words_behind(alloc, events, &replay)?;
     Ok(Some(words))
 }

@@ -1,5 +1,5 @@
 //! The survey.
-ghost use Rattle.std.specs.Prelude.{◌≡◌, ◌+◌, ◌<◌, ◌^◌, false, refl, IfOk, OnOk, length};
+ghost use Rattle.std.specs.Prelude.{◌≡◌, ◌+◌, ◌<◌, ◌^◌, IfOk, OnOk, length};
 ghost use Rattle.search_core.specs.Moves.{AreRising};
 ghost use Rattle.search_core.specs.Node.{ArePlaces, trails_of};
 ghost use Rattle.search_core.specs.Ended.{HasEnded};
@@ -47,13 +47,13 @@ impl<'a, M: Maze> Maze for Unmet<'a, M> {
 
     ghost moves = { λ s. M.moves s.maze.now };
 
-    ghost meets = { λ s p. false };
+    ghost meets = { λ s p. ⊥ };
 
     ghost code = { λ s p. M.code s.maze.now p };
 
     ghost code_goes_on = { λ s h p q m a b e. M.code_goes_on s.maze.now h p q m a b e };
 
-    ghost goal_goes_on = { λ s h p q m a b e. refl };
+    ghost goal_goes_on = { λ s h p q m a b e never. never };
 
     fn moves(&self) -> u32 {
         self.maze.moves()
@@ -61,7 +61,10 @@ impl<'a, M: Maze> Maze for Unmet<'a, M> {
 
     fn visit(&self, alloc: Global, path: &[u32]) -> Result<Visit, AllocError> {
         let code = self.maze.code(alloc, path)?;
-        Ok(Visit { met: false, code })
+        Ok(Visit {
+            met: Some(false),
+            code,
+        })
     }
 
     fn code(&self, alloc: Global, path: &[u32]) -> Result<Vec<u64>, AllocError> {
@@ -79,7 +82,7 @@ fn survey_of<M: Labelled>(
 ) -> Result<Survey, AllocError>
     requires fits { M.fits maze.now }
     requires few { most < 2 ^ 20 }
-    requires ended { HasEnded (M.moves maze.now) most (λ p. false) (M.code maze.now)
+    requires ended { HasEnded (M.moves maze.now) most (λ p. ⊥) (M.code maze.now)
         (trails_of nodes.now.later.items) answer }
     ensures { IfOk result (λ survey. IsSurvey (M.moves maze.now) (M.label maze.now) most survey) }
 {

@@ -13,7 +13,7 @@ use Rattle.script_lines.specs.Text.{ends_word}
 use Rattle.script_reader.specs.Schedule.{count_of}
 use Rattle.search_goals.proofs.Spaced.{goes, IsWord}
 
-one_digit : (d : ℕ) → d < 10 → is_ascii_digit (48 + d) ≡ true
+pub one_digit : (d : ℕ) → d < 10 → is_ascii_digit (48 + d) ≡ true
 one_digit d h = rw (le-leb 48 (48 + d) (omega arith), le-leb (48 + d) 57 (omega (arith, h))) refl
 
 pub are_digits : (n : ℕ) → n < 2 ^ 64 → list_all is_ascii_digit (decimal n) ≡ true

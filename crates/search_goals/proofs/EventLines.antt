@@ -1,38 +1,46 @@
 -- The line of an event adds it.
 use Rattle.std.proofs.Common.{◌≡◌, ℕ, ◌+◌, ◌^◌, ◌≤◌, ◌<◌, Bool, true, false, List, [], ◌∷◌, ◌++◌, length, Some, Result, Ok, refl, sym, ap, subst, ◌∙◌, arith, le-ltb, decimal}
 use Rattle.std.specs.Prelude.{codes, replicate, nat_lt}
-use Rattle.std.proofs.lemmas.Bool.{ltb-false}
+use Rattle.std.proofs.lemmas.Bool.{ltb-false, lt-leb}
 use Rattle.std.proofs.lemmas.List.{length-replicate}
 use Rattle.ipc_ids.specs.declared.numbers.TaskNo.{TaskNo}
 use Rattle.ipc_ids.specs.declared.message.Event.{Event}
 use Rattle.ipc_ids.specs.declared.message.Event.TheVariants as events
 use Rattle.script_lines.specs.declared.fault.Reason.{Reason}
-use Rattle.script_lines.specs.Names.{task_named}
+use Rattle.script_lines.specs.Names.{task_named, place_of}
 use Rattle.script_lines.specs.Operation.{◌>>=◌}
 use Rattle.script_lines.specs.Word.{is_name, name_of, number}
 use Rattle.script_reader.specs.Schedule.{count_of, step_with, step_of, kill_of, hangup_of, event_verb_of, with_events}
-use Rattle.script_reader.specs.EventLine.{EventsAndNames, with_repeated, after_event_words}
-use Rattle.search_goals.specs.Lines.{step_text, kill_text, hangup_text}
-use Rattle.search_goals.specs.Writing.{Names, with_more, Adds}
+use Rattle.script_reader.specs.EventLine.{EventsAndNames, spawn_place, with_spawn, with_repeated, after_event_words}
+use Rattle.search_goals.specs.Lines.{step_text, kill_text, hangup_text, spawn_text}
+use Rattle.search_goals.specs.Writing.{IsNameOf, IsNew, with_more, Adds}
 use Rattle.search_goals.proofs.Spaced.{IsWord}
 use Rattle.search_goals.proofs.Adding.{WordsAdd, line_adds}
 use Rattle.search_goals.proofs.Decimals.{number_decimal, count_decimal, decimal_word}
-use Rattle.search_goals.proofs.TaskNames.{name_word}
+use Rattle.search_goals.proofs.NameWords.{name_word}
 
 -- ---- what an event that is read adds
 
 room_for : (before : EventsAndNames) (event : Event) (count : ℕ) → length before.events + count ≤ 65536 →
-    with_repeated before (event, count) ≡ Ok (with_more before (replicate count event))
+    with_events before.events event count ≡ Ok (before.events ++ replicate count event)
 unfolding with_events
 room_for before event count room = rw (le-ltb 65536 (length before.events + count) room) refl
 
-reads : (before : EventsAndNames) (r : Result (Event × ℕ) Reason) (event : Event) (count : ℕ) →
-    r ≡ Ok (event, count) → length before.events + length (replicate count event) ≤ 65536
-    → (r >>= with_repeated before) ≡ Ok (with_more before (replicate count event))
-reads before r event count e room =
+repeated : (before : EventsAndNames) (event : Event) (count : ℕ) (names : List (List ℕ)) → before.names ≡ names
+    → length before.events + count ≤ 65536
+    → with_repeated before (event, count) ≡ Ok (with_more before (replicate count event) names)
+repeated before event count names same room =
+    ap (λ (r : Result (List Event) Reason). r >>= λ events. Ok (record { events = events; names = before.names }))
+    (room_for before event count room)
+    ∙ ap (λ (ns : List (List ℕ)). Ok (record { events = before.events ++ replicate count event; names = ns })) same
+
+reads : (before : EventsAndNames) (r : Result (Event × ℕ) Reason) (event : Event) (count : ℕ) (names : List (List ℕ))
+    → before.names ≡ names → r ≡ Ok (event, count) → length before.events + length (replicate count event) ≤ 65536
+    → (r >>= with_repeated before) ≡ Ok (with_more before (replicate count event) names)
+reads before r event count names same e room =
     let long = length-replicate count event in
     ap (λ (s : Result (Event × ℕ) Reason). s >>= with_repeated before) e
-    ∙ room_for before event count (omega (arith, long, room))
+    ∙ repeated before event count names same (omega (arith, long, room))
 
 -- ---- words
 
@@ -79,64 +87,95 @@ hangup_says : (templates : List (List ℕ)) (before : EventsAndNames) (others : 
 unfolding event_verb_of
 hangup_says templates before others = refl
 
-module _ (names : List (List ℕ)) (task : TaskNo) (name : List ℕ) (has : Names names task name) where
-  found : (known others : List (List ℕ)) → known ≡ names ++ others → task_named known name ≡ Some task
-  found known others e = ap (λ (ns : List (List ℕ)). task_named ns name) e ∙ has.1 others
+spawn_says : (templates : List (List ℕ)) (before : EventsAndNames) (template name : List ℕ) →
+    after_event_words templates before (codes "spawn" ∷ template ∷ name ∷ []) ≡ (spawn_place templates before.names
+    template name >>= λ place. with_spawn before place name)
+unfolding event_verb_of
+spawn_says templates before template name = refl
+
+-- ---- an event on a task
+
+module _ (templates names : List (List ℕ)) (task : TaskNo) (name : List ℕ) (has : IsNameOf names task name) where
+  found : (known : List (List ℕ)) → known ≡ names → task_named known name ≡ Some task
+  found known e = ap (λ (ns : List (List ℕ)). task_named ns name) e ∙ has.1
 
   good : IsWord name
   good = (name_word name has.0).0
 
-  one_step : WordsAdd names (codes "step" ∷ name ∷ []) (replicate 1 (events.Step task))
-  one_step templates others before same room =
+  one_step : WordsAdd templates names (codes "step" ∷ name ∷ []) (replicate 1 (events.Step task)) names
+  one_step before same room =
       step_says templates before (name ∷ [])
-      ∙ reads before _ (events.Step task) 1 (one_is before.names name
-      ∙ step_is before.names name task 1 has.0 (found before.names others same)) room
+      ∙ reads before _ (events.Step task) 1 names same (one_is before.names name
+      ∙ step_is before.names name task 1 has.0 (found before.names same)) room
 
   steps : (count : ℕ) → 1 ≤ count → count ≤ 65536 →
-      WordsAdd names (codes "step" ∷ name ∷ codes "x" ∷ decimal count ∷ []) (replicate count (events.Step task))
-  steps count lo hi templates others before same room =
+      WordsAdd templates names (codes "step" ∷ name ∷ codes "x" ∷ decimal count ∷ []) (replicate count (events.Step task)) names
+  steps count lo hi before same room =
       step_says templates before (name ∷ codes "x" ∷ decimal count ∷ [])
-      ∙ reads before _ (events.Step task) count
+      ∙ reads before _ (events.Step task) count names same
       (times_is before.names name (decimal count) ∙ ap (step_with before.names name) (count_decimal count lo hi)
-      ∙ step_is before.names name task count has.0 (found before.names others same)) room
+      ∙ step_is before.names name task count has.0 (found before.names same)) room
 
-  one_kill : WordsAdd names (codes "kill" ∷ name ∷ []) (replicate 1 (events.Kill task))
-  one_kill templates others before same room =
+  one_kill : WordsAdd templates names (codes "kill" ∷ name ∷ []) (replicate 1 (events.Kill task)) names
+  one_kill before same room =
       kill_says templates before (name ∷ [])
-      ∙ reads before _ (events.Kill task) 1 (kill_is before.names name task has.0 (found before.names others same))
+      ∙ reads before _ (events.Kill task) 1 names same (kill_is before.names name task has.0 (found before.names same))
       room
 
-  one_hangup : (phone : ℕ) → phone < 2 ^ 64 → WordsAdd names (codes "hangup" ∷ name ∷ decimal phone ∷ [])
-      (replicate 1 (events.Hangup task phone))
-  one_hangup phone fits templates others before same room =
+  one_hangup : (phone : ℕ) → phone < 2 ^ 64 → WordsAdd templates names (codes "hangup" ∷ name ∷ decimal phone ∷ [])
+      (replicate 1 (events.Hangup task phone)) names
+  one_hangup phone fits before same room =
       hangup_says templates before (name ∷ decimal phone ∷ [])
-      ∙ reads before _ (events.Hangup task phone) 1 (hangup_is before.names name (decimal phone) task phone has.0
-      (found before.names others same) (number_decimal phone fits)) room
+      ∙ reads before _ (events.Hangup task phone) 1 names same (hangup_is before.names name (decimal phone) task phone has.0
+      (found before.names same) (number_decimal phone fits)) room
 
   -- ---- lines
 
   times_are : (count : ℕ) (b : Bool) → nat_lt 1 count ≡ b → 1 ≤ count → count ≤ 65536 →
-      Adds names (step_text name count) (replicate count (events.Step task))
+      Adds templates names (step_text name count) (replicate count (events.Step task)) names
   times_are count true e lo hi =
-      rw e (line_adds names (codes "step") (name ∷ codes "x" ∷ decimal count ∷ [])
-      (replicate count (events.Step task)) (omega arith, refl)
+      rw e (line_adds templates names (codes "step") (name ∷ codes "x" ∷ decimal count ∷ [])
+      (replicate count (events.Step task)) names (omega arith, refl)
       (good, ((omega arith, refl), (decimal_word count (omega (arith, hi)), tt))) (steps count lo hi))
   times_are count false e lo hi =
       let once : count ≡ 1 = (let few = ltb-false 1 count e in omega (arith, few, lo)) in
-      subst (λ (n : ℕ). Adds names (step_text name n) (replicate n (events.Step task))) (sym once)
-      (line_adds names (codes "step") (name ∷ []) (replicate 1 (events.Step task)) (omega arith, refl)
+      subst (λ (n : ℕ). Adds templates names (step_text name n) (replicate n (events.Step task)) names) (sym once)
+      (line_adds templates names (codes "step") (name ∷ []) (replicate 1 (events.Step task)) names (omega arith, refl)
       (good, tt) one_step)
 
   pub step_adds : (count : ℕ) → 1 ≤ count → count ≤ 65536 →
-      Adds names (step_text name count) (replicate count (events.Step task))
+      Adds templates names (step_text name count) (replicate count (events.Step task)) names
   step_adds count lo hi = times_are count (nat_lt 1 count) refl lo hi
 
-  pub kill_adds : Adds names (kill_text name) (replicate 1 (events.Kill task))
-  kill_adds = line_adds names (codes "kill") (name ∷ []) (replicate 1 (events.Kill task)) (omega arith, refl)
+  pub kill_adds : Adds templates names (kill_text name) (replicate 1 (events.Kill task)) names
+  kill_adds = line_adds templates names (codes "kill") (name ∷ []) (replicate 1 (events.Kill task)) names (omega arith, refl)
       (good, tt) one_kill
 
   pub hangup_adds : (phone : ℕ) → phone < 2 ^ 64 →
-      Adds names (hangup_text name phone) (replicate 1 (events.Hangup task phone))
+      Adds templates names (hangup_text name phone) (replicate 1 (events.Hangup task phone)) names
   hangup_adds phone fits =
-      line_adds names (codes "hangup") (name ∷ decimal phone ∷ []) (replicate 1 (events.Hangup task phone))
+      line_adds templates names (codes "hangup") (name ∷ decimal phone ∷ []) (replicate 1 (events.Hangup task phone)) names
       (omega arith, refl) (good, (decimal_word phone fits, tt)) (one_hangup phone fits)
+
+-- ---- a task that is made
+
+-- a template has this name, and a task that is made may have that name
+module _ (templates names : List (List ℕ)) (place : ℕ) (template name : List ℕ) (named : is_name template ≡ true)
+    (at : place_of templates template ≡ Some place) (new : IsNew templates names name) (room : length names < 64) where
+  may_be_made : spawn_place templates names template name ≡ Ok place
+  unfolding spawn_place name_of
+  may_be_made = rw (named, new.good, at, new.free, lt-leb 64 (length names) room) refl
+
+  one_spawn : WordsAdd templates names (codes "spawn" ∷ template ∷ name ∷ []) (events.Spawn place ∷ []) (names ++ name ∷ [])
+  one_spawn before same few =
+      spawn_says templates before template name
+      ∙ ap (λ (ns : List (List ℕ)). spawn_place templates ns template name >>= λ place. with_spawn before place name) same
+      ∙ ap (λ (r : Result ℕ Reason). r >>= λ place. with_spawn before place name) may_be_made
+      ∙ ap (λ (r : Result (List Event) Reason). r >>= λ events. Ok (record { events = events; names = before.names ++ name ∷ [] }))
+      (room_for before (events.Spawn place) 1 few)
+      ∙ ap (λ (ns : List (List ℕ)). Ok (record { events = before.events ++ events.Spawn place ∷ []; names = ns ++ name ∷ [] })) same
+
+  pub spawn_adds : Adds templates names (spawn_text template name) (events.Spawn place ∷ []) (names ++ name ∷ [])
+  spawn_adds =
+      line_adds templates names (codes "spawn") (template ∷ name ∷ []) (events.Spawn place ∷ []) (names ++ name ∷ [])
+      (omega arith, refl) ((name_word template named).0, ((name_word name new.good).0, tt)) one_spawn

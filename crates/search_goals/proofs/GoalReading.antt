@@ -1,12 +1,12 @@
 -- The words of a goal, as a loop reads them.
 use Rattle.std.proofs.Common.{◌≡◌, ℕ, ◌+◌, List, [], ◌∷◌, ◌++◌, Result, Ok, Err, sym, ap, ◌∙◌}
 use Rattle.std.specs.Global.{Vec}
-use Rattle.std.proofs.lemmas.List.{map_push}
 use Rattle.script_lines.specs.declared.fault.Reason.{Reason}
+use Rattle.script_lines.specs.declared.plan.TaskPlan.{TaskPlan}
 use Rattle.script_lines.specs.Operation.{◌>>=◌}
 use Rattle.script_reader.specs.Reading.{lines_from, at_line}
 use Rattle.search_goals.specs.Goals.{listed}
-use Rattle.search_goals.specs.GoalText.{word_in, with_word, condition_in, with_condition, in_word, Answers}
+use Rattle.search_goals.specs.GoalText.{with_word, condition_in, with_condition, in_word, Answers}
 use Rattle.search_goals.specs.declared.conditions.Condition.{Condition}
 use Rattle.search_goals.specs.declared.goal.GoalFault.{GoalFault}
 use Rattle.search_goals.specs.declared.goal.GoalFault.TheVariants.{Bad, NoMemory}
@@ -29,53 +29,66 @@ one_fault {A} n m reason (Err why) so_far go e = again e where
   again : in_word {A = A} n (Err why) ≡ Err (m, reason) → at_line n (Err why) go ≡ Err (m, reason)
   again h = cc
 
+-- what a step makes is what the next one begins with
+taken : {A : Type 0} (n : ℕ) (r : Result A Reason) (x : A) (go : A → Result A (ℕ × Reason)) → in_word n r ≡ Ok x →
+    at_line n r go ≡ go x
+taken {A} n (Ok y) x go e = let same : y ≡ x = cc in ap go same
+taken n (Err reason) x go e = absurd cc
+
+-- a step that is at fault
+refused : {A : Type 0} (n m : ℕ) (reason : Reason) (r : Result A Reason) (go : A → Result A (ℕ × Reason)) →
+    in_word n r ≡ Err (m, reason) → at_line n r go ≡ Err (m, reason)
+refused n m reason (Ok y) go e = absurd cc
+refused {A} n m reason (Err why) go e = again e where
+  again : in_word {A = A} n (Err why) ≡ Err (m, reason) → at_line n (Err why) go ≡ Err (m, reason)
+  again h = cc
+
 module _ (names : List (List ℕ)) (n : ℕ) (so_far : List (Vec ℕ)) (word : List ℕ) (words all : List (List ℕ))
     (whole : Numbered (List ℕ)) (is : all ≡ word ∷ words)
     (told : lines_from (with_word names) n (listed so_far) all ≡ whole) where
-  pub word_read : (v : Vec ℕ) → in_word n (word_in names word) ≡ Ok v.items →
-      lines_from (with_word names) (n + 1) (listed (so_far ++ v ∷ [])) words ≡ whole
-  unfolding with_word
-  word_read v e =
-      ap (λ (ws : List (List ℕ)). lines_from (with_word names) (n + 1) ws words)
-      (map_push (λ (z : Vec ℕ). z.items) so_far v)
-      ∙ sym (one_more n (word_in names word) (listed so_far) v.items (λ next. lines_from (with_word names)
-      (n + 1) next words) e)
+  go : List (List ℕ) → Numbered (List ℕ)
+  go next = lines_from (with_word names) (n + 1) next words
+
+  pub word_read : (new : List (Vec ℕ)) → in_word n (with_word names (listed so_far) word) ≡ Ok (listed new) →
+      lines_from (with_word names) (n + 1) (listed new) words ≡ whole
+  unfolding go
+  word_read new e =
+      sym (taken n (with_word names (listed so_far) word) (listed new) go e)
       ∙ ap (lines_from (with_word names) n (listed so_far)) (sym is) ∙ told
 
-  pub word_fault : (m : ℕ) (reason : Reason) → in_word n (word_in names word) ≡ Err (m, reason) →
+  pub word_fault : (m : ℕ) (reason : Reason) → in_word n (with_word names (listed so_far) word) ≡ Err (m, reason) →
       whole ≡ Err (m, reason)
-  unfolding with_word
+  unfolding go
   word_fault m reason e =
       sym told ∙ ap (lines_from (with_word names) n (listed so_far)) is
-      ∙ one_fault n m reason (word_in names word) (listed so_far) (λ next. lines_from (with_word names)
-      (n + 1) next words) e
+      ∙ refused n m reason (with_word names (listed so_far) word) go e
 
-  pub fault_told : {A : Type 0} (f : A → List (List ℕ)) (fault : GoalFault) →
-      Answers {A = Vec ℕ} (λ text. text.items) (Err fault) (in_word n (word_in names word)) →
+  pub fault_told : {A : Type 0} (f : A → List (List ℕ)) (g : Unit {0} → List (List ℕ)) (fault : GoalFault) →
+      Answers {A = Unit {0}} g (Err fault) (in_word n (with_word names (listed so_far) word)) →
       Answers f (Err fault) whole
-  fault_told f (Bad m reason) e = word_fault m reason e
-  fault_told f NoMemory e = tt
+  fault_told f g (Bad m reason) e = word_fault m reason e
+  fault_told f g NoMemory e = tt
 
-module _ (names : List (List ℕ)) (n : ℕ) (so_far : List Condition) (word : List ℕ) (words all : List (List ℕ))
+module _ (names : List (List ℕ)) (tasks : List TaskPlan) (n : ℕ) (so_far : List Condition) (word : List ℕ) (words all : List (List ℕ))
     (whole : Numbered Condition) (is : all ≡ word ∷ words)
-    (told : lines_from (with_condition names) n so_far all ≡ whole) where
-  pub condition_read : (x : Condition) → in_word n (condition_in names word) ≡ Ok x →
-      lines_from (with_condition names) (n + 1) (so_far ++ x ∷ []) words ≡ whole
+    (told : lines_from (with_condition names tasks) n so_far all ≡ whole) where
+  pub condition_read : (x : Condition) → in_word n (condition_in names tasks word) ≡ Ok x →
+      lines_from (with_condition names tasks) (n + 1) (so_far ++ x ∷ []) words ≡ whole
   unfolding with_condition
   condition_read x e =
-      sym (one_more n (condition_in names word) so_far x (λ next. lines_from (with_condition names) (n + 1) next words) e)
-      ∙ ap (lines_from (with_condition names) n so_far) (sym is) ∙ told
+      sym (one_more n (condition_in names tasks word) so_far x (λ next. lines_from (with_condition names tasks) (n + 1) next words) e)
+      ∙ ap (lines_from (with_condition names tasks) n so_far) (sym is) ∙ told
 
-  pub condition_fault : (m : ℕ) (reason : Reason) → in_word n (condition_in names word) ≡ Err (m, reason) →
+  pub condition_fault : (m : ℕ) (reason : Reason) → in_word n (condition_in names tasks word) ≡ Err (m, reason) →
       whole ≡ Err (m, reason)
   unfolding with_condition
   condition_fault m reason e =
-      sym told ∙ ap (lines_from (with_condition names) n so_far) is
-      ∙ one_fault n m reason (condition_in names word) so_far
-      (λ next. lines_from (with_condition names) (n + 1) next words) e
+      sym told ∙ ap (lines_from (with_condition names tasks) n so_far) is
+      ∙ one_fault n m reason (condition_in names tasks word) so_far
+      (λ next. lines_from (with_condition names tasks) (n + 1) next words) e
 
   pub fault_found : {A : Type 0} (f : A → List Condition) (fault : GoalFault) →
-      Answers {A = Condition} (λ condition. condition) (Err fault) (in_word n (condition_in names word)) →
+      Answers {A = Condition} (λ condition. condition) (Err fault) (in_word n (condition_in names tasks word)) →
       Answers f (Err fault) whole
   fault_found f (Bad m reason) e = condition_fault m reason e
   fault_found f NoMemory e = tt

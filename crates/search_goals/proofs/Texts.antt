@@ -1,26 +1,27 @@
 -- The text of a schedule, line by line and as a whole.
-use Rattle.std.proofs.Common.{◌≡◌, ℕ, zero, suc, ◌+◌, ◌^◌, ◌≤◌, ◌<◌, ◌⊎◌, Bool, true, false, List, [], ◌∷◌, ◌++◌, length, drop, Result, Ok, Err, refl, sym, ap, subst, ◌∙◌, inl, inr, append_assoc, append-nil, arith, le-ltb, length-append, All, decimal, Some}
+use Rattle.std.proofs.Common.{◌≡◌, ℕ, zero, suc, ◌+◌, ◌^◌, ◌≤◌, ◌<◌, ◌⊎◌, Bool, true, false, List, [], ◌∷◌, ◌++◌, length, Result, Ok, Err, refl, sym, ap, subst, ◌∙◌, inl, inr, append_assoc, append-nil, arith, le-ltb, length-append, decimal, Some}
 use Rattle.std.specs.Prelude.{codes, replicate, nat_lt, OnOk, ◌==◌}
 use Rattle.std.specs.List.{list_all}
 use Rattle.std.proofs.lemmas.Bool.{cases_Bool, and_parts, eqb-true, true≢false}
 use Rattle.std.proofs.lemmas.List.{length-replicate}
-use Rattle.std.proofs.lemmas.List.Elements.{All-drop}
 use Rattle.ipc_ids.specs.declared.numbers.TaskNo.{TaskNo}
 use Rattle.ipc_ids.specs.declared.message.Event.{Event}
 use Rattle.ipc_ids.specs.declared.message.Event.TheVariants as events
 use Rattle.script_lines.specs.declared.fault.Reason.{Reason}
-use Rattle.script_lines.specs.Names.{task_names}
+use Rattle.script_lines.specs.Names.{task_names, place_of}
 use Rattle.script_lines.specs.Plan.{Plan}
 use Rattle.script_lines.specs.Text.{lines, is_allowed, first_line, behind}
+use Rattle.script_lines.specs.Word.{is_name}
 use Rattle.script_reader.specs.EventLine.{EventsAndNames, no_events, after_event_line}
 use Rattle.script_reader.specs.Reading.{lines_from, reading, events_alone, schedule_of}
+use Rattle.script_reader.specs.Schedule.{MayCome, MayAllCome, tasks_after}
 use Rattle.script_lines.proofs.Lines.{first_end, first_more, behind_end, behind_more}
-use Rattle.search_goals.specs.Lines.{comment_text, times_text, step_text, kill_text, hangup_text}
-use Rattle.search_goals.specs.Writing.{Names, with_more, Adds, Writes, IsFront, IsUnderWay, IsOnTask, IsStep}
+use Rattle.search_goals.specs.Lines.{comment_text, times_text, step_text, kill_text, hangup_text, spawn_text}
+use Rattle.search_goals.specs.Writing.{IsNameOf, IsNew, tasks_behind, with_more, Adds, Writes, IsFront, IsUnderWay, IsStep}
 use Rattle.search_goals.proofs.Adding.{one_read, with_none, both_added, writes_line, writes_both}
 use Rattle.search_goals.proofs.Decimals.{length_20}
-use Rattle.search_goals.proofs.EventLines.{step_adds, kill_adds, hangup_adds}
-use Rattle.search_goals.proofs.TaskNames.{name_word}
+use Rattle.search_goals.proofs.EventLines.{step_adds, kill_adds, hangup_adds, spawn_adds}
+use Rattle.search_goals.proofs.NameWords.{name_word}
 
 -- ---- how long the lines are
 
@@ -55,76 +56,113 @@ hangup_short name phone few fits =
     let e = length_20 phone fits in
     omega (arith, a, b, c, d, e, few)
 
+spawn_short : (template name : List ℕ) → length template ≤ 15 → length name ≤ 15 → length (spawn_text template name) ≤ 44
+spawn_short template name few also =
+    let a = length-append (codes "spawn ") (template ++ (codes " " ++ (name ++ codes "\n"))) in
+    let b = length-append template (codes " " ++ (name ++ codes "\n")) in
+    let c = length-append (codes " ") (name ++ codes "\n") in
+    let d = length-append name (codes "\n") in
+    omega (arith, a, b, c, d, few, also)
+
 -- ---- the line of an event
 
-module _ (names : List (List ℕ)) (task : TaskNo) (name old new : List ℕ) (event : Event) (count : ℕ)
-    (has : Names names task name) where
+steps_make_none : (n count : ℕ) (task : TaskNo) → tasks_behind n (replicate count (events.Step task)) ≡ n
+steps_make_none n zero task = refl
+steps_make_none n (suc count) task = steps_make_none n count task
+
+module _ (templates names : List (List ℕ)) (task : TaskNo) (name old new : List ℕ) (event : Event) (count : ℕ)
+    (has : IsNameOf names task name) where
   few : length name ≤ 15
   few = (name_word name has.0).1
 
   pub step_written : event ≡ events.Step task → 1 ≤ count → count ≤ 16384 → new ≡ old ++ step_text name count →
-      Writes names old new (replicate count event)
+      Writes templates names old new (replicate count event) names
   step_written e lo hi parts =
-      subst (λ (z : Event). Writes names old new (replicate count z)) (sym e)
-      (writes_line names old new (step_text name count)
-      (replicate count (events.Step task)) parts (step_adds names task name has count lo (omega (arith, hi)))
+      subst (λ (z : Event). Writes templates names old new (replicate count z) names) (sym e)
+      (writes_line templates names old new (step_text name count)
+      (replicate count (events.Step task)) names parts (step_adds templates names task name has count lo (omega (arith, hi)))
       (let short = step_short name count few (omega (arith, hi)) in let long = length-replicate count (events.Step
-      task) in omega (arith, short, long, lo)))
+      task) in omega (arith, short, long, lo))
+      (sym (steps_make_none (length names) count task)))
 
   pub kill_written : event ≡ events.Kill task → count ≡ 1 → new ≡ old ++ kill_text name →
-      Writes names old new (replicate count event)
+      Writes templates names old new (replicate count event) names
   kill_written e once parts =
-      subst (λ (z : Event). Writes names old new (replicate count z)) (sym e)
-      (subst (λ (n : ℕ). Writes names old new (replicate n (events.Kill task))) (sym once)
-      (writes_line names old new (kill_text name)
-      (replicate 1 (events.Kill task)) parts (kill_adds names task name has) (kill_short name few)))
+      subst (λ (z : Event). Writes templates names old new (replicate count z) names) (sym e)
+      (subst (λ (n : ℕ). Writes templates names old new (replicate n (events.Kill task)) names) (sym once)
+      (writes_line templates names old new (kill_text name)
+      (replicate 1 (events.Kill task)) names parts (kill_adds templates names task name has) (kill_short name few) refl))
 
   pub hangup_written : (phone : ℕ) → event ≡ events.Hangup task phone → count ≡ 1 → phone < 2 ^ 64 →
-      new ≡ old ++ hangup_text name phone → Writes names old new (replicate count event)
+      new ≡ old ++ hangup_text name phone → Writes templates names old new (replicate count event) names
   hangup_written phone e once fits parts =
-      subst (λ (z : Event). Writes names old new (replicate count z)) (sym e)
-      (subst (λ (n : ℕ). Writes names old new (replicate n (events.Hangup task phone))) (sym once)
-      (writes_line names old new (hangup_text name phone)
-      (replicate 1 (events.Hangup task phone)) parts (hangup_adds names task name has phone fits)
-      (hangup_short name phone few fits)))
+      subst (λ (z : Event). Writes templates names old new (replicate count z) names) (sym e)
+      (subst (λ (n : ℕ). Writes templates names old new (replicate n (events.Hangup task phone)) names) (sym once)
+      (writes_line templates names old new (hangup_text name phone)
+      (replicate 1 (events.Hangup task phone)) names parts (hangup_adds templates names task name has phone fits)
+      (hangup_short name phone few fits) refl))
+
+pub spawn_written : (templates names : List (List ℕ)) (place : ℕ) (template name old new : List ℕ) → is_name template ≡ true
+    → place_of templates template ≡ Some place → IsNew templates names name → length names < 64
+    → new ≡ old ++ spawn_text template name
+    → Writes templates names old new (events.Spawn place ∷ []) (names ++ name ∷ [])
+spawn_written templates names place template name old new named at fresh room parts =
+    writes_line templates names old new (spawn_text template name) (events.Spawn place ∷ []) (names ++ name ∷ []) parts
+    (spawn_adds templates names place template name named at fresh room)
+    (spawn_short template name (name_word template named).1 (name_word name fresh.good).1)
+    (length-append names (name ∷ []))
 
 -- what is no step comes once
 pub once : (event : Event) (count : ℕ) → IsStep event ⊎ (count ≡ 1) → (IsStep event → ⊥) → count ≡ 1
 once event count (inl step) never = absurd (never step)
 once event count (inr one) never = one
 
+-- so it is where a task is made
+pub made_written : (templates names known : List (List ℕ)) (place : ℕ) (old new : List ℕ) (event : Event) (count : ℕ)
+    → event ≡ events.Spawn place → count ≡ 1 → Writes templates names old new (events.Spawn place ∷ []) known
+    → Writes templates names old new (replicate count event) known
+made_written templates names known place old new event count e one wrote =
+    subst (λ (z : Event). Writes templates names old new (replicate count z) known) (sym e)
+    (subst (λ (n : ℕ). Writes templates names old new (replicate n (events.Spawn place)) known) (sym one) wrote)
+
 pub then_ok : {A E : Type 0} {P Q : Type 0} (r : Result A E) → OnOk r P → (P → Q) → OnOk r Q
 then_ok (Ok x) p f = f p
 then_ok (Err e) p f = tt
 
+-- ---- what may come
+
+pub may_after : (n t : ℕ) (xs ys : List Event) → MayAllCome n t (xs ++ ys) → MayAllCome (tasks_behind n xs) t ys
+may_after n t [] ys may = may
+may_after n t (x ∷ xs) ys may = may_after (tasks_after n x) t xs ys may.1
+
+-- the first of several may come, and the others behind it
+pub may_first : (n t count : ℕ) (left : List Event) (first : Event) (others : List Event) → IsFront left first count others
+    → MayAllCome n t left → MayCome n t first
+may_first n t zero left first others front may = absurd (let some : 1 ≤ 0 = front.some in omega arith)
+may_first n t (suc count) left first others front may = (subst (MayAllCome n t) front.parts may).0
+
+pub may_others : (n t count : ℕ) (left : List Event) (first : Event) (others : List Event) → IsFront left first count others
+    → MayAllCome n t left → MayAllCome (tasks_behind n (replicate count first)) t others
+may_others n t count left first others front may =
+    may_after n t (replicate count first) others (subst (MayAllCome n t) front.parts may)
+
 -- ---- line by line
 
-module _ (names : List (List ℕ)) (old mid new : List ℕ) (n : ℕ) (left whole : List Event) (first : Event)
-    (count : ℕ)
-    (others : List Event) (front : IsFront left first count others) where
-  pub step_on : IsUnderWay names old mid left whole → Writes names mid new (replicate count first) →
-      IsUnderWay names old new others whole
+module _ (templates start names known : List (List ℕ)) (old mid new : List ℕ) (left whole : List Event) (first : Event)
+    (count : ℕ) (others : List Event) (front : IsFront left first count others) where
+  pub step_on : IsUnderWay templates start old mid left whole names → Writes templates names mid new (replicate count first) known →
+      IsUnderWay templates start old new others whole known
   step_on way wrote = record {
     done = way.done ++ replicate count first;
     parts = way.parts ∙ ap (λ (es : List Event). way.done ++ es) front.parts
         ∙ sym (append_assoc way.done (replicate count first) others);
-    wrote = writes_both names old mid new way.done (replicate count first) way.wrote wrote;
+    wrote = writes_both templates start names known old mid new way.done (replicate count first) way.wrote wrote;
   }
 
   long : length left ≡ count + length others
   long =
       let a = length-append (replicate count first) others in let b = length-replicate count first in
       ap length front.parts ∙ (omega (arith, a, b))
-
-  pub on_others : All (IsOnTask n) left → All (IsOnTask n) others
-  on_others on =
-      subst (All (IsOnTask n)) (drop_front count) (All-drop (IsOnTask n) count left on) where
-        drop_all : (k : ℕ) → drop k (replicate k first ++ others) ≡ others
-        drop_all zero = refl
-        drop_all (suc k) = drop_all k
-
-        drop_front : (k : ℕ) → drop count left ≡ others
-        drop_front k = ap (drop count) front.parts ∙ drop_all count
 
   pub shorter : length others < length left
   shorter = let a = long in let b = front.some in omega (arith, a, b)
@@ -154,16 +192,17 @@ comment_says : (templates : List (List ℕ)) (before : EventsAndNames) (w : List
 unfolding after_event_line
 comment_says templates before w h = rw h refl
 
-pub comment_adds : (names : List (List ℕ)) (w : List ℕ) → list_all is_allowed w ≡ true → Adds names (comment_text w) []
-comment_adds names w h = record {
+pub comment_adds : (templates names : List (List ℕ)) (w : List ℕ) → list_all is_allowed w ≡ true
+    → Adds templates names (comment_text w) [] names
+comment_adds templates names w h = record {
   count = 1;
-  read = λ templates known n before rest same room.
+  read = λ n before rest same room.
       one_read (after_event_line templates) n before before (comment_text w ++ rest) rest (comment_behind (35 ∷ 32
       ∷ w) rest h)
       (ap (after_event_line templates before) (comment_line (35 ∷ 32 ∷ w) rest h)
       ∙ comment_says templates before (32 ∷ w) h)
       ∙ ap (λ (b : EventsAndNames). lines_from (after_event_line templates) (n + 1) b (lines rest))
-      (with_none before);
+      (with_none before names same);
 }
 
 -- ---- the whole text
@@ -173,33 +212,16 @@ pub ends : (templates : List (List ℕ)) (n : ℕ) (made : EventsAndNames) →
 unfolding after_event_line
 ends templates n made = refl
 
-pub whole_read : (script : Plan) (text : List ℕ) (es : List Event) → length text ≤ 1048576 → length es ≤ 65536 →
-    Adds (task_names script.tasks) text es → schedule_of script text ≡ Ok es
+pub whole_read : (script : Plan) (text : List ℕ) (es : List Event) (known : List (List ℕ)) → length text ≤ 1048576
+    → length es ≤ 65536 → Adds (task_names script.templates) (task_names script.tasks) text es known
+    → schedule_of script text ≡ Ok es
 unfolding reading
-whole_read script text es short few adds =
+whole_read script text es known short few adds =
     let templates = task_names script.templates in
     let after : EventsAndNames → List ℕ → Result EventsAndNames Reason = after_event_line templates in
     let start : EventsAndNames = no_events script in
-    let all : lines_from after 1 start (lines text) ≡ Ok (with_more start es) =
+    let all : lines_from after 1 start (lines text) ≡ Ok (with_more start es known) =
     ap (λ (t : List ℕ). lines_from after 1 start (lines t)) (sym (append-nil text))
-    ∙ adds.read templates [] 1 start [] (sym (append-nil (task_names script.tasks))) (omega (arith, few))
-    ∙ ends templates (1 + adds.count) (with_more start es) in
+    ∙ adds.read 1 start [] refl (omega (arith, few))
+    ∙ ends templates (1 + adds.count) (with_more start es known) in
     rw (le-ltb 1048576 (length text) short) (ap events_alone all)
-
-pub text_reads : (script : Plan) (comment none first text : List ℕ) (es : List Event) → none ≡ [] →
-    first ≡ none ++ comment_text comment → list_all is_allowed comment ≡ true
-    → length comment ≤ 65536 → length es ≤ 16384 → Writes (task_names script.tasks) first text es →
-    schedule_of script text ≡ Ok es
-text_reads script comment none first text es empty begun allowed short few wrote =
-    let front : first ≡ comment_text comment = begun ∙ ap (λ (t : List ℕ). t ++ comment_text comment) empty in
-    let parts : text ≡ comment_text comment ++ wrote.line = wrote.parts
-    ∙ ap (λ (t : List ℕ). t ++ wrote.line) front in
-    let a = length-append (comment_text comment) wrote.line in
-    let b = length-append (codes "# ") (comment ++ codes "\n") in
-    let c = length-append comment (codes "\n") in
-    let d = wrote.short in
-    subst (λ (t : List ℕ). schedule_of script t ≡ Ok es) (sym parts)
-    (whole_read script (comment_text comment ++ wrote.line) es (omega (arith, a, b, c, d, short, few))
-    (omega (arith, few))
-    (both_added (task_names script.tasks)
-    (comment_text comment) wrote.line [] es (comment_adds (task_names script.tasks) comment allowed) wrote.adds))

@@ -1,7 +1,6 @@
 -- What a goal asks of one state, as it is written behind the name of a task.
 use Rattle.std.specs.Prelude.{ℕ, ◌==◌, not, List, [], ◌∷◌, length, take, drop, codes, nat_eq, nat_lt, Option, Some, None, if◌then◌else◌}
 use Rattle.std.specs.List.{starts_with, position_or_len}
-use Rattle.ipc_ids.specs.declared.numbers.FibrilNo.{FibrilNo}
 use Rattle.ipc_ids.specs.declared.numbers.TaskNo.{TaskNo}
 use Rattle.script_lines.specs.Word.{is_name_byte, number}
 use Rattle.search_goals.specs.declared.conditions.Subject.{Subject}

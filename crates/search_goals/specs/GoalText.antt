@@ -1,12 +1,13 @@
 -- The goal that a text says, or its first fault.
-use Rattle.std.specs.Prelude.{◌≡◌, ℕ, ◌-◌, ◌&&◌, ◌==◌, ⊤, not, List, [], ◌∷◌, ◌++◌, length, take, drop, codes, nat_eq, nat_lt, Option, Some, None, Result, Ok, Err, if◌then◌else◌, slice_index}
-use Rattle.std.specs.List.{list_all, starts_with, position_or_len}
+use Rattle.std.specs.Prelude.{◌≡◌, ℕ, ◌-◌, ◌&&◌, ◌==◌, ⊤, List, [], ◌∷◌, ◌++◌, length, take, drop, codes, nat_eq, nat_lt, Option, Some, None, Result, Ok, Err, if◌then◌else◌, slice_index}
+use Rattle.std.specs.List.{list_all, starts_with}
 use Rattle.std.specs.Option.{ok_or}
 use Rattle.std.specs.Str.{bytes_eq}
 use Rattle.ipc_ids.specs.Tables.{most_bytes}
 use Rattle.ipc_ids.specs.declared.numbers.TaskNo.{TaskNo}
 use Rattle.script_lines.specs.declared.fault.Reason.{Reason}
-use Rattle.script_lines.specs.declared.fault.Reason.TheVariants.{TooLong, BadByte, WrongCount, BadWord, UnknownName}
+use Rattle.script_lines.specs.declared.fault.Reason.TheVariants.{TooLong, BadByte, UnknownOperation, WrongCount, BadWord, UnknownName}
+use Rattle.script_lines.specs.declared.plan.TaskPlan.{TaskPlan}
 use Rattle.script_lines.specs.Names.{task_named}
 use Rattle.script_lines.specs.Operation.{◌>>=◌}
 use Rattle.script_lines.specs.Text.{is_allowed}
@@ -19,10 +20,14 @@ use Rattle.search_goals.specs.declared.goal.GoalFault.TheVariants.{Bad, NoMemory
 use Rattle.search_goals.specs.declared.conditions.Condition.{Condition}
 use Rattle.search_goals.specs.Conditions.{name_len, asked_of}
 use Rattle.search_goals.specs.Goals.{text_words, listed}
+use Rattle.search_goals.specs.LineShapes.{may_begin}
+use Rattle.search_goals.specs.Places.{plan_of, is_known_of}
 
--- what is looked for: that nothing can change but counters; that a call is not answered besides, of a
--- task or of any; that each of these holds in one state; or a line of an event
+-- what is looked for: that a call of a living task is never answered, whatever steps come; that nothing can change but
+-- counters; that a call is not answered besides, of a task or of any; that each of these holds in one state; or a line
+-- of an event
 pub data Asked : Type 0 where
+  LosesCall : Asked
   IsRest : Asked
   IsStuck : Option TaskNo → Asked
   HoldAll : List Condition → Asked
@@ -30,6 +35,7 @@ pub data Asked : Type 0 where
 
 -- a goal as the code has it
 abbrev pub said : Goal → Asked
+said goals.Lost = LosesCall
 said goals.Rest = IsRest
 said (goals.Stuck task) = IsStuck task
 said (goals.When conditions) = HoldAll conditions.items
@@ -48,9 +54,13 @@ behind_at names word =
 unfoldable pub word_in : (names : List (List ℕ)) → List ℕ → Result (List ℕ) Reason
 word_in names word = if starts_with nat_eq word (codes "@") then behind_at names (drop 1 word) else Ok word
 
+-- words with which a line of a trace may begin
+abbrev pub line_so_far : List (List ℕ) → Result (List (List ℕ)) Reason
+line_so_far words = if may_begin words then Ok words else Err BadWord
+
 -- one word more
 unfoldable pub with_word : (names : List (List ℕ)) → List (List ℕ) → List ℕ → Result (List (List ℕ)) Reason
-with_word names so_far word = word_in names word >>= λ word. Ok (so_far ++ word ∷ [])
+with_word names so_far word = word_in names word >>= λ word. line_so_far (so_far ++ word ∷ [])
 
 -- the words from this number on
 abbrev pub words_in : (names : List (List ℕ)) → ℕ → List (List ℕ) → Result (List (List ℕ)) (ℕ × Reason)
@@ -85,10 +95,10 @@ goal_by names None first others = words_in names 1 (first ∷ others) >>> line_o
 goal_by names (Some owner) first others =
     in_word 1 (named_task names owner) >>> λ task. (words_in names 2 others >>> line_of 2 (task ∷ []))
 
--- no word stands behind
-abbrev pub rest_of : List (List ℕ) → Result Asked (ℕ × Reason)
-rest_of [] = Ok IsRest
-rest_of (word ∷ words) = Err (2, WrongCount)
+-- this, where no word stands behind
+abbrev pub goal_alone : Asked → List (List ℕ) → Result Asked (ℕ × Reason)
+goal_alone asked [] = Ok asked
+goal_alone asked (word ∷ words) = Err (2, WrongCount)
 
 -- of the task with this name
 unfoldable pub stuck_task : (names : List (List ℕ)) → List ℕ → Result Asked (ℕ × Reason)
@@ -100,19 +110,30 @@ stuck_of names [] = Ok (IsStuck None)
 stuck_of names (name ∷ []) = stuck_task names name
 stuck_of names (name ∷ word ∷ words) = Err (3, WrongCount)
 
+-- what is asked, where its task has the operation that it names
+abbrev pub known_of : Option TaskPlan → Condition → Result Condition Reason
+known_of plan condition = if is_known_of plan condition then Ok condition else Err UnknownOperation
+
+-- what the bytes behind the name of a task ask of it
+unfoldable pub condition_of : List TaskPlan → TaskNo → List ℕ → Result Condition Reason
+condition_of tasks task bytes = ok_or (asked_of task bytes) BadWord >>= known_of (plan_of tasks task)
+
 -- the name of a task, and what is asked of it
-unfoldable pub condition_in : (names : List (List ℕ)) → List ℕ → Result Condition Reason
-condition_in names word =
+unfoldable pub condition_in : (names : List (List ℕ)) → List TaskPlan → List ℕ → Result Condition Reason
+condition_in names tasks word =
     ok_or (task_named names (take (name_len word) word)) UnknownName >>= λ task.
-    ok_or (asked_of task (drop (name_len word) word)) BadWord
+    condition_of tasks task (drop (name_len word) word)
 
 -- one condition more
-unfoldable pub with_condition : (names : List (List ℕ)) → List Condition → List ℕ → Result (List Condition) Reason
-with_condition names so_far word = condition_in names word >>= λ condition. Ok (so_far ++ condition ∷ [])
+unfoldable pub with_condition : (names : List (List ℕ)) → List TaskPlan → List Condition → List ℕ →
+    Result (List Condition) Reason
+with_condition names tasks so_far word =
+    condition_in names tasks word >>= λ condition. Ok (so_far ++ condition ∷ [])
 
 -- the conditions that the words behind the first say
-abbrev pub conditions_in : (names : List (List ℕ)) → List (List ℕ) → Result (List Condition) (ℕ × Reason)
-conditions_in names words = lines_from (with_condition names) 2 [] words
+abbrev pub conditions_in : (names : List (List ℕ)) → List TaskPlan → List (List ℕ) →
+    Result (List Condition) (ℕ × Reason)
+conditions_in names tasks words = lines_from (with_condition names tasks) 2 [] words
 
 -- there is at least one
 abbrev pub when_all : List Condition → Result Asked (ℕ × Reason)
@@ -120,28 +141,30 @@ when_all [] = Err (2, WrongCount)
 when_all (condition ∷ conditions) = Ok (HoldAll (condition ∷ conditions))
 
 -- what is asked of one state
-abbrev pub when_of : (names : List (List ℕ)) → List (List ℕ) → Result Asked (ℕ × Reason)
-when_of names words = conditions_in names words >>> when_all
+abbrev pub when_of : (names : List (List ℕ)) → List TaskPlan → List (List ℕ) → Result Asked (ℕ × Reason)
+when_of names tasks words = conditions_in names tasks words >>> when_all
 
 -- by the first word what is asked of a state, or else a line
-abbrev pub goal_from : (names : List (List ℕ)) → (first : List ℕ) (others : List (List ℕ)) →
+abbrev pub goal_from : (names : List (List ℕ)) → List TaskPlan → (first : List ℕ) (others : List (List ℕ)) →
     Result Asked (ℕ × Reason)
-goal_from names first others =
-    if bytes_eq first (codes "rest") then rest_of others
+goal_from names tasks first others =
+    if bytes_eq first (codes "lost") then goal_alone LosesCall others
+    else (if bytes_eq first (codes "rest") then goal_alone IsRest others
     else (if bytes_eq first (codes "stuck") then stuck_of names others
-    else (if bytes_eq first (codes "when") then when_of names others else goal_by names (owner_of first) first others))
+    else (if bytes_eq first (codes "when") then when_of names tasks others
+    else goal_by names (owner_of first) first others)))
 
 -- what some words say
-abbrev pub goal_of_words : (names : List (List ℕ)) → List (List ℕ) → Result Asked (ℕ × Reason)
-goal_of_words names [] = Err (1, WrongCount)
-goal_of_words names (first ∷ others) = goal_from names first others
+abbrev pub goal_of_words : (names : List (List ℕ)) → List TaskPlan → List (List ℕ) → Result Asked (ℕ × Reason)
+goal_of_words names tasks [] = Err (1, WrongCount)
+goal_of_words names tasks (first ∷ others) = goal_from names tasks first others
 
--- the goal that a text says for tasks of these names, or its first fault with the number of the word; 0 for a text
--- that is too long, and for a byte that may not stand in a line
-unfoldable pub goal_of : (names : List (List ℕ)) → List ℕ → Result Asked (ℕ × Reason)
-goal_of names text =
+-- the goal that a text says for tasks of these names, of which the first are those of a script, or its first fault with
+-- the number of the word; 0 for a text that is too long, and for a byte that may not stand in a line
+unfoldable pub goal_of : (names : List (List ℕ)) → List TaskPlan → List ℕ → Result Asked (ℕ × Reason)
+goal_of names tasks text =
     if nat_lt most_bytes (length text) then Err (0, TooLong)
-    else (if list_all is_allowed text then goal_of_words names (text_words text) else Err (0, BadByte))
+    else (if list_all is_allowed text then goal_of_words names tasks (text_words text) else Err (0, BadByte))
 
 -- the answer is what is said, unless memory ran out
 abbrev pub Answers : {A B : Type 0} → (A → B) → Result A GoalFault → Result B (ℕ × Reason) → Type 0

@@ -20,3 +20,7 @@ kill_text name = codes "kill " ++ (name ++ codes "\n")
 -- a hangup of a phone of a task
 abbrev pub hangup_text : List ℕ → ℕ → List ℕ
 hangup_text name phone = codes "hangup " ++ (name ++ (codes " " ++ (decimal phone ++ codes "\n")))
+
+-- a task of a template is made, and has this name
+abbrev pub spawn_text : (template name : List ℕ) → List ℕ
+spawn_text template name = codes "spawn " ++ (template ++ (codes " " ++ (name ++ codes "\n")))

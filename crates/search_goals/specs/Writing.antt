@@ -1,18 +1,21 @@
 -- What a written text adds to a schedule, wherever it stands behind whole lines.
-use Rattle.std.specs.Prelude.{ℕ, ◌≡◌, ◌+◌, ◌*◌, ◌≤◌, ⊤, true, List, ◌++◌, length, All, Some, replicate, ◌⊎◌}
-use Rattle.ipc_ids.specs.Tables.{most_events}
+use Rattle.std.specs.Prelude.{ℕ, ◌≡◌, ◌≢◌, ◌+◌, ◌*◌, ◌≤◌, ⊤, true, false, List, [], ◌∷◌, ◌++◌, length, All, Some, replicate, ◌⊎◌, codes, decimal}
+use Rattle.std.specs.List.{AllPairs}
+use Rattle.ipc_ids.specs.Tables.{most_events, most_tasks}
 use Rattle.ipc_ids.specs.declared.numbers.TaskNo.{TaskNo}
 use Rattle.ipc_ids.specs.declared.message.Event.{Event}
 use Rattle.ipc_ids.specs.declared.message.Event.TheVariants as events
 use Rattle.script_lines.specs.declared.plan.TaskPlan.{TaskPlan}
 use Rattle.script_lines.specs.Names.{task_named}
+use Rattle.script_lines.specs.Plan.{Plan}
 use Rattle.script_lines.specs.Sound.{IsTask}
 use Rattle.script_lines.specs.Text.{lines}
 use Rattle.script_lines.specs.Word.{is_name}
-use Rattle.script_reader.specs.EventLine.{EventsAndNames, after_event_line}
+use Rattle.script_reader.specs.EventLine.{EventsAndNames, is_taken, after_event_line}
 use Rattle.script_reader.specs.Reading.{lines_from}
+use Rattle.script_reader.specs.Schedule.{tasks_after}
 
--- a line of its own can say the event: it is on one of so many tasks
+-- the event is on one of so many tasks
 abbrev pub IsOnTask : ℕ → Event → Type 0
 IsOnTask tasks (events.Step task) = IsTask tasks task.0
 IsOnTask tasks (events.Kill task) = IsTask tasks task.0
@@ -30,29 +33,56 @@ IsStep (events.Spawn place) = ⊥
 abbrev pub AreNamed : List TaskPlan → Type 0
 AreNamed tasks = All (λ task. is_name task.name ≡ true) tasks
 
--- the lines so far with these events more
-abbrev pub with_more : EventsAndNames → List Event → EventsAndNames
-with_more before more = record { events = before.events ++ more; names = before.names }
+-- so has each task and each template of a script
+pub record IsNamed (plan : Plan) : Type 0 where
+  pub tasks : AreNamed plan.tasks
+  pub templates : AreNamed plan.templates
 
--- the word is the name of the task, where these names are the first that are known
-abbrev pub Names : List (List ℕ) → TaskNo → List ℕ → Type 0
-Names names task word =
-    (is_name word ≡ true) × ((others : List (List ℕ)) → task_named (names ++ others) word ≡ Some task)
+-- the names of all tasks that there are, as lines have them: no two are the same, and there are at most 64
+pub record AreNames (names : List (List ℕ)) : Type 0 where
+  pub good : All (λ name. is_name name ≡ true) names
+  pub differ : AllPairs (λ a b. a ≢ b) names
+  pub few : length names ≤ most_tasks
 
--- where these names are the first that are known, the text adds these events, and so many lines
-pub record Adds (names : List (List ℕ)) (text : List ℕ) (more : List Event) : Type 0 where
+-- the word is the name of the task
+abbrev pub IsNameOf : List (List ℕ) → TaskNo → List ℕ → Type 0
+IsNameOf names task word = (is_name word ≡ true) × (task_named names word ≡ Some task)
+
+-- a task that is made may have this name
+pub record IsNew (templates names : List (List ℕ)) (name : List ℕ) : Type 0 where
+  pub good : is_name name ≡ true
+  pub free : is_taken templates names name ≡ false
+
+-- t and a number: what the tasks are called that no line names
+abbrev pub made_name : ℕ → List ℕ
+made_name number = codes "t" ++ decimal number
+
+-- how many tasks there are behind events
+abbrev pub tasks_behind : ℕ → List Event → ℕ
+tasks_behind tasks [] = tasks
+tasks_behind tasks (event ∷ later) = tasks_behind (tasks_after tasks event) later
+
+-- the lines so far with these events more, and the names that are known behind them
+abbrev pub with_more : EventsAndNames → List Event → List (List ℕ) → EventsAndNames
+with_more before more known = record { events = before.events ++ more; names = known }
+
+-- where just these names are known, the text adds these events, and so many lines, and behind it those names are known
+pub record Adds (templates names : List (List ℕ)) (text : List ℕ) (more : List Event) (known : List (List ℕ))
+    : Type 0 where
   pub count : ℕ
-  pub read : (templates others : List (List ℕ)) (n : ℕ) (before : EventsAndNames) (rest : List ℕ)
-      → before.names ≡ names ++ others → length before.events + length more ≤ most_events
+  pub read : (n : ℕ) (before : EventsAndNames) (rest : List ℕ)
+      → before.names ≡ names → length before.events + length more ≤ most_events
       → lines_from (after_event_line templates) n before (lines (text ++ rest))
-      ≡ lines_from (after_event_line templates) (n + count) (with_more before more) (lines rest)
+      ≡ lines_from (after_event_line templates) (n + count) (with_more before more known) (lines rest)
 
--- a text that adds these events, at most 44 bytes for each, was put behind
-pub record Writes (names : List (List ℕ)) (old new : List ℕ) (more : List Event) : Type 0 where
+-- a text that adds these events, at most 44 bytes for each, was put behind; those names are of all tasks then
+pub record Writes (templates names : List (List ℕ)) (old new : List ℕ) (more : List Event) (known : List (List ℕ))
+    : Type 0 where
   pub line : List ℕ
   pub parts : new ≡ old ++ line
-  pub adds : Adds names line more
+  pub adds : Adds templates names line more known
   pub short : length line ≤ 44 * length more
+  pub all : length known ≡ tasks_behind (length names) more
 
 -- the events begin with this one, so many times, and these stand behind; more than once only where it is a step
 pub record IsFront (whole : List Event) (first : Event) (count : ℕ) (others : List Event) : Type 0 where
@@ -60,8 +90,9 @@ pub record IsFront (whole : List Event) (first : Event) (count : ℕ) (others : 
   pub some : 1 ≤ count
   pub times : IsStep first ⊎ (count ≡ 1)
 
--- some of the events were put behind a text, and these are left
-pub record IsUnderWay (names : List (List ℕ)) (old new : List ℕ) (left whole : List Event) : Type 0 where
+-- some of the events were put behind a text, so that these names are known, and these events are left
+pub record IsUnderWay (templates names : List (List ℕ)) (old new : List ℕ) (left whole : List Event)
+    (known : List (List ℕ)) : Type 0 where
   pub done : List Event
   pub parts : whole ≡ done ++ left
-  pub wrote : Writes names old new done
+  pub wrote : Writes templates names old new done known

@@ -10,20 +10,24 @@ ghost use Rattle.search_goals.specs.declared.goal.GoalFault.TheVariants as fault
 ghost use Rattle.search_goals.specs.Conditions.{name_len};
 ghost use Rattle.search_goals.specs.Goals.{text_words, listed};
 ghost use Rattle.search_goals.specs.GoalText.{said, named_task, behind_at, word_in, with_word, words_in};
-ghost use Rattle.search_goals.specs.GoalText.{owner_of, in_word, line_of, goal_by, rest_of, stuck_task, stuck_of};
-ghost use Rattle.search_goals.specs.GoalText.{condition_in, conditions_in, when_all, when_of};
+ghost use Rattle.search_goals.specs.GoalText.{owner_of, in_word, line_of, goal_by, goal_alone, stuck_task, stuck_of};
+ghost use Rattle.search_goals.specs.GoalText.{condition_of, condition_in, conditions_in, when_all, when_of};
 ghost use Rattle.search_goals.specs.GoalText.{goal_from, goal_of_words, goal_of, Answers};
 
 use crate::conditions::{Condition, asked_of};
+use crate::line_shapes::may_begin;
 use crate::meeting::next_word;
+use crate::places::{is_known_of, plan_of};
 use ipc_ids::{NoMemory, TaskNo};
-use script_lines::{MOST_BYTES, Names, Reason, is_name_byte, names_of};
+use script_lines::{MOST_BYTES, Names, Reason, TaskPlan, is_name_byte, names_of};
 use script_reader::Script;
 use std::alloc::{AllocError, AllocFailed, Global};
 
 /// What a search looks for.
 #[derive(Drop)]
 pub enum Goal {
+    /// A state in which a call of a living task is not answered, and is not behind any steps of tasks.
+    Lost,
     /// A state in which no step of a living task changes anything but counters.
     Rest,
     /// The same, and a call of this task is not answered or, with `None`, a call of any living task.
@@ -161,6 +165,29 @@ fn word_in(alloc: Global, names: &Names, place: u64, word: &[u8]) -> Result<Vec<
     }
 }
 
+/// Adds what a word says, where a line of a trace may begin with all of the words then.
+#[tactic(auto, unfolding(crate::specs::GoalText::with_word))]
+fn with_word(
+    alloc: Global,
+    names: &Names,
+    place: u64,
+    word: &[u8],
+    words: &mut Vec<Vec<u8>>,
+) -> Result<(), GoalFault>
+    ensures { Answers (λ _. listed words.new.items) result
+        (in_word place (with_word names.now (listed words.old.items) word.now)) }
+{
+    let text = word_in(alloc, names, place, word)?;
+    words.push(text)?;
+    if !may_begin(words.as_slice()) {
+        return Err(GoalFault::Bad {
+            word: place,
+            reason: Reason::BadWord,
+        });
+    }
+    Ok(())
+}
+
 /// The words of a text, numbered from this place on.
 fn words_in(
     alloc: Global,
@@ -177,8 +204,8 @@ fn words_in(
     let mut rest = text;
     let mut number = place;
     while let Some((word, others)) = next_word(rest) {
-        match word_in(alloc, names, number, word) {
-            Ok(text) => words.push(text)?,
+        match with_word(alloc, names, number, word, &mut words) {
+            Ok(()) => {}
             Err(fault) => return Err(fault),
         }
         rest = others;
@@ -230,12 +257,12 @@ fn goal_by(
     }
 }
 
-/// That nothing moves: no word stands behind.
-fn rest_of(others: &[u8]) -> Result<Goal, GoalFault>
-    ensures { Answers said result (rest_of (text_words others.now)) }
+/// This goal, where no word stands behind.
+fn goal_alone(goal: Goal, others: &[u8]) -> Result<Goal, GoalFault>
+    ensures { Answers said result (goal_alone (said goal) (text_words others.now)) }
 {
     match next_word(others) {
-        None => Ok(Goal::Rest),
+        None => Ok(goal),
         Some(_) => Err(GoalFault::Bad {
             word: 2,
             reason: Reason::WrongCount,
@@ -273,11 +300,44 @@ fn stuck_of(names: &Names, others: &[u8]) -> Result<Goal, GoalFault>
     }
 }
 
+/// What the bytes behind the name of a task ask of it.
+#[tactic(auto, unfolding(crate::specs::GoalText::condition_of))]
+fn condition_of(
+    tasks: &[TaskPlan],
+    task: TaskNo,
+    place: u64,
+    bytes: &[u8],
+) -> Result<Condition, GoalFault>
+    ensures { Answers (λ condition. condition) result
+        (in_word place (condition_of tasks.now task bytes.now)) }
+{
+    match asked_of(task, bytes) {
+        None => Err(GoalFault::Bad {
+            word: place,
+            reason: Reason::BadWord,
+        }),
+        Some(condition) => {
+            if !is_known_of(plan_of(tasks, task), &condition) {
+                return Err(GoalFault::Bad {
+                    word: place,
+                    reason: Reason::UnknownOperation,
+                });
+            }
+            Ok(condition)
+        }
+    }
+}
+
 /// What is asked of the state of the task whose name stands at the front.
 #[tactic(auto, unfolding(crate::specs::GoalText::condition_in))]
-fn condition_in(names: &Names, place: u64, word: &[u8]) -> Result<Condition, GoalFault>
+fn condition_in(
+    names: &Names,
+    tasks: &[TaskPlan],
+    place: u64,
+    word: &[u8],
+) -> Result<Condition, GoalFault>
     ensures { Answers (λ condition. condition) result
-        (in_word place (condition_in names.now word.now)) }
+        (in_word place (condition_in names.now tasks.now word.now)) }
 {
     let (name, rest) = word.split_at(name_len(word));
     match names.task_named(name) {
@@ -285,27 +345,26 @@ fn condition_in(names: &Names, place: u64, word: &[u8]) -> Result<Condition, Goa
             word: place,
             reason: Reason::UnknownName,
         }),
-        Some(task) => match asked_of(task, rest) {
-            None => Err(GoalFault::Bad {
-                word: place,
-                reason: Reason::BadWord,
-            }),
-            Some(condition) => Ok(condition),
-        },
+        Some(task) => condition_of(tasks, task, place, rest),
     }
 }
 
 /// What the words behind the first ask of one state.
-fn conditions_in(alloc: Global, names: &Names, text: &[u8]) -> Result<Vec<Condition>, GoalFault>
+fn conditions_in(
+    alloc: Global,
+    names: &Names,
+    tasks: &[TaskPlan],
+    text: &[u8],
+) -> Result<Vec<Condition>, GoalFault>
     requires small { length text.now ≤ 1048576 }
     ensures { Answers (λ conditions. conditions.items) result
-        (conditions_in names.now (text_words text.now)) }
+        (conditions_in names.now tasks.now (text_words text.now)) }
 {
     let mut conditions = Vec::new(alloc);
     let mut rest = text;
     let mut number = 2;
     while let Some((word, others)) = next_word(rest) {
-        match condition_in(names, number, word) {
+        match condition_in(names, tasks, number, word) {
             Ok(condition) => conditions.push(condition)?,
             Err(fault) => return Err(fault),
         }
@@ -329,11 +388,16 @@ fn when_all(conditions: Vec<Condition>) -> Result<Goal, GoalFault>
 }
 
 /// What is asked of one state.
-fn when_of(alloc: Global, names: &Names, others: &[u8]) -> Result<Goal, GoalFault>
+fn when_of(
+    alloc: Global,
+    names: &Names,
+    tasks: &[TaskPlan],
+    others: &[u8],
+) -> Result<Goal, GoalFault>
     requires small { length others.now ≤ 1048576 }
-    ensures { Answers said result (when_of names.now (text_words others.now)) }
+    ensures { Answers said result (when_of names.now tasks.now (text_words others.now)) }
 {
-    let conditions = conditions_in(alloc, names, others)?;
+    let conditions = conditions_in(alloc, names, tasks, others)?;
     when_all(conditions)
 }
 
@@ -341,6 +405,7 @@ fn when_of(alloc: Global, names: &Names, others: &[u8]) -> Result<Goal, GoalFaul
 fn goal_from(
     alloc: Global,
     names: &Names,
+    tasks: &[TaskPlan],
     text: &[u8],
     first: &[u8],
     others: &[u8],
@@ -348,38 +413,56 @@ fn goal_from(
     requires parts { text_words text.now ≡ first.now ∷ text_words others.now }
     requires small { length text.now ≤ 1048576 }
     requires less { length others.now ≤ 1048576 }
-    ensures { Answers said result (goal_from names.now first.now (text_words others.now)) }
+    ensures { Answers said result (goal_from names.now tasks.now first.now (text_words others.now)) }
 {
+    if first == b"lost".as_slice() {
+        return goal_alone(Goal::Lost, others);
+    }
     if first == b"rest".as_slice() {
-        return rest_of(others);
+        return goal_alone(Goal::Rest, others);
     }
     if first == b"stuck".as_slice() {
         return stuck_of(names, others);
     }
     if first == b"when".as_slice() {
-        return when_of(alloc, names, others);
+        return when_of(alloc, names, tasks, others);
     }
     goal_by(alloc, names, owner_of(first), text, first, others)
 }
 
 /// What the words of a text say.
-fn goal_of_words(alloc: Global, names: &Names, text: &[u8]) -> Result<Goal, GoalFault>
+fn goal_of_words(
+    alloc: Global,
+    names: &Names,
+    tasks: &[TaskPlan],
+    text: &[u8],
+) -> Result<Goal, GoalFault>
     requires small { length text.now ≤ 1048576 }
-    ensures { Answers said result (goal_of_words names.now (text_words text.now)) }
+    ensures { Answers said result (goal_of_words names.now tasks.now (text_words text.now)) }
 {
     match next_word(text) {
         None => Err(GoalFault::Bad {
             word: 1,
             reason: Reason::WrongCount,
         }),
-        Some((first, others)) => goal_from(alloc, names, text, first, others),
+        Some((first, others)) => goal_from(alloc, names, tasks, text, first, others),
     }
 }
 
-/// What a text says for tasks of these names.
+/// The goal that a text says, as `read_goal` reads it, for tasks of these names. The first of them are
+/// the tasks of a script, of which the operations are known.
+///
+/// # Errors
+///
+/// As those of `read_goal`.
 #[tactic(auto, unfolding(crate::specs::GoalText::goal_of))]
-fn goal_for(alloc: Global, names: &Names, text: &[u8]) -> Result<Goal, GoalFault>
-    ensures { Answers said result (goal_of names.now text.now) }
+pub fn read_goal_for(
+    alloc: Global,
+    names: &Names,
+    tasks: &[TaskPlan],
+    text: &[u8],
+) -> Result<Goal, GoalFault>
+    ensures { Answers said result (goal_of names.now tasks.now text.now) }
 {
     if text.len() > MOST_BYTES {
         return Err(GoalFault::Bad {
@@ -393,13 +476,13 @@ fn goal_for(alloc: Global, names: &Names, text: &[u8]) -> Result<Goal, GoalFault
             reason: Reason::BadByte,
         });
     }
-    goal_of_words(alloc, names, text)
+    goal_of_words(alloc, names, tasks, text)
 }
 
 /// The goal that a text of at most 1,048,576 bytes says for the tasks of a script. Its words stand
 /// between spaces, tabs and line feeds:
 ///
-/// - `rest`, or `stuck` with the name of a task or alone, says `Rest` or `Stuck`;
+/// - `lost` says `Lost`, `rest` says `Rest`, and `stuck` with the name of a task or alone says `Stuck`;
 /// - `when` says `When`; each word behind it is the name of a task, of a fibril of it also `/` and
 ///   the number, and then `@N` (it stands at operation N), `.rK=N` (register K holds N) or `$` (it is
 ///   at its end), or for a task `!` (it was killed);
@@ -409,11 +492,13 @@ fn goal_for(alloc: Global, names: &Names, text: &[u8]) -> Result<Goal, GoalFault
 /// # Errors
 ///
 /// `Bad` where it says none, with its first fault: a text that is too long, a byte that may not
-/// stand in a line, too few or too many words, a name of no task, or a condition that is none.
+/// stand in a line, too few or too many words, a name of no task, a condition that is none, an
+/// operation that no body of its task has, or a word with which no line of a trace goes on.
 /// `NoMemory` where no memory was found.
 pub fn read_goal(alloc: Global, script: &Script, text: &[u8]) -> Result<Goal, GoalFault>
-    ensures { Answers said result (goal_of (task_names script.now.tasks) text.now) }
+    ensures { Answers said result (goal_of (task_names script.now.tasks) script.now.tasks text.now) }
 {
-    let names = names_of(alloc, script.tasks.as_slice())?;
-    goal_for(alloc, &names, text)
+    let tasks = script.tasks.as_slice();
+    let names = names_of(alloc, tasks)?;
+    read_goal_for(alloc, &names, tasks, text)
 }

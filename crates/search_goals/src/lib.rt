@@ -1,18 +1,22 @@
 //! What a search over schedules is asked, and the schedule that it answers.
 //!
 //! `read_goal` reads what is looked for, `meets_line` says whether the entries of an event meet a goal
-//! that is a line, `schedule_text` writes the events that were found as a schedule, and `push_events`
-//! adds them to one.
+//! that is a line, and `push_events` writes the events that were found as lines of a schedule.
+//! `TaskNames` has the names of all tasks that there are at a place of a schedule.
 #![tactic(auto)]
 
 mod conditions;
 mod goal;
+mod laws;
+mod line_shapes;
 mod meeting;
-#[cfg(test)]
-mod tests;
+mod names;
+mod places;
 mod writer;
 
 pub use conditions::{Condition, Subject};
-pub use goal::{Goal, GoalFault, read_goal};
+pub use goal::{Goal, GoalFault, read_goal, read_goal_for};
+pub use laws::lines_of_entries_are_no_fault;
 pub use meeting::{entry_fits, meets_line};
-pub use writer::{are_named, push_events, schedule_text};
+pub use names::TaskNames;
+pub use writer::push_events;

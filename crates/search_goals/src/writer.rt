@@ -1,39 +1,19 @@
-//! The text of a schedule.
+//! The text of events, as lines of a schedule.
 ghost use Rattle.std.specs.Prelude.{◌≡◌, ◌≤◌, ◌<◌, ◌^◌, ◌+◌, ◌*◌, ⊤, [], ◌∷◌, ◌++◌, true, Ok, All, IfOk, OnOk, IfSome, IfNone, length, replicate, take, ◌⊎◌};
 ghost use Rattle.std.specs.List.{list_all};
 ghost use Rattle.ipc_ids.specs.declared.message.Event.TheVariants as events;
-ghost use Rattle.script_lines.specs.Sound.{IsTask};
 ghost use Rattle.script_lines.specs.Text.{is_allowed};
 ghost use Rattle.script_lines.specs.Names.{task_names};
 ghost use Rattle.script_reader.specs.Reading.{schedule_of};
-ghost use Rattle.search_goals.specs.Lines.{comment_text, times_text, step_text, kill_text, hangup_text};
-ghost use Rattle.search_goals.specs.Writing.{IsOnTask, IsStep, AreNamed, Names, Writes, IsFront, IsUnderWay};
+ghost use Rattle.script_reader.specs.Schedule.{MayCome, MayAllCome};
+ghost use Rattle.search_goals.specs.Lines.{comment_text, times_text, step_text, kill_text, hangup_text, spawn_text};
+ghost use Rattle.search_goals.specs.Writing.{IsStep, AreNamed, IsNamed, Writes, IsFront};
 
+use crate::names::{TaskNames, next_name};
 use ipc_ids::{Event, NoMemory, TaskNo};
-use script_lines::is_name;
+use script_lines::names_of;
 use script_reader::Script;
 use std::alloc::Global;
-
-/// Whether each task has a name as lines have them, as each task of a script that was read has.
-pub fn are_named(script: &Script) -> bool
-    ensures { result ≡ true → AreNamed script.now.tasks }
-{
-    for task in script.tasks.as_slice() {
-        if !is_name(task.name.as_slice()) {
-            return false;
-        }
-    }
-    true
-}
-
-/// The name of a task.
-fn name_of(script: &Script, task: TaskNo) -> &[u8]
-    requires named { AreNamed script.now.tasks }
-    requires there { IsTask (length script.now.tasks) task.0 }
-    ensures { Names (task_names script.now.tasks) task result.now }
-{
-    script.tasks.as_slice()[task.0 as usize - 1].name.as_slice()
-}
 
 /// Adds ` x N`, where there is more than one step.
 fn push_times(alloc: Global, text: &mut Vec<u8>, count: u64) -> Result<(), NoMemory>
@@ -80,14 +60,37 @@ fn push_hangup(alloc: Global, text: &mut Vec<u8>, name: &[u8], phone: u64) -> Re
     Ok(())
 }
 
-/// Adds a comment.
-fn push_comment(text: &mut Vec<u8>, comment: &[u8]) -> Result<(), NoMemory>
-    ensures { OnOk result (text.new.items ≡ text.old.items ++ comment_text comment.now) }
+/// Adds the line by which a task of a template is made.
+fn push_spawn(text: &mut Vec<u8>, template: &[u8], name: &[u8]) -> Result<(), NoMemory>
+    ensures { OnOk result (text.new.items ≡ text.old.items ++ spawn_text template.now name.now) }
 {
-    text.extend_from_slice(b"# ")?;
-    text.extend_from_slice(comment)?;
+    text.extend_from_slice(b"spawn ")?;
+    text.extend_from_slice(template)?;
+    text.push(b' ')?;
+    text.extend_from_slice(name)?;
     text.push(b'\n')?;
     Ok(())
+}
+
+/// Adds the line by which a task of the template at a place is made, which gets a name of its own.
+fn push_made(
+    alloc: Global,
+    text: &mut Vec<u8>,
+    script: &Script,
+    names: &mut TaskNames,
+    place: u32,
+) -> Result<(), NoMemory>
+    requires named { AreNamed script.now.templates }
+    requires template { place < length script.now.templates }
+    requires room { length names.old < 64 }
+    ensures { OnOk result (Writes (task_names script.now.templates) names.old text.old.items
+        text.new.items (events.Spawn place ∷ []) names.new) }
+{
+    let templates = names_of(alloc, script.templates.as_slice())?;
+    let name = next_name(alloc, &templates, names)?;
+    let template = script.templates.as_slice()[place as usize].name.as_slice();
+    push_spawn(text, template, name.as_slice())?;
+    names.push(alloc, name.as_slice())
 }
 
 /// Adds the line of an event that comes so many times in a row, as only a step may.
@@ -95,22 +98,23 @@ fn push_line(
     alloc: Global,
     text: &mut Vec<u8>,
     script: &Script,
+    names: &mut TaskNames,
     event: Event,
     count: u64,
 ) -> Result<(), NoMemory>
-    requires named { AreNamed script.now.tasks }
-    requires on { IsOnTask (length script.now.tasks) event }
+    requires named { AreNamed script.now.templates }
+    requires may { MayCome (length names.old) (length script.now.templates) event }
     requires some { 1 ≤ count }
     requires few { count ≤ 16384 }
     requires times { IsStep event ⊎ (count ≡ 1) }
-    ensures { OnOk result (Writes (task_names script.now.tasks) text.old.items text.new.items
-        (replicate count event)) }
+    ensures { OnOk result (Writes (task_names script.now.templates) names.old text.old.items
+        text.new.items (replicate count event) names.new) }
 {
     match event {
-        Event::Step(task) => push_step(alloc, text, name_of(script, task), count),
-        Event::Kill(task) => push_kill(text, name_of(script, task)),
-        Event::Hangup(task, phone) => push_hangup(alloc, text, name_of(script, task), phone),
-        Event::Spawn(_) => Ok(()),
+        Event::Step(task) => push_step(alloc, text, names.name_of(task), count),
+        Event::Kill(task) => push_kill(text, names.name_of(task)),
+        Event::Hangup(task, phone) => push_hangup(alloc, text, names.name_of(task), phone),
+        Event::Spawn(place) => push_made(alloc, text, script, names, place),
     }
 }
 
@@ -161,8 +165,9 @@ fn front_of(events: &[Event]) -> Option<Front<'_>>
     }
 }
 
-/// Adds the lines of events to a schedule of a script, the steps of one task in a row as one line.
-/// There are at most 16,384 events, each a step, a kill or a hangup of a task of the script.
+/// Adds the lines of events to a schedule of a script, behind which the tasks have these names; the
+/// steps of one task in a row are one line, and a task that is made gets a name that no other has.
+/// There are at most 16,384 events.
 ///
 /// # Errors
 ///
@@ -171,45 +176,19 @@ pub fn push_events(
     alloc: Global,
     text: &mut Vec<u8>,
     script: &Script,
+    names: &mut TaskNames,
     events: &[Event],
 ) -> Result<(), NoMemory>
-    requires named { AreNamed script.now.tasks }
-    requires on { All (IsOnTask (length script.now.tasks)) events.now }
+    requires named { AreNamed script.now.templates }
+    requires may { MayAllCome (length names.old) (length script.now.templates) events.now }
     requires few { length events.now ≤ 16384 }
-    ensures { OnOk result (Writes (task_names script.now.tasks) text.old.items text.new.items
-        events.now) }
+    ensures { OnOk result (Writes (task_names script.now.templates) names.old text.old.items
+        text.new.items events.now names.new) }
 {
     let mut rest = events;
     while let Some(front) = front_of(rest) {
-        push_line(alloc, text, script, front.first, front.count)?;
+        push_line(alloc, text, script, names, front.first, front.count)?;
         rest = front.others;
     }
     Ok(())
-}
-
-/// A schedule of a script as a file has it: a comment, and then the events, where the steps of one
-/// task in a row are one line. Read again it gives these events. There are at most 16,384 of them,
-/// each a step, a kill or a hangup of a task of the script, and the comment has at most 65,536
-/// bytes.
-///
-/// # Errors
-///
-/// `NoMemory` where no memory was found.
-pub fn schedule_text(
-    alloc: Global,
-    script: &Script,
-    comment: &[u8],
-    events: &[Event],
-) -> Result<Vec<u8>, NoMemory>
-    requires named { AreNamed script.now.tasks }
-    requires on { All (IsOnTask (length script.now.tasks)) events.now }
-    requires few { length events.now ≤ 16384 }
-    requires allowed { list_all is_allowed comment.now ≡ true }
-    requires short { length comment.now ≤ 65536 }
-    ensures { IfOk result (λ text. schedule_of script.now text.items ≡ Ok events.now) }
-{
-    let mut text = Vec::new(alloc);
-    push_comment(&mut text, comment)?;
-    push_events(alloc, &mut text, script, events)?;
-    Ok(text)
 }

@@ -20,7 +20,8 @@ use Rattle.task_system.specs.Run.{RunState, ops_of, program_by, program_of, prog
 use Rattle.turn_counts.specs.Constants.{Constant, constant, Constants, made_from, made_by_all}
 use Rattle.turn_counts.proofs.KeptConstants.{turn_keeps, events_keep}
 use Rattle.run_words.specs.Reached.{IsReached, spawns_of}
-use Rattle.state_goals.specs.Plans.{template_of, spawned_plans, plans_of, bodies_in, bodies_of, DoesBodies}
+use Rattle.search_goals.specs.Places.{bodies_in}
+use Rattle.state_goals.specs.Plans.{template_of, spawned_plans, plans_of, bodies_of, DoesBodies}
 use Rattle.state_goals.specs.Holding.{program_with}
 
 -- ---- a program before its first step

@@ -1,5 +1,5 @@
 -- The plans of the tasks of a run, and the bodies that they give its programs.
-use Rattle.std.specs.Prelude.{ℕ, ◌≡◌, ◌-◌, ⊤, List, [], ◌++◌, Option, None, Some, slice_get}
+use Rattle.std.specs.Prelude.{ℕ, ◌≡◌, ◌-◌, ⊤, List, ◌++◌, Option, None, slice_get}
 use Rattle.std.specs.List.{filter_map}
 use Rattle.ipc_ids.specs.declared.numbers.TaskNo.{TaskNo}
 use Rattle.ipc_ids.specs.declared.op.Body.{Body}
@@ -7,6 +7,7 @@ use Rattle.ipc_ids.specs.declared.message.Event.{Event}
 use Rattle.ipc_ids.specs.declared.message.Event.TheVariants.{Step, Kill, Hangup, Spawn}
 use Rattle.script_lines.specs.declared.plan.TaskPlan.{TaskPlan}
 use Rattle.script_lines.specs.Plan.{Plan}
+use Rattle.search_goals.specs.Places.{bodies_in}
 use Rattle.task_system.specs.Run.{ops_of}
 use Rattle.turn_counts.specs.Constants.{Constant, Raw, Naming, Async, Block}
 
@@ -29,12 +30,7 @@ plans_of plan spawned = plan.tasks ++ spawned_plans plan.templates spawned
 abbrev pub plan_at : Plan → List ℕ → TaskNo → Option TaskPlan
 plan_at plan spawned task = slice_get (plans_of plan spawned) (task.0 - 1)
 
--- the bodies of a plan; none where there is no plan
-abbrev pub bodies_in : Option TaskPlan → List Body
-bodies_in None = []
-bodies_in (Some plan) = plan.bodies
-
--- those of a task
+-- its bodies
 abbrev pub bodies_of : Plan → List ℕ → TaskNo → List Body
 bodies_of plan spawned task = bodies_in (plan_at plan spawned task)
 

@@ -1,9 +1,13 @@
-//! That conditions are about no counts.
-ghost use Rattle.std.specs.Prelude.{◌≡◌, List};
+//! That conditions are about no counts, and hold at no operation that no body has.
+ghost use Rattle.std.specs.Prelude.{◌≡◌, ℕ, false, List, length};
+ghost use Rattle.script_lines.specs.Plan.{Plan};
+ghost use Rattle.script_lines.specs.Sound.{IsTask};
 ghost use Rattle.search_goals.specs.declared.conditions.Condition.{Condition};
+ghost use Rattle.search_goals.specs.Places.{bodies_of, is_known};
+ghost use Rattle.run_words.specs.Reached.{IsReached};
 ghost use Rattle.task_system.specs.Run.{RunState};
 ghost use Rattle.turn_counts.specs.Alike.{AreAlikeStates};
-ghost use Rattle.state_goals.specs.Holding.{holds, all_hold};
+ghost use Rattle.state_goals.specs.Holding.{task_of, holds, all_hold};
 
 /// Of two states that differ in counts alone, a condition holds in both or in neither, and so do all
 /// of some conditions.
@@ -11,4 +15,12 @@ pub fn alike_states_hold_alike()
     ensures one { (a b : RunState) → AreAlikeStates a b → (c : Condition) → holds c a ≡ holds c b }
     ensures all { (a b : RunState) → AreAlikeStates a b → (cs : List Condition)
         → all_hold cs a ≡ all_hold cs b }
+{}
+
+/// Of a task of the script, a condition that asks for an operation which no body of the task has
+/// holds in no state of a run.
+pub fn nothing_stands_at_unknown_operations()
+    ensures { (plan : Plan) (spawned : List ℕ) (now : RunState) → IsReached plan spawned now
+        → (c : Condition) → IsTask (length plan.tasks) (task_of c).0
+        → is_known (bodies_of plan.tasks (task_of c)) c ≡ false → holds c now ≡ false }
 {}

@@ -8,8 +8,6 @@
 mod holding;
 mod laws;
 mod plans;
-#[cfg(test)]
-mod tests;
 
 pub use holding::{all_hold, holds};
-pub use laws::alike_states_hold_alike;
+pub use laws::{alike_states_hold_alike, nothing_stands_at_unknown_operations};

@@ -1,8 +1,9 @@
 //! The bodies of the tasks of a run, by the script and the spawns.
 ghost use Rattle.std.specs.Prelude.{◌≡◌, ◌-◌, slice_get};
 ghost use Rattle.std.specs.Option.{option_copied};
+ghost use Rattle.search_goals.specs.Places.{bodies_in};
 ghost use Rattle.run_words.specs.Reached.{spawns_of};
-ghost use Rattle.state_goals.specs.Plans.{template_of, spawned_plans, plan_at, bodies_in, bodies_of};
+ghost use Rattle.state_goals.specs.Plans.{template_of, spawned_plans, plan_at, bodies_of};
 
 use ipc_ids::{Body, Event, TaskNo};
 use script_reader::{Script, TaskPlan};

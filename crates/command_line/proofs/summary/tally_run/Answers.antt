@@ -1,6 +1,6 @@
 use Rattle.std.proofs.Common.{◌≡◌, ◌+◌, ◌∙◌, arith, ap, length, refl, sym, add-one}
 use Rattle.schedule_replay.specs.Replay.{ReplayState}
-use Rattle.schedule_replay.proofs.RunHistories.{may_from, may_now, may_on}
+use Rattle.run_laws.proofs.RunHistories.{may_from, may_now, may_on}
 use Rattle.command_line.proofs.Tallies.{one_more_event, no_more_events}
 use Rattle.command_line.proofs.summary.tally_run.Goals as goal
 

@@ -1,15 +1,15 @@
-use Rattle.std.proofs.Common.{List, length, refl, sym, ap, subst, arith}
+use Rattle.std.proofs.Common.{◌≡◌, true, List, length, refl, sym, ap, subst, arith}
 use Rattle.ipc_ids.specs.declared.message.Event.{Event}
 use Rattle.schedule_search.specs.declared.outcome.Outcome.TheVariants as outcomes
 use Rattle.schedule_search.specs.Problem.{search_of}
-use Rattle.schedule_search.specs.Search.{AreOf}
+use Rattle.schedule_search.specs.Search.{may_try}
 use Rattle.hipc_search.specs.Schedule.{IsSchedule}
 use Rattle.hipc_search.proofs.answer.search_answer.Goals as goal
 
-pub found_text-requires-clause-moves : goal.found_text-requires-clause-moves
-found_text-requires-clause-moves c =
+pub found_text-requires-clause-tried : goal.found_text-requires-clause-tried
+found_text-requires-clause-tried c =
     let right = rw c.in-Found.is at c.in_ok-outcome.ensures in
-    subst (λ (es : List Event). AreOf c.args.problem.now.moves.now es) (sym c.as_slice.ensures.value) right.made.of_moves
+    subst (λ (es : List Event). may_try (search_of c.args.problem.now) es ≡ true) (sym c.as_slice.ensures.value) right.finds.made.tried
 
 pub found_text-requires-clause-few : goal.found_text-requires-clause-few
 found_text-requires-clause-few c =
@@ -23,7 +23,7 @@ pub returns-in_ok-text-in-Found-clause-due : goal.returns-in_ok-text-in-Found-cl
 returns-in_ok-text-in-Found-clause-due c =
     let right = rw c.in-Found.is at c.in_ok-outcome.ensures in
     let written =
-    subst (λ (es : List Event). IsSchedule (search_of c.args.problem.now) c.args.before.now c.args.command.now.goal.now es c.in_ok-text-in-Found.text.items)
+    subst (λ (es : List Event). IsSchedule (search_of c.args.problem.now) c.args.before.now c.args.goal.now es c.in_ok-text-in-Found.text.items)
     c.as_slice.ensures.value c.in_ok-text-in-Found.ensures in
     (outcomes.Found c.in-Found.events, right, (refl, written))
 

@@ -11,12 +11,15 @@ pub returns-in-Ok-clause-due : goal.returns-in-Ok-clause-due
 returns-in-Ok-clause-due c =
     subst
     (λ (r : Result Asked (ℕ × Reason)). IfOk c.with_goal.result
-    (λ answer. DueForAsked (said c.args.command.now) c.args.before.now (search_with (said c.args.command.now) c.args.script.now c.args.from.now r) answer.status answer.text.items))
-    (sym c.in-Ok.ensures.value) c.with_goal.ensures.due
+    (λ answer. DueForAsked (said c.args.command.now) c.args.before.now (search_with (said c.args.command.now) c.args.script.now
+    (record { events = c.args.from.now; names = c.args.names }) r) answer.status answer.text.items))
+    (sym (rw c.in_ok-table.ensures at c.in-Ok.ensures.value)) c.with_goal.ensures.due
 
 pub returns-in-Err-Bad-clause-due : goal.returns-in-Err-Bad-clause-due
 returns-in-Err-Bad-clause-due c =
+    let fault = rw c.in-Err-Bad.field-0-is at c.in-Err-Bad.ensures.value in
     subst
     (λ (r : Result Asked (ℕ × Reason)). IfOk c.fault_answer.result
-    (λ answer. DueForAsked (said c.args.command.now) c.args.before.now (search_with (said c.args.command.now) c.args.script.now c.args.from.now r) answer.status answer.text.items))
-    (sym (rw c.in-Err-Bad.field-0-is at c.in-Err-Bad.ensures.value)) c.fault_answer.ensures.says
+    (λ answer. DueForAsked (said c.args.command.now) c.args.before.now (search_with (said c.args.command.now) c.args.script.now
+    (record { events = c.args.from.now; names = c.args.names }) r) answer.status answer.text.items))
+    (sym (rw c.in_ok-table.ensures at fault)) c.fault_answer.ensures.says

@@ -1,7 +1,9 @@
 use Rattle.std.proofs.Common.{ℕ, ◌++◌, [], ◌∷◌, List, Result, length, length-append, sym, ap, subst, ◌∙◌, arith}
 use Rattle.std.specs.Prelude.{IfOk, codes}
 use Rattle.ipc_ids.specs.declared.message.Event.{Event}
+use Rattle.script_reader.specs.EventLine.{EventsAndNames}
 use Rattle.script_lines.specs.declared.fault.Reason.{Reason}
+use Rattle.hipc_search.specs.Asking.{said_first}
 use Rattle.hipc_search.specs.Command.{said}
 use Rattle.hipc_search.specs.Due.{DueForEvents}
 use Rattle.hipc_search.specs.Schedule.{Precedes}
@@ -11,7 +13,7 @@ use Rattle.hipc_search.proofs.due.with_first.Goals as goal
 pub returns-in-Err-Bad-clause-due : goal.returns-in-Err-Bad-clause-due
 returns-in-Err-Bad-clause-due c =
     subst
-    (λ (r : Result (List Event) (ℕ × Reason)). IfOk c.fault_answer.result
+    (λ (r : Result EventsAndNames (ℕ × Reason)). IfOk c.fault_answer.result
     (λ answer. DueForEvents (said c.args.command.now) c.args.script.now (c.args.bytes.now ++ codes "\n") r answer.status answer.text.items))
     (sym (rw c.in-Err-Bad.field-0-is at c.in-Err-Bad.ensures.value)) c.fault_answer.ensures.says
 
@@ -24,6 +26,9 @@ with_events-requires-clause-short c =
 
 pub with_events-requires-clause-first : goal.with_events-requires-clause-first
 with_events-requires-clause-first c =
-    subst (λ (es : List Event). Precedes c.args.script.now c.as_slice-2.result.now es) (sym c.as_slice.ensures.value)
-    (subst (λ (b : List ℕ). Precedes c.args.script.now b c.in-Ok.from.items) (sym (c.as_slice-2.ensures.value ∙ c.in_ok-before.ensures))
-    (schedule_first c.args.script.now c.args.bytes.now c.in-Ok.from.items c.in-Ok.ensures.spelled))
+    let script = c.args.script.now in
+    let first : EventsAndNames = said_first c.in-Ok.first in
+    subst (λ (es : List Event). Precedes script c.as_slice-2.result.now (record { events = es; names = first.names }))
+    (sym c.as_slice.ensures.value)
+    (subst (λ (b : List ℕ). Precedes script b first) (sym (c.as_slice-2.ensures.value ∙ c.in_ok-before.ensures))
+    (schedule_first script c.args.bytes.now first c.in-Ok.ensures.spelled))

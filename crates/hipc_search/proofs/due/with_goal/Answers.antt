@@ -1,50 +1,101 @@
-use Rattle.std.proofs.Common.{ℕ, List, Result, sym, subst, ◌∙◌}
+use Rattle.std.proofs.Common.{◌≡◌, ◌≤◌, ℕ, List, length, Result, Ok, sym, ap, subst, ◌∙◌, arith}
 use Rattle.std.specs.Prelude.{IfOk}
+use Rattle.ipc_ids.specs.declared.message.Event.{Event}
+use Rattle.script_lines.specs.Plan.{Plan}
+use Rattle.script_reader.specs.EventLine.{EventsAndNames}
 use Rattle.search_goals.specs.GoalText.{said as said_goal}
-use Rattle.schedule_search.specs.Search.{Search}
-use Rattle.hipc_search.specs.Command.{said}
+use Rattle.schedule_search.specs.declared.problem.MostMade.{MostMade}
+use Rattle.schedule_search.specs.Search.{Search, IsSound}
+use Rattle.hipc_search.specs.Command.{Command, said}
 use Rattle.hipc_search.specs.Due.{DueForAsked}
-use Rattle.hipc_search.proofs.Answering.{kills_at_fault, hangups_at_fault, search_is, search_sound}
+use Rattle.hipc_search.specs.Moves.{moves_of}
+use Rattle.hipc_search.proofs.Answering.{kills_at_fault, hangups_at_fault, bounds_at_fault, search_is, search_sound}
 use Rattle.hipc_search.proofs.due.with_goal.Goals as goal
 
 pub returns-in-Err-Bad-clause-due : goal.returns-in-Err-Bad-clause-due
 returns-in-Err-Bad-clause-due c =
-    let command = said c.args.command.now in
-    let kills = rw c.in-Err-Bad.field-0-is at c.in-Err-Bad.ensures.value in
+    let command : Command = said c.args.command.now in
+    let first : EventsAndNames = record { events = c.args.from.now; names = c.args.names } in
+    let fault = c.in-Err-Bad in
+    let kills = rw fault.field-0-is at fault.ensures.value in
     subst
     (λ (r : Result Search (List ℕ)). IfOk c.fault_answer.result
     (λ answer. DueForAsked command c.args.before.now r answer.status answer.text.items))
-    (sym (kills_at_fault command c.args.script.now c.args.from.now (said_goal c.args.goal.now) (c.in-Err-Bad.word, c.in-Err-Bad.reason)
-    (rw c.in_ok-names.ensures at kills)))
+    (sym (kills_at_fault command c.args.script.now first (said_goal c.args.goal.now) (fault.word, fault.reason)
+    (rw c.in_ok-table.ensures at kills)))
     c.fault_answer.ensures.says
 
 pub returns-in-Err-Bad-listed_in-clause-due : goal.returns-in-Err-Bad-listed_in-clause-due
 returns-in-Err-Bad-listed_in-clause-due c =
-    let command = said c.args.command.now in
+    let command : Command = said c.args.command.now in
+    let first : EventsAndNames = record { events = c.args.from.now; names = c.args.names } in
     let fault = c.in-Err-Bad-listed_in in
     let hangups = rw fault.field-0-is at fault.ensures.value in
     subst
     (λ (r : Result Search (List ℕ)). IfOk c.fault_answer-in-Err-Bad-listed_in.result
     (λ answer. DueForAsked command c.args.before.now r answer.status answer.text.items))
-    (sym (hangups_at_fault command c.args.script.now c.args.from.now (said_goal c.args.goal.now) c.in-Ok.killed.items (fault.word, fault.reason)
-    (rw c.in_ok-names.ensures at c.in-Ok.ensures.value) (rw c.in_ok-names.ensures at hangups)))
+    (sym (hangups_at_fault command c.args.script.now first (said_goal c.args.goal.now) c.in-Ok.killed.items (fault.word, fault.reason)
+    (rw c.in_ok-table.ensures at c.in-Ok.ensures.value) (rw c.in_ok-table.ensures at hangups)))
     c.fault_answer-in-Err-Bad-listed_in.ensures.says
 
-pub search_answer-requires-clause-sound : goal.search_answer-requires-clause-sound
-search_answer-requires-clause-sound c =
-    let command = said c.args.command.now in
-    search_sound c.args.script.now c.args.from.now c.as_slice-3.result.now command.kills (said_goal c.args.goal.now)
-    c.in-Ok.killed.items c.in-Ok-listed_in.hangups.items command.hangup c.count_tasks-tasks.ensures.sound c.requires.may
-    c.requires.few (rw c.in_ok-names.ensures at c.in-Ok-listed_in.ensures.value) c.in-Ok-listed_in.ensures.few
-    (c.as_slice-3.ensures.value ∙ rw (c.count_tasks-tasks.ensures.count, c.as_slice.ensures.value, c.as_slice-2.ensures.value) at c.in_ok-moves.ensures)
+pub returns-in-Err-Bad-bounds_in-clause-due : goal.returns-in-Err-Bad-bounds_in-clause-due
+returns-in-Err-Bad-bounds_in-clause-due c =
+    let command : Command = said c.args.command.now in
+    let first : EventsAndNames = record { events = c.args.from.now; names = c.args.names } in
+    let fault = c.in-Err-Bad-bounds_in in
+    let bounds = rw fault.field-0-is at fault.ensures.value in
+    subst
+    (λ (r : Result Search (List ℕ)). IfOk c.fault_answer-in-Err-Bad-bounds_in.result
+    (λ answer. DueForAsked command c.args.before.now r answer.status answer.text.items))
+    (sym (bounds_at_fault command c.args.script.now first (said_goal c.args.goal.now) c.in-Ok.killed.items
+    c.in-Ok-listed_in.hangups.items (fault.word, fault.reason)
+    (rw c.in_ok-table.ensures at c.in-Ok.ensures.value) (rw c.in_ok-table.ensures at c.in-Ok-listed_in.ensures.value)
+    (rw c.in_ok-templates.ensures.names at bounds)))
+    c.fault_answer-in-Err-Bad-bounds_in.ensures.says
+
+pub asks_answer-requires-clause-sound : goal.asks_answer-requires-clause-sound
+asks_answer-requires-clause-sound c =
+    let plan : Plan = c.args.script.now in
+    let from : List Event = c.args.from.now in
+    let moves : List Event = c.as_slice-4.result.now in
+    let bounds : List MostMade = c.in-Ok-bounds_in.bounds.items in
+    let count = c.len-tasks.ensures.count in
+    let some : length c.args.names ≤ 64 = (let few = c.len-tasks.ensures.few in omega (arith, few, count)) in
+    let is : moves ≡ moves_of (length c.args.names) c.in-Ok.killed.items c.in-Ok-listed_in.hangups.items bounds =
+    c.as_slice-4.ensures.value
+    ∙ rw (count, c.as_slice.ensures.value, c.as_slice-2.ensures.value, c.as_slice-3.ensures.value) at c.in_ok-moves.ensures in
+    subst
+    (λ (b : List MostMade). IsSound (record {
+      plan = plan;
+      from = from;
+      moves = moves;
+      kills = c.args.command.now.kills;
+      spawns = b;
+      asked = said_goal c.args.goal.now;
+    }))
+    (sym c.as_slice-5.ensures.value)
+    (search_sound plan from moves c.args.command.now.kills (said_goal c.args.goal.now) (length c.args.names)
+    c.in-Ok.killed.items c.in-Ok-listed_in.hangups.items bounds c.in_ok-templates.ensures.sound c.requires.may
+    c.requires.few some c.in-Ok-listed_in.ensures.few c.in-Ok-bounds_in.ensures.few is)
 
 pub returns-clause-due : goal.returns-clause-due
 returns-clause-due c =
-    let command = said c.args.command.now in
+    let command : Command = said c.args.command.now in
+    let first : EventsAndNames = record { events = c.args.from.now; names = c.args.names } in
+    let killed : List Event = c.in-Ok.killed.items in
+    let hangups : List Event = c.in-Ok-listed_in.hangups.items in
+    let moves : List Event = c.as_slice-4.result.now in
+    let bounds : List MostMade = c.as_slice-5.result.now in
+    let is : moves ≡ moves_of (length c.args.names) killed hangups bounds =
+    c.as_slice-4.ensures.value
+    ∙ rw (c.len-tasks.ensures.count, c.as_slice.ensures.value, c.as_slice-2.ensures.value, c.as_slice-3.ensures.value)
+    at c.in_ok-moves.ensures
+    ∙ ap (moves_of (length c.args.names) killed hangups) (sym c.as_slice-5.ensures.value) in
     subst
-    (λ (r : Result Search (List ℕ)). IfOk c.search_answer.result
+    (λ (r : Result Search (List ℕ)). IfOk c.asks_answer.result
     (λ answer. DueForAsked command c.args.before.now r answer.status answer.text.items))
-    (sym (search_is command c.args.script.now c.args.from.now (said_goal c.args.goal.now) c.in-Ok.killed.items c.in-Ok-listed_in.hangups.items
-    c.as_slice-3.result.now (rw c.in_ok-names.ensures at c.in-Ok.ensures.value) (rw c.in_ok-names.ensures at c.in-Ok-listed_in.ensures.value)
-    (c.as_slice-3.ensures.value ∙ rw (c.count_tasks-tasks.ensures.count, c.as_slice.ensures.value, c.as_slice-2.ensures.value) at c.in_ok-moves.ensures)))
-    c.search_answer.ensures.due
+    (sym (search_is command c.args.script.now first (said_goal c.args.goal.now) killed hangups moves bounds
+    (rw c.in_ok-table.ensures at c.in-Ok.ensures.value) (rw c.in_ok-table.ensures at c.in-Ok-listed_in.ensures.value)
+    (rw c.in_ok-templates.ensures.names at c.in-Ok-bounds_in.ensures.value
+    ∙ ap (λ (b : List MostMade). Ok b) (sym c.as_slice-5.ensures.value)) is))
+    c.asks_answer.ensures.due

@@ -2,8 +2,8 @@ use Rattle.std.proofs.Common.{◌≡◌, ◌≤◌, ◌+◌, ◌∙◌, ◌++◌
 use Rattle.trace_print.specs.Text.{text_of}
 use Rattle.task_system.specs.Run.{turn}
 use Rattle.schedule_replay.specs.Replay.{ReplayState}
-use Rattle.schedule_replay.proofs.RunHistories.{may_from, may_now, may_on}
-use Rattle.schedule_replay.proofs.LawfulRuns.{lawful_of_script}
+use Rattle.run_laws.proofs.RunHistories.{may_from, may_now, may_on}
+use Rattle.run_laws.proofs.LawfulRuns.{lawful_of_script}
 use Rattle.schedule_replay.proofs.Sending.{on_error}
 use Rattle.schedule_replay.proofs.UnderWay.{begun, stepped, ended, part_waiting, part_stepped, keeps_up_at, keeps_up_ended, keeps_up_or}
 use Rattle.schedule_replay.proofs.streaming.replay.Goals as goal

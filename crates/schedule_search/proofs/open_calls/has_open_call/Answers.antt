@@ -1,6 +1,6 @@
-use Rattle.std.proofs.Common.{ℕ, suc, ◌≡◌, ◌<◌, ◌≤◌, ◌+◌, ◌-◌, Bool, true, false, ap, sym, ◌∙◌, subst, arith}
+use Rattle.std.proofs.Common.{ℕ, ◌≡◌, ◌<◌, ◌≤◌, ◌+◌, ◌-◌, true, false, ap, sym, ◌∙◌, subst, arith}
 use Rattle.answerbox.specs.Calls.{call_at}
-use Rattle.schedule_search.specs.Meeting.{is_open, has_open_call}
+use Rattle.schedule_search.specs.OpenCalls.{is_open, has_open_call}
 use Rattle.schedule_search.proofs.Ranges.{any_on, any_here, none_seen}
 use Rattle.schedule_search.proofs.open_calls.has_open_call.Goals as goal
 

@@ -1,7 +1,7 @@
 use Rattle.std.proofs.Common.{◌≡◌, ◌-◌}
 use Rattle.std.specs.List.{list_any, range_with_len}
 use Rattle.answerbox.specs.Calls.{call_at}
-use Rattle.schedule_search.specs.Meeting.{is_open, has_open_call}
+use Rattle.schedule_search.specs.OpenCalls.{is_open, has_open_call}
 use Rattle.schedule_search.proofs.open_calls.has_open_call.Given as goal
 
 -- what the numbers that are left come to is what all come to

@@ -1,4 +1,4 @@
-use Rattle.std.proofs.Common.{ℕ, ◌≡◌, ◌∙◌, List, length, reverse, ap, sym, subst}
+use Rattle.std.proofs.Common.{ℕ, ◌∙◌, List, length, reverse, ap, sym, subst}
 use Rattle.search_core.specs.Moves.{AreMoves}
 use Rattle.schedule_search.specs.Search.{events_of}
 use Rattle.schedule_search.specs.Problem.{search_of}

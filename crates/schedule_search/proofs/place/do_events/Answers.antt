@@ -1,10 +1,10 @@
 use Rattle.std.proofs.Common.{ℕ, refl, arith}
-use Rattle.schedule_search.proofs.Doing.{may_come, may_later, state_later, told_later, state_there, told_there}
+use Rattle.schedule_search.proofs.Doing.{may_first, may_later, state_later, told_later, state_there, told_there}
 use Rattle.schedule_search.proofs.place.do_events.Goals as goal
 
 pub do_event-requires-clause-may : goal.do_event-requires-clause-may
 do_event-requires-clause-may c =
-    may_come c.args.events.now c.loop-event.event-index _ _ c.loop-event-test.true refl c.loop-event.replay.state c.loop-event.invariant.may
+    may_first c.args.events.now c.loop-event.event-index _ _ c.loop-event-test.true refl c.loop-event.replay.state c.loop-event.invariant.may
 
 pub loop-event-preserved : goal.loop-event-preserved
 loop-event-preserved c =

@@ -13,4 +13,4 @@ pub do_events-requires-2-clause-may : goal.do_events-requires-2-clause-may
 do_events-requires-2-clause-may c =
     let first : c.do_events.new.replay.state ≡ first_state (search_of c.args.problem.now) =
     c.in_ok-do_events.ensures.state ∙ ap (λ (z : RunState). state_after z c.args.problem.now.from.now) c.in_ok-replay.ensures.state in
-    moves_may (search_of c.args.problem.now) c.requires.can.sound c.do_events.new.replay.state c.args.events.now first c.requires.can.of_moves
+    moves_may (search_of c.args.problem.now) c.requires.can.sound c.do_events.new.replay.state c.args.events.now first c.requires.can.tried

@@ -1,4 +1,4 @@
-use Rattle.std.proofs.Common.{◌≡◌, ◌∙◌, length, sym, subst, arith}
+use Rattle.std.proofs.Common.{◌∙◌, length, sym, subst}
 use Rattle.script_lines.specs.Sound.{IsTask}
 use Rattle.task_system.specs.Run.{RunState}
 use Rattle.schedule_search.specs.Search.{state_behind}

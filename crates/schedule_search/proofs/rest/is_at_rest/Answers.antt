@@ -1,9 +1,7 @@
-use Rattle.std.proofs.Common.{ℕ, suc, ◌≡◌, ◌<◌, ◌≤◌, ◌+◌, ◌-◌, Bool, true, false, length, ap, sym, ◌∙◌, subst, arith}
+use Rattle.std.proofs.Common.{ℕ, ◌≡◌, ◌<◌, ◌≤◌, ◌+◌, ◌-◌, true, false, length, ap, sym, ◌∙◌, subst, arith}
 use Rattle.script_lines.specs.Sound.{IsTask}
 use Rattle.task_system.specs.Run.{RunState}
-use Rattle.schedule_search.specs.Search.{state_behind}
 use Rattle.schedule_search.specs.Meeting.{changes_nothing, is_at_rest}
-use Rattle.schedule_search.specs.Problem.{search_of}
 use Rattle.schedule_search.proofs.Ranges.{all_on, not_all, all_seen}
 use Rattle.schedule_search.proofs.rest.is_at_rest.Goals as goal
 

@@ -1,7 +1,7 @@
 use Rattle.std.proofs.Common.{◌≡◌, Bool, true, false, ◌&&◌, ap, sym, ◌∙◌, subst}
 use Rattle.std.specs.Prelude.{IfOk}
-use Rattle.answerbox.specs.Calls.{CallTable}
-use Rattle.schedule_search.specs.Meeting.{is_at_rest, has_open_call}
+use Rattle.schedule_search.specs.OpenCalls.{has_open_call}
+use Rattle.schedule_search.specs.Meeting.{is_at_rest}
 use Rattle.schedule_search.proofs.rest.is_stuck.Goals as goal
 
 pub returns-then-not-waits : goal.returns-then-not-waits

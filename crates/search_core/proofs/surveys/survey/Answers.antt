@@ -1,4 +1,4 @@
-use Rattle.std.proofs.Common.{ℕ, List, false, refl, sym, subst}
+use Rattle.std.proofs.Common.{ℕ, List, sym, subst}
 use Rattle.search_core.specs.Node.{IsUnderWay, trails_of}
 use Rattle.search_core.specs.declared.nodes.Node.{Node}
 use Rattle.search_core.proofs.Going.{first_place}
@@ -8,5 +8,5 @@ pub look_on-requires-clause-under_way : goal.look_on-requires-clause-under_way
 look_on-requires-clause-under_way g c =
     let moves : ℕ = g.M.Maze.moves c.args.maze.now in
     let code : List ℕ → List ℕ = g.M.Maze.code c.args.maze.now in
-    subst (λ (z : List Node). IsUnderWay moves c.args.most (λ p. false) code (trails_of z) 0 0)
-    (sym c.in_ok-nodes.ensures) (first_place moves c.args.most (λ p. false) code refl)
+    subst (λ (z : List Node). IsUnderWay moves c.args.most (λ p. ⊥) code (trails_of z) 0 0)
+    (sym c.in_ok-nodes.ensures) (first_place moves c.args.most (λ p. ⊥) code (λ (never : ⊥). never))

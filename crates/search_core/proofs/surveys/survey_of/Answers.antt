@@ -1,5 +1,4 @@
 use Rattle.std.proofs.Common.{ℕ, ◌≡◌, ◌≤◌, List, Some, length, slice_get}
-use Rattle.std.proofs.lemmas.Bool.{false≢true}
 use Rattle.search_core.specs.Moves.{IsBefore}
 use Rattle.search_core.specs.Node.{trails_of}
 use Rattle.search_core.specs.Survey.{moves_of}
@@ -47,4 +46,4 @@ returns-in_ok-paths-in-NoneWithin g c =
 pub unreachable-requires : goal.unreachable-requires
 unreachable-requires g c =
     let h = rw c.in-Found.is at c.requires.ended in
-    absurd (false≢true h.met)
+    absurd h.met

@@ -9,8 +9,8 @@ abbrev pub invariant-loop-word : goal.invariant-loop-word
 invariant-loop-word l =
     record {
       told :
-          lines_from (with_condition l.names) l.number l.conditions.items (text_words l.rest)
-          ≡ conditions_in l.names (text_words l.text);
+          lines_from (with_condition l.names l.tasks) l.number l.conditions.items (text_words l.rest)
+          ≡ conditions_in l.names l.tasks (text_words l.text);
       short : l.number + length l.rest ≤ 2 + length l.text;
     }
 

@@ -1,8 +1,9 @@
-use Rattle.std.proofs.Common.{[], length, refl, arith}
+use Rattle.std.proofs.Common.{ℕ, [], length, refl, sym, subst, arith}
 use Rattle.script_lines.specs.Names.{task_names}
+use Rattle.script_reader.specs.Schedule.{MayAllCome}
 use Rattle.search_goals.specs.Writing.{IsFront}
 use Rattle.search_goals.proofs.Adding.{writes_none}
-use Rattle.search_goals.proofs.Texts.{step_on, on_others, shorter}
+use Rattle.search_goals.proofs.Texts.{step_on, may_first, may_others, shorter}
 use Rattle.search_goals.proofs.writer.push_events.Goals as goal
 
 pub loop-front-init : goal.loop-front-init
@@ -10,27 +11,36 @@ loop-front-init c = record {
   way = record {
     done = [];
     parts = refl;
-    wrote = writes_none (task_names c.args.script.now.tasks)
-        c.args.text.now.items;
+    wrote = writes_none (task_names c.args.script.now.templates) c.args.names.now c.args.text.now.items;
   };
-  on = c.requires.on;
+  may = c.requires.may;
   few = c.requires.few;
 }
 
+pub push_line-requires-clause-may : goal.push_line-requires-clause-may
+push_line-requires-clause-may c =
+    let new = c.in-Some.front in
+    may_first (length c.loop-front.names) (length c.args.script.now.templates) new.count c.loop-front.rest.now new.first
+    new.others.now c.in-Some.ensures.some c.loop-front.invariant.may
+
 pub loop-front-preserved : goal.loop-front-preserved
 loop-front-preserved c =
-    let names = task_names c.args.script.now.tasks in
-    let n = length c.args.script.now.tasks in
+    let templates = task_names c.args.script.now.templates in
+    let t : ℕ = length c.args.script.now.templates in
+    let names = c.loop-front.names in
+    let known = c.push_line.new.names in
     let rest = c.loop-front.rest.now in
     let new = c.in-Some.front in
     let front : IsFront rest new.first new.count new.others.now = c.in-Some.ensures.some in
     let few = c.loop-front.invariant.few in
-    let less = shorter names [] [] [] n rest c.args.events.now new.first new.count new.others.now front in
+    let wrote = c.in_ok-push_line.ensures in
+    let less = shorter templates c.args.names.now names known [] [] [] rest c.args.events.now new.first new.count
+    new.others.now front in
     record {
-      way = step_on names c.args.text.now.items c.loop-front.text.items c.push_line.new.text.items n rest
-          c.args.events.now new.first new.count new.others.now front c.loop-front.invariant.way
-          c.in_ok-push_line.ensures;
-      on = on_others names [] [] [] n rest c.args.events.now new.first new.count new.others.now front
-          c.loop-front.invariant.on;
+      way = step_on templates c.args.names.now names known c.args.text.now.items c.loop-front.text.items
+          c.push_line.new.text.items rest c.args.events.now new.first new.count new.others.now front
+          c.loop-front.invariant.way wrote;
+      may = subst (λ (n : ℕ). MayAllCome n t new.others.now) (sym wrote.all)
+          (may_others (length names) t new.count rest new.first new.others.now front c.loop-front.invariant.may);
       few = omega (arith, few, less);
     }

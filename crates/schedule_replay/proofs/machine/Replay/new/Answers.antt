@@ -1,4 +1,4 @@
-use Rattle.schedule_replay.proofs.RunHistories.{start_told}
+use Rattle.run_laws.proofs.RunHistories.{start_told}
 use Rattle.schedule_replay.proofs.machine.Replay.new.Goals as goal
 
 pub returns-in-Ok-clause-history : goal.returns-in-Ok-clause-history

@@ -1,6 +1,6 @@
 use Rattle.std.proofs.Common.{ap}
 use Rattle.schedule_replay.specs.Replay.{ReplayState}
-use Rattle.schedule_replay.proofs.RunHistories.{kept_by}
+use Rattle.run_laws.proofs.RunHistories.{kept_by}
 use Rattle.schedule_replay.proofs.machine.Replay.step.Goals as goal
 
 pub returns-in-Ok-clause-history : goal.returns-in-Ok-clause-history

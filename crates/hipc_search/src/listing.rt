@@ -1,0 +1,194 @@
+//! The text of the states at rest that a survey lists.
+ghost use Rattle.std.specs.Prelude.{◌≡◌, ◌≤◌, ◌++◌, ℕ, List, Some, IfOk, OnOk, codes, drop, length, slice_get};
+ghost use Rattle.ipc_ids.specs.declared.message.Event.{Event};
+ghost use Rattle.search_goals.specs.Writing.{IsNamed};
+ghost use Rattle.trace_print.specs.Text.{text_of_entry};
+ghost use Rattle.schedule_search.specs.Search.{IsSound, Made};
+ghost use Rattle.schedule_search.specs.Problem.{search_of};
+ghost use Rattle.schedule_search.specs.Survey.{schedules_of};
+ghost use Rattle.hipc_search.specs.Schedule.{ComesFirst};
+ghost use Rattle.hipc_search.specs.Told.{entry_of, told_text};
+ghost use Rattle.hipc_search.specs.Survey.{state_name, heading, outcome_lines, IsState, AreStates, IsListing};
+
+use crate::known::names_behind;
+use crate::schedule::push_comment;
+use crate::told::last_outcome;
+use ipc_ids::{Entry, Event, NoMemory, TaskNo};
+use schedule_search::{Problem, told_by};
+use search_goals::{TaskNames, push_events};
+use std::alloc::Global;
+use trace_print::entry_text;
+
+/// What stands behind the first byte.
+fn behind_first(bytes: &[u8]) -> &[u8]
+    ensures { result.now ≡ drop 1 bytes.now }
+{
+    match bytes {
+        [] => bytes,
+        [_, others @ ..] => others,
+    }
+}
+
+/// Adds the line of an entry behind a colon, without its first byte.
+fn push_line(alloc: Global, text: &mut Vec<u8>, entry: &Entry) -> Result<(), NoMemory>
+    ensures { OnOk result (text.new.items
+        ≡ text.old.items ++ (codes ":" ++ drop 1 (text_of_entry entry.now))) }
+{
+    let mut line = Vec::new(alloc);
+    entry_text(entry, &mut line)?;
+    text.push(b':')?;
+    text.extend_from_slice(behind_first(line.as_slice()))?;
+    Ok(())
+}
+
+/// Adds that there was no outcome.
+fn push_nothing(text: &mut Vec<u8>) -> Result<(), NoMemory>
+    ensures { OnOk result (text.new.items ≡ text.old.items ++ codes ": no outcome\n") }
+{
+    text.extend_from_slice(b": no outcome\n")?;
+    Ok(())
+}
+
+/// Adds what stands behind the name of a task.
+fn push_told(alloc: Global, text: &mut Vec<u8>, last: Option<&Entry>) -> Result<(), NoMemory>
+    ensures { OnOk result (text.new.items ≡ text.old.items ++ told_text (entry_of last.entry)) }
+{
+    match last {
+        None => push_nothing(text),
+        Some(entry) => push_line(alloc, text, entry),
+    }
+}
+
+/// Adds the line of a task with its last outcome.
+fn push_outcome(
+    alloc: Global,
+    text: &mut Vec<u8>,
+    name: &[u8],
+    last: Option<&Entry>,
+) -> Result<(), NoMemory>
+    ensures { OnOk result (text.new.items
+        ≡ text.old.items ++ (codes "#   " ++ (name.now ++ told_text (entry_of last.entry)))) }
+{
+    text.extend_from_slice(b"#   ")?;
+    text.extend_from_slice(name)?;
+    push_told(alloc, text, last)
+}
+
+/// Adds the line of each task of these names, after a run that told these entries.
+fn push_outcomes(
+    alloc: Global,
+    text: &mut Vec<u8>,
+    names: &TaskNames,
+    entries: &[Entry],
+) -> Result<(), NoMemory>
+    ensures { OnOk result (text.new.items
+        ≡ text.old.items ++ outcome_lines 1 names.now entries.now) }
+{
+    for place in 0..names.len() as u64 {
+        let task = place + 1;
+        let last = last_outcome(entries, task);
+        push_outcome(alloc, text, names.name_of(TaskNo(task)), last)?;
+    }
+    Ok(())
+}
+
+/// The place of a state, of how many.
+fn state_name(alloc: Global, place: usize, count: usize) -> Result<Vec<u8>, NoMemory>
+    ensures { IfOk result (λ name. name.items ≡ state_name place count) }
+{
+    let name = format!(in alloc; "state {place} of {count}")?;
+    Ok(name.into_bytes())
+}
+
+/// Adds the heading of a state.
+fn push_heading(
+    alloc: Global,
+    text: &mut Vec<u8>,
+    place: usize,
+    count: usize,
+    events: usize,
+) -> Result<(), NoMemory>
+    ensures { OnOk result (text.new.items ≡ text.old.items ++ heading place count events) }
+{
+    let name = state_name(alloc, place, count)?;
+    push_comment(alloc, text, name.as_slice(), events)
+}
+
+/// The text of a state to which these events lead. Its tasks have the names that are known behind the
+/// bytes that come first, and those of the tasks that its own events make.
+fn state_text(
+    alloc: Global,
+    problem: &Problem<'_>,
+    before: &[u8],
+    events: &[Event],
+    place: usize,
+    count: usize,
+) -> Result<Vec<u8>, NoMemory>
+    requires sound { IsSound (search_of problem.now) }
+    requires named { IsNamed problem.now.script.now }
+    requires few_first { length problem.now.from.now ≤ 32768 }
+    requires short { length before.now ≤ 524289 }
+    requires first { ComesFirst problem.now.script.now before.now problem.now.from.now }
+    requires made { Made (search_of problem.now) events.now }
+    requires few { length events.now ≤ 10000 }
+    ensures { IfOk result (λ text. IsState (search_of problem.now) before.now place count events.now
+        text.items) }
+{
+    let told = told_by(alloc, problem, events)?;
+    let mut names = names_behind(alloc, problem.script, before)?;
+    let mut text = Vec::new(alloc);
+    push_heading(alloc, &mut text, place, count, events.len())?;
+    text.extend_from_slice(before)?;
+    push_events(alloc, &mut text, problem.script, &mut names, events)?;
+    push_outcomes(alloc, &mut text, &names, told.entries())?;
+    Ok(text)
+}
+
+/// The texts of the states to which schedules lead, one behind the other.
+fn states_text(
+    alloc: Global,
+    problem: &Problem<'_>,
+    before: &[u8],
+    schedules: &[Vec<Event>],
+) -> Result<Vec<u8>, NoMemory>
+    requires sound { IsSound (search_of problem.now) }
+    requires named { IsNamed problem.now.script.now }
+    requires few_first { length problem.now.from.now ≤ 32768 }
+    requires short { length before.now ≤ 524289 }
+    requires first { ComesFirst problem.now.script.now before.now problem.now.from.now }
+    requires listed { (k : ℕ) (es : List Event) → slice_get (schedules_of schedules.now) k ≡ Some es
+        → Made (search_of problem.now) es × (length es ≤ 10000) }
+    ensures { IfOk result (λ text. AreStates (search_of problem.now) before.now 1
+        (length (schedules_of schedules.now)) (schedules_of schedules.now) text.items) }
+{
+    let mut text = Vec::new(alloc);
+    let count = schedules.len();
+    for (place, events) in schedules.iter().enumerate() {
+        let state = state_text(alloc, problem, before, events.as_slice(), place + 1, count)?;
+        text.extend_from_slice(state.as_slice())?;
+    }
+    Ok(text)
+}
+
+/// The texts of the states, and a last line.
+pub(crate) fn listing(
+    alloc: Global,
+    problem: &Problem<'_>,
+    before: &[u8],
+    schedules: &[Vec<Event>],
+    last: &[u8],
+) -> Result<Vec<u8>, NoMemory>
+    requires sound { IsSound (search_of problem.now) }
+    requires named { IsNamed problem.now.script.now }
+    requires few_first { length problem.now.from.now ≤ 32768 }
+    requires short { length before.now ≤ 524289 }
+    requires first { ComesFirst problem.now.script.now before.now problem.now.from.now }
+    requires listed { (k : ℕ) (es : List Event) → slice_get (schedules_of schedules.now) k ≡ Some es
+        → Made (search_of problem.now) es × (length es ≤ 10000) }
+    ensures { IfOk result (λ text. IsListing (search_of problem.now) before.now
+        (schedules_of schedules.now) last.now text.items) }
+{
+    let mut text = states_text(alloc, problem, before, schedules)?;
+    text.extend_from_slice(last)?;
+    Ok(text)
+}

@@ -1,0 +1,2 @@
+pub mod LawfulRun
+pub mod RunHistory

@@ -1,0 +1,58 @@
+//! What the run of a whole schedule tells.
+ghost use Rattle.std.specs.Prelude.{◌≡◌, ◌+◌, ◌^◌, ◌<◌, ◌≤◌, ◌++◌, length, IfOk, OnOk};
+ghost use Rattle.task_system.specs.Run.{turn, run_from, run, state_after, MayHappen, MayAllHappen};
+ghost use Rattle.schedule_search.specs.Problem.{search_of, CanDo};
+
+use crate::place::started;
+use crate::problem::Problem;
+use ipc_ids::{Event, NoMemory, Trace};
+use schedule_replay::Replay;
+use std::alloc::{AllocError, Global};
+
+/// One event, whose entries go to the end of `told`.
+fn tell_event(replay: &mut Replay, told: &mut Trace, event: &Event) -> Result<(), AllocError>
+    requires few { replay.old.state.kernel.events < 2 ^ 24 }
+    requires may { MayHappen replay.old.state event.now }
+    ensures state { OnOk result (replay.new.state ≡ (turn replay.old.state event.now).state) }
+    ensures entries { OnOk result (told.new.entries
+        ≡ told.old.entries ++ (turn replay.old.state event.now).entries) }
+    ensures count { replay.new.state.kernel.events ≤ replay.old.state.kernel.events + 1 }
+{
+    match replay.step(event, told) {
+        Ok(()) => Ok(()),
+        Err(NoMemory) => Err(AllocError),
+    }
+}
+
+/// One event after the other.
+fn tell_events(replay: &mut Replay, told: &mut Trace, events: &[Event]) -> Result<(), AllocError>
+    requires few { replay.old.state.kernel.events + length events.now ≤ 2 ^ 24 }
+    requires may { MayAllHappen replay.old.state events.now }
+    ensures state { OnOk result (replay.new.state ≡ state_after replay.old.state events.now) }
+    ensures entries { OnOk result (told.new.entries
+        ≡ told.old.entries ++ run_from replay.old.state events.now) }
+    ensures count { OnOk result (replay.new.state.kernel.events
+        ≤ replay.old.state.kernel.events + length events.now) }
+{
+    for event in events {
+        tell_event(replay, told, event)?;
+    }
+    Ok(())
+}
+
+/// The entries of a whole run: of the events that come first, and of these behind them.
+///
+/// # Errors
+///
+/// `AllocError` where no memory was found.
+pub fn told_by(alloc: Global, problem: &Problem<'_>, events: &[Event]) -> Result<Trace, AllocError>
+    requires can { CanDo (search_of problem.now) events.now }
+    ensures { IfOk result (λ told. told.entries
+        ≡ run problem.now.script.now (problem.now.from.now ++ events.now)) }
+{
+    let mut told = Trace::new(alloc);
+    let mut replay = started(alloc, problem.script)?;
+    tell_events(&mut replay, &mut told, problem.from)?;
+    tell_events(&mut replay, &mut told, events)?;
+    Ok(told)
+}

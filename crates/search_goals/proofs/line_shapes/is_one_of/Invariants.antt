@@ -1,0 +1,11 @@
+use Rattle.std.proofs.Common.{◌≡◌, drop}
+use Rattle.std.specs.List.{list_any}
+use Rattle.std.specs.Str.{bytes_eq}
+use Rattle.script_lines.specs.Text.{texts}
+use Rattle.search_goals.proofs.line_shapes.is_one_of.Given as goal
+
+-- what is left decides
+abbrev pub invariant-loop-name : goal.invariant-loop-name
+invariant-loop-name l =
+    list_any (λ name. bytes_eq name l.word) (texts (drop l.name-index l.names))
+    ≡ list_any (λ name. bytes_eq name l.word) (texts l.names)

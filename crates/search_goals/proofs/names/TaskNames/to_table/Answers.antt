@@ -1,0 +1,7 @@
+use Rattle.std.proofs.Common.{sym, subst}
+use Rattle.search_goals.specs.Goals.{listed}
+use Rattle.search_goals.specs.Writing.{AreNames}
+use Rattle.search_goals.proofs.names.TaskNames.to_table.Goals as goal
+
+pub table_of-requires : goal.table_of-requires
+table_of-requires c = subst (λ ws. AreNames (listed ws)) (sym c.as_slice.ensures.value) c.self.invariant
