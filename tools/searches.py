@@ -49,8 +49,8 @@ def answer_to(program: str, words: list[str], folder: str) -> Answer:
 
 
 class Goal(NamedTuple):
-    """What a goal asks for: its kind, which is `rest`, `stuck` or `line`; the task that it names, as t1, or an empty word;
-    and the words with which a line begins."""
+    """What a goal asks for: its kind, which is `lost`, `rest`, `stuck` or `line`; the task that it names, as t1, or an empty
+    word; and the words with which a line begins."""
     kind: str
     task: str = ""
     words: Tuple[str, ...] = ()
@@ -59,7 +59,7 @@ class Goal(NamedTuple):
 def goal_of(text: str, numbers: dict[str, str]) -> Goal:
     """A goal that is in its form, over tasks whose words in a trace go by their names."""
     first, *others = text.split()
-    if first == "rest":
+    if first in ("lost", "rest"):
         return Goal(first)
     if first == "stuck":
         return Goal(first, numbers[others[0]] if others else "")

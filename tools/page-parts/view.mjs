@@ -942,7 +942,7 @@ async function runTexts() {
 async function searchTexts() {
   const script = $("newscript").value, kills = $("kill").value.replace(/[ ,]+/g, ",").replace(/^,|,$/g, "");
   begin("searches ..");
-  const told = await answerTo(script, `${$("goal").value.trim() || "stuck"}\n${kills}`, "search");
+  const told = await answerTo(script, `${$("goal").value.trim() || "lost"}\n${kills}`, "search");
   openAnswer(script, told.schedule, told);
 }
 
