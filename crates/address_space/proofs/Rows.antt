@@ -2,8 +2,7 @@
 use Rattle.std.proofs.Common.{◌≡◌, ℕ, zero, suc, ◌-◌, ◌≤◌, ◌==◌, ◌&&◌, Bool, true, false, List, [], ◌∷◌, ◌++◌, length, Option, Some, None, refl, ap, arith}
 use Rattle.std.specs.Prelude.{if◌then◌else◌, slice_get, slice_set, remove}
 use Rattle.std.specs.Option.{unwrap_or}
-use Rattle.std.proofs.Math.Seq.{take-append_seam}
-use Rattle.std.proofs.lemmas.List.{length-append, length-set}
+use Rattle.std.proofs.lemmas.List.{length-set}
 use Rattle.ipc_ids.specs.declared.numbers.Code.{Code}
 use Rattle.ipc_ids.specs.declared.numbers.TaskNo.{TaskNo}
 use Rattle.ipc_ids.specs.Codes.{eperm}
@@ -11,12 +10,6 @@ use Rattle.address_space.specs.declared.area.Right.TheVariants.{Write}
 use Rattle.address_space.specs.declared.spaces.Spot.{Spot}
 use Rattle.address_space.specs.Areas.{Area, is_subset, refusal, place_of}
 use Rattle.address_space.specs.Memory.{Memory, areas_of, with_areas, with_task, without_last, make, make_unless, drop_place, drop_at, drop_area, spot_of, write_spot, write, refused, area_at, share_unless, share_area, share}
-
--- a task that was added is taken back
-pub taken_back : (m : Memory) → without_last (with_task m) ≡ m
-taken_back m =
-    let n : length (m.areas ++ [] ∷ []) - 1 ≡ length m.areas = omega (arith, length-append m.areas ([] ∷ [])) in
-    rw (n, take-append_seam m.areas ([] ∷ [])) refl
 
 length_unless : (m : Memory) (t : TaskNo) (a : Area) (cause : Option Code) → length (make_unless m t a cause).memory.areas ≡ length m.areas
 length_unless m t a (Some code) = refl

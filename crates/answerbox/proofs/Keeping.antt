@@ -658,27 +658,6 @@ grown_keeps a queues qs [] os number stamp q g =
     ⊎_elim (λ (h : (qs ≡ queues) × (os ≡ [])). rw (h.0, h.1) q) (λ (h : (qs ≡ more_queues queues) × (os ≡ more_owns [])). task_keeps a queues qs [] os number stamp q h.0 h.1) g
 grown_keeps a queues qs (e ∷ es) os number stamp q g = rw (g.0, g.1) q
 
--- task 0 is none that was added
-pub grown_tasks : (queues qs owns os : List Ends) → IsGrown queues owns qs os → tasks_of os ≡ tasks_of owns
-grown_tasks queues qs [] os g = ⊎_elim (λ (h : (qs ≡ queues) × (os ≡ [])). rw h.1 refl) (λ (h : (qs ≡ more_queues queues) × (os ≡ more_owns [])). rw h.1 refl) g
-grown_tasks queues qs (e ∷ es) os g = rw g.1 refl
-
-pub grown_room : (queues qs owns os : List Ends) (spare more : ℕ) → IsGrown queues owns qs os → spare ≤ more → room_of owns spare ≤ room_of os more
-grown_room queues qs [] os spare more g h = omega arith
-grown_room queues qs (e ∷ es) os spare more g h = rw g.1 h
-
-pub more_tasks : (owns os : List Ends) → 0 < length owns → os ≡ more_owns owns → tasks_of os ≡ tasks_of owns + 1
-more_tasks [] os h e = absurd (omega arith)
-more_tasks (x ∷ es) os h e = rw e (row_length es)
-
-pub more_room : (owns os : List Ends) (spare : ℕ) → os ≡ more_owns owns → room_of owns spare ≤ room_of os spare
-more_room [] os spare e = omega arith
-more_room (x ∷ es) os spare e = rw e (omega arith)
-
-pub some_room : (owns : List Ends) (spare : ℕ) → 0 < length owns → room_of owns spare ≡ spare
-some_room [] spare h = absurd (omega arith)
-some_room (e ∷ es) spare h = refl
-
 -- what a call is given leaves its number, its place, its stamp and its caller
 pub change_number : (x : Change) (c : Call) → (changed x c).number ≡ c.number
 change_number (Receipt m r) c = refl

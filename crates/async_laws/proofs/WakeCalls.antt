@@ -1,5 +1,5 @@
 -- Calls of fibrils keep that no wake-up is lost: those of a slot, and a wait for one.
-use Rattle.std.proofs.Common.{ℕ, zero, suc, ◌+◌, ◌-◌, ◌≡◌, ◌≤◌, ◌<◌, ◌⊎◌, inl, inr, false}
+use Rattle.std.proofs.Common.{ℕ, zero, suc, ◌+◌, ◌-◌, ◌≡◌, ◌<◌, ◌⊎◌, inl, inr, false}
 use Rattle.std.proofs.Common.{Option, Some, None, List, [], ◌∷◌, ◌++◌, refl, sym, subst, arith}
 use Rattle.std.specs.Prelude.{slice_get}
 use Rattle.std.proofs.lemmas.Bool.{cases_eq, eq-eqb, ne_eqb}
@@ -147,9 +147,6 @@ waits_slot a f t k (slot.Sent n) kept now is =
         runs_by (suc i) h = grind (arith, h)
 
 -- connections
-
-more_served : (n : ℕ) → n ≤ n
-more_served n = omega arith
 
 pub asks_next : (a : AsyncState) (f : FibrilNo) (t : Context) (s : Taken) → Keeps a →
     IsPresent a f t → conns.take_answer (conn_of_fibril f a.conns) ≡ s →

@@ -155,16 +155,6 @@ below_push n es fs t below h = record {
       ∙ below.none i (omega (arith, b));
 }
 
-pub below_remove : (n : ℕ) (es fs : List (ℕ × Context)) (i : ℕ) → AreBelow n es → Changes es fs i None →
-    AreBelow n fs
-below_remove n es fs i below h = record {
-  none = λ j b. h.at j ∙ by (nat_eq i j) (lookup (nat_eq j) es) (below.none j b);
-}
-  where
-    by : (c : Bool) (o : Option Context) → o ≡ None → cond c None o ≡ None
-    by true o e = refl
-    by false o e = e
-
 pub below_set : (n : ℕ) (es fs : List (ℕ × Context)) (i : ℕ) (t u : Context) → AreBelow n es →
     lookup (nat_eq i) es ≡ Some t → Changes es fs i (Some u) → AreBelow n fs
 below_set n es fs i t u below is h = record {

@@ -218,14 +218,6 @@ module _ (old new : Slab Slot) (k : ℕ) (o : Option Slot) (u : Updates old new 
             (cases_eq q k);
       }
 
--- the same slots are ready in a slab that has the same ones
-pub ready_same : (old new : Slab Slot) (xs : List ℕ) → ((q : ℕ) → slab.get new q ≡ slab.get old q) → AreReady old xs → AreReady new xs
-ready_same old new xs same r =
-    record {
-      once = λ q. rw (same q) (r.once q);
-      small = λ q h. r.small q (rw (same q) at h);
-    }
-
 -- a slot is put into the slab and taken out again
 pub back : (old mid new : Slab Slot) (k : ℕ) (o : Option Slot) → slab.get old k ≡ None → Updates old mid k o → Updates mid new k None → (q : ℕ) → slab.get new q ≡ slab.get old q
 back old mid new k o was u w q =
@@ -266,10 +258,6 @@ module _ (s : Slab Slot) (k : ℕ) (x v : Slot) (is : slab.get s k ≡ Some x) (
 -- a key with a call: it is a slot of the slab
 pub live_some : (s : Slab Slot) (k : ℕ) → IsSome (fin.get (live_slots s) k) → (live (slab.get s k) ≡ slab.get s k) × IsSome (slab.get s k)
 live_some s k h = live_is (slab.get s k) (rw (get_live s k) at h)
-
--- no slot is ready
-pub ready_new : (s : Slab Slot) (xs : List ℕ) → s.slots ≡ [] → xs ≡ [] → AreReady s xs
-ready_new s xs none e = record { once = λ q. rw e (omega arith); small = λ q h. absurd (cc (rw none at h)) }
 
 none_never : (o : Option Slot) → o ≡ None → vacancy o ≡ 0
 none_never o e = rw e refl

@@ -544,32 +544,6 @@ module _ (k : KernelState) (place : Place) (c : Call) (pending : IsPendingAt pla
       at_no_answers (Dispatched t) p u = refl
       at_no_answers (Answers t) p u = absurd p
 
--- the room of one call
-pub few_vanish_entries : (o : Option Call) → vanish_entries o ≤ 2
-few_vanish_entries None = omega arith
-few_vanish_entries (Some c) = let h = one_or_none (has_phone (kept_phone c)) in omega (arith, h)
-
-pub few_settle_entries : (k : KernelState) (o : Option Call) → settle_entries k o ≤ 2
-few_settle_entries k None = omega arith
-few_settle_entries k (Some c) = let h = one_or_none (tells_two k c) in omega (arith, h)
-
-pub few_settle_moves : (k : KernelState) (o : Option Call) → settle_moves k o ≤ 1
-few_settle_moves k None = omega arith
-few_settle_moves k (Some c) = one_or_none (lives k c.caller)
-
-pub vanish_in_settle : (k : KernelState) (o : Option Call) → vanish_entries o ≤ settle_entries k o
-vanish_in_settle k None = omega arith
-vanish_in_settle k (Some c) = by_both (lives k c.caller) (has_phone (kept_phone c)) where
-  by_both : (a b : Bool) → 1 + cond b 1 0 ≤ 1 + cond (a || b) 1 0
-  by_both true true = omega arith
-  by_both true false = omega arith
-  by_both false b = omega arith
-
--- a call whose caller is alive is moved, and makes two entries at most
-pub settle_answered : (k : KernelState) (o : Option Call) (u : TaskNo) → IsCallOf o u → is_alive k u ≡ true → (1 ≤ settle_moves k o) × (2 ≤ settle_entries k o)
-settle_answered k None u from alive = absurd from
-settle_answered k (Some c) u from alive = (rw (from, alive) (omega arith), rw (from, alive) (omega arith))
-
 -- as many phones of other tasks lead to t after the hangups
 pub same_slams : (t : TaskNo) (k j : KernelState) → j ≡ (hang_up_own_phones t k).state → leading t j.tasks.phones ≡ leading t k.tasks.phones
 same_slams t k j is = ap (λ (i : KernelState). leading t i.tasks.phones) is ∙ same_leading t k (hang_up_own_phones t k).state (hangups_keep_others t k)

@@ -29,7 +29,7 @@ impl Keeper {
             | MethodKind::DataRead
             | MethodKind::ShareOut
             | MethodKind::ShareIn
-            | MethodKind::NotBuilt
+            | MethodKind::Unused
             | MethodKind::User => Keeper::Nobody,
         }
     }

@@ -1,7 +1,6 @@
 -- What a run comes to, event by event.
-use Rattle.std.proofs.Common.{◌≡◌, ℕ, suc, ◌+◌, ◌<◌, ◌≤◌, ◌++◌, [], ◌∷◌, List, Bool, length, drop, refl, ap, sym, ◌∙◌, arith, drop-cons, length-append}
+use Rattle.std.proofs.Common.{◌≡◌, ℕ, ◌+◌, ◌++◌, [], ◌∷◌, List, Bool, length, refl, ap, sym, ◌∙◌, arith, length-append}
 use Rattle.std.specs.Prelude.{slice_index_or, count_by}
-use Rattle.std.proofs.lemmas.List.{drop_all}
 use Rattle.std.proofs.lemmas.Grind.{common_steps}
 use Rattle.ipc_ids.specs.declared.entry.Entry.{Entry}
 use Rattle.ipc_ids.specs.declared.message.Event.{Event}
@@ -41,21 +40,6 @@ tally_append t a b =
 nothing_more : (t : Tally) → with_entries t [] ≡ t
 nothing_more t = same _ _ _ _ _ _ _ _ _ _ (omega arith) (omega arith) (omega arith) (omega arith) (omega arith)
 
--- one entry more
-pub one_more_entry : (t : Tally) (entries : List Entry) (i : ℕ) (d : Entry) (all : Tally) → i < length entries
-    → with_entries t (drop i entries) ≡ all
-    → with_entries (with_entries t (slice_index_or entries i d ∷ [])) (drop (i + 1) entries) ≡ all
-one_more_entry t entries i d all h so_far =
-    let e : Entry = slice_index_or entries i d in
-    let next : i + 1 ≡ suc i = omega arith in
-    let split : drop i entries ≡ e ∷ drop (i + 1) entries = rw next (drop-cons entries i d h) in
-    sym (tally_append t (e ∷ []) (drop (i + 1) entries)) ∙ rw split at so_far
-
--- no entry is left
-pub no_more_entries : (t : Tally) (entries : List Entry) (i : ℕ) (all : Tally) → length entries ≤ i
-    → with_entries t (drop i entries) ≡ all → t ≡ all
-no_more_entries t entries i all h so_far = sym (nothing_more t) ∙ rw (drop_all i entries h) at so_far
-
 -- one event more
 pub one_more_event : (now : RunState) (e : Event) (left rest : List Event) (t all : Tally) → left ≡ e ∷ rest
     → with_entries t (run_from now left) ≡ all
@@ -67,12 +51,3 @@ one_more_event now e left rest t all split so_far =
 pub no_more_events : (now : RunState) (left : List Event) (t all : Tally) → left ≡ []
     → with_entries t (run_from now left) ≡ all → t ≡ all
 no_more_events now left t all none so_far = sym (nothing_more t) ∙ rw none at so_far
-
--- what the run of generated input comes to, in its line
-pub summed_up : (seed events : ℕ) (t : Tally) (plan : Plan) (list : List Event)
-    → t ≡ tally_of (run plan list) → plan ≡ generated_plan → list ≡ generated_events seed events
-    → tally_line events t ≡ summary_line seed events
-summed_up seed events t plan list is script made =
-    ap (tally_line events) is
-    ∙ ap (λ p. tally_line events (tally_of (run p list))) script
-    ∙ ap (λ l. tally_line events (tally_of (run generated_plan l))) made

@@ -1,5 +1,5 @@
 -- How far the next stamp rises, and that no call but a spawn changes how many fibrils there are.
-use Rattle.std.proofs.Common.{◌≡◌, ℕ, zero, suc, ◌+◌, ◌-◌, ◌≤◌, Bool, true, false, length, Option, Some, None, refl, ◌∙◌, arith}
+use Rattle.std.proofs.Common.{◌≡◌, ℕ, zero, suc, ◌-◌, Bool, true, false, length, Option, Some, None, refl, ◌∙◌}
 use Rattle.std.specs.Prelude.{if◌then◌else◌, nat_lt, slice_set}
 use Rattle.ipc_ids.specs.declared.message.Why.{Why}
 use Rattle.ipc_ids.specs.declared.numbers.FibrilNo.{FibrilNo}
@@ -22,28 +22,9 @@ pub length_found : (o : FibrilOrder) (s : Status) (q : Option FibrilNo) → leng
 length_found o s None = refl
 length_found o s (Some f) = length_status o f s
 
-pub stamps_found : (o : FibrilOrder) (s : Status) (q : Option FibrilNo) → (found_with o s q).next_stamp ≤ o.next_stamp + 1
-stamps_found o s None = omega arith
-stamps_found o s (Some f) = omega arith
-
-pub length_ended : (o : FibrilOrder) → length (end_current o).fibrils ≡ length o.fibrils
-length_ended o = ended_by (first_with Ready o.fibrils) where
-  ended_by : (q : Option Fibril) → length (found_over o q).fibrils ≡ length o.fibrils
-  ended_by None = refl
-  ended_by (Some x) = length_put o (record { number = x.number; status = Ended; stamp = 0 })
-
 length_times : (n : ℕ) (o : FibrilOrder) (w : Why) → length (wake_times n o w).fibrils ≡ length o.fibrils
 length_times zero o w = refl
 length_times (suc n) o w = length_found (wake_times n o w) Ready (first_blocked (wake_times n o w) w) ∙ length_times n o w
 
-stamps_times : (n : ℕ) (o : FibrilOrder) (w : Why) → (wake_times n o w).next_stamp ≤ o.next_stamp + n
-stamps_times zero o w = omega arith
-stamps_times (suc n) o w =
-    let last = stamps_times n o w in
-    let one = stamps_found (wake_times n o w) Ready (first_blocked (wake_times n o w) w) in omega arith
-
 pub length_wake_all : (o : FibrilOrder) (w : Why) → length (wake_all o w).fibrils ≡ length o.fibrils
 length_wake_all o w = length_times (length o.fibrils) o w
-
-pub stamps_wake_all : (o : FibrilOrder) (w : Why) → (wake_all o w).next_stamp ≤ o.next_stamp + length o.fibrils
-stamps_wake_all o w = stamps_times (length o.fibrils) o w

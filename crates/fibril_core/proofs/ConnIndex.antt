@@ -22,7 +22,7 @@ use Rattle.fibril_core.specs.ConnIndex.{DoRise, fibril_under, IsIndex, KeepsLabe
 use Rattle.fibril_core.specs.ConnLaws.{IsOpenOrClosed, IsSound, Changes, Ends, Starts}
 use Rattle.fibril_core.proofs.Places.{which, within}
 use Rattle.fibril_core.proofs.Searches.{find_is, found_place, find_one, none_found, skip, skip_less, removed_at}
-use Rattle.fibril_core.proofs.Connections.{by_label, same_label_is, turned, not_true, Was, was, Lost, newer, lost_fibril, fibril_routed, routes_routed, label_routed, closed_routed, turned_by, label_there, changes_at, ends_at, starts, sound_changed, sound_removed, sound_started, sound_no_conns}
+use Rattle.fibril_core.proofs.Connections.{by_label, same_label_is, turned, not_true, Was, was, Lost, newer, lost_fibril, fibril_routed, routes_routed, label_routed, closed_routed, turned_by, label_there, changes_at, ends_at, starts, sound_changed, sound_removed, sound_started}
 
 -- the only one that passes is found, and where none passes none is
 
@@ -247,13 +247,6 @@ taken_out None cs after i over is value items = absurd (cc is)
 taken_out (Some c) cs after i over is value items = let same : c ≡ over = cc in (subst (λ (d : Conn). d ≡ get_or cs i d) same value, items)
 
 -- the index is kept
-
-pub no_index : (rising : Bool) (es : List (Label × FibrilNo)) → es ≡ [] → IsIndex rising es []
-no_index rising es none = record {
-  sound = sound_no_conns;
-  rise = λ h. record { rise = λ i j a b less s t. absurd (cc s) };
-  labels = λ label. rw none refl;
-}
 
 same_fibril : (label : Label) (cs : List Conn) (i : ℕ) (c new : Conn) → IsSound cs → slice_get cs i ≡ Some c → Stays c new → fibril_of (conn_of_label label cs) ≡ fibril_of (conn_of_label label (slice_set cs i new))
 same_fibril label cs i c new sound there stays = by (leads_to label c) refl where

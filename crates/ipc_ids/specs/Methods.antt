@@ -1,7 +1,7 @@
 -- The methods of calls by their names: the kernel's own, and where users' methods begin.
 use Rattle.std.specs.Prelude.{ℕ, ◌==◌, if◌then◌else◌, nat_lt}
 use Rattle.ipc_ids.specs.declared.methods.MethodKind.{MethodKind}
-use Rattle.ipc_ids.specs.declared.methods.MethodKind.TheVariants.{PhoneHungUp, ConnectToMe, ConnectMeTo, DataWrite, DataRead, ShareOut, ShareIn, NotBuilt, User}
+use Rattle.ipc_ids.specs.declared.methods.MethodKind.TheVariants.{PhoneHungUp, ConnectToMe, ConnectMeTo, DataWrite, DataRead, ShareOut, ShareIn, Unused, User}
 
 -- a phone that led to the receiver was hung up
 abbrev pub phone_hungup : ℕ
@@ -45,5 +45,5 @@ kind_of method =
     else if method == data_read then DataRead
     else if method == share_out then ShareOut
     else if method == share_in then ShareIn
-    else if nat_lt method first_user_method then NotBuilt
+    else if nat_lt method first_user_method then Unused
     else User

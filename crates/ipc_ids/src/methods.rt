@@ -45,7 +45,7 @@ pub enum MethodKind {
     /// Asks for an area of the receiver's memory.
     ShareIn,
     /// A method of the system that no call is accepted with.
-    NotBuilt,
+    Unused,
     /// Means what the two tasks make of it.
     User,
 }
@@ -63,7 +63,7 @@ impl MethodKind {
             DATA_READ => MethodKind::DataRead,
             SHARE_OUT => MethodKind::ShareOut,
             SHARE_IN => MethodKind::ShareIn,
-            0..FIRST_USER_METHOD => MethodKind::NotBuilt,
+            0..FIRST_USER_METHOD => MethodKind::Unused,
             FIRST_USER_METHOD.. => MethodKind::User,
         }
     }

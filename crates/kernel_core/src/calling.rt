@@ -80,7 +80,7 @@ fn is_callable(kind: MethodKind) -> bool
         | MethodKind::ShareOut
         | MethodKind::ShareIn
         | MethodKind::User => true,
-        MethodKind::PhoneHungUp | MethodKind::NotBuilt => false,
+        MethodKind::PhoneHungUp | MethodKind::Unused => false,
     }
 }
 

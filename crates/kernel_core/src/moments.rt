@@ -76,10 +76,8 @@ pub(crate) fn before_send(
             Ok(()) => Ok(None),
             Err(code) => Err(SpaceFault::Refused(code)),
         },
-        MethodKind::PhoneHungUp
-        | MethodKind::ConnectToMe
-        | MethodKind::NotBuilt
-        | MethodKind::User => Ok(None),
+        MethodKind::PhoneHungUp | MethodKind::ConnectToMe | MethodKind::Unused | MethodKind::User =>
+            Ok(None),
     }
 }
 
@@ -110,7 +108,7 @@ pub(crate) fn on_receive(board: &mut Switchboard, number: CallNo, who: TaskNo) -
         | MethodKind::DataRead
         | MethodKind::ShareOut
         | MethodKind::ShareIn
-        | MethodKind::NotBuilt
+        | MethodKind::Unused
         | MethodKind::User => Arrival {
             msg,
             reserved,
@@ -164,7 +162,7 @@ pub(crate) fn on_accept(
             board.accept_share(Share::In, number, reply, who, caller, out);
             Ok(())
         }
-        MethodKind::PhoneHungUp | MethodKind::NotBuilt | MethodKind::User => {
+        MethodKind::PhoneHungUp | MethodKind::Unused | MethodKind::User => {
             board.finish(number, reply, who, caller, out);
             Ok(())
         }
@@ -183,7 +181,7 @@ pub(crate) fn brings_bytes(call: &Call) -> bool
         | MethodKind::DataWrite
         | MethodKind::ShareOut
         | MethodKind::ShareIn
-        | MethodKind::NotBuilt
+        | MethodKind::Unused
         | MethodKind::User => false,
     }
 }

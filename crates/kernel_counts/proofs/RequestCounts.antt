@@ -11,7 +11,7 @@ use Rattle.ipc_ids.specs.declared.message.Request.TheVariants as ask
 use Rattle.ipc_ids.specs.declared.message.PhoneState.{PhoneState}
 use Rattle.ipc_ids.specs.declared.message.PhoneState.TheVariants.{Free, Connecting, Connected, HungUp, Slammed}
 use Rattle.ipc_ids.specs.declared.methods.MethodKind.{MethodKind}
-use Rattle.ipc_ids.specs.declared.methods.MethodKind.TheVariants.{PhoneHungUp, ConnectToMe, ConnectMeTo, DataWrite, DataRead, ShareOut, ShareIn, NotBuilt, User}
+use Rattle.ipc_ids.specs.declared.methods.MethodKind.TheVariants.{PhoneHungUp, ConnectToMe, ConnectMeTo, DataWrite, DataRead, ShareOut, ShareIn, Unused, User}
 use Rattle.ipc_ids.specs.Methods.{kind_of}
 use Rattle.ipc_ids.specs.Tables.{most_active}
 use Rattle.ipc_ids.specs.declared.message.Outcome.TheVariants.{Done, Refused}
@@ -81,7 +81,7 @@ module _ (n : ℕ) where
   send_of_at DataRead k c = brought_at k c _
   send_of_at ShareOut k c = asked_at k c _
   send_of_at ShareIn k c = asked_at k c _
-  send_of_at NotBuilt k c = refl
+  send_of_at Unused k c = refl
   send_of_at User k c = refl
 
   sent_at : (u : TaskNo) (k : KernelState) (c : Call) (r : Result Handed Code)
@@ -137,7 +137,7 @@ module _ (n : ℕ) where
   receive_of_at DataRead k c t = refl
   receive_of_at ShareOut k c t = refl
   receive_of_at ShareIn k c t = refl
-  receive_of_at NotBuilt k c t = refl
+  receive_of_at Unused k c t = refl
   receive_of_at User k c t = refl
 
   if_handed : (b : Bool) (x y : Handed) (x' y' : Handed) → x' ≡ handed_with_count n x → y' ≡ handed_with_count n y
@@ -176,7 +176,7 @@ module _ (n : ℕ) where
   accept_of_at DataRead k c reply t u = refl
   accept_of_at ShareOut k c reply t u = refl
   accept_of_at ShareIn k c reply t u = refl
-  accept_of_at NotBuilt k c reply t u = refl
+  accept_of_at Unused k c reply t u = refl
   accept_of_at User k c reply t u = refl
 
   accepted_at : (k : KernelState) (t : TaskNo) (reply : Reply) (c : Call) (o : Option TaskNo) (b : Bool)

@@ -15,7 +15,7 @@ use Rattle.ipc_ids.specs.declared.message.Outcome.TheVariants as outcome
 use Rattle.ipc_ids.specs.declared.entry.Entry.{Entry}
 use Rattle.ipc_ids.specs.declared.entry.Entry.TheVariants as entry
 use Rattle.ipc_ids.specs.declared.methods.MethodKind.{MethodKind}
-use Rattle.ipc_ids.specs.declared.methods.MethodKind.TheVariants.{PhoneHungUp, ConnectToMe, ConnectMeTo, DataWrite, DataRead, ShareOut, ShareIn, NotBuilt, User}
+use Rattle.ipc_ids.specs.declared.methods.MethodKind.TheVariants.{PhoneHungUp, ConnectToMe, ConnectMeTo, DataWrite, DataRead, ShareOut, ShareIn, Unused, User}
 use Rattle.ipc_ids.specs.Codes.{eok, enoent, elimit}
 use Rattle.ipc_ids.specs.Methods.{kind_of}
 use Rattle.call_slab.specs.declared.call.Call.{Call}
@@ -168,7 +168,7 @@ module _ (k : KernelState) (sound : IsSound k) (t : TaskNo) (n : ℕ) (reply : R
     AcceptsOf ShareOut done = SharesArea u (first c.request.args) t (first reply.args) t n reply c u k done
     AcceptsOf ShareIn done = SharesArea t (first reply.args) u (first c.request.args) t n reply c u k done
     AcceptsOf PhoneHungUp done = AnswersPlainly t n reply c u k done
-    AcceptsOf NotBuilt done = AnswersPlainly t n reply c u k done
+    AcceptsOf Unused done = AnswersPlainly t n reply c u k done
     AcceptsOf User done = AnswersPlainly t n reply c u k done
 
     plainly : (kind : MethodKind) → kind_of c.request.method ≡ kind → (done : Served) → AcceptsOf kind done

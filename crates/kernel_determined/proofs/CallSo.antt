@@ -11,7 +11,7 @@ use Rattle.ipc_ids.specs.declared.message.PhoneState.{PhoneState}
 use Rattle.ipc_ids.specs.declared.message.PhoneState.TheVariants.{Free, Connecting, Connected, HungUp, Slammed}
 use Rattle.ipc_ids.specs.declared.message.Request.TheVariants as request
 use Rattle.ipc_ids.specs.declared.methods.MethodKind.{MethodKind}
-use Rattle.ipc_ids.specs.declared.methods.MethodKind.TheVariants.{PhoneHungUp, ConnectToMe, ConnectMeTo, DataWrite, DataRead, ShareOut, ShareIn, NotBuilt, User}
+use Rattle.ipc_ids.specs.declared.methods.MethodKind.TheVariants.{PhoneHungUp, ConnectToMe, ConnectMeTo, DataWrite, DataRead, ShareOut, ShareIn, Unused, User}
 use Rattle.ipc_ids.specs.declared.entry.Entry.TheVariants as entry
 use Rattle.ipc_ids.specs.Codes.{enoent, eperm, elimit, ehangup}
 use Rattle.ipc_ids.specs.Methods.{kind_of}
@@ -259,8 +259,8 @@ module _ (k : KernelState) (t : TaskNo) (p : ℕ) (msg : Msg) where
       over User is = whole User is (λ f. cc f) (λ f. cc f) (λ f. cc f) (check_by k t p msg User is None refl)
       over PhoneHungUp is = whole PhoneHungUp is (λ f. cc f) (λ f. cc f) (λ f. cc f)
           (check_by k t p msg PhoneHungUp is None tt)
-      over NotBuilt is = whole NotBuilt is (λ f. cc f) (λ f. cc f) (λ f. cc f)
-          (check_by k t p msg NotBuilt is None tt)
+      over Unused is = whole Unused is (λ f. cc f) (λ f. cc f) (λ f. cc f)
+          (check_by k t p msg Unused is None tt)
 
   -- ---- the tests
 

@@ -14,7 +14,7 @@ use Rattle.ipc_ids.specs.declared.message.PhoneState.TheVariants.{Free, Connecte
 use Rattle.ipc_ids.specs.declared.message.Request.TheVariants as request
 use Rattle.ipc_ids.specs.declared.message.Outcome.TheVariants as outcome
 use Rattle.ipc_ids.specs.declared.methods.MethodKind.{MethodKind}
-use Rattle.ipc_ids.specs.declared.methods.MethodKind.TheVariants.{PhoneHungUp, ConnectToMe, ConnectMeTo, DataWrite, DataRead, ShareOut, ShareIn, NotBuilt, User}
+use Rattle.ipc_ids.specs.declared.methods.MethodKind.TheVariants.{PhoneHungUp, ConnectToMe, ConnectMeTo, DataWrite, DataRead, ShareOut, ShareIn, Unused, User}
 use Rattle.ipc_ids.specs.Codes.{enoent, eperm, eforward}
 use Rattle.ipc_ids.specs.Methods.{kind_of, connect_to_me, connect_me_to}
 use Rattle.call_slab.specs.declared.call.Call.{Call}
@@ -72,7 +72,7 @@ module _ (k : KernelState) (sound : IsSound k) (t : TaskNo) (n : ℕ) (c : Call)
         (let low = other.system in grind (arith, nat_tests, low)) e where
           user : (a b c d e f g h : Bool) → h ≡ true
               → (if a then PhoneHungUp else if b then ConnectToMe else if c then ConnectMeTo else if d then DataWrite
-              else if e then DataRead else if f then ShareOut else if g then ShareIn else if h then NotBuilt else User)
+              else if e then DataRead else if f then ShareOut else if g then ShareIn else if h then Unused else User)
               ≡ User → ⊥
           user false false false false false false false false is x = cc is
           user a b c d e f g h is x = cc x

@@ -29,7 +29,3 @@ brings c b = rw (b.asks) (accepts_eok c.reply.code b.accepted)
 
 pub is_brought : (c : Call) → brings_bytes c ≡ true → IsBrought c
 is_brought c h = let b = brought_kind (kind_of c.request.method) c.reply.code h in record { asks = method_of DataRead c.request.method b.0; accepted = same_code c.reply.code b.1 }
-
-pub same_reply : (kind : MethodKind) (c : Call) → (kind ≡ ConnectMeTo → ⊥) → reply_of kind c ≡ c.reply
-same_reply ConnectMeTo c other = absurd (other refl)
-same_reply _ c other = refl

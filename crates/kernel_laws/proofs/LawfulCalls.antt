@@ -9,7 +9,7 @@ use Rattle.ipc_ids.specs.declared.message.Msg.{Msg}
 use Rattle.ipc_ids.specs.declared.message.PhoneState.{PhoneState}
 use Rattle.ipc_ids.specs.declared.message.PhoneState.TheVariants.{Free, HungUp}
 use Rattle.ipc_ids.specs.declared.methods.MethodKind.{MethodKind}
-use Rattle.ipc_ids.specs.declared.methods.MethodKind.TheVariants.{PhoneHungUp, ConnectToMe, ConnectMeTo, DataWrite, DataRead, ShareOut, ShareIn, NotBuilt, User}
+use Rattle.ipc_ids.specs.declared.methods.MethodKind.TheVariants.{PhoneHungUp, ConnectToMe, ConnectMeTo, DataWrite, DataRead, ShareOut, ShareIn, Unused, User}
 use Rattle.ipc_ids.specs.Codes.{elimit}
 use Rattle.ipc_ids.specs.Methods.{kind_of}
 use Rattle.answerbox.specs.Calls.{CallTable, active_calls}
@@ -136,7 +136,7 @@ module _ (k : KernelState) (t : TaskNo) (p : ℕ) (msg : Msg) where
   CheckOf ShareIn cause = (told : Result Unit Code) × IsLawfulWish msg.args told × (cause ≡ cause_of told)
   CheckOf ConnectMeTo cause = (cause ≡ None ↔ HasUsable k t) × (cause ≡ Some elimit ↔ (HasUsable k t → ⊥))
   CheckOf PhoneHungUp cause = ⊤
-  CheckOf NotBuilt cause = ⊤
+  CheckOf Unused cause = ⊤
   CheckOf ConnectToMe cause = cause ≡ None
   CheckOf User cause = cause ≡ None
 

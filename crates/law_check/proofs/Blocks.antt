@@ -11,7 +11,7 @@ use Rattle.law_check.specs.declared.held.Area.{Area}
 use Rattle.law_check.specs.declared.stores.Block.{Block}
 use Rattle.law_check.specs.declared.stores.Blocks.{Blocks}
 use Rattle.law_check.specs.Stores.{ByStore, pair_cmp, triple_cmp, placed_in, reach, reaches, holds, Bounds, IsTight, IsAround, IsBounded, AreBounded, Changes}
-use Rattle.law_check.proofs.Pairs.{exceeds, seen_in, in_range, reaches_from, reaches_if, same_pair}
+use Rattle.law_check.proofs.Pairs.{exceeds, seen_in, in_range, reaches_from, same_pair}
 
 max_is : (a b : ℕ) → (max a b ≡ a) ⊎ (max a b ≡ b)
 max_is a b = grind arith
@@ -108,16 +108,6 @@ pub all_below :
     (areas : ByStore) (t s most : ℕ) (list : List Block) → 2 ^ 64 ≤ most → AreBelow areas t s most list → IsBounded areas t s list
 all_below areas t s most list h below = λ base a small there. below base a there (omega (arith, h, small))
 
--- a write that is looked for in one block
-pub around_of :
-    (areas : ByStore) (t s last most at count : ℕ) → IsTight areas t s last most → last ≤ at → at + count < most →
-    IsAround areas t at count s
-around_of areas t s last most at count (inl none) low far = absurd (not_below (subst (λ (n : ℕ). at + count < n) none far)) where
-  not_below : at + count < 0 → ⊥
-  not_below h = omega (arith, h)
-around_of areas t s last most at count (inr some) low far =
-    (some.0, some.1, some.2, reaches_if some.0 some.1 at count (omega (arith, some.3, low)) (omega (arith, some.4, far)))
-
 pub found_in :
     (areas : ByStore) (t s at count base : ℕ) (a : Area) (block : Block) (last most : ℕ) → placed_in areas t s base ≡ Some a →
     reaches base a at count ≡ true → holds base a block ≡ true → Bounds areas t s block.first last most →
@@ -130,10 +120,6 @@ found_in areas t s at count base a block last most there wanted held bounds with
 pub not_before : (at count base : ℕ) (a : Area) (block : Block) → at < block.first → reaches base a at count ≡ true → holds base a block ≡ true → ⊥
 not_before at count base a block low wanted held =
     omega (arith, low, (reaches_from base a at count wanted).0, (holds_means base a block held).0)
-
-pub not_behind : (at count base : ℕ) (a : Area) (block : Block) → block.end ≤ at + count → reaches base a at count ≡ true → holds base a block ≡ true → ⊥
-not_behind at count base a block low wanted held =
-    omega (arith, low, (reaches_from base a at count wanted).1, (holds_means base a block held).2)
 
 or_right : (x y : Bool) → y ≡ true → (x || y) ≡ true
 or_right true y h = refl

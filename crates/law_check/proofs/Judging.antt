@@ -17,10 +17,6 @@ stands_open p s false stand h = cc
 pub judges_open : (p : List Entry) (s : Laws) → s.lives_hold ≡ true → Stands p s → Judges p s
 judges_open p s h stand = subst (λ (b : Bool). MayStand p b s) (sym h) stand
 
-pub judges_broken :
-    (p : List Entry) (s : Laws) → s.lives_hold ≡ false → ((es : List Entry) → LivesAreLawful (in_order p es) → ⊥) → Judges p s
-judges_broken p s h none = subst (λ (b : Bool). MayStand p b s) (sym h) none
-
 pub stands_next :
     (p : List Entry) (e : Entry) (old new : Laws) → Stands p old → Follows (tales p) (tale e) → IsAllowed (tales p) (tale e) →
     KillsStand (e ∷ p) new.kills_hold new.kills → AreasStand (e ∷ p) new.areas_hold new.areas → Stands (e ∷ p) new

@@ -266,9 +266,6 @@ killed_earlier t n w (Head e ∷ one) two p b h = earlier_stays t one (Head e �
 killed_earlier t n w (On m v ∷ one) two p b h = absurd b
 killed_earlier t n w (Other ∷ one) two p b h = absurd b
 
-is_killed_now : (t : ℕ) (q : List Tale) → is_killed t (Head (Kill t) ∷ q) ≡ true
-is_killed_now t q = rw (eq-eqb t t refl) refl
-
 kills_now : (t : ℕ) (q : List Tale) → 0 < kill_of t (Head (Kill t) ∷ q)
 kills_now t q = rw (eq-eqb t t refl) (omega arith)
 

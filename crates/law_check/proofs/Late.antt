@@ -14,10 +14,6 @@ kill_is_past : (t : ℕ) (p : List Tale) → kill_of t p ≤ heads p
 kill_is_past t [] = omega arith
 kill_is_past t (e ∷ p) = grind (arith, kill_is_past t p)
 
-earlier_is_past : (t : ℕ) (p : List Tale) → earlier_kill_of t p ≤ heads p
-earlier_is_past t [] = omega arith
-earlier_is_past t (e ∷ p) = grind (arith, earlier_is_past t p, kill_is_past t p)
-
 earlier_is_before : (t : ℕ) (p : List Tale) → 0 < heads p → earlier_kill_of t p < heads p
 earlier_is_before t [] h = absurd (omega arith)
 earlier_is_before t (e ∷ p) h = grind (arith, earlier_is_before t p, kill_is_past t p)

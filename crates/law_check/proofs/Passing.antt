@@ -35,14 +35,6 @@ lives_next p e left follows allowed es =
     let both = left (e ∷ es) in
     (λ a. both.0 (follows, allowed, a), λ l. (both.1 l).2)
 
--- an entry that is not allowed breaks the law for good
-pub lives_broken :
-    (p : List Entry) (e : Entry) → LivesLeft p → (Follows (tales p) (tale e) × IsAllowed (tales p) (tale e) → ⊥) →
-    (es : List Entry) → LivesAreLawful (in_order (e ∷ p) es) → ⊥
-lives_broken p e left denied es l =
-    let a = (left (e ∷ es)).1 l in
-    denied (a.0, a.1)
-
 one_more :
     (p : List Tale) (y : Tale) (es : List Tale) (new : Kills) → TakesKill p y new true →
     KnowsKills (y ∷ p) new × (KillsFoundLate (y ∷ p) es ↔ KillsFoundLate p (y ∷ es))
@@ -81,21 +73,6 @@ kills_taken p e true old new r stand h takes lives =
     with_ok r (takes stand.0) (lives stand.0.lives) (λ yes t l. kills_next p e new yes stand.1 t l)
 kills_taken p e false old new r stand h takes lives = cc
 
--- a law that is broken stays so
-pub kills_stay_broken : (p : List Entry) (e : Entry) → NoKillsLeft p → NoKillsLeft (e ∷ p)
-kills_stay_broken p e none es l k = none (e ∷ es) l k
-
-pub areas_next : (p : List Entry) (e : Entry) → AreasLeft p → MayCome p e → AreasLeft (e ∷ p)
-areas_next p e left may es l =
-    let all = left (e ∷ es) l in
-    (λ a. all.0 (may, a), λ a. (all.1 a).1)
-
-pub areas_broken : (p : List Entry) (e : Entry) → AreasLeft p → (MayCome p e → ⊥) → NoAreasLeft (e ∷ p)
-areas_broken p e left denied es l a = denied ((left (e ∷ es) l).1 a).0
-
-pub areas_stay_broken : (p : List Entry) (e : Entry) → NoAreasLeft p → NoAreasLeft (e ∷ p)
-areas_stay_broken p e none es l a = none (e ∷ es) l a
-
 -- ---- the end
 -- what is kept of a law that may still hold
 pub may_hold : (p : List Entry) (b : Bool) (s : Kills) → KillsStand p b s → b ≡ true → KnowsKills (tales p) s × KillsLeft p
@@ -105,9 +82,6 @@ may_hold p false s stand h = cc
 pub knows_lives : (p : List Entry) (b : Bool) (s : Kills) → KillsStand p b s → Knows (tales p) s.lives
 knows_lives p true s stand = stand.0.lives
 knows_lives p false s stand = stand.0
-
-pub all_live : (p : List Entry) → LivesLeft p → IsRound (tales p) ↔ LivesAreLawful (in_order p [])
-all_live p left = left []
 
 pub all_killed :
     (p : List Entry) (s : Kills) (k : ℕ → ℕ) → LivesAreLawful (in_order p []) → KnowsKills (tales p) s → KillsLeft p →

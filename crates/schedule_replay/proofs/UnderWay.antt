@@ -130,6 +130,3 @@ keeps_up_or C plan all left now rest e s n m b u is (inr h) = inr (keeps_up_at 0
 idle : (most : ℕ) (s : Option (List ℕ)) → IsAheadBy most s s []
 idle most None = tt
 idle most (Some xs) = omega arith
-
-pub keeps_up_idle : (most : ℕ) (plan : Plan) (all : List Event) (s : Option (List ℕ)) → KeepsUp most plan all all s s
-keeps_up_idle most plan all s = ([], refl, idle most s)

@@ -34,9 +34,6 @@ told_of s es now = length (spawns_of es) ∷ (spawns_of es ++ run_words now)
 pub told_met : (test holds : Bool) → test ≡ holds → Some test ≡ Some true → holds ≡ true
 told_met test holds is told = sym is ∙ same_Some test true told
 
-pub told_unmet : (test holds : Bool) → test ≡ holds → Some test ≡ Some false → holds ≡ true → ⊥
-told_unmet test holds is told = both_ways holds (sym is ∙ same_Some test false told)
-
 module _ (s : Search) (es : List Event) where
   -- they may be tried: the state and the entries decide
   module _ (now : RunState) (told : List Entry) (state : now ≡ state_behind s es) (entries : told ≡ last_told [] (first_state s) es) where

@@ -235,22 +235,6 @@ leads_on tasks t w l =
       in_range = λ d. rw (get_or-append tasks (t ∷ []) d (w.from.0 - 1) (omega (arith, l.from_task.0, l.from_task.1))) (l.in_range d);
     }
 
-pub nothing_sound : IsSound (record { tasks = []; wires = []; templates = [] })
-nothing_sound = record {
-  few = omega arith;
-  names_differ = λ i j d lt below. absurd (omega arith);
-  sound_tasks = λ k d lt. absurd (omega arith);
-  service_is_first = λ i j d lt below. absurd (omega arith);
-  wires_lead = λ k d lt. absurd (omega arith);
-  phones_differ = λ i j d lt below. absurd (omega arith);
-  few_templates = omega arith;
-  template_names_differ = λ i j d lt below. absurd (omega arith);
-  templates_apart = λ k d lt. absurd (omega arith);
-  sound_templates = λ k d lt. absurd (omega arith);
-  raw_or_async = λ k d lt. absurd (omega arith);
-  beside_service = λ k d lt. absurd (omega arith);
-}
-
 -- no wire is there where no task is
 pub with_service_sound : (tasks : List TaskPlan) (wires : List Wire) → IsSound (record { tasks = tasks; wires = wires; templates = [] }) → length tasks ≡ 0 → IsSound (record { tasks = tasks ++ service ∷ []; wires = wires; templates = [] })
 with_service_sound tasks wires s none =

@@ -40,11 +40,6 @@ pub three_needed : {A B C X : Type 0} (a : Option A) (b : Option B) (c : Option 
 three_needed (Some x) b c f = two_needed b c (f x)
 three_needed None b c f = refl
 
-pub four_needed : {A B C D X : Type 0} (a : Option A) (b : Option B) (c : Option C) (d : Option D) (f : A → B → C → D → X)
-    → fault_in (needed a >>= λ x. needed b >>= λ y. needed c >>= λ z. needed d >>= λ w. Ok (f x y z w)) ≡ bad (is_some a && (is_some b && (is_some c && (is_some d && true))))
-four_needed (Some x) b c d f = three_needed b c d (f x)
-four_needed None b c d f = refl
-
 -- a count that no form has
 pub differ : (a b : ℕ) → a < b → (a == b) ≡ false
 differ a b h = ne_eqb a b (λ e. omega (arith, e, h))

@@ -34,17 +34,6 @@ pub recent_says : (names : List (List ℕ)) (text behind rest : List ℕ) (steps
 recent_says names text behind rest steps e begins ends =
     named_says names text begins.name steps begins.has (ends_says text behind begins.name rest steps.count steps.others.now e begins.parts begins.has.0 ends)
 
--- the steps are added, or there is no room for them
-pub recent_fault : (names : List (List ℕ)) (templates : List (List ℕ)) (before : EventsAndNames) (text : List ℕ) (steps : TaskSteps) (reason : Reason) → SaysStepsOf names text steps → before.names ≡ names
-    → with_events before.events (events.Step steps.task) steps.count ≡ Err reason → after_event_line templates before (first_line text) ≡ Err reason
-recent_fault names templates before text steps reason says same fault =
-    says.said templates before same ∙ ap (λ made. made >>= λ events. Ok (record { events = events; names = before.names })) fault
-
-pub recent_more : (names : List (List ℕ)) (templates : List (List ℕ)) (before : EventsAndNames) (text : List ℕ) (steps : TaskSteps) (more : List Event) → SaysStepsOf names text steps → before.names ≡ names
-    → with_events before.events (events.Step steps.task) steps.count ≡ Ok more → after_event_line templates before (first_line text) ≡ Ok (record { events = more; names = before.names })
-recent_more names templates before text steps more says same is =
-    says.said templates before same ∙ ap (λ made. made >>= λ events. Ok (record { events = events; names = before.names })) is
-
 -- what holds anyway holds of an answer
 pub if_any : {A E : Type 0} (answer : Result A E) (P : Type 0) → P → IfOk answer (λ _. P)
 if_any (Ok x) P holds = holds

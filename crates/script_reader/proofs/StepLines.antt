@@ -63,12 +63,6 @@ name_front xs at e = found_front is_name_byte xs at e
 pub no_name_end : (xs : List ℕ) → position (λ b. not (is_name_byte b)) xs ≡ None → list_all is_name_byte (take (length xs) xs) ≡ true
 no_name_end xs e = all_front is_name_byte xs e
 
-pub digits_front : (xs : List ℕ) (at : ℕ) → position (λ b. not (is_ascii_digit b)) xs ≡ Some at → (list_all is_ascii_digit (take at xs) ≡ true) × (at ≤ length xs)
-digits_front xs at e = found_front is_ascii_digit xs at e
-
-pub no_digits_end : (xs : List ℕ) → position (λ b. not (is_ascii_digit b)) xs ≡ None → list_all is_ascii_digit (take (length xs) xs) ≡ true
-no_digits_end xs e = all_front is_ascii_digit xs e
-
 -- a name, by its parts
 pub name_is : (w : List ℕ) → is_ascii_lowercase (slice_index w 0) ≡ true → length w ≤ 15 → list_all is_name_byte w ≡ true → is_name w ≡ true
 unfolding is_name

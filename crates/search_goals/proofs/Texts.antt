@@ -1,5 +1,5 @@
 -- The text of a schedule, line by line and as a whole.
-use Rattle.std.proofs.Common.{◌≡◌, ℕ, zero, suc, ◌+◌, ◌^◌, ◌≤◌, ◌<◌, ◌⊎◌, Bool, true, false, List, [], ◌∷◌, ◌++◌, length, Result, Ok, Err, refl, sym, ap, subst, ◌∙◌, inl, inr, append_assoc, append-nil, arith, le-ltb, length-append, decimal, Some}
+use Rattle.std.proofs.Common.{◌≡◌, ℕ, zero, suc, ◌+◌, ◌^◌, ◌≤◌, ◌<◌, ◌⊎◌, Bool, true, false, List, [], ◌∷◌, ◌++◌, length, Result, Ok, Err, refl, sym, ap, subst, ◌∙◌, inl, inr, append_assoc, arith, length-append, decimal, Some}
 use Rattle.std.specs.Prelude.{codes, replicate, nat_lt, OnOk, ◌==◌}
 use Rattle.std.specs.List.{list_all}
 use Rattle.std.proofs.lemmas.Bool.{cases_Bool, and_parts, eqb-true, true≢false}
@@ -211,17 +211,3 @@ pub ends : (templates : List (List ℕ)) (n : ℕ) (made : EventsAndNames) →
     lines_from (after_event_line templates) n made (lines []) ≡ Ok made
 unfolding after_event_line
 ends templates n made = refl
-
-pub whole_read : (script : Plan) (text : List ℕ) (es : List Event) (known : List (List ℕ)) → length text ≤ 1048576
-    → length es ≤ 65536 → Adds (task_names script.templates) (task_names script.tasks) text es known
-    → schedule_of script text ≡ Ok es
-unfolding reading
-whole_read script text es known short few adds =
-    let templates = task_names script.templates in
-    let after : EventsAndNames → List ℕ → Result EventsAndNames Reason = after_event_line templates in
-    let start : EventsAndNames = no_events script in
-    let all : lines_from after 1 start (lines text) ≡ Ok (with_more start es known) =
-    ap (λ (t : List ℕ). lines_from after 1 start (lines t)) (sym (append-nil text))
-    ∙ adds.read 1 start [] refl (omega (arith, few))
-    ∙ ends templates (1 + adds.count) (with_more start es known) in
-    rw (le-ltb 1048576 (length text) short) (ap events_alone all)

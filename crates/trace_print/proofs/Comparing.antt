@@ -1,9 +1,9 @@
 -- A line that is compared with a text.
-use Rattle.std.proofs.Common.{◌≡◌, ℕ, ◌+◌, ◌<◌, ◌≤◌, ◌↔◌, Bool, true, false, List, [], ◌∷◌, ◌++◌, length, take, drop, refl, sym, ap, ◌∙◌, append_assoc, length-append, arith}
+use Rattle.std.proofs.Common.{◌≡◌, ℕ, ◌+◌, ◌↔◌, Bool, true, List, [], ◌∷◌, ◌++◌, length, take, drop, refl, sym, ap, ◌∙◌, append_assoc, arith}
 use Rattle.std.specs.Prelude.{IsTrue, nat_eq, slice_index, ◌==◌}
 use Rattle.std.proofs.lemmas.Bool.{eqb-true}
 use Rattle.std.specs.Cmp.Lexicographic.{pointwise}
-use Rattle.std.proofs.lemmas.List.{take_more, length-take-le, take-append-drop, append_cancel_left}
+use Rattle.std.proofs.lemmas.List.{take-append-drop, append_cancel_left}
 use Rattle.std.proofs.Math.Seq.{take-add, take-append_seam}
 use Rattle.trace_print.specs.Comparison.{compared}
 use Rattle.trace_print.proofs.Lasts.{is_line, same_but_last}
@@ -11,10 +11,6 @@ use Rattle.trace_print.proofs.Lasts.{is_line, same_but_last}
 nil_behind : (xs : List ℕ) → xs ++ [] ≡ xs
 nil_behind [] = refl
 nil_behind (x ∷ xs) = ap (λ l. x ∷ l) (nil_behind xs)
-
--- what comes behind other bytes
-pub other_more : (line other w : List ℕ) (same : ℕ) → compared line same (other ++ w) ≡ compared line same other ++ w
-other_more line other w same = simp (append_assoc)
 
 -- what comes where the line goes on with it
 pub same_more :
@@ -24,19 +20,9 @@ same_more line other w same count none goes =
     rw (none, take-add same count line, goes, nil_behind (take same line ++ w), nil_behind (take same line))
     (ap (λ (l : List ℕ). length line ∷ l) (sym (append_assoc line (take same line) w)))
 
-pub byte_more :
-    (line other : List ℕ) (same b : ℕ) → other ≡ [] → same < length line → slice_index line same ≡ b →
-    compared line (same + 1) other ≡ compared line same other ++ b ∷ []
-byte_more line other same b none within here =
-    rw (none, take_more line same 0 within, nil_behind (take same line ++ slice_index line same ∷ []), nil_behind (take same line), here)
-    (ap (λ (l : List ℕ). length line ∷ l) (sym (append_assoc line (take same line) (b ∷ []))))
-
 pub no_items : (xs : List ℕ) → (length xs == 0) ≡ true → xs ≡ []
 no_items [] h = refl
 no_items (x ∷ xs) h = absurd (grind arith)
-
-pub none_yet : (line : List ℕ) → compared line 0 [] ≡ length line ∷ line
-none_yet line = ap (λ l. length line ∷ l) (nil_behind line)
 
 -- two lines that are compared are one, and so is what was written
 pub apart : (a b x y : List ℕ) → length a ∷ a ++ x ≡ (length b ∷ b) ++ y → (a ≡ b) × (x ≡ y)
@@ -72,9 +58,3 @@ no_feed line other text same last is apart = (
   λ h. absurd (apart (eqb-true last 10 h)),
   λ e. absurd (apart (same_but_last (take same line ++ text) line last 10 (append_assoc (take same line) text (last ∷ []) ∙ ap (λ l. take same line ++ l) (sym is) ∙ e)).1),
 )
-
-pub no_other : (line other : List ℕ) (same : ℕ) → same ≤ length line → length other ≡ 0 → IsTrue false ↔ (take same line ++ other ≡ line ++ 10 ∷ [])
-no_other line other same within none =
-    (λ h. cc, λ e. absurd (longer (ap length e))) where
-      longer : length (take same line ++ other) ≡ length (line ++ 10 ∷ []) → ⊥
-      longer h = omega (arith, h, length-append (take same line) other, length-append line (10 ∷ []), length-take-le same line within)

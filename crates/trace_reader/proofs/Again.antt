@@ -1,5 +1,5 @@
 -- What is read in the words of an entry is what the entry has.
-use Rattle.std.proofs.Common.{ℕ, get_or, zero, suc, drop, ◌-◌, ◌≡◌, ◌<◌, ◌≤◌, ◌+◌, ◌^◌, true, false, List, [], ◌∷◌, ◌++◌, length, Option, None, refl, sym, ap, ◌∙◌, arith, ne_eqb, decimal, append_assoc, subst, inl, inr, ◌/◌, ◌%◌, ◌*◌}
+use Rattle.std.proofs.Common.{ℕ, get_or, zero, suc, drop, ◌-◌, ◌≡◌, ◌<◌, ◌≤◌, ◌+◌, ◌^◌, true, List, [], ◌∷◌, ◌++◌, length, Option, None, refl, sym, ap, ◌∙◌, arith, ne_eqb, decimal, append_assoc, subst, inl, inr, ◌/◌, ◌%◌, ◌*◌}
 use native.Mathlib.Numerals.{unary_clauses}
 use Rattle.std.specs.Prelude.{unwrap_or, nat_eq}
 use Rattle.std.specs.Char.{digit_value}
@@ -105,10 +105,6 @@ CodeAgain n = code_of (code_text (record { 0 = n })) ≡ record { 0 = n }
 code_small : (n : ℕ) → n < 10 → CodeAgain n
 code_small =
     (one_more CodeAgain 9 (one_more CodeAgain 8 (one_more CodeAgain 7 (one_more CodeAgain 6 (one_more CodeAgain 5 (one_more CodeAgain 4 (one_more CodeAgain 3 (one_more CodeAgain 2 (one_more CodeAgain 1 (one_more CodeAgain 0 (λ k h. absurd (omega (arith, h))) refl) refl) refl) refl) refl) refl) refl) refl) refl) refl)
-
--- a number has no name
-first_differs : (b : ℕ) (w v : List ℕ) (c : ℕ) → (b ≡ c → ⊥) → pointwise nat_eq (c ∷ v) (b ∷ w) ≡ false
-first_differs b w v c apart = grind (arith, common_steps)
 
 not_named : (w : List ℕ) → 0 < length w → AllDigits 10 w → named w ≡ None
 not_named [] some h = absurd (omega (arith, some))
