@@ -6,7 +6,7 @@ use Rattle.ipc_ids.specs.declared.entry.Entry.TheVariants.{PhoneIs}
 use Rattle.call_slab.specs.declared.call.Place.TheVariants.{Incoming, Dispatched, Answers}
 use Rattle.answerbox.specs.Calls.{no_calls, same_place, is_caller}
 use Rattle.address_space.specs.Memory.{Memory, no_memory, with_task}
-use Rattle.cleanup.specs.State.{KernelState, state_from}
+use Rattle.switchboard.specs.State.{KernelState, state_from}
 use Rattle.cleanup.specs.Kill.{kill}
 use Rattle.cleanup.proofs.Limits.{none_counted}
 

@@ -18,20 +18,20 @@ use Rattle.answerbox.specs.Calls.{CallTable, call_at, front, same_place, is_call
 use Rattle.answerbox.proofs.Counts.{count-len, count-insert, count-replace, count-without_call}
 use Rattle.answerbox.proofs.Fronts.{front_live, no_front-has_no_calls, ties}
 use Rattle.phone_table.specs.Phones.{row_at, state_at}
-use Rattle.cleanup.specs.State.{KernelState, Transition, alive_in, is_alive, phone_at, with_state_at, with_calls, live_calls, each}
-use Rattle.cleanup.specs.Counts.{AreNumbered}
-use Rattle.cleanup.specs.Joins.{bare_reply, hangup_call, hang_up, declined_call, settle_for, lives, drop_answer}
-use Rattle.cleanup.specs.Kept.{kept_phone, with_kept}
-use Rattle.cleanup.specs.Kill.{width, task_no, hang_up_at, hang_up_own_phones, slam, slam_at, slam_other, slam_phones_to, first_at, settle_call, settle_calls_at, drop_answers}
-use Rattle.cleanup.specs.Rooms.{calls_of_hangup, has_phone, tells_two, vanish_entries, settle_entries, settle_moves}
-use Rattle.cleanup.specs.Board.{IsPendingAt, IsCallOf}
+use Rattle.switchboard.specs.State.{KernelState, Transition, alive_in, is_alive, phone_at, with_state_at, with_calls, live_calls, each, width}
+use Rattle.switchboard.specs.Counts.{AreNumbered}
+use Rattle.switchboard.specs.Joins.{bare_reply, hangup_call, hang_up, declined_call, settle_for, lives, drop_answer, slam, slam_at}
+use Rattle.switchboard.specs.Kept.{kept_phone, with_kept}
+use Rattle.cleanup.specs.Kill.{task_no, hang_up_at, hang_up_own_phones, slam_other, slam_phones_to, first_at, settle_call, settle_calls_at, drop_answers}
+use Rattle.switchboard.specs.Rooms.{calls_of_hangup, has_phone, tells_two, vanish_entries, settle_entries, settle_moves}
+use Rattle.switchboard.specs.Board.{IsPendingAt, IsCallOf}
 use Rattle.cleanup.specs.KillRoom.{total, own_calls, leading_at, leading, kill_calls, kill_moves, moves_at, entries_at}
-use Rattle.cleanup.proofs.Endings.{length_rows}
-use Rattle.cleanup.proofs.Lookups.{at_insert, row_at_set}
-use Rattle.cleanup.proofs.Keeping.{each_with, each_without}
-use Rattle.cleanup.proofs.Repeats.{NoneIs, by_test, each_keeps, drain_keeps, drain_empties}
+use Rattle.switchboard.proofs.Endings.{length_rows}
+use Rattle.switchboard.proofs.Lookups.{at_insert, row_at_set, fewer_calls}
+use Rattle.switchboard.proofs.Keeping.{each_with, each_without}
+use Rattle.switchboard.proofs.Repeats.{NoneIs, by_test, each_keeps, drain_keeps, drain_empties}
 use Rattle.cleanup.proofs.Silence.{slams_keep}
-use Rattle.cleanup.proofs.Queues.{IsLive, answered, fewer_calls, over_less, put_less, settle_less, over_none}
+use Rattle.cleanup.proofs.Queues.{IsLive, answered, over_less, put_less, settle_less, over_none}
 use Rattle.cleanup.proofs.KilledPhones.{written_elsewhere}
 
 -- sums

@@ -12,19 +12,19 @@ use Rattle.call_slab.specs.declared.call.Call.{Call}
 use Rattle.call_slab.specs.declared.call.Place.TheVariants.{Incoming, Dispatched, Answers}
 use Rattle.answerbox.specs.Calls.{calls_at, calls_by}
 use Rattle.phone_table.specs.Phones.{state_at}
-use Rattle.cleanup.specs.State.{KernelState, Transition, is_alive, phone_at, with_state_at, with_phone}
-use Rattle.cleanup.specs.Sound.{IsQuiet, IsSound}
-use Rattle.cleanup.specs.Kept.{AreKept, WaitsIn, kept_phone, lent_phone, kept_rows}
-use Rattle.cleanup.specs.Joins.{bare_reply, settle_for, lives, drop_answer, forget_call, hang_up}
-use Rattle.cleanup.specs.Kill.{width, mark_ended, hang_up_at, slam, first_at, first_call_of, settle_call, kill}
-use Rattle.cleanup.proofs.Rows.{state_changed_at}
-use Rattle.cleanup.proofs.Soundness.{phone_kept}
-use Rattle.cleanup.proofs.Repeats.{by_test, each_keeps, drain_keeps}
-use Rattle.cleanup.proofs.Keepers.{state_here}
-use Rattle.cleanup.proofs.Usable.{kept_waits, lent_waits}
+use Rattle.switchboard.specs.State.{KernelState, Transition, is_alive, phone_at, with_state_at, with_phone, width, mark_ended}
+use Rattle.switchboard.specs.Sound.{IsQuiet, IsSound}
+use Rattle.switchboard.specs.Kept.{AreKept, WaitsIn, kept_phone, lent_phone, kept_rows}
+use Rattle.switchboard.specs.Joins.{bare_reply, settle_for, lives, drop_answer, forget_call, hang_up, slam}
+use Rattle.cleanup.specs.Kill.{hang_up_at, first_at, first_call_of, settle_call, kill}
+use Rattle.switchboard.proofs.Rows.{state_changed_at}
+use Rattle.switchboard.proofs.Soundness.{phone_kept}
+use Rattle.switchboard.proofs.Repeats.{by_test, each_keeps, drain_keeps}
+use Rattle.switchboard.proofs.Keepers.{state_here}
+use Rattle.switchboard.proofs.Usable.{kept_waits, lent_waits}
 use Rattle.cleanup.proofs.Silence.{IsEnding, IsSilent, IsAlone, own_phones_hung_up, phones_slammed, slam_silent, slams_keep}
 use Rattle.cleanup.proofs.Queues.{IsLive, IsUncalled, IsIdle, IsUnanswered, front_at, call_from, incoming_alone, incoming_settled, dispatched_uncalled, dispatched_settled, drop_idle, answers_dropped, forget_unanswered}
-use Rattle.cleanup.specs.Areas.{lose_area}
+use Rattle.switchboard.specs.Areas.{lose_area}
 use Rattle.cleanup.proofs.Killing.{after_calls, areas_last, HasNothingOf, kill_leaves_nothing, after_hangups, after_slams, after_incoming, after_dispatched, after_answers}
 
 -- what a hangup makes of a phone

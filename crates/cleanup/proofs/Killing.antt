@@ -13,17 +13,17 @@ use Rattle.call_slab.specs.declared.call.Place.{Place}
 use Rattle.call_slab.specs.declared.call.Place.TheVariants.{Incoming, Dispatched, Answers}
 use Rattle.answerbox.specs.Calls.{call_at, calls_at, calls_by, same_place, is_caller}
 use Rattle.phone_table.specs.Phones.{state_at}
-use Rattle.cleanup.specs.State.{KernelState, Transition, alive_in, is_alive, phone_at, each}
-use Rattle.cleanup.specs.Sound.{IsPlaced, IsCaller, IsQuiet, IsSound}
-use Rattle.cleanup.specs.Joins.{bare_reply, settle_for, lives, drop_answer, forget_call, hang_up}
-use Rattle.cleanup.specs.Kill.{width, mark_ended, hang_up_at, hang_up_own_phones, slam, slam_phones_to, first_at, first_call_of, settle_call, settle_calls_at, settle_incoming, settle_dispatched, drop_answers, end_phones_and_calls, drop_first_area, kill}
+use Rattle.switchboard.specs.State.{KernelState, Transition, alive_in, is_alive, phone_at, each, width, mark_ended}
+use Rattle.switchboard.specs.Sound.{IsPlaced, IsCaller, IsQuiet, IsSound}
+use Rattle.switchboard.specs.Joins.{bare_reply, settle_for, lives, drop_answer, forget_call, hang_up, slam}
+use Rattle.cleanup.specs.Kill.{hang_up_at, hang_up_own_phones, slam_phones_to, first_at, first_call_of, settle_call, settle_calls_at, settle_incoming, settle_dispatched, drop_answers, end_phones_and_calls, drop_first_area, kill}
 use Rattle.address_space.specs.Areas.{Area}
 use Rattle.address_space.specs.Memory.{areas_of, count_areas, first_area}
 use Rattle.address_space.proofs.Ending.{no_first, first_goes}
-use Rattle.cleanup.specs.Areas.{lose_area, lose_first_area}
-use Rattle.cleanup.proofs.MarkChanges.{ended_here, alive_elsewhere}
-use Rattle.cleanup.proofs.SoundMemory.{memory_drop, memory_ended}
-use Rattle.cleanup.proofs.Repeats.{by_test, each_keeps, drain_keeps}
+use Rattle.switchboard.specs.Areas.{lose_area, lose_first_area}
+use Rattle.switchboard.proofs.MarkChanges.{ended_here, alive_elsewhere}
+use Rattle.switchboard.proofs.SoundMemory.{memory_drop, memory_ended}
+use Rattle.switchboard.proofs.Repeats.{by_test, each_keeps, drain_keeps}
 use Rattle.cleanup.proofs.Silence.{with_marks, IsEnding, own_phones_hung_up, phones_slammed, slams_keep}
 use Rattle.cleanup.proofs.Queues.{IsForgotten, incoming_settled, dispatched_settled, answers_dropped, calls_forgotten}
 

@@ -17,18 +17,18 @@ use Rattle.answerbox.specs.Calls.{is_hangup, CallTable, no_calls, call_at, enque
 use Rattle.ipc_ids.specs.Labels.{same_label}
 use Rattle.answerbox.proofs.Counts.{count-len, count-enqueue, count-without_call, count-with_record, count-put_at}
 use Rattle.phone_table.specs.Phones.{Row, state_at, is_usable, first_usable, first_usable_from}
-use Rattle.cleanup.specs.State.{KernelState, Transition, start, is_alive, phone_at, label_of, with_state_at, with_phone, with_calls, with_task}
-use Rattle.cleanup.specs.Counts.{label_at}
-use Rattle.cleanup.specs.Sound.{IsSound}
-use Rattle.cleanup.specs.Kept.{AreKept, WaitsIn, with_kept, kept_phone, lent_phone, first_usable_of}
-use Rattle.cleanup.specs.Joins.{bare_reply, declined_call, vanishing, settle, settle_for, lives, drop_answer, forget_call, hangup_call, hang_up}
-use Rattle.cleanup.specs.Kill.{width, mark_ended, hang_up_at, slam, kill}
+use Rattle.switchboard.specs.State.{KernelState, Transition, start, is_alive, phone_at, label_of, with_state_at, with_phone, with_calls, with_task, width, mark_ended}
+use Rattle.switchboard.specs.Counts.{label_at}
+use Rattle.switchboard.specs.Sound.{IsSound}
+use Rattle.switchboard.specs.Kept.{AreKept, WaitsIn, with_kept, kept_phone, lent_phone, first_usable_of}
+use Rattle.switchboard.specs.Joins.{bare_reply, declined_call, vanishing, settle, settle_for, lives, drop_answer, forget_call, hangup_call, hang_up, slam}
+use Rattle.cleanup.specs.Kill.{hang_up_at, kill}
 use Rattle.cleanup.specs.Limits.{awaited_calls, hangup_calls, IsIdle, IsWithinLimits, IsRowOf}
-use Rattle.cleanup.proofs.Rows.{some_of}
-use Rattle.cleanup.proofs.Keepers.{state_here}
-use Rattle.cleanup.proofs.Usable.{IsUsable, usable_is, kept_waits, lent_waits}
-use Rattle.cleanup.proofs.Repeats.{by_test, each_keeps}
-use Rattle.cleanup.proofs.Soundness.{next_free}
+use Rattle.switchboard.proofs.Rows.{some_of}
+use Rattle.switchboard.proofs.Keepers.{state_here}
+use Rattle.switchboard.proofs.Usable.{IsUsable, usable_is, kept_waits, lent_waits}
+use Rattle.switchboard.proofs.Repeats.{by_test, each_keeps}
+use Rattle.switchboard.proofs.Soundness.{next_free}
 use Rattle.cleanup.proofs.Silence.{with_marks, hang_up_ends, IsEnding, slams_keep}
 use Rattle.cleanup.proofs.Queues.{IsLive, forget_step}
 use Rattle.cleanup.proofs.Killing.{after_hangups, after_slams}

@@ -13,13 +13,13 @@ use Rattle.call_slab.specs.declared.call.Place.{Place}
 use Rattle.call_slab.specs.declared.call.Place.TheVariants.{Incoming, Dispatched, Answers}
 use Rattle.answerbox.specs.Calls.{CallTable, call_at, calls_at, calls_by, enqueue, put_at, without_call, with_record}
 use Rattle.answerbox.proofs.Fronts.{front_live}
-use Rattle.cleanup.specs.State.{KernelState, Transition, alive_in, phone_at, with_phone, label_of, nothing, then_do, drain, each}
-use Rattle.cleanup.specs.Joins.{bare_reply, declined_call, lives, settle_for, drop_answer, forget_call, hang_up, hangup_call}
-use Rattle.cleanup.specs.Kill.{task_no, width, hang_up_at, hang_up_own_phones, slam, slam_at, slam_phones_of, slam_other, slam_phones_to, first_at, settle_call, settle_calls_at, settle_incoming, settle_dispatched, drop_answers, first_call_of, forget_calls_elsewhere, end_phones_and_calls, drop_first_area, drop_areas, end_parts}
+use Rattle.switchboard.specs.State.{KernelState, Transition, alive_in, phone_at, with_phone, label_of, nothing, then_do, drain, each, width}
+use Rattle.switchboard.specs.Joins.{bare_reply, declined_call, lives, settle_for, drop_answer, forget_call, hang_up, hangup_call, slam, slam_at}
+use Rattle.cleanup.specs.Kill.{task_no, hang_up_at, hang_up_own_phones, slam_phones_of, slam_other, slam_phones_to, first_at, settle_call, settle_calls_at, settle_incoming, settle_dispatched, drop_answers, first_call_of, forget_calls_elsewhere, end_phones_and_calls, drop_first_area, drop_areas, end_parts}
 use Rattle.address_space.specs.Memory.{first_area, count_areas}
-use Rattle.cleanup.specs.Areas.{lose_first_area}
-use Rattle.cleanup.proofs.Lookups.{at_insert}
-use Rattle.cleanup.proofs.Keeping.{each_with, each_without}
+use Rattle.switchboard.specs.Areas.{lose_first_area}
+use Rattle.switchboard.proofs.Lookups.{at_insert}
+use Rattle.switchboard.proofs.Keeping.{each_with, each_without}
 use Rattle.cleanup.proofs.Silence.{with_marks}
 
 -- this caller has the same mark in both

@@ -21,33 +21,19 @@ use Rattle.answerbox.proofs.Fronts.{front_live, no_front-has_no_calls}
 use Rattle.answerbox.proofs.Steps.{with_change-record}
 use Rattle.answerbox.proofs.Callers.{calls_of_live, calls_of_none}
 use Rattle.phone_table.specs.Phones.{state_at}
-use Rattle.cleanup.specs.State.{Tasks, KernelState, with_calls}
-use Rattle.cleanup.specs.Sound.{IsPlaced, IsSoundCall, AreSoundCalls, IsQuiet, IsSound}
-use Rattle.cleanup.specs.Kept.{accepts, kept_phone, lent_phone, kept_rows, with_kept, kept_by}
-use Rattle.cleanup.specs.Joins.{bare_reply, declined_call, vanishing, settle_for, lives, drop_answer, forget_call}
-use Rattle.cleanup.specs.Board.{IsPendingAt}
+use Rattle.switchboard.specs.State.{Tasks, KernelState, with_calls}
+use Rattle.switchboard.specs.Sound.{IsPlaced, IsSoundCall, AreSoundCalls, IsQuiet, IsSound}
+use Rattle.switchboard.specs.Kept.{accepts, kept_phone, lent_phone, kept_rows, with_kept, kept_by}
+use Rattle.switchboard.specs.Joins.{bare_reply, declined_call, vanishing, settle_for, lives, drop_answer, forget_call}
+use Rattle.switchboard.specs.Board.{IsPendingAt}
 use Rattle.cleanup.specs.Kill.{first_at, first_call_of, settle_call, settle_incoming, settle_dispatched, drop_answers, forget_calls_elsewhere}
-use Rattle.cleanup.proofs.Lookups.{at_insert, at_remove, chosen, same_call}
-use Rattle.cleanup.proofs.Rows.{state_changed_at}
-use Rattle.cleanup.proofs.Keepers.{kept_here, kept_other, kept_of_call, all_same}
-use Rattle.cleanup.proofs.SoundStates.{kept_calls}
-use Rattle.cleanup.proofs.SoundJoins.{incoming_pending, held_pending, sound_gone, sound_declined}
-use Rattle.cleanup.proofs.Repeats.{NoneIs, drain_keeps, drain_empties}
+use Rattle.switchboard.proofs.Lookups.{at_insert, at_remove, chosen, same_call}
+use Rattle.switchboard.proofs.Rows.{state_changed_at}
+use Rattle.switchboard.proofs.Keepers.{kept_here, kept_other, kept_of_call, all_same}
+use Rattle.switchboard.proofs.SoundStates.{kept_calls}
+use Rattle.switchboard.proofs.SoundJoins.{incoming_pending, held_pending, sound_gone, sound_declined}
+use Rattle.switchboard.proofs.Repeats.{NoneIs, drain_keeps, drain_empties}
 use Rattle.cleanup.proofs.Silence.{with_marks, IsEnding, IsAlone}
-
--- how many calls are live
-
--- a call that is over is one less
-pub fewer_calls : (q : CallTable) (n : ℕ) (c : Call) → call_at q n ≡ Some c → len (without_call q n).records + 1 ≡ len q.records
-fewer_calls q n c is =
-    let gone : get (remove q.records n) n ≡ None = get-remove nat_cmp_total q.records n n ∙ rw (ties n) in
-    let again : len (insert (remove q.records n) n c) ≡ len (remove q.records n) + 1 = rw (len-insert nat_cmp_total (remove q.records n) n c, gone) (omega arith) in
-    let whole = ap len (insert-remove q.records n c is) in
-    omega arith
-
--- a record in the place of another leaves as many
-pub as_many_calls : (q : CallTable) (n : ℕ) (c d : Call) → call_at q n ≡ Some c → len (insert q.records n d) ≡ len q.records
-as_many_calls q n c d is = rw (len-insert nat_cmp_total q.records n d, is) (omega arith)
 
 -- soundness
 

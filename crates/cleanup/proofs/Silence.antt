@@ -10,13 +10,13 @@ use Rattle.ipc_ids.specs.declared.message.PhoneState.{PhoneState}
 use Rattle.ipc_ids.specs.declared.message.PhoneState.TheVariants.{Free, Connecting, Connected, HungUp, Slammed}
 use Rattle.answerbox.specs.Calls.{enqueue}
 use Rattle.phone_table.specs.Phones.{row_at, state_at}
-use Rattle.cleanup.specs.State.{KernelState, Transition, alive_in, is_alive, phone_at, with_state_at, with_phone, with_calls}
-use Rattle.cleanup.specs.Sound.{IsQuiet, IsSound}
-use Rattle.cleanup.specs.Joins.{hangup_call, hang_up}
-use Rattle.cleanup.specs.Kill.{task_no, width, hang_up_at, hang_up_own_phones, slam, slam_at, slam_phones_of, slam_other, slam_phones_to}
-use Rattle.cleanup.proofs.Rows.{state_changed_at}
-use Rattle.cleanup.proofs.SoundStates.{no_phone, sound_enqueued, kept_state, kept_hung_up}
-use Rattle.cleanup.proofs.Repeats.{by_test, each_keeps, each_does}
+use Rattle.switchboard.specs.State.{KernelState, Transition, alive_in, is_alive, phone_at, with_state_at, with_phone, with_calls, width}
+use Rattle.switchboard.specs.Sound.{IsQuiet, IsSound}
+use Rattle.switchboard.specs.Joins.{hangup_call, hang_up, slam, slam_at}
+use Rattle.cleanup.specs.Kill.{task_no, hang_up_at, hang_up_own_phones, slam_phones_of, slam_other, slam_phones_to}
+use Rattle.switchboard.proofs.Rows.{state_changed_at}
+use Rattle.switchboard.proofs.SoundStates.{no_phone, sound_enqueued, kept_state, kept_hung_up}
+use Rattle.switchboard.proofs.Repeats.{by_test, each_keeps, each_does}
 
 -- the state, with these marks of who is alive
 abbrev pub with_marks : List Bool → KernelState → KernelState

@@ -14,16 +14,16 @@ use Rattle.call_slab.specs.declared.call.Call.{Call}
 use Rattle.answerbox.specs.Calls.{CallTable, call_at, count_of, active_calls, is_active_on}
 use Rattle.answerbox.proofs.Fronts.{first, second, greater, ties, not_tied}
 use Rattle.phone_table.specs.Phones.{AreCounted, row_at, state_at, count_at}
-use Rattle.cleanup.proofs.Lookups.{row_at_set}
+use Rattle.switchboard.proofs.Lookups.{row_at_set}
 use Rattle.address_space.specs.Memory.{Memory}
-use Rattle.cleanup.specs.State.{KernelState, alive_in, state_from, label_of}
-use Rattle.cleanup.specs.Sound.{IsCaller, IsSound}
-use Rattle.cleanup.specs.Counts.{IsCounted}
-use Rattle.cleanup.specs.Board.{IsSwitched, IsAdded, FewFrom}
+use Rattle.switchboard.specs.State.{KernelState, alive_in, state_from, label_of, mark_ended}
+use Rattle.switchboard.specs.Sound.{IsCaller, IsSound}
+use Rattle.switchboard.specs.Counts.{IsCounted}
+use Rattle.switchboard.specs.Board.{IsSwitched, IsAdded, FewFrom}
 use Rattle.cleanup.specs.Ending.{IsJustEnded, HasFewActive, all_alive}
-use Rattle.cleanup.specs.Kill.{mark_ended, end_parts, kill}
-use Rattle.cleanup.proofs.Endings.{within}
-use Rattle.cleanup.proofs.Soundness.{value_of}
+use Rattle.cleanup.specs.Kill.{end_parts, kill}
+use Rattle.switchboard.proofs.Endings.{within}
+use Rattle.switchboard.proofs.Soundness.{value_of}
 use Rattle.cleanup.proofs.Marks.{SameMark, Agree, remarked, blind_parts}
 
 -- the marks, where one was set

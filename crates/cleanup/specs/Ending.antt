@@ -4,8 +4,8 @@ use Rattle.ipc_ids.specs.declared.numbers.TaskNo.{TaskNo}
 use Rattle.answerbox.specs.Calls.{CallTable, BoxesState}
 use Rattle.phone_table.specs.Phones.{Rows, count_at}
 use Rattle.address_space.specs.Memory.{Memory}
-use Rattle.cleanup.specs.State.{KernelState, alive_in, state_from}
-use Rattle.cleanup.specs.Counts.{IsCounted}
+use Rattle.switchboard.specs.State.{KernelState, alive_in, state_from}
+use Rattle.switchboard.specs.Counts.{IsCounted}
 use Rattle.cleanup.specs.KillRoom.{own_calls, moves_of}
 
 -- the task is one of those with marks, and is marked as ended

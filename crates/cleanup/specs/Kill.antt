@@ -1,37 +1,18 @@
 -- The end of task t: what a kill does, part by part.
-use Rattle.std.specs.Prelude.{ℕ, ◌+◌, ◌-◌, ◌==◌, false, if◌then◌else◌, [], ◌∷◌, Option, None, Some, List, length, slice_set}
-use Rattle.std.specs.Option.{option_map_or}
+use Rattle.std.specs.Prelude.{ℕ, ◌+◌, ◌==◌, if◌then◌else◌, Option, None, length}
 use Rattle.ipc_ids.specs.declared.numbers.TaskNo.{TaskNo}
-use Rattle.ipc_ids.specs.declared.message.PhoneState.{PhoneState}
-use Rattle.ipc_ids.specs.declared.message.PhoneState.TheVariants.{Free, Connecting, Connected, HungUp, Slammed}
-use Rattle.ipc_ids.specs.declared.entry.Entry.TheVariants.{PhoneIs}
 use Rattle.ipc_ids.specs.Codes.{ehangup}
 use Rattle.call_slab.specs.declared.call.Call.{Call}
 use Rattle.call_slab.specs.declared.call.Place.{Place}
 use Rattle.call_slab.specs.declared.call.Place.TheVariants.{Incoming, Dispatched, Answers}
 use Rattle.answerbox.specs.Calls.{front, calls_of, calls_at, calls_by}
-use Rattle.phone_table.specs.Phones.{row_at}
 use Rattle.address_space.specs.Memory.{first_area, count_areas}
-use Rattle.cleanup.specs.State.{KernelState, Transition, nothing, then_do, each, drain, phone_at, with_phone, label_of}
-use Rattle.cleanup.specs.Joins.{bare_reply, settle, drop_answer, forget_call, hang_up}
-use Rattle.cleanup.specs.Areas.{lose_first_area}
+use Rattle.switchboard.specs.State.{KernelState, Transition, nothing, then_do, each, drain, phone_at, width, mark_ended}
+use Rattle.switchboard.specs.Joins.{bare_reply, settle, drop_answer, forget_call, hang_up, slam_at}
+use Rattle.switchboard.specs.Areas.{lose_first_area}
 
 abbrev pub task_no : ℕ → TaskNo
 task_no n = record { 0 = n }
-
--- how many phones task t has
-abbrev pub width : List (List PhoneState) → ℕ → ℕ
-width rows t = option_map_or (λ row. length row) (row_at rows t) 0
-
--- task t has ended
-abbrev pub mark_ended : KernelState → TaskNo → KernelState
-mark_ended k t =
-    record {
-      tasks = record { alive = slice_set k.tasks.alive (t.0 - 1) false; phones = k.tasks.phones };
-      calls = k.calls;
-      memory = k.memory;
-      events = k.events;
-    }
 
 -- first, each phone of t by its number is hung up
 abbrev pub hang_up_at : TaskNo → KernelState → ℕ → Transition
@@ -41,17 +22,6 @@ abbrev pub hang_up_own_phones : TaskNo → KernelState → Transition
 hang_up_own_phones t k = each (hang_up_at t) (width k.tasks.phones t.0) 0 k
 
 -- then the phones of other tasks that lead to t are slammed, by task and number
-abbrev pub slam : TaskNo → TaskNo → KernelState → ℕ → Option PhoneState → Transition
-slam t u k p (Some (Connected v)) = if v.0 == t.0 then record { state = with_phone k u p Slammed; entries = PhoneIs (label_of u p) Slammed ∷ [] } else nothing k
-slam t u k p None = nothing k
-slam t u k p (Some Free) = nothing k
-slam t u k p (Some Connecting) = nothing k
-slam t u k p (Some HungUp) = nothing k
-slam t u k p (Some Slammed) = nothing k
-
-abbrev pub slam_at : TaskNo → TaskNo → KernelState → ℕ → Transition
-slam_at t u k p = slam t u k p (phone_at k u p)
-
 abbrev pub slam_phones_of : TaskNo → TaskNo → KernelState → Transition
 slam_phones_of t u k = each (slam_at t u) (width k.tasks.phones u.0) 0 k
 

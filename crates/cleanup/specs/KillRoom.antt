@@ -1,32 +1,21 @@
 -- The room that the end of task t takes at most, counted from the phones, the calls and the areas that it can touch.
-use Rattle.std.specs.Prelude.{ℕ, zero, suc, ◌+◌, ◌*◌, ◌==◌, ◌&&◌, if◌then◌else◌, Option, None, Some, List, length}
+use Rattle.std.specs.Prelude.{ℕ, zero, suc, ◌+◌, ◌*◌, ◌==◌, ◌&&◌, if◌then◌else◌, List, length}
 use Rattle.ipc_ids.specs.declared.numbers.TaskNo.{TaskNo}
 use Rattle.ipc_ids.specs.declared.message.PhoneState.{PhoneState}
-use Rattle.ipc_ids.specs.declared.message.PhoneState.TheVariants.{Free, Connecting, Connected, HungUp, Slammed}
 use Rattle.std.specs.FinMap.{entries}
 use Rattle.call_slab.specs.declared.call.Place.{Place}
 use Rattle.call_slab.specs.declared.call.Place.TheVariants.{Incoming, Dispatched, Answers}
 use Rattle.answerbox.specs.Calls.{CallTable, same_place, count_of, calls_at, calls_by}
 use Rattle.phone_table.specs.Phones.{state_at}
 use Rattle.address_space.specs.Memory.{count_areas}
-use Rattle.cleanup.specs.State.{KernelState}
-use Rattle.cleanup.specs.Kill.{width}
-use Rattle.cleanup.specs.Joins.{lives}
-use Rattle.cleanup.specs.Rooms.{tells_two, calls_of_hangup, entries_of_hangup}
+use Rattle.switchboard.specs.State.{KernelState, width}
+use Rattle.switchboard.specs.Joins.{lives}
+use Rattle.switchboard.specs.Rooms.{tells_two, calls_of_hangup, entries_of_hangup, leads_to}
 
 -- the sum of these for so many numbers, from i on
 abbrev pub total : (ℕ → ℕ) → ℕ → ℕ → ℕ
 total f zero i = 0
 total f (suc most) i = f i + total f most (i + 1)
-
--- 1 where a phone in this state leads to task t
-abbrev pub leads_to : TaskNo → Option PhoneState → ℕ
-leads_to t None = 0
-leads_to t (Some Free) = 0
-leads_to t (Some Connecting) = 0
-leads_to t (Some (Connected u)) = if u.0 == t.0 then 1 else 0
-leads_to t (Some HungUp) = 0
-leads_to t (Some Slammed) = 0
 
 -- how many calls and entries the hangups of the phones of task t make
 abbrev pub own_calls : List (List PhoneState) → TaskNo → ℕ

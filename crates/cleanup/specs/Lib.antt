@@ -1,15 +1,4 @@
-pub mod State
-pub mod Sound
-pub mod Counts
-pub mod Serving
-pub mod Kept
-pub mod Joins
-pub mod Areas
-pub mod Data
-pub mod Sharing
 pub mod Kill
 pub mod Limits
-pub mod Board
-pub mod Rooms
 pub mod KillRoom
 pub mod Ending

@@ -7,8 +7,8 @@ use Rattle.ipc_ids.specs.declared.message.PhoneState.{PhoneState}
 use Rattle.ipc_ids.specs.declared.message.PhoneState.TheVariants.{Free, Connecting, Connected, HungUp, Slammed}
 use Rattle.answerbox.specs.Calls.{CallTable, is_hangup, count_of, is_active_on, active_calls}
 use Rattle.phone_table.specs.Phones.{Row, state_at}
-use Rattle.cleanup.specs.State.{KernelState, phone_at, label_of}
-use Rattle.cleanup.specs.Counts.{label_at}
+use Rattle.switchboard.specs.State.{KernelState, phone_at, label_of}
+use Rattle.switchboard.specs.Counts.{label_at}
 
 -- how many live calls are active on this phone and wait for an answer
 abbrev pub awaited_calls : CallTable → Label → ℕ

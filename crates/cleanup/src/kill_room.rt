@@ -2,16 +2,16 @@
 ghost use Rattle.std.specs.Prelude.{◌≡◌, ◌+◌, ◌^◌, ◌<◌, ◌≤◌, [], IfOk, length};
 ghost use Rattle.std.specs.FinMap.{len};
 ghost use Rattle.phone_table.specs.Phones.{state_at};
-ghost use Rattle.cleanup.specs.State.{state_from};
-ghost use Rattle.cleanup.specs.Rooms.{calls_of_hangup as calls_of, entries_of_hangup as entries_of};
-ghost use Rattle.cleanup.specs.KillRoom.{kill_entries as kill_entries_of, own_calls, own_entries as own_entries_of, leads_to as leads, leading as leading_to, leading_at as leading_from, leading_of as leading_in};
+ghost use Rattle.switchboard.specs.State.{state_from};
+ghost use Rattle.switchboard.specs.Rooms.{calls_of_hangup as calls_of, entries_of_hangup as entries_of, leads_to as leads};
+ghost use Rattle.cleanup.specs.KillRoom.{kill_entries as kill_entries_of, own_calls, own_entries as own_entries_of, leading as leading_to, leading_at as leading_from, leading_of as leading_in};
 
-use crate::phones::width;
 use address_space::Spaces;
 use answerbox::Boxes;
 use call_slab::Place;
 use ipc_ids::{NoMemory, PhoneState, TaskNo};
 use phone_table::PhoneRows;
+use switchboard::width;
 
 /// How many calls the end of the task makes at most: one for each of its phones that leads to a
 /// task.

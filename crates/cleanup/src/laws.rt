@@ -1,12 +1,11 @@
 //! The law of the active calls of a phone.
 ghost use Rattle.std.specs.Prelude.{◌≡◌, ℕ, ◌≤◌, true, Some};
 ghost use Rattle.ipc_ids.specs.declared.numbers.TaskNo.{TaskNo};
-ghost use Rattle.cleanup.specs.State.{KernelState, is_alive};
-ghost use Rattle.cleanup.specs.Sound.{IsSound};
+ghost use Rattle.switchboard.specs.State.{KernelState, is_alive, label_of};
+ghost use Rattle.switchboard.specs.Sound.{IsSound};
 ghost use Rattle.answerbox.specs.Calls.{active_calls};
 ghost use Rattle.phone_table.specs.Phones.{Row, first_usable};
-ghost use Rattle.cleanup.specs.State.{label_of};
-ghost use Rattle.cleanup.specs.Counts.{label_at};
+ghost use Rattle.switchboard.specs.Counts.{label_at};
 ghost use Rattle.cleanup.specs.Limits.{IsWithinLimits, IsRowOf};
 ghost use Rattle.cleanup.specs.Kill.{kill};
 

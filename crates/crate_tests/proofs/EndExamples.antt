@@ -4,14 +4,14 @@ use Rattle.std.specs.Ordering.{nat_cmp}
 use Rattle.std.specs.FinMap.{len, len-empty}
 use Rattle.answerbox.specs.Calls.{CallTable, no_calls}
 use Rattle.answerbox.proofs.Counts.{active-len}
-use Rattle.cleanup.specs.State.{start, state_from, with_task}
-use Rattle.cleanup.specs.Sound.{IsSound}
-use Rattle.cleanup.specs.Counts.{IsCounted, label_at}
+use Rattle.switchboard.specs.State.{start, state_from, with_task}
+use Rattle.switchboard.specs.Sound.{IsSound}
+use Rattle.switchboard.specs.Counts.{IsCounted, label_at}
 use Rattle.cleanup.specs.Ending.{IsJustEnded, HasFewActive}
 use Rattle.crate_tests.specs.EndStart.{one, own_phones, no_counts, own_area}
-use Rattle.cleanup.proofs.SoundMemory.{memory_make}
-use Rattle.cleanup.proofs.SoundStates.{kept_wired, kept_task, sound_start}
-use Rattle.cleanup.proofs.Counting.{counted_none, counted_task}
+use Rattle.switchboard.proofs.SoundMemory.{memory_make}
+use Rattle.switchboard.proofs.SoundStates.{kept_wired, kept_task, sound_start}
+use Rattle.switchboard.proofs.Counting.{counted_none, counted_task}
 
 few_active : (counts : List (List ℕ)) (calls : CallTable) → IsCounted counts calls → len calls.records < 2 ^ 31 → HasFewActive counts calls
 few_active counts calls s few = record { counted = s; few = λ t p n is. let same = s t p n is in let most = active-len calls (label_at t p) in omega (arith, same, most, few) }

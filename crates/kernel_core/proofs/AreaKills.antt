@@ -16,12 +16,12 @@ use Rattle.address_space.proofs.Ending.{first_is_dropped}
 use Rattle.address_space.proofs.Numbers.{next_at_drop}
 use Rattle.address_space.proofs.Rows.{length_drop}
 use Rattle.address_space.proofs.Soundness.{sound_drop}
-use Rattle.cleanup.specs.State.{KernelState, Transition, is_alive}
-use Rattle.cleanup.specs.Joins.{bare_reply, forget_call, declined_call}
-use Rattle.cleanup.specs.Kept.{lent_phone}
-use Rattle.cleanup.specs.Kill.{mark_ended, kill}
-use Rattle.cleanup.specs.Sound.{IsSound}
-use Rattle.cleanup.proofs.Lookups.{at_insert}
+use Rattle.switchboard.specs.State.{KernelState, Transition, is_alive, mark_ended}
+use Rattle.switchboard.specs.Joins.{bare_reply, forget_call, declined_call}
+use Rattle.switchboard.specs.Kept.{lent_phone}
+use Rattle.cleanup.specs.Kill.{kill}
+use Rattle.switchboard.specs.Sound.{IsSound}
+use Rattle.switchboard.proofs.Lookups.{at_insert}
 use Rattle.cleanup.proofs.Queues.{forget_step}
 use Rattle.kernel_core.specs.Kernel.{kill_event}
 use Rattle.kernel_core.specs.History.{killed_entries}

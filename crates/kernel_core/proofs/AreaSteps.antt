@@ -22,11 +22,11 @@ use Rattle.call_slab.specs.declared.call.Place.TheVariants as place
 use Rattle.answerbox.specs.Calls.{CallTable, call_at, put_at, without_call}
 use Rattle.address_space.specs.Areas.{Area}
 use Rattle.address_space.specs.Memory.{Memory, area_at}
-use Rattle.cleanup.specs.State.{KernelState, with_calls, with_memory}
-use Rattle.cleanup.specs.Kept.{kept_phone, lent_phone, with_kept, kept_note}
-use Rattle.cleanup.specs.Joins.{vanishing, answer_to, drop_answer, passage, passed_call, reception, delivery}
-use Rattle.cleanup.specs.Serving.{Handed}
-use Rattle.cleanup.proofs.Lookups.{at_insert, at_remove, chosen}
+use Rattle.switchboard.specs.State.{KernelState, with_calls, with_memory}
+use Rattle.switchboard.specs.Kept.{kept_phone, lent_phone, with_kept, kept_note}
+use Rattle.switchboard.specs.Joins.{vanishing, answer_to, drop_answer, passage, passed_call, reception, delivery}
+use Rattle.switchboard.specs.Serving.{Handed}
+use Rattle.switchboard.proofs.Lookups.{at_insert, at_remove, chosen}
 use Rattle.kernel_core.specs.AreaHistory.{holding, Asks, IsShare, IsMadeAs, AreasFit}
 use Rattle.kernel_core.proofs.HeldAreas.{IsAtOnly}
 

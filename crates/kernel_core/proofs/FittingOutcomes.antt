@@ -27,11 +27,11 @@ use Rattle.forwarding.specs.declared.passing.Forwarded.{Forwarded}
 use Rattle.forwarding.specs.declared.passing.ForwardFault.{ForwardFault}
 use Rattle.forwarding.specs.declared.passing.ForwardFault.TheVariants.{NotHeld, NotForwardable, NotConnected}
 use Rattle.forwarding.specs.Routes.{forward_answer}
-use Rattle.cleanup.specs.State.{KernelState, phone_at, label_of}
-use Rattle.cleanup.specs.Sound.{IsSound}
-use Rattle.cleanup.specs.Areas.{done_or_refused, bytes_or_refused}
-use Rattle.cleanup.specs.Joins.{new_call}
-use Rattle.cleanup.specs.Serving.{Handed, refusal}
+use Rattle.switchboard.specs.State.{KernelState, phone_at, label_of}
+use Rattle.switchboard.specs.Sound.{IsSound}
+use Rattle.switchboard.specs.Areas.{done_or_refused, bytes_or_refused}
+use Rattle.switchboard.specs.Joins.{new_call}
+use Rattle.switchboard.specs.Serving.{Handed, refusal}
 use Rattle.kernel_core.specs.Moments.{before_send}
 use Rattle.kernel_core.specs.Calling.{is_callable, sent_to, call_through, call_tested, call_over}
 use Rattle.kernel_core.specs.Receiving.{receive_first, drop_unawaited}

@@ -21,12 +21,12 @@ use Rattle.answerbox.specs.Calls.{CallTable, call_at, same_place, enqueue, put_a
 use Rattle.answerbox.proofs.Fronts.{front_live}
 use Rattle.phone_table.specs.Phones.{state_at}
 use Rattle.address_space.specs.Memory.{Memory}
-use Rattle.cleanup.specs.State.{KernelState, Transition, with_calls, with_memory, with_phone, alive_in, is_alive}
-use Rattle.cleanup.specs.Kept.{kept_phone, lent_phone, unless_freed, with_kept, kept_note}
-use Rattle.cleanup.specs.Joins.{vanishing, answer_to, settle, settle_for, lives, drop_answer}
-use Rattle.cleanup.specs.Serving.{Handed, Served}
-use Rattle.cleanup.proofs.Lookups.{at_insert, at_remove}
-use Rattle.cleanup.proofs.Rows.{state_changed_at}
+use Rattle.switchboard.specs.State.{KernelState, Transition, with_calls, with_memory, with_phone, alive_in, is_alive}
+use Rattle.switchboard.specs.Kept.{kept_phone, lent_phone, unless_freed, with_kept, kept_note}
+use Rattle.switchboard.specs.Joins.{vanishing, answer_to, settle, settle_for, lives, drop_answer}
+use Rattle.switchboard.specs.Serving.{Handed, Served}
+use Rattle.switchboard.proofs.Lookups.{at_insert, at_remove}
+use Rattle.switchboard.proofs.Rows.{state_changed_at}
 use Rattle.kernel_core.specs.History.{is_ended, life_at, IsGone}
 
 -- a past with these entries more, the first of which came first

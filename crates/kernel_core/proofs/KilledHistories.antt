@@ -18,21 +18,21 @@ use Rattle.call_slab.specs.declared.call.Call.{Call}
 use Rattle.call_slab.specs.declared.call.Place.{Place}
 use Rattle.call_slab.specs.declared.call.Place.TheVariants as place
 use Rattle.answerbox.specs.Calls.{call_at, calls_at, calls_by, same_place, is_caller, with_record}
-use Rattle.cleanup.specs.State.{KernelState, Transition, then_do, phone_at, alive_in, is_alive}
-use Rattle.cleanup.specs.Joins.{bare_reply, drop_answer, forget_call}
-use Rattle.cleanup.specs.Kill.{width, task_no, mark_ended, hang_up_at, hang_up_own_phones, slam, slam_at, slam_phones_of, slam_other, slam_phones_to, first_at, settle_call, settle_incoming, settle_dispatched, drop_answers, first_call_of, forget_calls_elsewhere, drop_first_area, drop_areas, kill}
+use Rattle.switchboard.specs.State.{KernelState, Transition, then_do, phone_at, alive_in, is_alive, width, mark_ended}
+use Rattle.switchboard.specs.Joins.{bare_reply, drop_answer, forget_call, slam, slam_at}
+use Rattle.cleanup.specs.Kill.{task_no, hang_up_at, hang_up_own_phones, slam_phones_of, slam_other, slam_phones_to, first_at, settle_call, settle_incoming, settle_dispatched, drop_answers, first_call_of, forget_calls_elsewhere, drop_first_area, drop_areas, kill}
 use Rattle.address_space.specs.Memory.{first_area, count_areas}
-use Rattle.cleanup.specs.Areas.{lose_first_area}
-use Rattle.cleanup.specs.Sound.{IsSound}
-use Rattle.cleanup.proofs.Lookups.{at_insert}
-use Rattle.cleanup.proofs.Histories.{then_tells, each_tells, drain_tells}
+use Rattle.switchboard.specs.Areas.{lose_first_area}
+use Rattle.switchboard.specs.Sound.{IsSound}
+use Rattle.switchboard.proofs.Lookups.{at_insert}
+use Rattle.switchboard.proofs.Histories.{then_tells, each_tells, drain_tells}
 use Rattle.cleanup.proofs.Silence.{IsEnding, own_phones_hung_up, phones_slammed}
 use Rattle.cleanup.proofs.Queues.{IsUnanswered, incoming_settled, dispatched_settled, answers_dropped, forget_unanswered, call_from, forget_step}
 use Rattle.std.proofs.lemmas.List.{length-set}
 use Rattle.kernel_core.proofs.HonestEvents.{kill_is_honest}
 use Rattle.kernel_core.proofs.Marks.{known_append, effects_known, alive_known}
 use Rattle.cleanup.proofs.Killing.{sound_kill, kill_marks, after_hangups, after_slams, after_incoming, after_dispatched, kill_leaves_nothing, HasNothingOf}
-use Rattle.cleanup.proofs.MarkChanges.{get_set_same, get_set_other, alive_at, apart, ended_here, alive_elsewhere}
+use Rattle.switchboard.proofs.MarkChanges.{get_set_same, get_set_other, alive_at, apart, ended_here, alive_elsewhere}
 use Rattle.cleanup.proofs.Limits.{within_kill}
 use Rattle.kernel_core.proofs.ServedLimits.{within_event}
 use Rattle.kernel_core.specs.Kernel.{kill_event}

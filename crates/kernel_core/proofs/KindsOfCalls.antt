@@ -12,10 +12,10 @@ use Rattle.ipc_ids.specs.Methods.{kind_of, phone_hungup, connect_to_me, connect_
 use Rattle.call_slab.specs.declared.call.Call.{Call}
 use Rattle.call_slab.specs.declared.call.Place.{Place}
 use Rattle.call_slab.specs.declared.call.Place.TheVariants.{Dispatched}
-use Rattle.cleanup.specs.State.{Tasks}
-use Rattle.cleanup.specs.Sound.{IsCaller}
-use Rattle.cleanup.specs.Kept.{accepts, phone_of, kept_of, keeper_of, kept_phone}
-use Rattle.cleanup.proofs.Repeats.{by_test}
+use Rattle.switchboard.specs.State.{Tasks}
+use Rattle.switchboard.specs.Sound.{IsCaller}
+use Rattle.switchboard.specs.Kept.{accepts, phone_of, kept_of, keeper_of, kept_phone}
+use Rattle.switchboard.proofs.Repeats.{by_test}
 
 -- what a kind of method says of the method
 abbrev pub KindSays : MethodKind → ℕ → Type 0

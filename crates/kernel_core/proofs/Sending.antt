@@ -12,15 +12,15 @@ use Rattle.ipc_ids.specs.declared.methods.MethodKind.TheVariants.{ConnectMeTo}
 use Rattle.ipc_ids.specs.Methods.{kind_of}
 use Rattle.address_space.specs.declared.spaces.SpaceFault.TheVariants.{Refused}
 use Rattle.call_slab.specs.declared.call.Call.{Call}
-use Rattle.cleanup.specs.State.{KernelState, BoardState, phone_at}
+use Rattle.switchboard.specs.State.{KernelState, BoardState, phone_at}
 use Rattle.call_slab.specs.declared.call.Place.TheVariants.{Answers}
-use Rattle.cleanup.specs.Board.{IsAdded, IsNewCall}
-use Rattle.cleanup.specs.Kept.{IsLoose, first_usable_of, is_accepted, kept_note, or_refused, phone_of, with_kept}
-use Rattle.cleanup.specs.Joins.{acceptance, answer_at_once}
-use Rattle.cleanup.specs.Rooms.{HasRoom, KeepsCalls, UsesRoom}
-use Rattle.cleanup.specs.Serving.{Handed, Serves}
-use Rattle.cleanup.proofs.Soundness.{phone_kept}
-use Rattle.cleanup.proofs.SoundStates.{keeps_none}
+use Rattle.switchboard.specs.Board.{IsAdded, IsNewCall}
+use Rattle.switchboard.specs.Kept.{IsLoose, first_usable_of, is_accepted, kept_note, or_refused, phone_of, with_kept}
+use Rattle.switchboard.specs.Joins.{acceptance, answer_at_once}
+use Rattle.switchboard.specs.Rooms.{HasRoom, KeepsCalls, UsesRoom}
+use Rattle.switchboard.specs.Serving.{Handed, Serves}
+use Rattle.switchboard.proofs.Soundness.{phone_kept}
+use Rattle.switchboard.proofs.SoundStates.{keeps_none}
 use Rattle.kernel_core.specs.Calling.{sent_to}
 use Rattle.kernel_core.specs.Handing.{IsSent}
 use Rattle.kernel_core.specs.Moments.{before_send, with_fifth}

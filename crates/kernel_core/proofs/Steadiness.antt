@@ -5,12 +5,12 @@ use Rattle.std.specs.Prelude.{Some, Result, Ok, Err, OnOk, OnErr}
 use Rattle.ipc_ids.specs.declared.numbers.TaskNo.{TaskNo}
 use Rattle.ipc_ids.specs.declared.message.Request.{Request}
 use Rattle.ipc_ids.specs.declared.message.PhoneState.TheVariants.{Free, Connected}
-use Rattle.cleanup.specs.State.{KernelState, live_calls, start, is_alive, phone_at, with_task, with_phone, with_event}
-use Rattle.cleanup.specs.Sound.{IsSound}
-use Rattle.cleanup.proofs.SoundStates.{sound_start, kept_task, kept_wired}
+use Rattle.switchboard.specs.State.{KernelState, live_calls, start, is_alive, phone_at, with_task, with_phone, with_event}
+use Rattle.switchboard.specs.Sound.{IsSound}
+use Rattle.switchboard.proofs.SoundStates.{sound_start, kept_task, kept_wired}
 use Rattle.cleanup.proofs.Killing.{sound_kill, kill_marks}
 use Rattle.answerbox.proofs.Counts.{active-len}
-use Rattle.cleanup.specs.Board.{FewActive}
+use Rattle.switchboard.specs.Board.{FewActive}
 use Rattle.kernel_core.specs.Kernel.{IsSteady, serve, kill_event}
 use Rattle.cleanup.specs.Kill.{kill}
 use Rattle.cleanup.specs.KillRoom.{kill_calls, kill_moves}

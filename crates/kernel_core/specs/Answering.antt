@@ -7,10 +7,10 @@ use Rattle.ipc_ids.specs.Codes.{enoent}
 use Rattle.call_slab.specs.declared.call.Call.{Call}
 use Rattle.answerbox.specs.Calls.{call_at}
 use Rattle.forwarding.specs.Forwarding.{is_held}
-use Rattle.cleanup.specs.State.{KernelState, Transition}
-use Rattle.cleanup.specs.Kept.{accepts}
-use Rattle.cleanup.specs.Joins.{answer_to, lives, settle, vanishing}
-use Rattle.cleanup.specs.Serving.{Served, telling, refusal}
+use Rattle.switchboard.specs.State.{KernelState, Transition}
+use Rattle.switchboard.specs.Kept.{accepts}
+use Rattle.switchboard.specs.Joins.{answer_to, lives, settle, vanishing}
+use Rattle.switchboard.specs.Serving.{Served, telling, refusal}
 use Rattle.kernel_core.specs.Moments.{on_accept}
 
 -- the live call, where task t holds it

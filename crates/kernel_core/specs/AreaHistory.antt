@@ -13,7 +13,7 @@ use Rattle.call_slab.specs.declared.call.Call.{Call}
 use Rattle.answerbox.specs.Calls.{call_at}
 use Rattle.address_space.specs.Areas.{Area}
 use Rattle.address_space.specs.Memory.{area_at}
-use Rattle.cleanup.specs.State.{KernelState}
+use Rattle.switchboard.specs.State.{KernelState}
 
 -- an area, as entries tell of it
 abbrev pub holding : Option Area → Option Holding

@@ -13,9 +13,9 @@ use Rattle.ipc_ids.specs.Tables.{most_active}
 use Rattle.call_slab.specs.declared.call.Call.{Call}
 use Rattle.call_slab.specs.declared.call.Place.TheVariants.{Incoming, Answers}
 use Rattle.answerbox.specs.Calls.{active_calls}
-use Rattle.cleanup.specs.State.{KernelState, phone_at, label_of}
-use Rattle.cleanup.specs.Joins.{new_call, acceptance, answer_at_once}
-use Rattle.cleanup.specs.Serving.{Handed, Served, refusal}
+use Rattle.switchboard.specs.State.{KernelState, phone_at, label_of}
+use Rattle.switchboard.specs.Joins.{new_call, acceptance, answer_at_once}
+use Rattle.switchboard.specs.Serving.{Handed, Served, refusal}
 use Rattle.kernel_core.specs.Moments.{before_send}
 
 -- the call goes to task u, where its method allows it to be sent, and else it is answered at once

@@ -13,9 +13,9 @@ use Rattle.forwarding.specs.declared.passing.ForwardFault.{ForwardFault}
 use Rattle.forwarding.specs.declared.passing.ForwardFault.TheVariants.{NotHeld, NotForwardable, NotConnected}
 use Rattle.forwarding.specs.Forwarding.{msg_after, label_after}
 use Rattle.forwarding.specs.Routes.{forward_answer}
-use Rattle.cleanup.specs.State.{KernelState, phone_at}
-use Rattle.cleanup.specs.Serving.{refusal, Served, telling}
-use Rattle.cleanup.specs.Joins.{bare_reply, passage, settle_live}
+use Rattle.switchboard.specs.State.{KernelState, phone_at}
+use Rattle.switchboard.specs.Serving.{refusal, Served, telling}
+use Rattle.switchboard.specs.Joins.{bare_reply, passage, settle_live}
 
 -- the kernel answers the call, and the task is refused with this code
 abbrev pub failed_forward : KernelState → Option Call → Code → Served

@@ -10,12 +10,12 @@ use Rattle.address_space.specs.declared.spaces.SpaceFault.{SpaceFault}
 use Rattle.address_space.specs.declared.spaces.SpaceFault.TheVariants.{Refused, NoMemory}
 use Rattle.call_slab.specs.declared.call.Call.{Call}
 use Rattle.call_slab.specs.declared.call.Place.TheVariants.{Dispatched}
-use Rattle.cleanup.specs.declared.joins.Arrival.{Arrival}
-use Rattle.cleanup.specs.State.{KernelState, BoardState}
-use Rattle.cleanup.specs.Board.{IsNewCall}
-use Rattle.cleanup.specs.Kept.{MayReserve}
-use Rattle.cleanup.specs.Joins.{with_arrival}
-use Rattle.cleanup.specs.Serving.{Handed}
+use Rattle.switchboard.specs.declared.joins.Arrival.{Arrival}
+use Rattle.switchboard.specs.State.{KernelState, BoardState}
+use Rattle.switchboard.specs.Board.{IsNewCall}
+use Rattle.switchboard.specs.Kept.{MayReserve}
+use Rattle.switchboard.specs.Joins.{with_arrival}
+use Rattle.switchboard.specs.Serving.{Handed}
 use Rattle.kernel_core.specs.Moments.{on_receive}
 
 -- the code left this state and this record of a new call, and handed on this note

@@ -5,9 +5,9 @@ use Rattle.ipc_ids.specs.declared.message.PhoneState.{PhoneState}
 use Rattle.ipc_ids.specs.declared.message.PhoneState.TheVariants.{Free, Connecting, Connected, HungUp, Slammed}
 use Rattle.ipc_ids.specs.declared.message.Outcome.TheVariants.{Done}
 use Rattle.ipc_ids.specs.Codes.{enoent, einval}
-use Rattle.cleanup.specs.State.{KernelState, phone_at}
-use Rattle.cleanup.specs.Serving.{refusal, Served, telling}
-use Rattle.cleanup.specs.Joins.{hang_up}
+use Rattle.switchboard.specs.State.{KernelState, phone_at}
+use Rattle.switchboard.specs.Serving.{refusal, Served, telling}
+use Rattle.switchboard.specs.Joins.{hang_up}
 
 abbrev pub hangup_over : KernelState → TaskNo → ℕ → Option PhoneState → Served
 hangup_over k t p None = refusal k enoent

@@ -5,10 +5,10 @@ use Rattle.ipc_ids.specs.declared.numbers.TaskNo.{TaskNo}
 use Rattle.ipc_ids.specs.declared.message.PhoneState.TheVariants.{Connected}
 use Rattle.ipc_ids.specs.declared.entry.Entry.TheVariants as entry
 use Rattle.ipc_ids.specs.declared.message.Request.{Request}
-use Rattle.cleanup.specs.State.{KernelState, Transition, is_alive, label_of, with_task, with_phone, with_event}
-use Rattle.cleanup.specs.Sound.{IsSound}
+use Rattle.switchboard.specs.State.{KernelState, Transition, is_alive, label_of, with_task, with_phone, with_event}
+use Rattle.switchboard.specs.Sound.{IsSound}
 use Rattle.cleanup.specs.Kill.{kill}
-use Rattle.cleanup.specs.Serving.{Served}
+use Rattle.switchboard.specs.Serving.{Served}
 use Rattle.kernel_core.specs.Request.{serve_request}
 
 -- one event more

@@ -13,16 +13,16 @@ use Rattle.ipc_ids.specs.declared.methods.MethodKind.TheVariants.{ConnectToMe, C
 use Rattle.ipc_ids.specs.Codes.{elimit}
 use Rattle.ipc_ids.specs.Methods.{kind_of}
 use Rattle.call_slab.specs.declared.call.Call.{Call}
-use Rattle.cleanup.specs.State.{KernelState}
-use Rattle.cleanup.specs.Kept.{accepts, first_usable_of, kept_note, with_kept}
+use Rattle.switchboard.specs.State.{KernelState}
+use Rattle.switchboard.specs.Kept.{accepts, first_usable_of, kept_note, with_kept}
 use Rattle.data_hooks.specs.DataMoments.{cut_args, write_before_send, read_before_send}
 use Rattle.answerbox.specs.Calls.{used}
-use Rattle.cleanup.specs.Joins.{accepted_to_me, accepted_me_to, with_delivery}
+use Rattle.switchboard.specs.Joins.{accepted_to_me, accepted_me_to, with_delivery}
 use Rattle.share_hooks.specs.ShareMoments.{out_before_send, in_before_send}
-use Rattle.cleanup.specs.declared.sharing.Share.TheVariants.{Out, In}
-use Rattle.cleanup.specs.Sharing.{accepted_share}
-use Rattle.cleanup.specs.Data.{accepted_write, accepted_read, delivered_read}
-use Rattle.cleanup.specs.Serving.{Handed, as_it_is}
+use Rattle.switchboard.specs.declared.sharing.Share.TheVariants.{Out, In}
+use Rattle.switchboard.specs.Sharing.{accepted_share}
+use Rattle.switchboard.specs.Data.{accepted_write, accepted_read, delivered_read}
+use Rattle.switchboard.specs.Serving.{Handed, as_it_is}
 
 -- the message, and the reply, with this fifth argument
 abbrev pub with_fifth : Msg → ℕ → Msg

@@ -5,9 +5,9 @@ use Rattle.ipc_ids.specs.declared.message.Outcome.TheVariants.{Empty}
 use Rattle.call_slab.specs.declared.call.Call.{Call}
 use Rattle.call_slab.specs.declared.call.Place.TheVariants.{Incoming, Answers}
 use Rattle.answerbox.specs.Calls.{front, calls_at}
-use Rattle.cleanup.specs.State.{KernelState, Transition, drain}
-use Rattle.cleanup.specs.Joins.{drop_answer, delivery, reception}
-use Rattle.cleanup.specs.Serving.{Served, then_serve}
+use Rattle.switchboard.specs.State.{KernelState, Transition, drain}
+use Rattle.switchboard.specs.Joins.{drop_answer, delivery, reception}
+use Rattle.switchboard.specs.Serving.{Served, then_serve}
 use Rattle.kernel_core.specs.Moments.{on_receive, on_delivery}
 
 -- of the first answer and the first incoming call the answer

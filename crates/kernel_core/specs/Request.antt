@@ -6,9 +6,9 @@ use Rattle.ipc_ids.specs.declared.message.Request.TheVariants.{Call, Receive, An
 use Rattle.ipc_ids.specs.declared.message.Outcome.TheVariants.{Done}
 use Rattle.call_slab.specs.declared.call.Place.TheVariants.{Answers}
 use Rattle.answerbox.specs.Calls.{calls_at}
-use Rattle.cleanup.specs.Areas.{make_area, drop_area, poke, peek}
-use Rattle.cleanup.specs.State.{KernelState}
-use Rattle.cleanup.specs.Serving.{Served}
+use Rattle.switchboard.specs.Areas.{make_area, drop_area, poke, peek}
+use Rattle.switchboard.specs.State.{KernelState}
+use Rattle.switchboard.specs.Serving.{Served}
 use Rattle.kernel_core.specs.Calling.{call}
 use Rattle.kernel_core.specs.Receiving.{receive}
 use Rattle.kernel_core.specs.Answering.{answer}

@@ -1,18 +1,18 @@
 //! The answer of a task to a call that it holds.
 ghost use Rattle.std.specs.Prelude.{◌≡◌, true};
 ghost use Rattle.answerbox.specs.Calls.{call_at};
-ghost use Rattle.cleanup.specs.Board.{IsAdded};
-ghost use Rattle.cleanup.specs.Joins.{lives, on_call};
-ghost use Rattle.cleanup.specs.Kept.{accepts};
-ghost use Rattle.cleanup.specs.Rooms.{HasRoom, UsesRoom};
-ghost use Rattle.cleanup.specs.Serving.{DoesOrLeaves, ServesOrLeaves};
+ghost use Rattle.switchboard.specs.Board.{IsAdded};
+ghost use Rattle.switchboard.specs.Joins.{lives, on_call};
+ghost use Rattle.switchboard.specs.Kept.{accepts};
+ghost use Rattle.switchboard.specs.Rooms.{HasRoom, UsesRoom};
+ghost use Rattle.switchboard.specs.Serving.{DoesOrLeaves, ServesOrLeaves};
 ghost use Rattle.kernel_core.specs.Answering.{answer as answer_of, answer_held, accept_for};
 ghost use Rattle.kernel_core.specs.Handing.{IsHeldOf};
 
 use crate::moments::on_accept;
-use cleanup::Switchboard;
 use forwarding::is_held;
 use ipc_ids::{CallNo, Code, MethodKind, NoMemory, Outcome, Reply, TaskNo, Trace};
+use switchboard::Switchboard;
 
 /// Answers the call, where the task holds it; refuses with `ENOENT` otherwise.
 pub(crate) fn answer(

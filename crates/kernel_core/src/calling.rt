@@ -1,18 +1,18 @@
 //! A call over a phone.
 ghost use Rattle.std.specs.Prelude.{◌≡◌, ◌<◌, ◌≤◌, ◌^◌, IsSome, None, length};
 ghost use Rattle.answerbox.specs.Calls.{active_calls};
-ghost use Rattle.cleanup.specs.State.{phone_at};
-ghost use Rattle.cleanup.specs.Board.{IsAdded, IsNewCall, LeadsToAdded};
-ghost use Rattle.cleanup.specs.Rooms.{HasRoom, UsesRoom};
-ghost use Rattle.cleanup.specs.Serving.{ServesOrLeaves};
+ghost use Rattle.switchboard.specs.State.{phone_at};
+ghost use Rattle.switchboard.specs.Board.{IsAdded, IsNewCall, LeadsToAdded};
+ghost use Rattle.switchboard.specs.Rooms.{HasRoom, UsesRoom};
+ghost use Rattle.switchboard.specs.Serving.{ServesOrLeaves};
 ghost use Rattle.kernel_core.specs.Calling.{call as call_of, call_tested, call_through, is_callable, sent_to};
 ghost use Rattle.kernel_core.specs.Moments.{before_send};
 
 use crate::moments::before_send;
 use address_space::SpaceFault;
 use call_slab::{Call, Place};
-use cleanup::{Switchboard, label};
 use ipc_ids::{Code, Label, MethodKind, Msg, NoMemory, Outcome, PhoneState, TaskNo, Trace};
+use switchboard::{Switchboard, label};
 
 /// Active calls over a phone before a further call is refused.
 const MOST_ACTIVE: u32 = 64;

@@ -1,14 +1,14 @@
 //! A forward of a call that a task holds.
 ghost use Rattle.std.specs.Prelude.{◌≡◌, IfSome};
 ghost use Rattle.answerbox.specs.Calls.{call_at};
-ghost use Rattle.cleanup.specs.Board.{IsAdded, IsPending};
-ghost use Rattle.cleanup.specs.Rooms.{HasRoom, UsesRoom};
-ghost use Rattle.cleanup.specs.Serving.{Serves};
+ghost use Rattle.switchboard.specs.Board.{IsAdded, IsPending};
+ghost use Rattle.switchboard.specs.Rooms.{HasRoom, UsesRoom};
+ghost use Rattle.switchboard.specs.Serving.{Serves};
 ghost use Rattle.kernel_core.specs.Forward.{forward as forward_of, failed_forward};
 
-use cleanup::Switchboard;
 use forwarding::{ForwardFault, label_after, msg_after, receiver_of};
 use ipc_ids::{CallNo, Code, Mode, Msg, Outcome, PhoneNo, Reply, TaskNo, Trace};
+use switchboard::Switchboard;
 
 /// Passes the call on over the task's phone. It refuses with `ENOENT` where the task does not hold
 /// the call, and else with the code of the first test that fails; the kernel then answers the call

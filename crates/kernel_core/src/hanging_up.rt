@@ -1,11 +1,11 @@
 //! A hangup of a phone.
-ghost use Rattle.cleanup.specs.Board.{IsAdded, FewActive};
-ghost use Rattle.cleanup.specs.Rooms.{HasRoom, UsesRoom};
-ghost use Rattle.cleanup.specs.Serving.{Serves};
+ghost use Rattle.switchboard.specs.Board.{IsAdded, FewActive};
+ghost use Rattle.switchboard.specs.Rooms.{HasRoom, UsesRoom};
+ghost use Rattle.switchboard.specs.Serving.{Serves};
 ghost use Rattle.kernel_core.specs.HangingUp.{hangup as hangup_of};
 
-use cleanup::{Switchboard, label};
 use ipc_ids::{Code, Outcome, TaskNo, Trace};
+use switchboard::{Switchboard, label};
 
 /// Hangs the task's phone up. It refuses with `ENOENT` where the task has no such phone, and with
 /// `EINVAL` where the phone leads and led nowhere or was hung up before.

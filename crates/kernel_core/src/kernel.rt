@@ -2,18 +2,19 @@
 ghost use Rattle.ipc_ids.specs.declared.entry.Entry.{Entry};
 ghost use Rattle.std.specs.Prelude.{List, [], ◌≡◌, ◌+◌, ◌^◌, ◌<◌, ◌≤◌, ◌++◌, true, Some, IfOk, OnOk, OnErr, length};
 ghost use Rattle.ipc_ids.specs.Program.{fits};
-ghost use Rattle.cleanup.specs.State.{start, is_alive, phone_at, with_task, with_phone};
-ghost use Rattle.cleanup.specs.Board.{IsLimit};
-ghost use Rattle.cleanup.specs.Sound.{IsSound};
+ghost use Rattle.switchboard.specs.State.{start, is_alive, phone_at, with_task, with_phone};
+ghost use Rattle.switchboard.specs.Board.{IsLimit};
+ghost use Rattle.switchboard.specs.Sound.{IsSound};
 ghost use Rattle.kernel_core.specs.Kernel.{IsSteady, serve, kill_event, next_task, spawn_event};
 ghost use Rattle.kernel_core.specs.History.{HistoryFits, served_entries, killed_entries};
 
 use crate::request::{room_of, serve_request};
 use crate::spawning::spawn;
-use cleanup::Switchboard;
+use cleanup::end;
 use ipc_ids::{NoMemory, Outcome, PhoneNo, PhoneState, Request, TaskNo, Trace};
 use std::alloc::Global;
 use std::marker::Model;
+use switchboard::Switchboard;
 
 /// The kernel of all tasks. They are added and wired before the first event, or made by one.
 #[derive(Drop)]
@@ -24,7 +25,7 @@ pub struct Kernel {
 impl Model for Kernel {
     ghost use Rattle.call_slab.specs.contracts.call.Call as call;
     ghost use Rattle.ipc_ids.specs.contracts.message.PhoneState as phone;
-    ghost use Rattle.cleanup.specs.State.{KernelState, state_code};
+    ghost use Rattle.switchboard.specs.State.{KernelState, state_code};
     ghost use Rattle.kernel_core.specs.Kernel.{IsSteady};
 
     ghost Value = { KernelState };
@@ -160,7 +161,7 @@ impl Kernel {
             → HistoryFits (h ++ killed_entries who (kill_event self.old who)) self.new) }
     {
         let _next = self.board.next_number();
-        self.board.end(who, out)?;
+        end(&mut self.board, who, out)?;
         self.board.count_event();
         Ok(())
     }

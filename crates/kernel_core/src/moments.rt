@@ -4,22 +4,22 @@ ghost use Rattle.ipc_ids.specs.Methods.{kind_of};
 ghost use Rattle.call_slab.specs.declared.call.Place.TheVariants.{Incoming};
 ghost use Rattle.answerbox.specs.Calls.{call_at};
 ghost use Rattle.answerbox.specs.Places.{IsAt};
-ghost use Rattle.cleanup.specs.Board.{IsAdded, IsNewCall};
-ghost use Rattle.cleanup.specs.Joins.{on_call, answer_to};
-ghost use Rattle.cleanup.specs.Kept.{accepts};
-ghost use Rattle.cleanup.specs.Rooms.{KeepsCalls, MayAccept, UsesRoom};
-ghost use Rattle.cleanup.specs.Serving.{DoesOrLeaves};
+ghost use Rattle.switchboard.specs.Board.{IsAdded, IsNewCall};
+ghost use Rattle.switchboard.specs.Joins.{on_call, answer_to};
+ghost use Rattle.switchboard.specs.Kept.{accepts};
+ghost use Rattle.switchboard.specs.Rooms.{KeepsCalls, MayAccept, UsesRoom};
+ghost use Rattle.switchboard.specs.Serving.{DoesOrLeaves};
 ghost use Rattle.kernel_core.specs.Moments.{cut_call, cut_down, with_fifth, with_phone_named, number_of, reply_of, brings_bytes, before_send as before_send_of, on_receive as on_receive_of, on_accept as on_accept_of};
 ghost use Rattle.kernel_core.specs.Handing.{IsSent, Arrives};
 
 use address_space::SpaceFault;
 use call_slab::Call;
-use cleanup::{Arrival, Share, Switchboard, kept_note};
 use data_hooks::{cut_args, read_before_send};
 use ipc_ids::{
     CallNo, Code, Entry, Label, MethodKind, Msg, NoMemory, PhoneState, Reply, TaskNo, Trace,
 };
 use share_hooks::in_before_send;
+use switchboard::{Arrival, Share, Switchboard, kept_note};
 
 /// The phone number that a CONNECT_TO_ME names where its receiver has no usable phone.
 const NO_PHONE: u64 = 64;

@@ -3,15 +3,15 @@ ghost use Rattle.std.specs.Prelude.{◌≡◌, ◌+◌, ◌*◌, IsSome, IfSome,
 ghost use Rattle.call_slab.specs.declared.call.Place.TheVariants.{Incoming, Answers};
 ghost use Rattle.answerbox.specs.Calls.{call_at, calls_at};
 ghost use Rattle.answerbox.specs.Places.{IsAt};
-ghost use Rattle.cleanup.specs.Board.{IsAdded};
-ghost use Rattle.cleanup.specs.Rooms.{HasRoom, UsesRoom};
-ghost use Rattle.cleanup.specs.Serving.{Does, Serves};
+ghost use Rattle.switchboard.specs.Board.{IsAdded};
+ghost use Rattle.switchboard.specs.Rooms.{HasRoom, UsesRoom};
+ghost use Rattle.switchboard.specs.Serving.{Does, Serves};
 ghost use Rattle.kernel_core.specs.Receiving.{receive as receive_of, receive_first, receive_now as receive_now_of, next_unawaited as next_unawaited_of, drop_unawaited as drop_unawaited_of};
 
 use crate::moments::{brings_bytes, on_delivery, on_receive};
 use call_slab::Place;
-use cleanup::Switchboard;
 use ipc_ids::{CallNo, Outcome, TaskNo, Trace};
+use switchboard::Switchboard;
 
 /// Drops the answers at the front that nobody waits for, and gives the task its first answer, or
 /// else its first call.

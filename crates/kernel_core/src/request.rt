@@ -1,9 +1,9 @@
 //! What each request does, and the room that it needs.
 ghost use Rattle.std.specs.Prelude.{◌≡◌, ◌<◌, ◌≤◌, ◌^◌, length};
-ghost use Rattle.cleanup.specs.State.{live_calls};
-ghost use Rattle.cleanup.specs.Board.{IsAdded, FewActive};
-ghost use Rattle.cleanup.specs.Rooms.{HasRoom, UsesRoom};
-ghost use Rattle.cleanup.specs.Serving.{ServesOrLeaves};
+ghost use Rattle.switchboard.specs.State.{live_calls};
+ghost use Rattle.switchboard.specs.Board.{IsAdded, FewActive};
+ghost use Rattle.switchboard.specs.Rooms.{HasRoom, UsesRoom};
+ghost use Rattle.switchboard.specs.Serving.{ServesOrLeaves};
 ghost use Rattle.kernel_core.specs.Request.{serve_request as serve_request_of, most_calls, most_entries};
 
 use crate::answering::answer;
@@ -12,8 +12,8 @@ use crate::forward::forward;
 use crate::hanging_up::hangup;
 use crate::receiving::receive;
 use call_slab::Place;
-use cleanup::Switchboard;
 use ipc_ids::{CallNo, NoMemory, Outcome, Request, TaskNo, Trace};
+use switchboard::Switchboard;
 
 /// How many calls the task's request adds at most, and how many entries it makes.
 pub(crate) fn room_of(board: &Switchboard, who: TaskNo, request: &Request) -> (usize, usize)

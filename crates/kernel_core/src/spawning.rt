@@ -1,10 +1,10 @@
 //! A task that is made while others run.
 ghost use Rattle.std.specs.Prelude.{◌≡◌, ◌<◌, ◌≤◌, ◌++◌, length, IfOk, OnOk, OnErr};
-ghost use Rattle.cleanup.specs.Board.{IsLimit};
+ghost use Rattle.switchboard.specs.Board.{IsLimit};
 ghost use Rattle.kernel_core.specs.Kernel.{next_task, named, spawn as spawn_of};
 
-use cleanup::{Switchboard, label};
 use ipc_ids::{Entry, NoMemory, PhoneNo, PhoneState, TaskNo, Trace};
+use switchboard::{Switchboard, label};
 
 /// The task, where it is given and has not ended.
 fn named(board: &Switchboard, task: Option<TaskNo>) -> Option<TaskNo>

@@ -10,10 +10,10 @@ use Rattle.call_slab.specs.declared.call.Place.{Place}
 use Rattle.call_slab.specs.declared.call.Place.TheVariants.{Incoming, Dispatched, Answers}
 use Rattle.answerbox.specs.Calls.{calls_at, calls_by}
 use Rattle.address_space.specs.Memory.{first_area, count_areas}
-use Rattle.cleanup.specs.State.{KernelState, Transition, nothing, then_do, each, drain, phone_at}
-use Rattle.cleanup.specs.Joins.{settle, settle_for, lives, drop_answer, forget_call, hang_up}
-use Rattle.cleanup.specs.Kill.{task_no, width, mark_ended, hang_up_at, hang_up_own_phones, slam, slam_at, slam_phones_of, slam_other, slam_phones_to, settle_call, settle_calls_at, drop_answers, forget_calls_elsewhere, drop_first_area, drop_areas, kill, first_at, first_call_of}
-use Rattle.cleanup.specs.Areas.{lose_first_area}
+use Rattle.switchboard.specs.State.{KernelState, Transition, nothing, then_do, each, drain, phone_at, width, mark_ended}
+use Rattle.switchboard.specs.Joins.{settle, settle_for, lives, drop_answer, forget_call, hang_up, slam, slam_at}
+use Rattle.cleanup.specs.Kill.{task_no, hang_up_at, hang_up_own_phones, slam_phones_of, slam_other, slam_phones_to, settle_call, settle_calls_at, drop_answers, forget_calls_elsewhere, drop_first_area, drop_areas, kill, first_at, first_call_of}
+use Rattle.switchboard.specs.Areas.{lose_first_area}
 use Rattle.kernel_counts.specs.Counted.{with_count, step_with_count}
 
 module _ (n : ℕ) where

@@ -22,10 +22,10 @@ use Rattle.forwarding.specs.declared.passing.ForwardFault.TheVariants.{NotHeld, 
 use Rattle.call_slab.specs.declared.call.Call.{Call}
 use Rattle.call_slab.specs.declared.call.Place.TheVariants.{Incoming, Answers}
 use Rattle.answerbox.specs.Calls.{calls_at, active_calls}
-use Rattle.cleanup.specs.State.{KernelState, Transition, label_of, with_event}
-use Rattle.cleanup.specs.Serving.{Handed, Served, then_serve, telling, refusal}
-use Rattle.cleanup.specs.Joins.{settle_live, lives, drop_answer, new_call, delivery, reception, answer_to}
-use Rattle.cleanup.specs.Kept.{accepts}
+use Rattle.switchboard.specs.State.{KernelState, Transition, label_of, with_event}
+use Rattle.switchboard.specs.Serving.{Handed, Served, then_serve, telling, refusal}
+use Rattle.switchboard.specs.Joins.{settle_live, lives, drop_answer, new_call, delivery, reception, answer_to}
+use Rattle.switchboard.specs.Kept.{accepts}
 use Rattle.kernel_core.specs.Moments.{before_send, before_send_of, keeping_to_send, carrying, bringing, asking, on_receive_of, on_accept_of, on_delivery, brings_bytes}
 use Rattle.kernel_core.specs.Calling.{call_over, call_tested, call_through, sent_to, is_callable}
 use Rattle.kernel_core.specs.Receiving.{receive, receive_now, receive_first, drop_unawaited, next_unawaited}

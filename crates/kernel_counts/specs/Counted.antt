@@ -1,7 +1,7 @@
 -- A state of the kernel, and what an event makes of it, with another count of events.
 use Rattle.std.specs.Prelude.{ℕ}
-use Rattle.cleanup.specs.State.{KernelState, Transition}
-use Rattle.cleanup.specs.Serving.{Served}
+use Rattle.switchboard.specs.State.{KernelState, Transition}
+use Rattle.switchboard.specs.Serving.{Served}
 
 -- the state, as if there had been so many events
 abbrev pub with_count : ℕ → KernelState → KernelState

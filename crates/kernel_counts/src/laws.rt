@@ -2,7 +2,7 @@
 ghost use Rattle.std.specs.Prelude.{◌≡◌, ◌+◌, ℕ, Option};
 ghost use Rattle.ipc_ids.specs.declared.numbers.TaskNo.{TaskNo};
 ghost use Rattle.ipc_ids.specs.declared.message.Request.{Request};
-ghost use Rattle.cleanup.specs.State.{KernelState};
+ghost use Rattle.switchboard.specs.State.{KernelState};
 ghost use Rattle.kernel_core.specs.Kernel.{serve, kill_event, spawn_event};
 ghost use Rattle.kernel_counts.specs.Counted.{with_count, step_with_count, served_with_count};
 

@@ -16,10 +16,10 @@ use Rattle.ipc_ids.specs.Methods.{connect_to_me, connect_me_to, data_write, data
 use Rattle.call_slab.specs.declared.call.Call.{Call}
 use Rattle.address_space.specs.Memory.{Memory, Step, IsAdded}
 use Rattle.address_space.specs.Sound as spaces
-use Rattle.cleanup.specs.State.{KernelState, phone_at, is_alive}
-use Rattle.cleanup.specs.Sound.{IsPlaced, IsSound}
-use Rattle.cleanup.specs.Serving.{Served}
-use Rattle.cleanup.proofs.Lookups.{same_call}
+use Rattle.switchboard.specs.State.{KernelState, phone_at, is_alive}
+use Rattle.switchboard.specs.Sound.{IsPlaced, IsSound}
+use Rattle.switchboard.specs.Serving.{Served}
+use Rattle.switchboard.proofs.Lookups.{same_call}
 use Rattle.kernel_laws.specs.DataLaws.{code_after, first, second, third, AreFirst, IsFull, IsLawfulTaking}
 use Rattle.kernel_laws.specs.HeldCalls.{IsHeld}
 use Rattle.kernel_laws.specs.MemoryRequests.{made, written}

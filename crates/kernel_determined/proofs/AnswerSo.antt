@@ -26,16 +26,16 @@ use Rattle.address_space.specs.Sound as spaces
 use Rattle.data_hooks.specs.DataMoments.{write_accept, read_accept}
 use Rattle.share_hooks.specs.ShareMoments.{out_accept, in_accept}
 use Rattle.forwarding.specs.Forwarding.{is_held}
-use Rattle.cleanup.specs.Board.{IsPendingAt}
-use Rattle.cleanup.specs.State.{KernelState, is_alive}
-use Rattle.cleanup.specs.Sound.{IsSound, IsSoundCall, NeedsPhone}
-use Rattle.cleanup.specs.Kept.{keeper_of, kept_phone, kept_note, with_kept, accepts, who_keeps}
-use Rattle.cleanup.specs.Serving.{Served, Handed, telling, refusal, as_it_is}
-use Rattle.cleanup.specs.Joins.{lives, answer_to, code_of, accepted_me_to, vanishing, settle}
-use Rattle.cleanup.specs.Data.{code_told, bytes_told, accepted_read}
-use Rattle.cleanup.specs.Sharing.{shared_note}
-use Rattle.cleanup.proofs.Lookups.{same_call}
-use Rattle.cleanup.proofs.Soundness.{value_of}
+use Rattle.switchboard.specs.Board.{IsPendingAt}
+use Rattle.switchboard.specs.State.{KernelState, is_alive}
+use Rattle.switchboard.specs.Sound.{IsSound, IsSoundCall, NeedsPhone}
+use Rattle.switchboard.specs.Kept.{keeper_of, kept_phone, kept_note, with_kept, accepts, who_keeps}
+use Rattle.switchboard.specs.Serving.{Served, Handed, telling, refusal, as_it_is}
+use Rattle.switchboard.specs.Joins.{lives, answer_to, code_of, accepted_me_to, vanishing, settle}
+use Rattle.switchboard.specs.Data.{code_told, bytes_told, accepted_read}
+use Rattle.switchboard.specs.Sharing.{shared_note}
+use Rattle.switchboard.proofs.Lookups.{same_call}
+use Rattle.switchboard.proofs.Soundness.{value_of}
 use Rattle.kernel_core.specs.Answering.{accept_for, answer_call, answer_held, held_call}
 use Rattle.kernel_core.specs.Moments.{on_accept_of}
 use Rattle.kernel_core.specs.Kernel.{and_event, serve}

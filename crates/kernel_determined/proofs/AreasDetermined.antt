@@ -12,9 +12,9 @@ use Rattle.ipc_ids.specs.Codes.{einval, eexist, elimit}
 use Rattle.address_space.specs.Areas.{Area, refusal, is_malformed, is_taken, is_full}
 use Rattle.address_space.specs.Memory.{Memory, Step, areas_of, make_unless, make}
 use Rattle.address_space.specs.Sound as spaces
-use Rattle.cleanup.specs.State.{KernelState, is_alive}
-use Rattle.cleanup.specs.Sound.{IsSound}
-use Rattle.cleanup.specs.Serving.{Served}
+use Rattle.switchboard.specs.State.{KernelState, is_alive}
+use Rattle.switchboard.specs.Sound.{IsSound}
+use Rattle.switchboard.specs.Serving.{Served}
 use Rattle.kernel_core.specs.Kernel.{serve}
 use Rattle.kernel_laws.specs.MemoryLaws.{byte_in, byte_at, IsFirstCause, Gives, IsLawfulMake}
 use Rattle.kernel_laws.specs.MemoryRequests.{Tells, made}

@@ -13,9 +13,9 @@ use Rattle.ipc_ids.specs.Methods.{connect_me_to, data_write, data_read}
 use Rattle.call_slab.specs.declared.call.Call.{Call}
 use Rattle.call_slab.specs.declared.call.Place.{Place}
 use Rattle.call_slab.specs.declared.call.Place.TheVariants.{Incoming, Answers}
-use Rattle.cleanup.specs.State.{KernelState, phone_at, label_of}
+use Rattle.switchboard.specs.State.{KernelState, phone_at, label_of}
 use Rattle.address_space.specs.Sound as spaces
-use Rattle.cleanup.specs.Serving.{Served}
+use Rattle.switchboard.specs.Serving.{Served}
 use Rattle.kernel_laws.specs.PoolLaws.{pool}
 use Rattle.kernel_laws.specs.CallCodes.{IsNoWay, IsNoCall}
 use Rattle.kernel_laws.specs.ActiveCalls.{AreTheActive}

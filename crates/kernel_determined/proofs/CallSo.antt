@@ -24,13 +24,13 @@ use Rattle.phone_table.specs.Phones.{state_at}
 use Rattle.data_hooks.specs.DataMoments.{write_before_send, read_before_send}
 use Rattle.share_hooks.specs.ShareMoments.{out_before_send, in_before_send}
 use Rattle.address_space.specs.Sound as spaces
-use Rattle.cleanup.specs.State.{KernelState, phone_at, label_of}
-use Rattle.cleanup.specs.Sound.{IsSound}
-use Rattle.cleanup.specs.Kept.{first_usable_of, kept_note}
-use Rattle.cleanup.specs.Joins.{new_call, acceptance, answer_at_once, bare_reply}
-use Rattle.cleanup.specs.Serving.{Served, refusal, as_it_is}
-use Rattle.cleanup.proofs.Endings.{length_rows}
-use Rattle.cleanup.proofs.Repeats.{by_test}
+use Rattle.switchboard.specs.State.{KernelState, phone_at, label_of}
+use Rattle.switchboard.specs.Sound.{IsSound}
+use Rattle.switchboard.specs.Kept.{first_usable_of, kept_note}
+use Rattle.switchboard.specs.Joins.{new_call, acceptance, answer_at_once, bare_reply}
+use Rattle.switchboard.specs.Serving.{Served, refusal, as_it_is}
+use Rattle.switchboard.proofs.Endings.{length_rows}
+use Rattle.switchboard.proofs.Repeats.{by_test}
 use Rattle.kernel_core.specs.Moments.{keeping_to_send, carrying, bringing, asking, cut_call, before_send_of}
 use Rattle.kernel_core.specs.Calling.{is_callable, sent_to, call_through, call_tested, call_over}
 use Rattle.kernel_core.specs.Kernel.{and_event, serve}

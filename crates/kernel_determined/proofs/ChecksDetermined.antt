@@ -11,8 +11,8 @@ use Rattle.address_space.specs.declared.area.Right.TheVariants.{Read}
 use Rattle.address_space.specs.Areas.{Area, holder}
 use Rattle.address_space.specs.Memory.{Memory, areas_of, area_at}
 use Rattle.share_hooks.specs.ShareMoments.{out_before_send, offer}
-use Rattle.cleanup.specs.State.{KernelState}
-use Rattle.cleanup.proofs.Repeats.{by_test}
+use Rattle.switchboard.specs.State.{KernelState}
+use Rattle.switchboard.proofs.Repeats.{by_test}
 use Rattle.kernel_laws.specs.PoolLaws.{pool}
 use Rattle.kernel_laws.specs.MemoryLaws.{IsLawfulRead}
 use Rattle.kernel_laws.specs.DataLaws.{first, second, asked, IsFull, IsLawfulCopy, IsLawfulAsking, AreCutDown, IsLawfulOffer, IsAreaAsked, IsLawfulWish}

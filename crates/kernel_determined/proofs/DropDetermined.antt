@@ -14,8 +14,8 @@ use Rattle.address_space.specs.Memory.{Memory, Step, areas_of, is_used, drop_at,
 use Rattle.address_space.specs.Sound as spaces
 use Rattle.address_space.proofs.Rows.{length_drop}
 use Rattle.address_space.proofs.Soundness.{lawful_of}
-use Rattle.cleanup.specs.State.{KernelState}
-use Rattle.cleanup.specs.Serving.{Served}
+use Rattle.switchboard.specs.State.{KernelState}
+use Rattle.switchboard.specs.Serving.{Served}
 use Rattle.kernel_core.specs.Kernel.{serve}
 use Rattle.kernel_laws.specs.MemoryLaws.{Has, Drops}
 use Rattle.kernel_laws.specs.MemoryRequests.{Tells, gone}

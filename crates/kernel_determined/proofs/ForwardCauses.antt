@@ -16,10 +16,10 @@ use Rattle.answerbox.specs.Calls.{CallTable, call_at}
 use Rattle.forwarding.specs.declared.passing.ForwardFault.TheVariants.{NotHeld, NotForwardable}
 use Rattle.forwarding.specs.Forwarding.{is_held, is_forwardable}
 use Rattle.forwarding.specs.Routes.{callee_of, receiver_of, as_forwarded}
-use Rattle.cleanup.specs.State.{KernelState, is_alive, phone_at}
-use Rattle.cleanup.specs.Serving.{Served, refusal}
-use Rattle.cleanup.specs.Joins.{lives, settle_for, declined_call}
-use Rattle.cleanup.proofs.Lookups.{put_here, same_call}
+use Rattle.switchboard.specs.State.{KernelState, is_alive, phone_at}
+use Rattle.switchboard.specs.Serving.{Served, refusal}
+use Rattle.switchboard.specs.Joins.{lives, settle_for, declined_call}
+use Rattle.switchboard.proofs.Lookups.{put_here, same_call}
 use Rattle.kernel_core.specs.Forward.{failed_forward, forward_told, forward}
 use Rattle.kernel_laws.specs.CallCodes.{own_reply}
 use Rattle.kernel_laws.specs.HeldCalls.{IsHeld, MayPass}

@@ -23,13 +23,13 @@ use Rattle.answerbox.specs.Calls.{call_at}
 use Rattle.forwarding.specs.declared.passing.ForwardFault.TheVariants.{NotHeld, NotForwardable}
 use Rattle.forwarding.specs.Forwarding.{is_held, is_forwardable, changed_msg, msg_after, label_after}
 use Rattle.forwarding.specs.Routes.{callee_of, receiver_of, as_forwarded}
-use Rattle.cleanup.specs.State.{KernelState, phone_at, label_of}
-use Rattle.cleanup.specs.Sound.{IsSound, IsSoundCall}
-use Rattle.cleanup.specs.Kept.{lent_phone, kept_note, unless_freed}
-use Rattle.cleanup.specs.Board.{IsPendingAt}
-use Rattle.cleanup.specs.Joins.{bare_reply, passage, passed_call}
-use Rattle.cleanup.specs.Serving.{Served, telling, refusal}
-use Rattle.cleanup.proofs.Lookups.{same_call}
+use Rattle.switchboard.specs.State.{KernelState, phone_at, label_of}
+use Rattle.switchboard.specs.Sound.{IsSound, IsSoundCall}
+use Rattle.switchboard.specs.Kept.{lent_phone, kept_note, unless_freed}
+use Rattle.switchboard.specs.Board.{IsPendingAt}
+use Rattle.switchboard.specs.Joins.{bare_reply, passage, passed_call}
+use Rattle.switchboard.specs.Serving.{Served, telling, refusal}
+use Rattle.switchboard.proofs.Lookups.{same_call}
 use Rattle.kernel_core.specs.Forward.{failed_forward, forward_told}
 use Rattle.kernel_core.specs.Kernel.{and_event, serve}
 use Rattle.kernel_laws.specs.HeldCalls.{IsHeld, MayPass}

@@ -17,12 +17,12 @@ use Rattle.call_slab.specs.declared.call.Place.{Place}
 use Rattle.call_slab.specs.declared.call.Place.TheVariants.{Incoming}
 use Rattle.answerbox.specs.Calls.{CallTable, enqueue}
 use Rattle.phone_table.specs.Phones.{state_at}
-use Rattle.cleanup.specs.State.{KernelState, phone_at, with_state_at, Tasks, Transition}
-use Rattle.cleanup.specs.Serving.{Served, refusal, telling}
-use Rattle.cleanup.specs.Joins.{hangup_call, hang_up}
-use Rattle.cleanup.proofs.Keepers.{state_here}
-use Rattle.cleanup.proofs.Endings.{length_rows}
-use Rattle.cleanup.proofs.Lookups.{put_here, put_other}
+use Rattle.switchboard.specs.State.{KernelState, phone_at, with_state_at, Tasks, Transition}
+use Rattle.switchboard.specs.Serving.{Served, refusal, telling}
+use Rattle.switchboard.specs.Joins.{hangup_call, hang_up}
+use Rattle.switchboard.proofs.Keepers.{state_here}
+use Rattle.switchboard.proofs.Endings.{length_rows}
+use Rattle.switchboard.proofs.Lookups.{put_here, put_other}
 use Rattle.kernel_core.specs.HangingUp.{hangup_over}
 use Rattle.kernel_core.specs.Kernel.{serve, and_event}
 use Rattle.kernel_laws.proofs.KillRoutes.{is_there}

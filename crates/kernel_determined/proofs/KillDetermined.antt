@@ -11,8 +11,8 @@ use Rattle.call_slab.specs.declared.call.Place.TheVariants.{Incoming, Dispatched
 use Rattle.address_space.specs.Memory.{Step, drop_area}
 use Rattle.address_space.specs.Sound as spaces
 use Rattle.address_space.proofs.Soundness.{sound_drop}
-use Rattle.cleanup.specs.State.{Tasks, KernelState, Transition, phone_at, is_alive}
-use Rattle.cleanup.proofs.Lookups.{same_call}
+use Rattle.switchboard.specs.State.{Tasks, KernelState, Transition, phone_at, is_alive}
+use Rattle.switchboard.proofs.Lookups.{same_call}
 use Rattle.kernel_laws.specs.CallCodes.{own_reply}
 use Rattle.kernel_laws.specs.Routes.{Leads, Stands}
 use Rattle.kernel_determined.specs.HangupLaw.{TellsOfHangup, TellsNobody}

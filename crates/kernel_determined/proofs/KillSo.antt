@@ -22,24 +22,24 @@ use Rattle.address_space.specs.Sound as spaces
 use Rattle.address_space.proofs.Ending.{no_first, first_goes, first_is_dropped}
 use Rattle.address_space.proofs.Soundness.{sound_drop}
 use Rattle.phone_table.specs.Phones.{row_at}
-use Rattle.cleanup.specs.Board.{IsPendingAt}
-use Rattle.cleanup.specs.State.{KernelState, Transition, is_alive, phone_at, label_of, with_phone, nothing, then_do, each}
-use Rattle.cleanup.specs.Sound.{IsSound}
-use Rattle.cleanup.specs.Kept.{kept_phone, lent_phone}
-use Rattle.cleanup.specs.Joins.{bare_reply, lives, settle_for, hang_up, drop_answer, forget_call}
-use Rattle.cleanup.specs.Areas.{lose_area, lose_first_area}
-use Rattle.cleanup.specs.Kill.{task_no, width, mark_ended, hang_up_at, hang_up_own_phones, slam, slam_at, slam_phones_of, slam_other, slam_phones_to, first_at, settle_call, settle_calls_at, settle_incoming, settle_dispatched, drop_answers, first_call_of, forget_calls_elsewhere, drop_first_area, drop_areas, end_phones_and_calls, kill}
-use Rattle.cleanup.proofs.Endings.{length_rows}
-use Rattle.cleanup.proofs.Keepers.{state_here}
+use Rattle.switchboard.specs.Board.{IsPendingAt}
+use Rattle.switchboard.specs.State.{KernelState, Transition, is_alive, phone_at, label_of, with_phone, nothing, then_do, each, width, mark_ended}
+use Rattle.switchboard.specs.Sound.{IsSound}
+use Rattle.switchboard.specs.Kept.{kept_phone, lent_phone}
+use Rattle.switchboard.specs.Joins.{bare_reply, lives, settle_for, hang_up, drop_answer, forget_call, slam, slam_at}
+use Rattle.switchboard.specs.Areas.{lose_area, lose_first_area}
+use Rattle.cleanup.specs.Kill.{task_no, hang_up_at, hang_up_own_phones, slam_phones_of, slam_other, slam_phones_to, first_at, settle_call, settle_calls_at, settle_incoming, settle_dispatched, drop_answers, first_call_of, forget_calls_elsewhere, drop_first_area, drop_areas, end_phones_and_calls, kill}
+use Rattle.switchboard.proofs.Endings.{length_rows}
+use Rattle.switchboard.proofs.Keepers.{state_here}
 use Rattle.cleanup.proofs.KilledPhones.{written_elsewhere}
 use Rattle.cleanup.proofs.Killing.{after_hangups, after_slams, after_incoming, after_dispatched, after_answers, after_calls, calls_steady}
-use Rattle.cleanup.proofs.Lookups.{same_call, put_here, put_other, gone_here, gone_other}
-use Rattle.cleanup.proofs.MarkChanges.{ended_here, alive_elsewhere}
+use Rattle.switchboard.proofs.Lookups.{same_call, put_here, put_other, gone_here, gone_other}
+use Rattle.switchboard.proofs.MarkChanges.{ended_here, alive_elsewhere}
 use Rattle.cleanup.proofs.Queues.{IsLive, stands_at, is_call_of, front_at, answered, IsUncalled, IsIdle, IsUnanswered, incoming_alone, dispatched_uncalled, drop_idle, forget_step, forget_unanswered, call_from, over_less, put_less, settle_less}
-use Rattle.cleanup.proofs.Repeats as repeats
+use Rattle.switchboard.proofs.Repeats as repeats
 use Rattle.cleanup.proofs.Silence.{with_marks, IsEnding, past_width, IsAlone}
-use Rattle.cleanup.proofs.SoundJoins.{incoming_pending, held_pending}
-use Rattle.cleanup.proofs.SoundMemory.{from_one}
+use Rattle.switchboard.proofs.SoundJoins.{incoming_pending, held_pending}
+use Rattle.switchboard.proofs.SoundMemory.{from_one}
 use Rattle.kernel_core.specs.Kernel.{kill_event}
 use Rattle.kernel_core.proofs.InEvent.{same_place-true, same_task}
 use Rattle.kernel_laws.specs.MemoryLaws.{Has, HasAt, Drops}

@@ -9,8 +9,8 @@ use Rattle.ipc_ids.specs.Methods.{connect_me_to}
 use Rattle.call_slab.specs.declared.call.Call.{Call}
 use Rattle.answerbox.specs.Calls.{no_calls}
 use Rattle.address_space.specs.Memory.{no_memory}
-use Rattle.cleanup.specs.State.{KernelState, label_of}
-use Rattle.cleanup.specs.Serving.{Served}
+use Rattle.switchboard.specs.State.{KernelState, label_of}
+use Rattle.switchboard.specs.Serving.{Served}
 use Rattle.kernel_laws.specs.ActiveCalls.{AreTheActive}
 use Rattle.kernel_laws.specs.CallCodes.{IsCheck}
 use Rattle.kernel_determined.proofs.StateLaws.{as_many}

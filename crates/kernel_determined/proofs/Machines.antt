@@ -5,15 +5,15 @@ use Rattle.ipc_ids.specs.declared.message.Request.{Request}
 use Rattle.ipc_ids.specs.declared.message.Request.TheVariants as request
 use Rattle.call_slab.specs.declared.call.Call.{Call}
 use Rattle.address_space.specs.Memory.{Memory}
-use Rattle.cleanup.specs.State.{KernelState, Transition, phone_at, with_memory, with_phone}
-use Rattle.cleanup.proofs.Keepers.{state_here}
-use Rattle.cleanup.proofs.Lookups.{same_call, put_here}
+use Rattle.switchboard.specs.State.{KernelState, Transition, phone_at, with_memory, with_phone}
+use Rattle.switchboard.proofs.Keepers.{state_here}
+use Rattle.switchboard.proofs.Lookups.{same_call, put_here}
 use Rattle.kernel_laws.proofs.KillRoutes.{is_there}
 use Rattle.answerbox.specs.Calls.{call_at}
 use Rattle.ipc_ids.specs.declared.message.PhoneState.{PhoneState}
 use Rattle.ipc_ids.specs.declared.entry.Entry.{Entry}
 use Rattle.kernel_determined.specs.Changed.{served_to, served_telling, ended_in, ended_telling, other_call}
-use Rattle.cleanup.specs.Serving.{Served}
+use Rattle.switchboard.specs.Serving.{Served}
 use Rattle.kernel_core.specs.Kernel.{serve, kill_event, spawn_event}
 use Rattle.kernel_determined.specs.KillLaw.{IsKill}
 use Rattle.kernel_determined.specs.KernelLaw.{MayAct, IsServed, IsKernel, IsTheKernel}
@@ -27,7 +27,7 @@ use Rattle.kernel_determined.proofs.DropDetermined.{area_drop_is_so, area_drop_i
 use Rattle.kernel_determined.proofs.SpawnDetermined.{spawn_is_so, spawn_is_served}
 use Rattle.kernel_determined.proofs.AnswerSo.{answer_is_so, answer_is_served}
 use Rattle.kernel_determined.proofs.KillSo.{kill_is_so, kill_is_killed}
-use Rattle.cleanup.proofs.SoundMemory.{from_one}
+use Rattle.switchboard.proofs.SoundMemory.{from_one}
 use Rattle.ipc_ids.specs.declared.message.Outcome.TheVariants as outcome
 
 served_as : (k : KernelState) (t : TaskNo) (asked : Request) (done : Served) → MayAct k t

@@ -9,9 +9,9 @@ use Rattle.ipc_ids.specs.declared.message.Request.TheVariants as request
 use Rattle.address_space.specs.declared.area.Right.TheVariants.{Read}
 use Rattle.address_space.specs.Areas.{Area, holder}
 use Rattle.address_space.specs.Memory.{Memory, Step, areas_of, write, peek}
-use Rattle.cleanup.specs.State.{KernelState}
-use Rattle.cleanup.specs.Sound.{IsSound}
-use Rattle.cleanup.specs.Serving.{Served}
+use Rattle.switchboard.specs.State.{KernelState}
+use Rattle.switchboard.specs.Sound.{IsSound}
+use Rattle.switchboard.specs.Serving.{Served}
 use Rattle.kernel_core.specs.Kernel.{serve}
 use Rattle.kernel_laws.specs.MemoryLaws.{NoArea, IsReadable, IsLawfulRead, IsLawfulPeek}
 use Rattle.kernel_laws.specs.MemoryRequests.{Tells, TellsBytes, written}

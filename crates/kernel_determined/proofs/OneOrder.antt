@@ -3,8 +3,8 @@ use Rattle.std.proofs.Common.{◌≡◌, ℕ, ◌<◌, ◌⊎◌, inl, inr, List
 use Rattle.ipc_ids.specs.declared.entry.Entry.{Entry}
 use Rattle.call_slab.specs.declared.call.Call.{Call}
 use Rattle.answerbox.specs.Calls.{CallTable}
-use Rattle.cleanup.specs.State.{KernelState}
-use Rattle.cleanup.proofs.Lookups.{same_call}
+use Rattle.switchboard.specs.State.{KernelState}
+use Rattle.switchboard.proofs.Lookups.{same_call}
 use Rattle.kernel_determined.specs.Frames.{CameBefore}
 use Rattle.kernel_determined.specs.Turns.{IsAmong, ComesBeforeEach, AreInOrder, InTurn, EachInTurn, Then}
 

@@ -13,10 +13,10 @@ use Rattle.ipc_ids.specs.Methods.{connect_me_to, data_read}
 use Rattle.call_slab.specs.declared.call.Call.{Call}
 use Rattle.answerbox.specs.Calls.{CallTable, call_at}
 use Rattle.address_space.specs.Memory.{Memory, Step}
-use Rattle.cleanup.specs.State.{KernelState, phone_at, label_of}
-use Rattle.cleanup.specs.Sound.{IsSound}
-use Rattle.cleanup.specs.Serving.{Served}
-use Rattle.cleanup.proofs.Lookups.{same_call}
+use Rattle.switchboard.specs.State.{KernelState, phone_at, label_of}
+use Rattle.switchboard.specs.Sound.{IsSound}
+use Rattle.switchboard.specs.Serving.{Served}
+use Rattle.switchboard.proofs.Lookups.{same_call}
 use Rattle.kernel_laws.specs.DataLaws.{code_after, first}
 use Rattle.kernel_laws.specs.MemoryRequests.{written}
 use Rattle.kernel_laws.specs.ReceiveLaws.{IsFirst, HasNone}

@@ -8,10 +8,10 @@ use Rattle.call_slab.specs.declared.call.Call.{Call}
 use Rattle.call_slab.specs.declared.call.Place.TheVariants.{Answers}
 use Rattle.answerbox.specs.Calls.{call_at, calls_at, front}
 use Rattle.answerbox.proofs.Fronts.{front_live, front-is_front, no_front-has_no_calls}
-use Rattle.cleanup.specs.State.{KernelState}
-use Rattle.cleanup.specs.Sound.{IsSound}
-use Rattle.cleanup.specs.Joins.{drop_answer}
-use Rattle.cleanup.proofs.Lookups.{same_call, gone_here, gone_other}
+use Rattle.switchboard.specs.State.{KernelState}
+use Rattle.switchboard.specs.Sound.{IsSound}
+use Rattle.switchboard.specs.Joins.{drop_answer}
+use Rattle.switchboard.proofs.Lookups.{same_call, gone_here, gone_other}
 use Rattle.cleanup.proofs.Queues.{sound_drop, stands_at, over_less}
 use Rattle.kernel_core.specs.Receiving.{unawaited, next_unawaited, drop_unawaited}
 use Rattle.kernel_laws.specs.ReceiveLaws.{IsAwaited}
@@ -21,7 +21,7 @@ use Rattle.kernel_determined.specs.SettleLaw.{DropsAnswer}
 use Rattle.kernel_determined.specs.ReceiveLaw.{IsDropped, DropsHangups}
 use Rattle.kernel_determined.proofs.TurnsKept.{IsNextTurn, IsTurn, all_drained}
 use Rattle.kernel_determined.proofs.SettleSo.{drops}
-use Rattle.cleanup.proofs.Repeats.{drain_keeps}
+use Rattle.switchboard.proofs.Repeats.{drain_keeps}
 use Rattle.kernel_laws.proofs.Places.{stands_true}
 use Rattle.kernel_core.proofs.InEvent.{same_place-true}
 use Rattle.std.proofs.lemmas.Option.{none-some}

@@ -14,8 +14,8 @@ use Rattle.call_slab.specs.declared.call.Call.{Call}
 use Rattle.call_slab.specs.declared.call.Place.{Place}
 use Rattle.call_slab.specs.declared.call.Place.TheVariants.{Answers}
 use Rattle.answerbox.specs.Calls.{CallTable}
-use Rattle.cleanup.specs.State.{KernelState, phone_at}
-use Rattle.cleanup.proofs.Lookups.{same_call}
+use Rattle.switchboard.specs.State.{KernelState, phone_at}
+use Rattle.switchboard.proofs.Lookups.{same_call}
 use Rattle.kernel_laws.specs.Connecting.{IsUnconnected}
 use Rattle.kernel_determined.specs.Frames.{MayCome, Moves, IsOver, IsNow}
 use Rattle.kernel_determined.specs.SettleLaw.{IsGivenBack, IsKeptFor, IsAnswered, IsEnded, IsSettled, IsKeptAtAnswer, DropsAnswer}

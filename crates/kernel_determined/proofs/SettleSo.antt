@@ -18,19 +18,19 @@ use Rattle.call_slab.specs.declared.call.Place.{Place}
 use Rattle.call_slab.specs.declared.call.Place.TheVariants.{Incoming, Dispatched, Answers}
 use Rattle.answerbox.specs.Calls.{CallTable, call_at, put_at, without_call}
 use Rattle.phone_table.specs.Phones.{state_at}
-use Rattle.cleanup.specs.Board.{IsPendingAt}
-use Rattle.cleanup.specs.State.{Tasks, KernelState, is_alive, phone_at}
-use Rattle.cleanup.specs.Sound.{IsSoundCall, IsReservedAt}
-use Rattle.cleanup.specs.Kept.{keeper_of, kept_of, lent_of, held_phone, kept_phone, lent_phone, kept_rows, kept_note, phone_of, unless_freed, accepts, WaitsIn}
-use Rattle.cleanup.specs.Serving.{telling}
-use Rattle.cleanup.specs.Joins.{lives, settle, settle_for, vanishing, declined_call, drop_answer}
+use Rattle.switchboard.specs.Board.{IsPendingAt}
+use Rattle.switchboard.specs.State.{Tasks, KernelState, is_alive, phone_at}
+use Rattle.switchboard.specs.Sound.{IsSoundCall, IsReservedAt}
+use Rattle.switchboard.specs.Kept.{keeper_of, kept_of, lent_of, held_phone, kept_phone, lent_phone, kept_rows, kept_note, phone_of, unless_freed, accepts, WaitsIn}
+use Rattle.switchboard.specs.Serving.{telling}
+use Rattle.switchboard.specs.Joins.{lives, settle, settle_for, vanishing, declined_call, drop_answer}
 use Rattle.kernel_core.specs.Kernel.{and_event}
-use Rattle.cleanup.proofs.Endings.{length_rows}
-use Rattle.cleanup.proofs.Keepers.{state_here}
+use Rattle.switchboard.proofs.Endings.{length_rows}
+use Rattle.switchboard.proofs.Keepers.{state_here}
 use Rattle.cleanup.proofs.KilledPhones.{written_elsewhere}
-use Rattle.cleanup.proofs.Lookups.{put_here, put_other, gone_here, gone_other}
+use Rattle.switchboard.proofs.Lookups.{put_here, put_other, gone_here, gone_other}
 use Rattle.cleanup.proofs.Silence.{IsEnding}
-use Rattle.cleanup.proofs.Usable.{kept_waits}
+use Rattle.switchboard.proofs.Usable.{kept_waits}
 use Rattle.kernel_laws.specs.Connecting.{IsUnconnected}
 use Rattle.kernel_laws.proofs.KillRoutes.{is_there}
 use Rattle.kernel_laws.proofs.AnswerWords.{accepts_eok}

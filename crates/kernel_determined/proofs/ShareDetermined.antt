@@ -9,7 +9,7 @@ use Rattle.address_space.specs.Areas.{Area, refusal, is_malformed, is_taken, is_
 use Rattle.address_space.specs.Memory.{Memory, Step, IsAdded, areas_of, area_at, share, share_area, share_unless, refused}
 use Rattle.address_space.specs.Sound as spaces
 use Rattle.address_space.proofs.Rows.{length_share}
-use Rattle.cleanup.proofs.Repeats.{by_test}
+use Rattle.switchboard.proofs.Repeats.{by_test}
 use Rattle.kernel_laws.specs.MemoryLaws.{IsSharable}
 use Rattle.kernel_laws.proofs.LawfulAreas.{sharable, found_at, share_is_lawful}
 use Rattle.kernel_determined.specs.AnswerLaw.{IsWholeShare}

@@ -4,10 +4,10 @@ use Rattle.std.specs.Prelude.{if◌then◌else◌}
 use Rattle.std.proofs.lemmas.Bool.{cases_lt}
 use Rattle.std.proofs.lemmas.Grind.{common_steps}
 use Rattle.ipc_ids.specs.declared.numbers.TaskNo.{TaskNo}
-use Rattle.cleanup.specs.State.{KernelState, Transition, is_alive, phone_at, with_task}
-use Rattle.cleanup.specs.Sound.{IsSound}
+use Rattle.switchboard.specs.State.{KernelState, Transition, is_alive, phone_at, with_task}
+use Rattle.switchboard.specs.Sound.{IsSound}
 use Rattle.ipc_ids.specs.declared.message.PhoneState.TheVariants.{Connected}
-use Rattle.cleanup.proofs.Endings.{length_rows}
+use Rattle.switchboard.proofs.Endings.{length_rows}
 use Rattle.kernel_core.specs.Kernel.{named, spawning, spawn_event}
 use Rattle.kernel_laws.proofs.SpawnLaws.{spawn_makes_task}
 use Rattle.kernel_laws.specs.SpawnLaws.{new_number}

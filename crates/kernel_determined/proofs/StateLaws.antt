@@ -9,11 +9,11 @@ use Rattle.call_slab.specs.declared.call.Call.{Call}
 use Rattle.call_slab.specs.declared.call.Place.{Place}
 use Rattle.call_slab.specs.declared.call.Place.TheVariants.{Incoming, Dispatched, Answers}
 use Rattle.answerbox.specs.Calls.{CallTable, call_at}
-use Rattle.cleanup.specs.State.{KernelState}
-use Rattle.cleanup.specs.Board.{IsPendingAt}
-use Rattle.cleanup.specs.Kept.{keeper_of, kept_phone}
-use Rattle.cleanup.specs.Sound.{IsSound, IsCaller, IsLentAt, IsReservedAt}
-use Rattle.cleanup.proofs.Keepers.{kept_of_call}
+use Rattle.switchboard.specs.State.{KernelState}
+use Rattle.switchboard.specs.Board.{IsPendingAt}
+use Rattle.switchboard.specs.Kept.{keeper_of, kept_phone}
+use Rattle.switchboard.specs.Sound.{IsSound, IsCaller, IsLentAt, IsReservedAt}
+use Rattle.switchboard.proofs.Keepers.{kept_of_call}
 use Rattle.kernel_laws.specs.ActiveCalls.{AreTheActive}
 use Rattle.kernel_laws.specs.Connecting.{IsUnconnected}
 use Rattle.kernel_laws.proofs.ActiveCalls.{active_count}

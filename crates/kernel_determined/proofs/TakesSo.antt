@@ -32,16 +32,16 @@ use Rattle.address_space.specs.Stores.{written_over, write_at}
 use Rattle.address_space.specs.Memory.{Memory, Step, areas_of, spot_in, write_spot, write}
 use Rattle.address_space.specs.Areas.{Area, holder}
 use Rattle.address_space.specs.declared.area.Right.TheVariants.{Write}
-use Rattle.cleanup.specs.State.{KernelState, label_of}
-use Rattle.cleanup.specs.Sound.{IsSound, IsReservedAt}
-use Rattle.cleanup.specs.Kept.{keeper_of, kept_phone, kept_rows, kept_note, phone_of, accepts, who_keeps, first_usable_of, with_kept}
-use Rattle.cleanup.specs.Data.{code_told, delivered_read}
-use Rattle.cleanup.specs.Joins.{delivery, reception, with_delivery}
-use Rattle.cleanup.specs.Serving.{Handed, Served, as_it_is}
-use Rattle.cleanup.proofs.Keepers.{state_here}
+use Rattle.switchboard.specs.State.{KernelState, label_of}
+use Rattle.switchboard.specs.Sound.{IsSound, IsReservedAt}
+use Rattle.switchboard.specs.Kept.{keeper_of, kept_phone, kept_rows, kept_note, phone_of, accepts, who_keeps, first_usable_of, with_kept}
+use Rattle.switchboard.specs.Data.{code_told, delivered_read}
+use Rattle.switchboard.specs.Joins.{delivery, reception, with_delivery}
+use Rattle.switchboard.specs.Serving.{Handed, Served, as_it_is}
+use Rattle.switchboard.proofs.Keepers.{state_here}
 use Rattle.cleanup.proofs.KilledPhones.{written_elsewhere}
-use Rattle.cleanup.proofs.Lookups.{put_here, put_other, gone_here, gone_other}
-use Rattle.cleanup.proofs.Repeats.{by_test}
+use Rattle.switchboard.proofs.Lookups.{put_here, put_other, gone_here, gone_other}
+use Rattle.switchboard.proofs.Repeats.{by_test}
 use Rattle.kernel_core.specs.Moments.{with_phone_named, reply_of, brings_bytes, on_delivery, keeping_to_receive, on_receive_of, on_receive}
 use Rattle.kernel_core.specs.Receiving.{drop_unawaited, receive_first, receive_now}
 use Rattle.kernel_core.specs.Kernel.{and_event, serve}

@@ -15,10 +15,10 @@ use Rattle.call_slab.specs.declared.call.Call.{Call}
 use Rattle.call_slab.specs.declared.call.Place.{Place}
 use Rattle.call_slab.specs.declared.call.Place.TheVariants.{Incoming, Answers}
 use Rattle.answerbox.specs.Calls.{call_at}
-use Rattle.cleanup.specs.State.{KernelState}
-use Rattle.cleanup.specs.Sound.{IsSound}
-use Rattle.cleanup.specs.Serving.{Served}
-use Rattle.cleanup.proofs.Lookups.{same_call}
+use Rattle.switchboard.specs.State.{KernelState}
+use Rattle.switchboard.specs.Sound.{IsSound}
+use Rattle.switchboard.specs.Serving.{Served}
+use Rattle.switchboard.proofs.Lookups.{same_call}
 use Rattle.kernel_laws.specs.ReceiveLaws.{IsAwaited, IsFirst, HasNone}
 use Rattle.kernel_determined.specs.Frames.{PhonesStay, MayCome}
 use Rattle.kernel_determined.specs.SettleLaw.{DropsAnswer}

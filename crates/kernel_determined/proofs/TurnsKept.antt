@@ -6,7 +6,7 @@ use Rattle.std.proofs.lemmas.Bool.{cases_eq}
 use Rattle.ipc_ids.specs.declared.entry.Entry.{Entry}
 use Rattle.call_slab.specs.declared.call.Call.{Call}
 use Rattle.answerbox.specs.Calls.{count_of}
-use Rattle.cleanup.specs.State.{KernelState, Transition, nothing, then_do, drain, each}
+use Rattle.switchboard.specs.State.{KernelState, Transition, nothing, then_do, drain, each}
 use Rattle.kernel_laws.proofs.ReceiveLaws.{drain_stops}
 use Rattle.kernel_determined.specs.Turns.{IsAmong, ComesBeforeEach, AreInOrder, EachInTurn}
 

@@ -15,8 +15,8 @@ use Rattle.ipc_ids.specs.Methods.{connect_to_me, connect_me_to, data_write, data
 use Rattle.call_slab.specs.declared.call.Call.{Call}
 use Rattle.call_slab.specs.declared.call.Place.TheVariants.{Answers}
 use Rattle.address_space.specs.Memory.{Memory, Step}
-use Rattle.cleanup.specs.State.{KernelState, is_alive}
-use Rattle.cleanup.specs.Serving.{Served}
+use Rattle.switchboard.specs.State.{KernelState, is_alive}
+use Rattle.switchboard.specs.Serving.{Served}
 use Rattle.kernel_laws.specs.DataLaws.{code_after, first, second, third, AreFirst, IsLawfulTaking}
 use Rattle.kernel_laws.specs.MemoryLaws.{IsLawfulShare}
 use Rattle.kernel_laws.specs.MemoryRequests.{made, written}

@@ -14,8 +14,8 @@ use Rattle.call_slab.specs.declared.call.Call.{Call}
 use Rattle.call_slab.specs.declared.call.Place.TheVariants.{Incoming, Answers}
 use Rattle.address_space.specs.Sound as spaces
 use Rattle.kernel_laws.specs.ActiveCalls.{AreTheActive}
-use Rattle.cleanup.specs.State.{KernelState, phone_at, label_of}
-use Rattle.cleanup.specs.Serving.{Served}
+use Rattle.switchboard.specs.State.{KernelState, phone_at, label_of}
+use Rattle.switchboard.specs.Serving.{Served}
 use Rattle.kernel_laws.specs.PoolLaws.{pool}
 use Rattle.kernel_laws.specs.CallCodes.{IsNoWay, IsNoCall, IsCheck, own_reply}
 use Rattle.kernel_laws.specs.DataLaws.{AreCutDown, IsLawfulCopy}

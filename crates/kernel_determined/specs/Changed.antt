@@ -4,8 +4,8 @@ use Rattle.std.specs.FinMap.{insert}
 use Rattle.ipc_ids.specs.declared.entry.Entry.{Entry}
 use Rattle.call_slab.specs.declared.call.Call.{Call}
 use Rattle.answerbox.specs.Calls.{CallTable}
-use Rattle.cleanup.specs.State.{KernelState, Transition, with_calls}
-use Rattle.cleanup.specs.Serving.{Served}
+use Rattle.switchboard.specs.State.{KernelState, Transition, with_calls}
+use Rattle.switchboard.specs.Serving.{Served}
 
 -- the call with this number has this record
 abbrev pub with_call : CallTable → ℕ → Call → CallTable

@@ -13,8 +13,8 @@ use Rattle.ipc_ids.specs.Codes.{enoent, eperm, eforward}
 use Rattle.ipc_ids.specs.Methods.{connect_to_me, connect_me_to, first_user_method}
 use Rattle.call_slab.specs.declared.call.Call.{Call}
 use Rattle.call_slab.specs.declared.call.Place.TheVariants.{Incoming}
-use Rattle.cleanup.specs.State.{KernelState, label_of}
-use Rattle.cleanup.specs.Serving.{Served}
+use Rattle.switchboard.specs.State.{KernelState, label_of}
+use Rattle.switchboard.specs.Serving.{Served}
 use Rattle.kernel_laws.specs.CallCodes.{own_reply}
 use Rattle.kernel_laws.specs.HeldCalls.{IsHeld, MayPass}
 use Rattle.kernel_laws.specs.Routes.{Leads, label_by}

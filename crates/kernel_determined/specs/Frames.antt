@@ -13,8 +13,8 @@ use Rattle.ipc_ids.specs.Codes.{eok}
 use Rattle.call_slab.specs.declared.call.Call.{Call}
 use Rattle.call_slab.specs.declared.call.Place.{Place}
 use Rattle.answerbox.specs.Calls.{CallTable, call_at}
-use Rattle.cleanup.specs.State.{KernelState, phone_at, label_of}
-use Rattle.cleanup.specs.Serving.{Served}
+use Rattle.switchboard.specs.State.{KernelState, phone_at, label_of}
+use Rattle.switchboard.specs.Serving.{Served}
 use Rattle.kernel_laws.specs.CallCodes.{own_reply}
 
 -- a request is one event more; no task is made and none ends

@@ -11,8 +11,8 @@ use Rattle.ipc_ids.specs.Codes.{enoent, einval}
 use Rattle.ipc_ids.specs.Methods.{phone_hungup}
 use Rattle.call_slab.specs.declared.call.Call.{Call}
 use Rattle.call_slab.specs.declared.call.Place.TheVariants.{Incoming}
-use Rattle.cleanup.specs.State.{KernelState, label_of}
-use Rattle.cleanup.specs.Serving.{Served}
+use Rattle.switchboard.specs.State.{KernelState, label_of}
+use Rattle.switchboard.specs.Serving.{Served}
 use Rattle.kernel_determined.specs.Frames.{PhoneComesTo, CallsStay, OneCallMore, IsMade, IsQuietEvent, NothingHappens, IsRefusal}
 
 -- nothing is asked, and nothing happens

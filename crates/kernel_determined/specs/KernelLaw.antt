@@ -3,9 +3,9 @@ use Rattle.std.specs.Prelude.{◌≡◌, ℕ, ◌≤◌, true, Option}
 use Rattle.ipc_ids.specs.declared.numbers.TaskNo.{TaskNo}
 use Rattle.ipc_ids.specs.declared.message.Request.{Request}
 use Rattle.ipc_ids.specs.declared.message.Request.TheVariants as request
-use Rattle.cleanup.specs.State.{KernelState, Transition, phone_at, is_alive}
-use Rattle.cleanup.specs.Sound.{IsSound}
-use Rattle.cleanup.specs.Serving.{Served}
+use Rattle.switchboard.specs.State.{KernelState, Transition, phone_at, is_alive}
+use Rattle.switchboard.specs.Sound.{IsSound}
+use Rattle.switchboard.specs.Serving.{Served}
 use Rattle.kernel_core.specs.Kernel.{serve, kill_event, spawn_event}
 use Rattle.kernel_determined.specs.HangupLaw.{IsNothing, IsHangup}
 use Rattle.kernel_determined.specs.ReceiveLaw.{IsReceive}

@@ -12,7 +12,7 @@ use Rattle.call_slab.specs.declared.call.Place.TheVariants.{Incoming, Dispatched
 use Rattle.answerbox.specs.Calls.{call_at}
 use Rattle.address_space.specs.Areas.{Area}
 use Rattle.address_space.specs.Memory.{Step}
-use Rattle.cleanup.specs.State.{KernelState, Transition, phone_at, label_of}
+use Rattle.switchboard.specs.State.{KernelState, Transition, phone_at, label_of}
 use Rattle.kernel_laws.specs.CallCodes.{own_reply}
 use Rattle.kernel_laws.specs.KillLaws.{EndsTask}
 use Rattle.kernel_laws.specs.MemoryLaws.{HasAt}

@@ -6,8 +6,8 @@ use Rattle.ipc_ids.specs.declared.numbers.StoreNo.{StoreNo}
 use Rattle.ipc_ids.specs.declared.numbers.TaskNo.{TaskNo}
 use Rattle.std.specs.FinMap.{get}
 use Rattle.address_space.specs.Memory.{Memory, Step}
-use Rattle.cleanup.specs.State.{KernelState}
-use Rattle.cleanup.specs.Serving.{Served}
+use Rattle.switchboard.specs.State.{KernelState}
+use Rattle.switchboard.specs.Serving.{Served}
 use Rattle.kernel_laws.specs.MemoryLaws.{IsLawfulWrite, IsLawfulPeek, IsLawfulMake, IsLawfulDrop}
 use Rattle.kernel_laws.specs.MemoryRequests.{Tells, TellsBytes, made, gone, written, Leaves}
 

@@ -16,8 +16,8 @@ use Rattle.call_slab.specs.declared.call.Call.{Call}
 use Rattle.call_slab.specs.declared.call.Place.TheVariants.{Incoming, Dispatched, Answers}
 use Rattle.answerbox.specs.Calls.{CallTable, call_at}
 use Rattle.address_space.specs.Memory.{Memory, Step}
-use Rattle.cleanup.specs.State.{KernelState, label_of}
-use Rattle.cleanup.specs.Serving.{Served}
+use Rattle.switchboard.specs.State.{KernelState, label_of}
+use Rattle.switchboard.specs.Serving.{Served}
 use Rattle.kernel_laws.specs.DataLaws.{code_after, first, IsBrought}
 use Rattle.kernel_laws.specs.Connecting.{IsUnconnected}
 use Rattle.kernel_laws.specs.MemoryRequests.{written}

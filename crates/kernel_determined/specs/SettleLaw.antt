@@ -11,7 +11,7 @@ use Rattle.ipc_ids.specs.Methods.{connect_to_me, connect_me_to}
 use Rattle.call_slab.specs.declared.call.Call.{Call}
 use Rattle.call_slab.specs.declared.call.Place.TheVariants.{Answers}
 use Rattle.answerbox.specs.Calls.{call_at}
-use Rattle.cleanup.specs.State.{KernelState, is_alive}
+use Rattle.switchboard.specs.State.{KernelState, is_alive}
 use Rattle.kernel_laws.specs.Connecting.{IsUnconnected}
 use Rattle.kernel_determined.specs.Frames.{MayCome, Moves, IsOver, IsStep}
 

@@ -6,7 +6,7 @@ use Rattle.ipc_ids.specs.declared.message.PhoneState.TheVariants.{Connecting}
 use Rattle.ipc_ids.specs.Methods.{connect_to_me, connect_me_to}
 use Rattle.call_slab.specs.declared.call.Call.{Call}
 use Rattle.answerbox.specs.Calls.{call_at}
-use Rattle.cleanup.specs.State.{KernelState, phone_at}
+use Rattle.switchboard.specs.State.{KernelState, phone_at}
 use Rattle.kernel_laws.specs.Connecting.{IsUnconnected}
 use Rattle.kernel_laws.specs.HeldCalls.{IsHeld}
 

@@ -1,7 +1,7 @@
 -- Things that have their turn one after another: which of them, in which order, and what each turn does.
 use Rattle.std.specs.Prelude.{◌≡◌, ◌⊎◌, ⊤, List, [], ◌∷◌, ◌++◌}
 use Rattle.ipc_ids.specs.declared.entry.Entry.{Entry}
-use Rattle.cleanup.specs.State.{KernelState}
+use Rattle.switchboard.specs.State.{KernelState}
 
 -- a thing is one of these
 abbrev pub IsAmong : {A : Type 0} → A → List A → Type 0

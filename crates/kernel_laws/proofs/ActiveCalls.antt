@@ -11,7 +11,7 @@ use Rattle.call_slab.specs.declared.call.Call.{Call}
 use Rattle.answerbox.specs.Calls.{CallTable, is_caller, is_active_on, count_of, active_calls}
 use Rattle.answerbox.proofs.Fronts.{first, second, greater, key_same, not_tied}
 use Rattle.answerbox.proofs.Fronts as fronts
-use Rattle.cleanup.specs.State.{label_of}
+use Rattle.switchboard.specs.State.{label_of}
 use Rattle.kernel_laws.specs.ActiveCalls.{IsOneOf, AreTheActive, HasActive}
 
 -- ---- two lists of the same numbers, each once, are as long as each other

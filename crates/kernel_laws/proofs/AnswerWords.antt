@@ -6,8 +6,8 @@ use Rattle.ipc_ids.specs.declared.methods.MethodKind.TheVariants.{ConnectMeTo, D
 use Rattle.ipc_ids.specs.Codes.{eok}
 use Rattle.ipc_ids.specs.Methods.{kind_of}
 use Rattle.call_slab.specs.declared.call.Call.{Call}
-use Rattle.cleanup.specs.Kept.{accepts}
-use Rattle.cleanup.specs.Data.{code_told}
+use Rattle.switchboard.specs.Kept.{accepts}
+use Rattle.switchboard.specs.Data.{code_told}
 use Rattle.kernel_core.specs.Moments.{brings_bytes_of, brings_bytes, reply_of}
 use Rattle.kernel_laws.specs.DataLaws.{code_after, IsBrought}
 use Rattle.kernel_laws.proofs.Methods.{method_of}

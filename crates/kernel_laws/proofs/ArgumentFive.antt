@@ -22,13 +22,13 @@ use Rattle.call_slab.specs.declared.call.Place.TheVariants.{Incoming, Dispatched
 use Rattle.answerbox.specs.Calls.{CallTable, enqueue, put_at, without_call, without_caller}
 use Rattle.forwarding.specs.Forwarding.{changed_msg, msg_after, label_after}
 use Rattle.data_hooks.specs.DataMoments.{count_of, cut_args}
-use Rattle.cleanup.specs.State.{KernelState, Transition, start}
-use Rattle.cleanup.specs.Kept.{lent_phone, unless_freed, first_usable_of}
-use Rattle.cleanup.specs.Data.{accepted_read}
-use Rattle.cleanup.specs.Serving.{Served}
-use Rattle.cleanup.specs.Joins.{bare_reply, new_call, reception, answer_to, declined_call, passed_call, passage, hangup_call}
-use Rattle.cleanup.proofs.Repeats.{by_test}
-use Rattle.cleanup.proofs.Usable.{usable_is}
+use Rattle.switchboard.specs.State.{KernelState, Transition, start}
+use Rattle.switchboard.specs.Kept.{lent_phone, unless_freed, first_usable_of}
+use Rattle.switchboard.specs.Data.{accepted_read}
+use Rattle.switchboard.specs.Serving.{Served}
+use Rattle.switchboard.specs.Joins.{bare_reply, new_call, reception, answer_to, declined_call, passed_call, passage, hangup_call}
+use Rattle.switchboard.proofs.Repeats.{by_test}
+use Rattle.switchboard.proofs.Usable.{usable_is}
 use Rattle.kernel_core.specs.Moments.{number_of, on_receive_of, on_accept_of, cut_call}
 use Rattle.kernel_core.specs.Kernel.{serve, kill_event, spawn_event, spawning, next_task, named}
 use Rattle.kernel_core.proofs.ByRequest as join

@@ -30,20 +30,20 @@ use Rattle.forwarding.specs.Forwarding.{msg_after, label_after}
 use Rattle.address_space.specs.Memory as spaces
 use Rattle.data_hooks.specs.DataMoments.{address_of, count_of, cut_args, write_accept, read_deliver}
 use Rattle.share_hooks.specs.ShareMoments.{pages_of, rights_of, base_of, out_accept, in_accept}
-use Rattle.cleanup.specs.declared.sharing.Share.TheVariants.{Out, In}
-use Rattle.cleanup.specs.State.{KernelState, Transition, phone_at, label_of}
-use Rattle.cleanup.specs.Sound.{IsSound}
-use Rattle.cleanup.specs.Kept.{kept_phone, lent_phone, kept_note, kept_rows, first_usable_of}
-use Rattle.cleanup.specs.Areas.{made_note, gone_note, wrote_note}
-use Rattle.cleanup.specs.Sharing.{shared_note, accepted_share}
-use Rattle.cleanup.specs.Data.{accepted_write, accepted_read}
-use Rattle.cleanup.specs.Serving.{Handed, Served, as_it_is, telling}
-use Rattle.cleanup.specs.Joins.{bare_reply, new_call, acceptance, answer_at_once, reception, answer_to, declined, accepted_to_me, accepted_me_to, vanishing, passed_call, passage, drop_answer, hang_up, hangup_call}
-use Rattle.cleanup.proofs.Histories.{told_after, none_after, both_after}
-use Rattle.cleanup.proofs.Lookups.{put_here}
-use Rattle.cleanup.proofs.Rows.{state_changed_at}
+use Rattle.switchboard.specs.declared.sharing.Share.TheVariants.{Out, In}
+use Rattle.switchboard.specs.State.{KernelState, Transition, phone_at, label_of}
+use Rattle.switchboard.specs.Sound.{IsSound}
+use Rattle.switchboard.specs.Kept.{kept_phone, lent_phone, kept_note, kept_rows, first_usable_of}
+use Rattle.switchboard.specs.Areas.{made_note, gone_note, wrote_note}
+use Rattle.switchboard.specs.Sharing.{shared_note, accepted_share}
+use Rattle.switchboard.specs.Data.{accepted_write, accepted_read}
+use Rattle.switchboard.specs.Serving.{Handed, Served, as_it_is, telling}
+use Rattle.switchboard.specs.Joins.{bare_reply, new_call, acceptance, answer_at_once, reception, answer_to, declined, accepted_to_me, accepted_me_to, vanishing, passed_call, passage, drop_answer, hang_up, hangup_call}
+use Rattle.switchboard.proofs.Histories.{told_after, none_after, both_after}
+use Rattle.switchboard.proofs.Lookups.{put_here}
+use Rattle.switchboard.proofs.Rows.{state_changed_at}
 use Rattle.cleanup.proofs.Queues.{sound_drop}
-use Rattle.cleanup.proofs.Soundness.{next_free}
+use Rattle.switchboard.proofs.Soundness.{next_free}
 use Rattle.kernel_core.specs.Moments.{on_receive_of, on_accept_of, cut_down}
 use Rattle.kernel_core.specs.Receiving.{drop_unawaited, receive_now, receive}
 use Rattle.kernel_core.specs.Request.{serve_request}

@@ -16,12 +16,12 @@ use Rattle.call_slab.specs.declared.call.Place.TheVariants.{Incoming, Dispatched
 use Rattle.answerbox.specs.Calls.{CallTable, call_at, calls_of, enqueue, put_at, without_call}
 use Rattle.answerbox.proofs.Callers.{calls_of_live}
 use Rattle.forwarding.specs.Forwarding.{is_held, msg_after, label_after}
-use Rattle.cleanup.specs.State.{KernelState, Transition}
-use Rattle.cleanup.specs.Sound.{IsSound}
-use Rattle.cleanup.specs.Data.{accepted_read}
-use Rattle.cleanup.specs.Joins.{bare_reply, new_call, reception, answer_to, declined_call, passed_call, forget_call, hangup_call}
-use Rattle.cleanup.specs.Serving.{Handed, Served}
-use Rattle.cleanup.proofs.Lookups.{same_call}
+use Rattle.switchboard.specs.State.{KernelState, Transition}
+use Rattle.switchboard.specs.Sound.{IsSound}
+use Rattle.switchboard.specs.Data.{accepted_read}
+use Rattle.switchboard.specs.Joins.{bare_reply, new_call, reception, answer_to, declined_call, passed_call, forget_call, hangup_call}
+use Rattle.switchboard.specs.Serving.{Handed, Served}
+use Rattle.switchboard.proofs.Lookups.{same_call}
 use Rattle.kernel_core.specs.Moments.{on_receive_of, on_accept_of, cut_call}
 use Rattle.kernel_core.specs.Kernel.{serve, kill_event}
 use Rattle.kernel_core.proofs.InEvent.{same_place-true}

@@ -22,14 +22,14 @@ use Rattle.address_space.specs.Areas.{Area, is_subset}
 use Rattle.address_space.specs.Memory.{Memory, spot_in, area_at, read_at, read}
 use Rattle.data_hooks.specs.DataMoments.{address_of, kept_count, pooled, write_kept, write_before_send, read_before_send}
 use Rattle.share_hooks.specs.ShareMoments.{is_between, base_of, pages_of, rights_of, offer, out_before_send, in_before_send}
-use Rattle.cleanup.specs.State.{KernelState, is_alive, phone_at, label_of}
-use Rattle.cleanup.specs.Sound.{IsSound}
-use Rattle.cleanup.specs.Kept.{first_usable_of}
-use Rattle.cleanup.specs.Serving.{Served}
+use Rattle.switchboard.specs.State.{KernelState, is_alive, phone_at, label_of}
+use Rattle.switchboard.specs.Sound.{IsSound}
+use Rattle.switchboard.specs.Kept.{first_usable_of}
+use Rattle.switchboard.specs.Serving.{Served}
 use Rattle.cleanup.specs.Kill.{kill}
-use Rattle.cleanup.specs.Joins.{new_call, answer_at_once}
+use Rattle.switchboard.specs.Joins.{new_call, answer_at_once}
 use Rattle.cleanup.proofs.Killing.{sound_kill}
-use Rattle.cleanup.proofs.Repeats.{by_test}
+use Rattle.switchboard.proofs.Repeats.{by_test}
 use Rattle.kernel_core.specs.Moments.{keeping_to_send, carrying, bringing, asking, before_send_of}
 use Rattle.kernel_core.specs.Calling.{is_callable, sent_to, call_through, call_tested, call_over, call}
 use Rattle.kernel_core.specs.Kernel.{serve, kill_event, spawn_event, spawning, next_task, named}

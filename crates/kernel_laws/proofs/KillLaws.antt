@@ -8,8 +8,8 @@ use Rattle.call_slab.specs.declared.call.Call.{Call}
 use Rattle.call_slab.specs.declared.call.Place.{Place}
 use Rattle.call_slab.specs.declared.call.Place.TheVariants.{Incoming, Dispatched, Answers}
 use Rattle.answerbox.specs.Calls.{same_place, is_caller, task_of}
-use Rattle.cleanup.specs.State.{KernelState, is_alive, phone_at}
-use Rattle.cleanup.specs.Sound.{IsSound}
+use Rattle.switchboard.specs.State.{KernelState, is_alive, phone_at}
+use Rattle.switchboard.specs.Sound.{IsSound}
 use Rattle.cleanup.specs.Kill.{kill}
 use Rattle.kernel_laws.specs.KillLaws.{EndsTask, LeavesNothingOf, IsOpen, ClosesPhones, IsWith, ClosesCalls}
 use Rattle.cleanup.proofs.Killing.{kill_leaves_nothing, killed_task, other_task}

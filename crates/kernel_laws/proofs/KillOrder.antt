@@ -13,15 +13,15 @@ use Rattle.call_slab.specs.declared.call.Call.{Call}
 use Rattle.call_slab.specs.declared.call.Place.{Place}
 use Rattle.call_slab.specs.declared.call.Place.TheVariants.{Incoming, Dispatched}
 use Rattle.answerbox.specs.Calls.{call_at, calls_at, same_place}
-use Rattle.cleanup.specs.State.{KernelState, Transition, is_alive, phone_at}
-use Rattle.cleanup.specs.Sound.{IsSound}
-use Rattle.cleanup.specs.Kept.{kept_phone, lent_phone, kept_note}
-use Rattle.cleanup.specs.Joins.{bare_reply, settle_for, lives, hang_up}
-use Rattle.cleanup.specs.Kill.{task_no, width, mark_ended, hang_up_at, hang_up_own_phones, slam, slam_at, slam_phones_of, slam_other, slam_phones_to, first_at, settle_call, settle_incoming, settle_dispatched, drop_answers, forget_calls_elsewhere, drop_areas, kill}
+use Rattle.switchboard.specs.State.{KernelState, Transition, is_alive, phone_at, width, mark_ended}
+use Rattle.switchboard.specs.Sound.{IsSound}
+use Rattle.switchboard.specs.Kept.{kept_phone, lent_phone, kept_note}
+use Rattle.switchboard.specs.Joins.{bare_reply, settle_for, lives, hang_up, slam, slam_at}
+use Rattle.cleanup.specs.Kill.{task_no, hang_up_at, hang_up_own_phones, slam_phones_of, slam_other, slam_phones_to, first_at, settle_call, settle_incoming, settle_dispatched, drop_answers, forget_calls_elsewhere, drop_areas, kill}
 use Rattle.kernel_laws.specs.KillLaws.{Ends, HasEnd, EndsBefore, EndsWaitingFirst}
-use Rattle.cleanup.proofs.Lookups.{same_call}
-use Rattle.cleanup.proofs.Repeats.{by_test}
-use Rattle.cleanup.proofs.Histories.{told_after, none_after, both_after, each_tells, drain_tells}
+use Rattle.switchboard.proofs.Lookups.{same_call}
+use Rattle.switchboard.proofs.Repeats.{by_test}
+use Rattle.switchboard.proofs.Histories.{told_after, none_after, both_after, each_tells, drain_tells}
 use Rattle.cleanup.proofs.Silence.{IsAlone}
 use Rattle.cleanup.proofs.Queues.{IsLive, stands_at, front_at, incoming_alone}
 use Rattle.cleanup.proofs.Killing.{after_hangups, after_slams, after_incoming, after_dispatched, after_answers, after_calls}

@@ -2,9 +2,8 @@
 -- each part on calls.
 use Rattle.std.proofs.Common.{◌≡◌, true, List, Bool}
 use Rattle.ipc_ids.specs.declared.numbers.TaskNo.{TaskNo}
-use Rattle.cleanup.specs.State.{KernelState, is_alive}
-use Rattle.cleanup.specs.Sound.{IsSound}
-use Rattle.cleanup.specs.Kill.{mark_ended}
+use Rattle.switchboard.specs.State.{KernelState, is_alive, mark_ended}
+use Rattle.switchboard.specs.Sound.{IsSound}
 use Rattle.cleanup.proofs.Silence.{IsAlone, own_phones_hung_up, phones_slammed}
 use Rattle.cleanup.proofs.Queues.{IsUncalled, IsIdle, IsUnanswered, incoming_settled, dispatched_settled, answers_dropped}
 use Rattle.cleanup.proofs.Killing.{after_hangups, after_slams, after_incoming, after_dispatched, after_answers}

@@ -12,12 +12,12 @@ use Rattle.call_slab.specs.declared.call.Place.{Place}
 use Rattle.call_slab.specs.declared.call.Place.TheVariants.{Incoming, Answers}
 use Rattle.answerbox.specs.Calls.{call_at, task_of, same_place, with_record, without_call}
 use Rattle.phone_table.specs.Phones.{state_at}
-use Rattle.cleanup.specs.State.{KernelState, Transition, phone_at, with_state_at, with_phone}
-use Rattle.cleanup.specs.Sound.{IsSound}
-use Rattle.cleanup.specs.Kept.{kept_phone, lent_phone, kept_rows, unless_freed}
-use Rattle.cleanup.specs.Joins.{bare_reply, answer_to, declined, forget_call, hang_up, hangup_call}
-use Rattle.cleanup.specs.Kill.{mark_ended, kill}
-use Rattle.cleanup.proofs.Rows.{state_changed_at}
+use Rattle.switchboard.specs.State.{KernelState, Transition, phone_at, with_state_at, with_phone, mark_ended}
+use Rattle.switchboard.specs.Sound.{IsSound}
+use Rattle.switchboard.specs.Kept.{kept_phone, lent_phone, kept_rows, unless_freed}
+use Rattle.switchboard.specs.Joins.{bare_reply, answer_to, declined, forget_call, hang_up, hangup_call}
+use Rattle.cleanup.specs.Kill.{kill}
+use Rattle.switchboard.proofs.Rows.{state_changed_at}
 use Rattle.kernel_core.specs.Kernel.{kill_event}
 use Rattle.kernel_core.proofs.InEvent.{same_place-true}
 use Rattle.kernel_core.proofs.ByKill as end

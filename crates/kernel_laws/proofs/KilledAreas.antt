@@ -11,9 +11,9 @@ use Rattle.ipc_ids.specs.declared.numbers.TaskNo.{TaskNo}
 use Rattle.address_space.specs.Areas.{Area, stands_over, place_of}
 use Rattle.address_space.specs.Memory.{Memory, areas_of, with_areas, is_used, release, drop_place, drop_at, drop_area}
 use Rattle.address_space.proofs.Rows.{others_keep, others_at_drop}
-use Rattle.cleanup.specs.State.{KernelState, is_alive}
-use Rattle.cleanup.specs.Kill.{mark_ended, kill}
-use Rattle.cleanup.proofs.SoundMemory.{from_one}
+use Rattle.switchboard.specs.State.{KernelState, is_alive, mark_ended}
+use Rattle.cleanup.specs.Kill.{kill}
+use Rattle.switchboard.proofs.SoundMemory.{from_one}
 use Rattle.cleanup.proofs.Killing.{areas_last, areas_end, calls_steady, after_calls}
 use Rattle.kernel_laws.specs.KillLaws.{HasAreaOver, ClosesAreas}
 use Rattle.answerbox.proofs.Counts.{ties}

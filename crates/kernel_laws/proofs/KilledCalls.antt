@@ -10,15 +10,15 @@ use Rattle.call_slab.specs.declared.call.Call.{Call}
 use Rattle.call_slab.specs.declared.call.Place.{Place}
 use Rattle.call_slab.specs.declared.call.Place.TheVariants.{Incoming, Dispatched, Answers}
 use Rattle.answerbox.specs.Calls.{CallTable, call_at, calls_at, calls_by, same_place, is_caller, with_record}
-use Rattle.cleanup.specs.State.{Tasks, KernelState, Transition, alive_in, is_alive, phone_at, with_calls}
-use Rattle.cleanup.specs.Sound.{IsPlaced, IsCaller, IsSound}
-use Rattle.cleanup.specs.Joins.{bare_reply, declined_call, settle_for, lives, drop_answer, forget_call, hangup_call, hang_up}
-use Rattle.cleanup.specs.Kill.{width, mark_ended, hang_up_at, slam, first_at, first_call_of, settle_call, kill}
-use Rattle.cleanup.proofs.Lookups.{same_call, put_here, put_other, gone_here, gone_other}
-use Rattle.cleanup.proofs.Repeats.{by_test, each_keeps, drain_keeps}
+use Rattle.switchboard.specs.State.{Tasks, KernelState, Transition, alive_in, is_alive, phone_at, with_calls, width, mark_ended}
+use Rattle.switchboard.specs.Sound.{IsPlaced, IsCaller, IsSound}
+use Rattle.switchboard.specs.Joins.{bare_reply, declined_call, settle_for, lives, drop_answer, forget_call, hangup_call, hang_up, slam}
+use Rattle.cleanup.specs.Kill.{hang_up_at, first_at, first_call_of, settle_call, kill}
+use Rattle.switchboard.proofs.Lookups.{same_call, put_here, put_other, gone_here, gone_other}
+use Rattle.switchboard.proofs.Repeats.{by_test, each_keeps, drain_keeps}
 use Rattle.cleanup.proofs.Silence.{IsAlone, slams_keep}
 use Rattle.cleanup.proofs.Queues.{IsLive, IsUncalled, IsIdle, IsUnanswered, stands_at, is_call_of, front_at, call_from, forget_step, forget_unanswered, incoming_alone, dispatched_uncalled, drop_idle}
-use Rattle.cleanup.proofs.MarkChanges.{ended_here, alive_elsewhere}
+use Rattle.switchboard.proofs.MarkChanges.{ended_here, alive_elsewhere}
 use Rattle.cleanup.proofs.Killing.{KeepsTheRest, HasNothingOf, kill_leaves_nothing, areas_last, hang_up_steady, slam_steady, settle_steady, after_hangups, after_slams, after_incoming, after_dispatched, after_answers, after_calls}
 use Rattle.std.proofs.lemmas.Option.{none-some, same_Some}
 use Rattle.kernel_laws.proofs.KillParts.{alone_then, uncalled_then, idle_then, unanswered_then}

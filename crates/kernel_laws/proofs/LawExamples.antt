@@ -9,7 +9,7 @@ use Rattle.ipc_ids.specs.declared.message.PhoneState.TheVariants.{Connected, Hun
 use Rattle.answerbox.specs.Calls.{call_at, no_calls}
 use Rattle.address_space.specs.Areas.{Area}
 use Rattle.address_space.specs.Memory.{Memory, no_memory}
-use Rattle.cleanup.specs.State.{KernelState}
+use Rattle.switchboard.specs.State.{KernelState}
 use Rattle.kernel_laws.specs.KillLaws.{TellsWhereItLed}
 use Rattle.kernel_laws.specs.MemoryLaws.{Drops}
 

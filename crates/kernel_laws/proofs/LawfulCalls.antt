@@ -15,10 +15,10 @@ use Rattle.ipc_ids.specs.Methods.{kind_of}
 use Rattle.answerbox.specs.Calls.{CallTable, active_calls}
 use Rattle.phone_table.specs.Phones.{row_at, is_usable}
 use Rattle.address_space.specs.Sound as spaces
-use Rattle.cleanup.specs.State.{KernelState, phone_at, label_of}
-use Rattle.cleanup.specs.Kept.{first_usable_from, first_usable_of}
-use Rattle.cleanup.proofs.Repeats.{by_test}
-use Rattle.cleanup.proofs.Usable.{usable_is}
+use Rattle.switchboard.specs.State.{KernelState, phone_at, label_of}
+use Rattle.switchboard.specs.Kept.{first_usable_from, first_usable_of}
+use Rattle.switchboard.proofs.Repeats.{by_test}
+use Rattle.switchboard.proofs.Usable.{usable_is}
 use Rattle.kernel_core.specs.Calling.{is_callable}
 use Rattle.kernel_laws.specs.PoolLaws.{pool}
 use Rattle.kernel_laws.specs.DataLaws.{IsLawfulCopy, IsLawfulAsking, IsLawfulOffer, IsLawfulWish}

@@ -5,11 +5,11 @@ use Rattle.ipc_ids.specs.declared.numbers.Code.{Code}
 use Rattle.ipc_ids.specs.declared.numbers.StoreNo.{StoreNo}
 use Rattle.ipc_ids.specs.declared.numbers.TaskNo.{TaskNo}
 use Rattle.address_space.specs.Memory.{IsAdded}
-use Rattle.cleanup.specs.State.{KernelState, is_alive}
-use Rattle.cleanup.specs.Sound.{IsSound}
-use Rattle.cleanup.specs.Areas.{done_or_refused, bytes_or_refused, made_note, gone_note, wrote_note}
-use Rattle.cleanup.proofs.Endings.{within}
-use Rattle.cleanup.proofs.SoundMemory.{from_one}
+use Rattle.switchboard.specs.State.{KernelState, is_alive}
+use Rattle.switchboard.specs.Sound.{IsSound}
+use Rattle.switchboard.specs.Areas.{done_or_refused, bytes_or_refused, made_note, gone_note, wrote_note}
+use Rattle.switchboard.proofs.Endings.{within}
+use Rattle.switchboard.proofs.SoundMemory.{from_one}
 use Rattle.kernel_laws.specs.MemoryRequests.{Tells, TellsBytes, made, gone, written}
 
 pub tells : {A : Type 0} (told : Result A Code) → Tells told (done_or_refused told)

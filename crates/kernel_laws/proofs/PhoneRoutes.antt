@@ -16,15 +16,15 @@ use Rattle.call_slab.specs.declared.call.Call.{Call}
 use Rattle.call_slab.specs.declared.call.Place.TheVariants.{Dispatched}
 use Rattle.answerbox.specs.Calls.{call_at, active_calls}
 use Rattle.phone_table.specs.Phones.{state_at, is_usable}
-use Rattle.cleanup.specs.State.{KernelState, Transition, phone_at, label_of, with_state_at}
-use Rattle.cleanup.specs.Counts.{label_at}
-use Rattle.cleanup.specs.Sound.{IsSound}
-use Rattle.cleanup.specs.Kept.{WaitsIn, accepts, kept_phone, lent_phone, kept_rows, first_usable_of}
-use Rattle.cleanup.specs.Serving.{Served}
-use Rattle.cleanup.specs.Joins.{answer_to, hang_up}
-use Rattle.cleanup.proofs.Keepers.{same_phone, state_elsewhere, state_here}
-use Rattle.cleanup.proofs.Rows.{state_changed_at}
-use Rattle.cleanup.proofs.Usable.{IsUsable, usable_is, kept_waits, lent_waits}
+use Rattle.switchboard.specs.State.{KernelState, Transition, phone_at, label_of, with_state_at}
+use Rattle.switchboard.specs.Counts.{label_at}
+use Rattle.switchboard.specs.Sound.{IsSound}
+use Rattle.switchboard.specs.Kept.{WaitsIn, accepts, kept_phone, lent_phone, kept_rows, first_usable_of}
+use Rattle.switchboard.specs.Serving.{Served}
+use Rattle.switchboard.specs.Joins.{answer_to, hang_up}
+use Rattle.switchboard.proofs.Keepers.{same_phone, state_elsewhere, state_here}
+use Rattle.switchboard.proofs.Rows.{state_changed_at}
+use Rattle.switchboard.proofs.Usable.{IsUsable, usable_is, kept_waits, lent_waits}
 use Rattle.cleanup.proofs.Queues.{sound_drop}
 use Rattle.kernel_core.specs.Moments.{on_accept_of}
 use Rattle.kernel_core.specs.Receiving.{drop_unawaited}

@@ -6,8 +6,8 @@ use Rattle.call_slab.specs.declared.call.Call.{Call}
 use Rattle.call_slab.specs.declared.call.Place.{Place}
 use Rattle.answerbox.specs.Calls.{CallTable, call_at, put_at, enqueue, without_call, sum_of, bytes_in, used}
 use Rattle.answerbox.proofs.Used.{used-enqueue, used-without_call, used-with_record}
-use Rattle.cleanup.specs.State.{KernelState}
-use Rattle.cleanup.specs.Sound.{IsSound}
+use Rattle.switchboard.specs.State.{KernelState}
+use Rattle.switchboard.specs.Sound.{IsSound}
 use Rattle.kernel_laws.specs.PoolLaws.{bytes_of_calls, pool, bytes_of, ended_by, total}
 use Rattle.kernel_laws.proofs.Tables.{came_in, came_by, gone_by, none_past, none_above}
 

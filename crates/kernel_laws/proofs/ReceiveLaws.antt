@@ -10,9 +10,9 @@ use Rattle.call_slab.specs.declared.call.Call.{Call}
 use Rattle.call_slab.specs.declared.call.Place.TheVariants.{Answers}
 use Rattle.answerbox.specs.Calls.{call_at, same_place, front, count_of}
 use Rattle.answerbox.proofs.Fronts.{front_live}
-use Rattle.cleanup.specs.State.{KernelState, Transition, nothing, then_do, drain}
-use Rattle.cleanup.specs.Sound.{IsSound}
-use Rattle.cleanup.proofs.Lookups.{same_call}
+use Rattle.switchboard.specs.State.{KernelState, Transition, nothing, then_do, drain}
+use Rattle.switchboard.specs.Sound.{IsSound}
+use Rattle.switchboard.proofs.Lookups.{same_call}
 use Rattle.kernel_core.specs.Receiving.{unawaited, next_unawaited}
 
 -- the steps of a repetition come to an end: where each takes one call out of those that pass a test, and there are no

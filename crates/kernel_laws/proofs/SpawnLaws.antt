@@ -7,13 +7,13 @@ use Rattle.ipc_ids.specs.declared.message.PhoneState.{PhoneState}
 use Rattle.ipc_ids.specs.declared.message.PhoneState.TheVariants.{Free, Connected}
 use Rattle.phone_table.specs.Phones.{row_at, state_at}
 use Rattle.address_space.specs.Areas.{Area}
-use Rattle.cleanup.specs.State.{KernelState, alive_in, is_alive, with_event}
-use Rattle.cleanup.specs.Sound.{IsSound}
+use Rattle.switchboard.specs.State.{KernelState, alive_in, is_alive, with_event}
+use Rattle.switchboard.specs.Sound.{IsSound}
 use Rattle.cleanup.proofs.KilledPhones.{written_elsewhere}
-use Rattle.cleanup.proofs.Soundness.{get_last}
+use Rattle.switchboard.proofs.Soundness.{get_last}
 use Rattle.kernel_core.specs.Kernel.{next_task, named, spawning, spawn_event}
 use Rattle.kernel_laws.specs.SpawnLaws.{MakesTask}
-use Rattle.cleanup.proofs.Keepers.{state_here}
+use Rattle.switchboard.proofs.Keepers.{state_here}
 use Rattle.kernel_laws.proofs.Lists.{get_copy, past_copies}
 use Rattle.kernel_laws.proofs.KillRoutes.{is_there}
 

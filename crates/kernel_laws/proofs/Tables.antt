@@ -5,10 +5,10 @@ use Rattle.std.proofs.lemmas.Option.{none-some}
 use Rattle.call_slab.specs.declared.call.Call.{Call}
 use Rattle.call_slab.specs.declared.call.Place.{Place}
 use Rattle.answerbox.specs.Calls.{CallTable, call_at, enqueue, put_at, without_call, with_record, without_caller}
-use Rattle.cleanup.proofs.Lookups.{at_insert, at_remove, chosen, same_call}
+use Rattle.switchboard.proofs.Lookups.{at_insert, at_remove, chosen, same_call}
 use Rattle.std.specs.Option.{option_map_or}
-use Rattle.cleanup.specs.State.{KernelState}
-use Rattle.cleanup.specs.Sound.{IsSound}
+use Rattle.switchboard.specs.State.{KernelState}
+use Rattle.switchboard.specs.Sound.{IsSound}
 
 -- a record came under number m: a live call is that one, or another that stands there as before
 pub came_in : (q : CallTable) (m n : ℕ) (d c : Call) → get (insert q.records m d) n ≡ Some c

@@ -12,14 +12,14 @@ use Rattle.call_slab.specs.declared.call.Place.{Place}
 use Rattle.call_slab.specs.declared.call.Place.TheVariants.{Incoming, Answers}
 use Rattle.answerbox.specs.Calls.{CallTable, call_at, task_of, enqueue, put_at, with_record, without_call, without_caller, same_place}
 use Rattle.phone_table.specs.Phones.{state_at}
-use Rattle.cleanup.specs.State.{KernelState, Transition, is_alive, phone_at, label_of, with_phone, with_state_at}
-use Rattle.cleanup.specs.Sound.{IsSound}
-use Rattle.cleanup.specs.Kept.{kept_phone, lent_phone, kept_rows}
-use Rattle.cleanup.specs.Joins.{bare_reply, forget_call, hang_up, hangup_call, declined_call}
-use Rattle.cleanup.specs.Areas.{lose_area}
-use Rattle.cleanup.specs.Kill.{mark_ended, kill}
-use Rattle.cleanup.proofs.Lookups.{same_call, put_here, put_other, gone_other}
-use Rattle.cleanup.proofs.Rows.{state_changed_at}
+use Rattle.switchboard.specs.State.{KernelState, Transition, is_alive, phone_at, label_of, with_phone, with_state_at, mark_ended}
+use Rattle.switchboard.specs.Sound.{IsSound}
+use Rattle.switchboard.specs.Kept.{kept_phone, lent_phone, kept_rows}
+use Rattle.switchboard.specs.Joins.{bare_reply, forget_call, hang_up, hangup_call, declined_call}
+use Rattle.switchboard.specs.Areas.{lose_area}
+use Rattle.cleanup.specs.Kill.{kill}
+use Rattle.switchboard.proofs.Lookups.{same_call, put_here, put_other, gone_other}
+use Rattle.switchboard.proofs.Rows.{state_changed_at}
 use Rattle.kernel_laws.specs.KillLaws.{TellsOfHangup, HasCome, TellsWhereItLed}
 use Rattle.kernel_laws.specs.Routes.{Leads}
 use Rattle.kernel_laws.proofs.CallRoutes.{not_answers}

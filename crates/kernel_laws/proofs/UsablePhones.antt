@@ -9,10 +9,10 @@ use Rattle.call_slab.specs.declared.call.Call.{Call}
 use Rattle.answerbox.specs.Calls.{CallTable, call_at, is_active_on, active_calls}
 use Rattle.answerbox.proofs.Counts.{count-none, none_counts}
 use Rattle.phone_table.specs.Phones.{is_usable}
-use Rattle.cleanup.specs.State.{KernelState, phone_at, label_of}
-use Rattle.cleanup.specs.Kept.{phone_of, first_usable_of}
-use Rattle.cleanup.proofs.Keepers.{same_phone}
-use Rattle.cleanup.proofs.Usable.{usable_is}
+use Rattle.switchboard.specs.State.{KernelState, phone_at, label_of}
+use Rattle.switchboard.specs.Kept.{phone_of, first_usable_of}
+use Rattle.switchboard.proofs.Keepers.{same_phone}
+use Rattle.switchboard.proofs.Usable.{usable_is}
 use Rattle.kernel_laws.specs.UsablePhones.{HasNoActive, IsUsable}
 use Rattle.kernel_laws.proofs.ActiveCalls.{active_is, is_active}
 use Rattle.kernel_laws.proofs.LawfulCalls.{none_usable, unusable, found_usable}

@@ -3,7 +3,7 @@ use Rattle.std.specs.Prelude.{◌≡◌, ℕ, List, slice_get, Some}
 use Rattle.ipc_ids.specs.declared.numbers.TaskNo.{TaskNo}
 use Rattle.call_slab.specs.declared.call.Call.{Call}
 use Rattle.answerbox.specs.Calls.{CallTable, call_at}
-use Rattle.cleanup.specs.State.{label_of}
+use Rattle.switchboard.specs.State.{label_of}
 
 -- call n is active over phone p of task t: it is live, it was made over that phone, and its caller, which is t, has not
 -- ended

@@ -11,7 +11,7 @@ use Rattle.ipc_ids.specs.Codes.{elimit}
 use Rattle.ipc_ids.specs.Methods.{phone_hungup, connect_to_me, connect_me_to, data_write, data_read, share_out, share_in, first_user_method}
 use Rattle.answerbox.specs.Calls.{active_calls}
 use Rattle.address_space.specs.Sound as spaces
-use Rattle.cleanup.specs.State.{KernelState, phone_at, label_of}
+use Rattle.switchboard.specs.State.{KernelState, phone_at, label_of}
 use Rattle.kernel_laws.specs.PoolLaws.{pool}
 use Rattle.kernel_laws.specs.DataLaws.{IsLawfulCopy, IsLawfulAsking, IsLawfulOffer, IsLawfulWish}
 

@@ -6,7 +6,7 @@ use Rattle.ipc_ids.specs.Methods.{phone_hungup, first_user_method}
 use Rattle.call_slab.specs.declared.call.Call.{Call}
 use Rattle.call_slab.specs.declared.call.Place.TheVariants.{Dispatched}
 use Rattle.answerbox.specs.Calls.{call_at}
-use Rattle.cleanup.specs.State.{KernelState}
+use Rattle.switchboard.specs.State.{KernelState}
 
 -- task t holds call n
 abbrev pub IsHeld : TaskNo → KernelState → ℕ → Call → Type 0

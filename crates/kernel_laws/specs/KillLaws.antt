@@ -16,8 +16,8 @@ use Rattle.answerbox.specs.Calls.{call_at, task_of}
 use Rattle.phone_table.specs.Phones.{state_at}
 use Rattle.address_space.specs.Areas.{stands_over}
 use Rattle.address_space.specs.Memory.{areas_of}
-use Rattle.cleanup.specs.State.{KernelState, is_alive, phone_at, label_of}
-use Rattle.cleanup.specs.Joins.{bare_reply}
+use Rattle.switchboard.specs.State.{KernelState, is_alive, phone_at, label_of}
+use Rattle.switchboard.specs.Joins.{bare_reply}
 
 -- task t has ended, and each other task is alive just where it was
 pub record EndsTask (t : TaskNo) (before after : KernelState) : Type 0 where

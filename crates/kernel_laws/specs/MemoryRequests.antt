@@ -8,8 +8,8 @@ use Rattle.ipc_ids.specs.declared.message.Outcome.TheVariants as outcome
 use Rattle.ipc_ids.specs.declared.entry.Entry.{Entry}
 use Rattle.ipc_ids.specs.declared.entry.Entry.TheVariants as entry
 use Rattle.address_space.specs.Memory.{Memory}
-use Rattle.cleanup.specs.State.{KernelState}
-use Rattle.cleanup.specs.Serving.{Served}
+use Rattle.switchboard.specs.State.{KernelState}
+use Rattle.switchboard.specs.Serving.{Served}
 
 -- the task is told that it was done, or the code of the refusal
 abbrev pub Tells : {A : Type 0} → Result A Code → Outcome → Type 0

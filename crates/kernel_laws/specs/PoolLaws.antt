@@ -8,7 +8,7 @@ use Rattle.ipc_ids.specs.declared.entry.Entry.TheVariants as entry
 use Rattle.ipc_ids.specs.Tables.{most_data, most_buffered}
 use Rattle.call_slab.specs.declared.call.Call.{Call}
 use Rattle.answerbox.specs.Calls.{CallTable, call_at}
-use Rattle.cleanup.specs.State.{KernelState}
+use Rattle.switchboard.specs.State.{KernelState}
 
 -- how many bytes these calls carry together
 abbrev pub bytes_of_calls : List (ℕ × Call) → ℕ

@@ -3,7 +3,7 @@ use Rattle.std.specs.Prelude.{◌≡◌, ℕ, ◌+◌, ◌<◌, ◌≤◌, true,
 use Rattle.ipc_ids.specs.declared.numbers.TaskNo.{TaskNo}
 use Rattle.ipc_ids.specs.declared.message.PhoneState.TheVariants.{Free, Connected}
 use Rattle.address_space.specs.Memory.{areas_of}
-use Rattle.cleanup.specs.State.{KernelState, is_alive, phone_at}
+use Rattle.switchboard.specs.State.{KernelState, is_alive, phone_at}
 
 -- the number after those of all tasks, ended ones too
 abbrev pub new_number : KernelState → TaskNo

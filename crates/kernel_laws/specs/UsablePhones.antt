@@ -3,7 +3,7 @@ use Rattle.std.specs.Prelude.{◌≡◌, ℕ, ◌⊎◌, Some}
 use Rattle.ipc_ids.specs.declared.numbers.TaskNo.{TaskNo}
 use Rattle.ipc_ids.specs.declared.message.PhoneState.TheVariants.{Free, HungUp}
 use Rattle.answerbox.specs.Calls.{CallTable}
-use Rattle.cleanup.specs.State.{KernelState, phone_at}
+use Rattle.switchboard.specs.State.{KernelState, phone_at}
 use Rattle.kernel_laws.specs.ActiveCalls.{IsActive}
 
 -- no call is active over phone p of task t

@@ -7,7 +7,7 @@
 //! relation says: where calls go and phones lead, what a live call keeps from event to event, what a
 //! kill comes to from its first part to its last, what each event does to the pool, and that the entries
 //! of any event agree with its outcome. The functions have empty bodies; what they promise is proved of
-//! the definitions that `kernel_core`, `cleanup` and the crates below meet.
+//! the definitions that `kernel_core`, `cleanup`, `switchboard` and the crates below meet.
 #![tactic(auto)]
 
 mod carrying;

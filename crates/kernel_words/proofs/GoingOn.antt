@@ -2,9 +2,9 @@
 use Rattle.std.proofs.Common.{ℕ, ◌≡◌, [], List, ◌++◌, Option, sym, ◌∙◌, ap}
 use Rattle.ipc_ids.specs.declared.numbers.TaskNo.{TaskNo}
 use Rattle.ipc_ids.specs.declared.message.Request.{Request}
-use Rattle.cleanup.specs.State.{KernelState, Transition}
-use Rattle.cleanup.specs.Serving.{Served}
-use Rattle.cleanup.specs.Sound.{IsSound}
+use Rattle.switchboard.specs.State.{KernelState, Transition}
+use Rattle.switchboard.specs.Serving.{Served}
+use Rattle.switchboard.specs.Sound.{IsSound}
 use Rattle.kernel_core.specs.Kernel.{serve, kill_event, spawn_event}
 use Rattle.kernel_counts.specs.Counted.{step_with_count, served_with_count}
 use Rattle.kernel_counts.proofs.RequestCounts.{serve_counts, kill_counts, spawn_counts}

@@ -3,8 +3,8 @@ use Rattle.std.proofs.Common.{ℕ, ◌≡◌, Bool, List, ◌++◌, ◌∙◌, a
 use Rattle.ipc_ids.specs.declared.message.PhoneState.{PhoneState}
 use Rattle.answerbox.specs.Calls.{CallTable}
 use Rattle.address_space.specs.Memory.{Memory}
-use Rattle.cleanup.specs.State.{KernelState}
-use Rattle.cleanup.specs.Sound.{IsSound}
+use Rattle.switchboard.specs.State.{KernelState}
+use Rattle.switchboard.specs.Sound.{IsSound}
 use Rattle.state_words.specs.Apart.{AreBelow}
 use Rattle.state_words.proofs.MemorySplits.{parts_split}
 use Rattle.kernel_words.specs.Kernel.{kernel_words, AreAlikeKernels}

@@ -1,8 +1,8 @@
 -- What is written of the state of the kernel: all but how many events there were; and what it says that two kernels go
 -- on alike.
 use Rattle.std.specs.Prelude.{ℕ, ◌≡◌, List}
-use Rattle.cleanup.specs.State.{KernelState, Transition}
-use Rattle.cleanup.specs.Serving.{Served}
+use Rattle.switchboard.specs.State.{KernelState, Transition}
+use Rattle.switchboard.specs.Serving.{Served}
 use Rattle.state_words.specs.KernelWords.{parts_words}
 use Rattle.kernel_counts.specs.Counted.{with_count}
 

@@ -2,8 +2,8 @@
 ghost use Rattle.std.specs.Prelude.{◌≡◌, ◌++◌, ℕ, List, Option};
 ghost use Rattle.ipc_ids.specs.declared.numbers.TaskNo.{TaskNo};
 ghost use Rattle.ipc_ids.specs.declared.message.Request.{Request};
-ghost use Rattle.cleanup.specs.State.{KernelState};
-ghost use Rattle.cleanup.specs.Sound.{IsSound};
+ghost use Rattle.switchboard.specs.State.{KernelState};
+ghost use Rattle.switchboard.specs.Sound.{IsSound};
 ghost use Rattle.kernel_core.specs.Kernel.{serve, kill_event, spawn_event};
 ghost use Rattle.kernel_words.specs.Kernel.{kernel_words, AreAlikeKernels, AreAlikeSteps, AreServedAlike};
 

@@ -39,7 +39,7 @@ use Rattle.task_system.specs.Any.{after}
 use Rattle.task_system.specs.Run.{run, start, program_of, RunState}
 use Rattle.replay_examples.proofs.KnownMaps.{empty_known, get_known, entries_known, insert_known, remove_known}
 use Rattle.replay_examples.proofs.RunWords.{task, call, phone, msg, reply, raw, wire, sent, no_areas, state, Turns, of_none, of_next, of_step, from_start}
-use Rattle.cleanup.specs.Serving.{Served}
+use Rattle.switchboard.specs.Serving.{Served}
 use Rattle.kernel_core.specs.Kernel.{serve}
 
 abbrev client_plan : TaskPlan

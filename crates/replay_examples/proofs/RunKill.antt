@@ -43,9 +43,9 @@ use Rattle.task_system.specs.Any.{after}
 use Rattle.task_system.specs.Run.{run, start, program_of, RunState}
 use Rattle.replay_examples.proofs.KnownMaps.{empty_known, get_known, entries_known, insert_known, remove_known}
 use Rattle.replay_examples.proofs.RunWords.{task, call, phone, msg, reply, raw, wire, sent, no_areas, state, Turns, of_none, of_next, of_step, of_kill, of_parts, kernel, from_start}
-use Rattle.cleanup.specs.Kill.{mark_ended, hang_up_own_phones, slam_phones_to, settle_incoming, settle_dispatched, drop_answers, forget_calls_elsewhere, drop_areas}
-use Rattle.cleanup.specs.Serving.{Served}
-use Rattle.cleanup.specs.State.{Transition}
+use Rattle.cleanup.specs.Kill.{hang_up_own_phones, slam_phones_to, settle_incoming, settle_dispatched, drop_answers, forget_calls_elsewhere, drop_areas}
+use Rattle.switchboard.specs.State.{mark_ended, Transition}
+use Rattle.switchboard.specs.Serving.{Served}
 use Rattle.kernel_core.specs.Kernel.{serve, kill_event}
 
 abbrev client_plan : TaskPlan

@@ -21,7 +21,7 @@ use Rattle.call_slab.specs.declared.call.Call.{Call}
 use Rattle.call_slab.specs.declared.call.Place.{Place}
 use Rattle.address_space.specs.Areas.{Area}
 use Rattle.address_space.specs.Memory.{Memory}
-use Rattle.cleanup.specs.State.{state_from}
+use Rattle.switchboard.specs.State.{state_from, KernelState, Transition, is_alive, with_event, mark_ended}
 use Rattle.task_system.specs.declared.any.AnyProgram.{AnyProgram}
 use Rattle.script_lines.specs.declared.plan.TaskPlan.{TaskPlan}
 use Rattle.script_lines.specs.declared.plan.Wire.{Wire}
@@ -29,9 +29,8 @@ use Rattle.script_lines.specs.declared.plan.Kind.TheVariants.{Naming, Raw, Async
 use Rattle.script_lines.specs.Plan.{Plan}
 use Rattle.ipc_ids.specs.declared.message.Request.{Request}
 use Rattle.ipc_ids.specs.declared.message.Event.TheVariants.{Step, Kill}
-use Rattle.cleanup.specs.State.{KernelState, Transition, is_alive, with_event}
-use Rattle.cleanup.specs.Kill.{mark_ended, hang_up_own_phones, slam_phones_to, settle_incoming, settle_dispatched, drop_answers, forget_calls_elsewhere, drop_areas}
-use Rattle.cleanup.specs.Serving.{Served}
+use Rattle.cleanup.specs.Kill.{hang_up_own_phones, slam_phones_to, settle_incoming, settle_dispatched, drop_answers, forget_calls_elsewhere, drop_areas}
+use Rattle.switchboard.specs.Serving.{Served}
 use Rattle.kernel_core.specs.Kernel.{serve, kill_event}
 use Rattle.kernel_core.specs.History.{served_entries, killed_entries}
 use Rattle.task_system.specs.Any.{wanted, after, entries}

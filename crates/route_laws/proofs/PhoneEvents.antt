@@ -13,8 +13,8 @@ use Rattle.ipc_ids.specs.Life.{is_killed}
 use Rattle.ipc_ids.specs.Holdings.{on_top, newest_first}
 use Rattle.ipc_ids.proofs.LawfulAreas.{on_top-append, newest_first-append}
 use Rattle.phone_table.specs.Phones.{state_at}
-use Rattle.cleanup.specs.State.{KernelState, alive_in, is_alive, label_of, with_task}
-use Rattle.cleanup.specs.Serving.{Served}
+use Rattle.switchboard.specs.State.{KernelState, alive_in, is_alive, label_of, with_task}
+use Rattle.switchboard.specs.Serving.{Served}
 use Rattle.kernel_core.specs.Request.{serve_request}
 use Rattle.kernel_core.specs.Kernel.{serve, kill_event, next_task, named, spawning, spawn_event}
 use Rattle.kernel_core.specs.History.{is_ended, HistoryFits, served_entries, killed_entries, gone_entries}

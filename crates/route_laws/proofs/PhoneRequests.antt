@@ -31,17 +31,17 @@ use Rattle.forwarding.specs.Forwarding.{msg_after, label_after}
 use Rattle.address_space.specs.Memory as spaces
 use Rattle.data_hooks.specs.DataMoments.{address_of, count_of, cut_args, write_accept, read_deliver}
 use Rattle.share_hooks.specs.ShareMoments.{base_of, pages_of, rights_of, out_accept, in_accept}
-use Rattle.cleanup.specs.declared.sharing.Share.TheVariants.{Out, In}
-use Rattle.cleanup.specs.State.{KernelState, Transition, phone_at, label_of}
-use Rattle.cleanup.specs.Sound.{IsSound}
-use Rattle.cleanup.specs.Kept.{AreKept, WaitsIn, kept_phone, lent_phone, kept_note, kept_rows, first_usable_of}
-use Rattle.cleanup.specs.Joins.{bare_reply, new_call, acceptance, answer_at_once, reception, delivery, answer_to, declined_call, code_of, settle_for, passage, passed_call, hang_up, hangup_call}
-use Rattle.cleanup.specs.Areas.{done_or_refused, made_note, gone_note, wrote_note}
-use Rattle.cleanup.specs.Data.{accepted_write, accepted_read, delivered_read}
-use Rattle.cleanup.specs.Sharing.{shared_note, accepted_share}
-use Rattle.cleanup.specs.Serving.{Handed, Served}
-use Rattle.cleanup.proofs.Lookups.{put_here}
-use Rattle.cleanup.proofs.Usable.{kept_waits, lent_waits}
+use Rattle.switchboard.specs.declared.sharing.Share.TheVariants.{Out, In}
+use Rattle.switchboard.specs.State.{KernelState, Transition, phone_at, label_of}
+use Rattle.switchboard.specs.Sound.{IsSound}
+use Rattle.switchboard.specs.Kept.{AreKept, WaitsIn, kept_phone, lent_phone, kept_note, kept_rows, first_usable_of}
+use Rattle.switchboard.specs.Joins.{bare_reply, new_call, acceptance, answer_at_once, reception, delivery, answer_to, declined_call, code_of, settle_for, passage, passed_call, hang_up, hangup_call}
+use Rattle.switchboard.specs.Areas.{done_or_refused, made_note, gone_note, wrote_note}
+use Rattle.switchboard.specs.Data.{accepted_write, accepted_read, delivered_read}
+use Rattle.switchboard.specs.Sharing.{shared_note, accepted_share}
+use Rattle.switchboard.specs.Serving.{Handed, Served}
+use Rattle.switchboard.proofs.Lookups.{put_here}
+use Rattle.switchboard.proofs.Usable.{kept_waits, lent_waits}
 use Rattle.cleanup.proofs.Queues.{IsLive, sound_drop}
 use Rattle.kernel_core.specs.Moments.{on_receive_of, on_accept_of, cut_down}
 use Rattle.kernel_core.specs.Request.{serve_request}

@@ -17,12 +17,12 @@ use Rattle.call_slab.specs.declared.call.Call.{Call}
 use Rattle.call_slab.specs.declared.call.Place.{Place}
 use Rattle.answerbox.specs.Calls.{CallTable, call_at, enqueue, put_at, without_call, with_record, active_calls}
 use Rattle.phone_table.specs.Phones.{state_at, is_usable}
-use Rattle.cleanup.specs.State.{KernelState, with_state_at}
-use Rattle.cleanup.specs.Kept.{AreKept, WaitsIn, kept_phone, kept_rows, kept_note, first_usable_of}
-use Rattle.cleanup.proofs.Lookups.{at_insert, at_remove, chosen, same_call}
-use Rattle.cleanup.proofs.Keepers.{state_here}
+use Rattle.switchboard.specs.State.{KernelState, with_state_at}
+use Rattle.switchboard.specs.Kept.{AreKept, WaitsIn, kept_phone, kept_rows, kept_note, first_usable_of}
+use Rattle.switchboard.proofs.Lookups.{at_insert, at_remove, chosen, same_call}
+use Rattle.switchboard.proofs.Keepers.{state_here}
 use Rattle.cleanup.proofs.KilledPhones.{written_elsewhere}
-use Rattle.cleanup.proofs.Usable.{IsUsable, usable_is, kept_waits}
+use Rattle.switchboard.proofs.Usable.{IsUsable, usable_is, kept_waits}
 use Rattle.cleanup.proofs.Queues.{IsLive}
 use Rattle.route_laws.specs.Leads.{Lead, Beginning, is_phone, phone_in, target, leads}
 use Rattle.route_laws.specs.PhoneLaw.{GoesThere, GoesOnThere, TellsLabel, ComesToLead, CeasesToLead, AreCutOff, IsRouted}

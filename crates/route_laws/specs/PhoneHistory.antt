@@ -7,7 +7,7 @@ use Rattle.ipc_ids.specs.Holdings.{newest_first}
 use Rattle.call_slab.specs.declared.call.Call.{Call}
 use Rattle.answerbox.specs.Calls.{CallTable, call_at}
 use Rattle.phone_table.specs.Phones.{state_at}
-use Rattle.cleanup.specs.State.{KernelState}
+use Rattle.switchboard.specs.State.{KernelState}
 use Rattle.route_laws.specs.Leads.{Lead, Beginning, phone_in}
 use Rattle.route_laws.specs.PhoneLaw.{label_of_call, WereRouted}
 

@@ -3,7 +3,7 @@ ghost use Rattle.std.specs.Prelude.{List, ℕ, ◌≡◌, ◌≤◌, ◌++◌, t
 ghost use Rattle.ipc_ids.specs.declared.numbers.TaskNo.{TaskNo};
 ghost use Rattle.ipc_ids.specs.declared.message.Request.{Request};
 ghost use Rattle.ipc_ids.specs.declared.entry.Entry.{Entry};
-ghost use Rattle.cleanup.specs.State.{KernelState, is_alive};
+ghost use Rattle.switchboard.specs.State.{KernelState, is_alive};
 ghost use Rattle.kernel_core.specs.History.{HistoryFits};
 ghost use Rattle.kernel_core.specs.History.{served_entries, killed_entries, gone_entries};
 ghost use Rattle.kernel_core.specs.Kernel.{serve, kill_event, spawn_event};

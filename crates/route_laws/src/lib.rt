@@ -4,7 +4,7 @@
 //! run began, and no state of the kernel. A call goes to the task that its phone leads to, so does
 //! one that is passed on, and who receives it is told its label. A phone leads to a task from the
 //! answer that connects it until it is hung up or slammed. The functions have empty bodies; what
-//! they promise is proved of the definitions that `kernel_core`, `cleanup` and the crates below
+//! they promise is proved of the definitions that `kernel_core`, `cleanup`, `switchboard` and the crates below
 //! meet.
 #![tactic(auto)]
 

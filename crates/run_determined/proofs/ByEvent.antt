@@ -12,7 +12,7 @@ use Rattle.script_lines.specs.declared.plan.TaskPlan.{TaskPlan}
 use Rattle.script_lines.specs.Plan.{Plan}
 use Rattle.script_lines.specs.Sound.{IsSound}
 use Rattle.script_reader.specs.Schedule.{MayAllCome, tasks_after}
-use Rattle.cleanup.specs.State.{is_alive}
+use Rattle.switchboard.specs.State.{is_alive}
 use Rattle.kernel_core.specs.Kernel.{serve, kill_event}
 use Rattle.task_system.specs.declared.any.AnyProgram.{AnyProgram}
 use Rattle.task_system.specs.Any.{wanted}

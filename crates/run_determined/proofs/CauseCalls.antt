@@ -22,14 +22,14 @@ use Rattle.call_slab.specs.declared.call.Place.{Place}
 use Rattle.call_slab.specs.declared.call.Place.TheVariants.{Incoming, Answers}
 use Rattle.answerbox.specs.Calls.{CallTable, enqueue, put_at, without_call}
 use Rattle.phone_table.specs.Phones.{state_at}
-use Rattle.cleanup.specs.State.{KernelState, Transition, phone_at, label_of, with_calls}
-use Rattle.cleanup.specs.Sound.{HaveKeepers}
-use Rattle.cleanup.specs.Kept.{AreKept, WaitsIn, keeper_of, kept_of, kept_phone, lent_of, lent_phone, unless_freed, with_kept, kept_note}
-use Rattle.cleanup.specs.Board.{IsPendingAt}
-use Rattle.cleanup.specs.Serving.{Served}
-use Rattle.cleanup.specs.Joins.{vanishing, answer_to, declined, declined_call, drop_answer, passed_call, passage, hang_up, hangup_call}
-use Rattle.cleanup.proofs.Usable.{kept_waits, lent_waits}
-use Rattle.cleanup.proofs.KeptCalls.{declined_keeps, passed_keeps}
+use Rattle.switchboard.specs.State.{KernelState, Transition, phone_at, label_of, with_calls}
+use Rattle.switchboard.specs.Sound.{HaveKeepers}
+use Rattle.switchboard.specs.Kept.{AreKept, WaitsIn, keeper_of, kept_of, kept_phone, lent_of, lent_phone, unless_freed, with_kept, kept_note}
+use Rattle.switchboard.specs.Board.{IsPendingAt}
+use Rattle.switchboard.specs.Serving.{Served}
+use Rattle.switchboard.specs.Joins.{vanishing, answer_to, declined, declined_call, drop_answer, passed_call, passage, hang_up, hangup_call}
+use Rattle.switchboard.proofs.Usable.{kept_waits, lent_waits}
+use Rattle.switchboard.proofs.KeptCalls.{declined_keeps, passed_keeps}
 use Rattle.cleanup.proofs.Queues.{IsLive}
 use Rattle.route_laws.specs.Leads.{Beginning, phone_in}
 use Rattle.route_laws.specs.PhoneLaw.{HangsUp}

@@ -16,10 +16,10 @@ use Rattle.address_space.specs.declared.area.Right.TheVariants.{Read}
 use Rattle.address_space.specs.Memory.{Memory, areas_of, spot_in, read_at, read, area_at}
 use Rattle.data_hooks.specs.DataMoments.{address_of, count_of, is_restricted, kept_count, pooled, write_kept, write_before_send, read_before_send}
 use Rattle.share_hooks.specs.ShareMoments.{base_of, pages_of, rights_of, is_between, offer, out_before_send, in_before_send}
-use Rattle.cleanup.specs.State.{KernelState, phone_at}
-use Rattle.cleanup.specs.Kept.{first_usable_of}
-use Rattle.cleanup.proofs.Repeats.{by_test}
-use Rattle.cleanup.proofs.Usable.{IsUsable, usable_is}
+use Rattle.switchboard.specs.State.{KernelState, phone_at}
+use Rattle.switchboard.specs.Kept.{first_usable_of}
+use Rattle.switchboard.proofs.Repeats.{by_test}
+use Rattle.switchboard.proofs.Usable.{IsUsable, usable_is}
 use Rattle.kernel_laws.proofs.UsablePhones.{least_one}
 use Rattle.route_laws.specs.Leads.{Beginning}
 use Rattle.route_laws.specs.PhoneHistory.{TellPhones}

@@ -6,7 +6,7 @@ use Rattle.std.proofs.lemmas.Option.{cond_some}
 use Rattle.ipc_ids.specs.declared.numbers.Code.{Code}
 use Rattle.ipc_ids.specs.declared.message.Msg.{Msg}
 use Rattle.ipc_ids.specs.Methods.{kind_of}
-use Rattle.cleanup.specs.Areas.{done_or_refused}
+use Rattle.switchboard.specs.Areas.{done_or_refused}
 use Rattle.address_space.specs.Memory as spaces
 use Rattle.kernel_core.specs.Calling.{is_callable}
 use Rattle.kernel_core.proofs.ByRequest as join
@@ -24,8 +24,8 @@ use Rattle.ipc_ids.specs.Life.{life}
 use Rattle.ipc_ids.specs.Holdings.{on_top, newest_first, present, Making, making}
 use Rattle.ipc_ids.proofs.LawfulAreas.{on_top-append, newest_first-append}
 use Rattle.answerbox.specs.Calls.{CallTable}
-use Rattle.cleanup.specs.State.{KernelState, phone_at, label_of, is_alive, with_task}
-use Rattle.cleanup.specs.Serving.{Served}
+use Rattle.switchboard.specs.State.{KernelState, phone_at, label_of, is_alive, with_task}
+use Rattle.switchboard.specs.Serving.{Served}
 use Rattle.ipc_ids.specs.Effects.{is_effect, AreEffects}
 use Rattle.kernel_core.specs.HangingUp.{hangup_over}
 use Rattle.kernel_core.specs.Request.{serve_request}

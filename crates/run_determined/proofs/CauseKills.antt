@@ -16,16 +16,16 @@ use Rattle.call_slab.specs.declared.call.Call.{Call}
 use Rattle.call_slab.specs.declared.call.Place.TheVariants.{Incoming, Dispatched, Answers}
 use Rattle.answerbox.specs.Calls.{calls_at, calls_by, with_record}
 use Rattle.address_space.specs.Memory.{first_area, count_areas}
-use Rattle.cleanup.specs.State.{KernelState, Transition, then_do, drain, phone_at, label_of, is_alive}
-use Rattle.cleanup.specs.Sound.{HaveKeepers, IsSound}
-use Rattle.cleanup.specs.Board.{IsPendingAt}
-use Rattle.cleanup.specs.Kept.{AreKept, kept_phone, lent_phone, kept_note}
-use Rattle.cleanup.specs.Joins.{bare_reply, lives, settle_for, drop_answer, forget_call, hang_up}
-use Rattle.cleanup.specs.Areas.{lose_first_area}
-use Rattle.cleanup.specs.Kill.{width, task_no, mark_ended, hang_up_at, hang_up_own_phones, slam, slam_at, slam_phones_of, slam_other, slam_phones_to, first_at, settle_call, settle_incoming, settle_dispatched, drop_answers, first_call_of, forget_calls_elsewhere, drop_first_area, drop_areas, kill}
-use Rattle.cleanup.proofs.Histories.{then_tells, each_tells, drain_tells}
-use Rattle.cleanup.proofs.Repeats.{by_test}
-use Rattle.cleanup.proofs.SoundJoins.{incoming_pending, held_pending}
+use Rattle.switchboard.specs.State.{KernelState, Transition, then_do, drain, phone_at, label_of, is_alive, width, mark_ended}
+use Rattle.switchboard.specs.Sound.{HaveKeepers, IsSound}
+use Rattle.switchboard.specs.Board.{IsPendingAt}
+use Rattle.switchboard.specs.Kept.{AreKept, kept_phone, lent_phone, kept_note}
+use Rattle.switchboard.specs.Joins.{bare_reply, lives, settle_for, drop_answer, forget_call, hang_up, slam, slam_at}
+use Rattle.switchboard.specs.Areas.{lose_first_area}
+use Rattle.cleanup.specs.Kill.{task_no, hang_up_at, hang_up_own_phones, slam_phones_of, slam_other, slam_phones_to, first_at, settle_call, settle_incoming, settle_dispatched, drop_answers, first_call_of, forget_calls_elsewhere, drop_first_area, drop_areas, kill}
+use Rattle.switchboard.proofs.Histories.{then_tells, each_tells, drain_tells}
+use Rattle.switchboard.proofs.Repeats.{by_test}
+use Rattle.switchboard.proofs.SoundJoins.{incoming_pending, held_pending}
 use Rattle.cleanup.proofs.Silence.{IsEnding, IsAlone}
 use Rattle.cleanup.proofs.Queues.{IsLive, IsUncalled, IsIdle, IsUnanswered, front_at, call_from, forget_step, incoming_alone, dispatched_uncalled, drop_idle, forget_unanswered}
 use Rattle.kernel_core.proofs.InEvent.{same_task, same_place-true}

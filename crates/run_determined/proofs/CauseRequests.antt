@@ -35,19 +35,19 @@ use Rattle.forwarding.specs.Forwarding.{msg_after, label_after}
 use Rattle.address_space.specs.Memory as spaces
 use Rattle.data_hooks.specs.DataMoments.{address_of, count_of, cut_args, write_before_send, read_before_send, write_accept, read_deliver}
 use Rattle.share_hooks.specs.ShareMoments.{base_of, pages_of, rights_of, out_before_send, in_before_send, out_accept, in_accept}
-use Rattle.cleanup.specs.declared.sharing.Share.TheVariants.{Out, In}
-use Rattle.cleanup.specs.State.{KernelState, phone_at, label_of, with_state_at}
-use Rattle.cleanup.specs.Sound.{IsSound}
-use Rattle.cleanup.specs.Kept.{WaitsIn, accepts, phone_of, keeper_of, kept_of, kept_phone, kept_rows, kept_note, first_usable_of}
-use Rattle.cleanup.specs.Joins.{bare_reply, new_call, acceptance, answer_at_once, reception, answer_to, declined, drop_answer, code_of}
-use Rattle.cleanup.specs.Areas.{made_note, gone_note, wrote_note}
-use Rattle.cleanup.specs.Data.{accepted_write, accepted_read, delivered_read}
-use Rattle.cleanup.specs.Sharing.{shared_note, accepted_share}
-use Rattle.cleanup.specs.Serving.{Handed, Served}
-use Rattle.cleanup.proofs.Repeats.{by_test}
-use Rattle.cleanup.proofs.SoundStates.{keeps_none}
-use Rattle.cleanup.proofs.SoundJoins.{held_pending}
-use Rattle.cleanup.proofs.Usable.{IsUsable, usable_is, kept_waits}
+use Rattle.switchboard.specs.declared.sharing.Share.TheVariants.{Out, In}
+use Rattle.switchboard.specs.State.{KernelState, phone_at, label_of, with_state_at}
+use Rattle.switchboard.specs.Sound.{IsSound}
+use Rattle.switchboard.specs.Kept.{WaitsIn, accepts, phone_of, keeper_of, kept_of, kept_phone, kept_rows, kept_note, first_usable_of}
+use Rattle.switchboard.specs.Joins.{bare_reply, new_call, acceptance, answer_at_once, reception, answer_to, declined, drop_answer, code_of}
+use Rattle.switchboard.specs.Areas.{made_note, gone_note, wrote_note}
+use Rattle.switchboard.specs.Data.{accepted_write, accepted_read, delivered_read}
+use Rattle.switchboard.specs.Sharing.{shared_note, accepted_share}
+use Rattle.switchboard.specs.Serving.{Handed, Served}
+use Rattle.switchboard.proofs.Repeats.{by_test}
+use Rattle.switchboard.proofs.SoundStates.{keeps_none}
+use Rattle.switchboard.proofs.SoundJoins.{held_pending}
+use Rattle.switchboard.proofs.Usable.{IsUsable, usable_is, kept_waits}
 use Rattle.cleanup.proofs.Queues.{IsLive, sound_drop}
 use Rattle.kernel_core.specs.History.{life_at}
 use Rattle.kernel_core.specs.Moments.{with_fifth, number_of, keeping_to_send, keeping_to_receive, carrying, bringing, asking, before_send_of, on_receive_of, on_accept_of, cut_down}

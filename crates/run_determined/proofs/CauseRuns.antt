@@ -13,7 +13,7 @@ use Rattle.ipc_ids.specs.Holdings.{newest_first}
 use Rattle.script_lines.specs.Plan.{Plan}
 use Rattle.script_lines.specs.Sound.{IsSound, IsSoundTask}
 use Rattle.script_reader.specs.Schedule.{MayAllCome}
-use Rattle.cleanup.specs.Serving.{Served}
+use Rattle.switchboard.specs.Serving.{Served}
 use Rattle.kernel_core.specs.Kernel.{serve, spawn_event}
 use Rattle.kernel_core.specs.History.{served_entries}
 use Rattle.async_task.specs.Steps.{step}

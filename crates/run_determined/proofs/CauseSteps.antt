@@ -18,9 +18,9 @@ use Rattle.call_slab.specs.declared.call.Call.{Call}
 use Rattle.call_slab.specs.declared.call.Place.{Place}
 use Rattle.answerbox.specs.Calls.{CallTable, call_at, enqueue, put_at, without_call, with_record}
 use Rattle.phone_table.specs.Phones.{state_at}
-use Rattle.cleanup.specs.State.{KernelState, with_state_at}
-use Rattle.cleanup.specs.Sound.{HaveKeepers}
-use Rattle.cleanup.specs.Kept.{IsLoosePhone, IsLoose, MayKeep, kept_phone, kept_rows, kept_note}
+use Rattle.switchboard.specs.State.{KernelState, with_state_at}
+use Rattle.switchboard.specs.Sound.{HaveKeepers}
+use Rattle.switchboard.specs.Kept.{IsLoosePhone, IsLoose, MayKeep, kept_phone, kept_rows, kept_note}
 use Rattle.kernel_laws.proofs.Tables.{came_in, gone_by}
 use Rattle.route_laws.specs.Leads.{Beginning, phone_in}
 use Rattle.route_laws.specs.PhoneHistory.{TellPhones}

@@ -23,8 +23,8 @@ use Rattle.call_slab.specs.declared.call.Call.{Call}
 use Rattle.call_slab.specs.declared.call.Place.{Place}
 use Rattle.call_slab.specs.declared.call.Place.TheVariants as place
 use Rattle.answerbox.specs.Calls.{call_at}
-use Rattle.cleanup.specs.State.{alive_in, is_alive}
-use Rattle.cleanup.specs.Serving.{Served}
+use Rattle.switchboard.specs.State.{alive_in, is_alive}
+use Rattle.switchboard.specs.Serving.{Served}
 use Rattle.kernel_core.specs.Kernel.{serve, kill_event, next_task, named, spawning}
 use Rattle.kernel_core.specs.History.{life_at, IsGone, TellsOf, is_ended, served_entries}
 use Rattle.kernel_core.proofs.HonestEvents.{serve_is_honest, kill_is_honest}

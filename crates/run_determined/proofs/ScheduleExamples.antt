@@ -17,7 +17,7 @@ use Rattle.script_lines.specs.declared.plan.Kind.TheVariants as kind
 use Rattle.script_lines.specs.declared.plan.TaskPlan.{TaskPlan}
 use Rattle.answerbox.specs.Calls.{no_calls}
 use Rattle.address_space.specs.Memory.{no_memory}
-use Rattle.cleanup.specs.State as kernel
+use Rattle.switchboard.specs.State as kernel
 use Rattle.kernel_core.specs.Kernel.{serve, spawn_event}
 use Rattle.kernel_laws.specs.SpawnLaws.{new_number}
 use Rattle.task_system.specs.declared.any.AnyProgram.{AnyProgram}

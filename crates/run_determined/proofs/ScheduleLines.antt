@@ -14,8 +14,8 @@ use Rattle.script_lines.specs.declared.plan.TaskPlan.{TaskPlan}
 use Rattle.script_lines.specs.Plan.{Plan}
 use Rattle.script_lines.specs.Sound.{IsSound, IsSoundTask, IsRawOrAsync}
 use Rattle.script_reader.specs.Schedule.{tasks_after, MayCome, MayAllCome}
-use Rattle.cleanup.specs.State.{is_alive}
-use Rattle.cleanup.specs.Sound as kernel
+use Rattle.switchboard.specs.State.{is_alive}
+use Rattle.switchboard.specs.Sound as kernel
 use Rattle.kernel_core.specs.Kernel.{serve, kill_event, next_task, spawn_event}
 use Rattle.kernel_determined.specs.KernelLaw.{IsKernel}
 use Rattle.kernel_determined.proofs.Machines.{kernel_is_lawful}

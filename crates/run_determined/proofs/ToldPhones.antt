@@ -14,9 +14,9 @@ use Rattle.script_lines.specs.Plan.{Plan}
 use Rattle.script_lines.specs.Sound.{IsSound}
 use Rattle.script_reader.specs.Schedule.{MayAllCome}
 use Rattle.call_slab.specs.declared.call.Place.{Place}
-use Rattle.cleanup.specs.Board.{IsPendingAt}
-use Rattle.cleanup.specs.Kept.{keeper_of, kept_phone}
-use Rattle.cleanup.specs.Sound.{NeedsPhone}
+use Rattle.switchboard.specs.Board.{IsPendingAt}
+use Rattle.switchboard.specs.Kept.{keeper_of, kept_phone}
+use Rattle.switchboard.specs.Sound.{NeedsPhone}
 use Rattle.kernel_laws.specs.Connecting.{TellPhones}
 use Rattle.kernel_laws.proofs.ArgumentFive.{serve_tells, kill_tells, spawn_tells}
 use Rattle.kernel_determined.proofs.SettleSo.{kept_is}

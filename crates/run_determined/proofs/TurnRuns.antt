@@ -17,7 +17,7 @@ use Rattle.script_lines.specs.Plan.{Plan}
 use Rattle.script_lines.specs.Sound as script
 use Rattle.script_lines.specs.Sound.{has_service}
 use Rattle.script_reader.specs.Schedule.{MayAllCome}
-use Rattle.cleanup.specs.Serving.{Served}
+use Rattle.switchboard.specs.Serving.{Served}
 use Rattle.ipc_ids.specs.Effects.{is_effect, AreEffects}
 use Rattle.kernel_core.specs.Kernel.{serve, kill_event, next_task, named, spawning}
 use Rattle.ipc_ids.specs.Actors.{AreOfTasks}

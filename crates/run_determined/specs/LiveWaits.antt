@@ -8,7 +8,7 @@ use Rattle.ipc_ids.specs.declared.message.Event.{Event}
 use Rattle.ipc_ids.specs.Tales.{Tale, past}
 use Rattle.ipc_ids.specs.Life.{Life, Incoming, Dispatched, Answers, life}
 use Rattle.script_lines.specs.Plan.{Plan}
-use Rattle.cleanup.specs.State.{alive_in}
+use Rattle.switchboard.specs.State.{alive_in}
 use Rattle.fibril_core.specs.Fibrils.{why_of}
 use Rattle.async_task.specs.AsyncState.{AsyncState}
 use Rattle.async_task.specs.Program.{AsyncTask}

@@ -12,8 +12,8 @@ use Rattle.script_lines.specs.declared.plan.Kind.{Kind}
 use Rattle.script_lines.specs.declared.plan.Kind.TheVariants as kind
 use Rattle.script_lines.specs.declared.plan.TaskPlan.{TaskPlan}
 use Rattle.script_lines.specs.Plan.{Plan}
-use Rattle.cleanup.specs.State.{Transition, is_alive, phone_at}
-use Rattle.cleanup.specs.Serving.{Served}
+use Rattle.switchboard.specs.State.{Transition, is_alive, phone_at}
+use Rattle.switchboard.specs.Serving.{Served}
 use Rattle.kernel_laws.specs.SpawnLaws.{new_number}
 use Rattle.kernel_determined.specs.SpawnLaw.{IsSpawn}
 use Rattle.kernel_determined.specs.HangupLaw.{IsHangup}

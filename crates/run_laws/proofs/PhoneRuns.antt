@@ -9,9 +9,9 @@ use Rattle.ipc_ids.specs.declared.entry.Entry.{Entry}
 use Rattle.ipc_ids.specs.declared.entry.Entry.TheVariants as entry
 use Rattle.ipc_ids.specs.Holdings.{Making, making}
 use Rattle.phone_table.specs.Phones.{state_at}
-use Rattle.cleanup.specs.State.{KernelState, with_task}
-use Rattle.cleanup.specs.State as kernel
-use Rattle.cleanup.specs.Serving.{Served}
+use Rattle.switchboard.specs.State.{KernelState, with_task}
+use Rattle.switchboard.specs.State as kernel
+use Rattle.switchboard.specs.Serving.{Served}
 use Rattle.kernel_core.specs.History.{HistoryFits, served_entries}
 use Rattle.script_lines.specs.declared.plan.TaskPlan.{TaskPlan}
 use Rattle.script_lines.specs.declared.plan.Wire.{Wire}

@@ -19,9 +19,9 @@ use Rattle.script_lines.specs.declared.plan.TaskPlan.{TaskPlan}
 use Rattle.script_lines.specs.declared.plan.Wire.{Wire}
 use Rattle.script_lines.specs.Plan.{Plan}
 use Rattle.script_lines.specs.Sound as script
-use Rattle.cleanup.specs.State.{KernelState, is_alive, alive_in, label_of, with_task, with_event}
-use Rattle.cleanup.specs.State as kernel
-use Rattle.cleanup.specs.Serving.{Served}
+use Rattle.switchboard.specs.State.{KernelState, is_alive, alive_in, label_of, with_task, with_event}
+use Rattle.switchboard.specs.State as kernel
+use Rattle.switchboard.specs.Serving.{Served}
 use Rattle.ipc_ids.specs.Program.{fits}
 use Rattle.ipc_ids.specs.Lawful.{Lawful}
 use Rattle.ipc_ids.specs.Tales.{past}

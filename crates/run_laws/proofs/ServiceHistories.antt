@@ -16,8 +16,8 @@ use Rattle.ipc_ids.specs.KeptCalls.{KeepsCalls, is_within, AreWithin, served, di
 use Rattle.ipc_ids.proofs.KeptCalls.{doings_served, served_keeps, told_is_new, doings_killed, killed_keeps, doings_gone, gone_keeps, doings_spawned, spawned_keeps}
 use Rattle.script_lines.specs.declared.plan.Kind.{Kind}
 use Rattle.script_lines.specs.declared.plan.Kind.TheVariants as kind
-use Rattle.cleanup.specs.State.{KernelState}
-use Rattle.cleanup.specs.Serving.{Served}
+use Rattle.switchboard.specs.State.{KernelState}
+use Rattle.switchboard.specs.Serving.{Served}
 use Rattle.kernel_core.specs.Kernel.{serve, kill_event}
 use Rattle.kernel_core.specs.History.{HistoryFits, served_entries, killed_entries, gone_entries}
 use Rattle.ipc_ids.specs.Effects.{AreEffects}

@@ -14,7 +14,7 @@ use Rattle.script_lines.specs.declared.plan.Kind.TheVariants as kind
 use Rattle.script_lines.specs.declared.plan.TaskPlan.{TaskPlan}
 use Rattle.script_lines.specs.Plan.{Plan}
 use Rattle.script_lines.specs.Sound as script
-use Rattle.cleanup.specs.State.{is_alive}
+use Rattle.switchboard.specs.State.{is_alive}
 use Rattle.kernel_core.specs.Kernel.{serve, kill_event, next_task}
 use Rattle.task_ends.specs.EndLaw.{WaitersGetTheSameEnd}
 use Rattle.naming_service.proofs.StepsFit as naming

@@ -9,7 +9,7 @@ use Rattle.script_lines.specs.declared.plan.TaskPlan.{TaskPlan}
 use Rattle.script_lines.specs.Plan.{Plan}
 use Rattle.script_lines.specs.Sound as script
 use Rattle.script_reader.specs.Schedule.{MayAllCome, tasks_after}
-use Rattle.cleanup.specs.Sound.{IsSound}
+use Rattle.switchboard.specs.Sound.{IsSound}
 use Rattle.task_system.specs.Run.{RunState, program_of, start, turn, state_after, MayHappen, MayAllHappen}
 use Rattle.turn_counts.specs.Constants.{Constant, constant, constants, made_from, made_by_all, with_made}
 use Rattle.turn_counts.proofs.KeptConstants.{events_keep}

@@ -1,7 +1,7 @@
 -- A state of a run is read again from its words, but for what is constant and for its counts.
 use Rattle.std.proofs.Common.{ℕ, ◌≡◌, List, [], ◌∷◌, ◌++◌, map, refl, sym, ◌∙◌, ap, append_assoc}
 use Rattle.std.specs.List.{flat_map}
-use Rattle.cleanup.specs.Sound.{IsSound}
+use Rattle.switchboard.specs.Sound.{IsSound}
 use Rattle.task_system.specs.declared.any.AnyProgram.{AnyProgram}
 use Rattle.task_system.specs.declared.any.AnyProgram.TheVariants as any
 use Rattle.task_system.specs.Run.{RunState}

@@ -3,7 +3,7 @@ use Rattle.std.specs.Prelude.{Bool, List, Option, refl}
 use Rattle.std.specs.Coded.{Coded, code_by, coded×, coded_bool}
 use Rattle.ipc_ids.specs.declared.numbers.TaskNo.{TaskNo}
 use Rattle.script_lines.specs.declared.plan.TaskPlan.{TaskPlan}
-use Rattle.cleanup.specs.State.{KernelState}
+use Rattle.switchboard.specs.State.{KernelState}
 use Rattle.task_system.specs.declared.any.AnyProgram.{AnyProgram}
 use Rattle.task_system.specs.Run.{RunState, run_code}
 

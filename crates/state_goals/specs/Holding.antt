@@ -4,7 +4,7 @@ use Rattle.std.specs.List.{list_all}
 use Rattle.ipc_ids.specs.declared.numbers.FibrilNo.{FibrilNo}
 use Rattle.ipc_ids.specs.declared.numbers.TaskNo.{TaskNo}
 use Rattle.ipc_ids.specs.declared.op.Body.{Body}
-use Rattle.cleanup.specs.State.{KernelState, is_alive}
+use Rattle.switchboard.specs.State.{KernelState, is_alive}
 use Rattle.raw_program.specs.Raw.{RawState, operation}
 use Rattle.async_task.specs.declared.context.Context.{Context}
 use Rattle.async_task.specs.AsyncState.{AsyncState, context_at, op_in}

@@ -13,9 +13,9 @@ use Rattle.script_lines.specs.declared.plan.Wire.{Wire}
 use Rattle.script_lines.specs.Plan.{Plan}
 use Rattle.script_lines.specs.Sound.{IsTask, IsSoundTask, has_service, IsBesideService, Leads, PhonesDiffer, IsSound}
 use Rattle.phone_table.specs.Phones.{state_at}
-use Rattle.cleanup.specs.State.{Tasks, KernelState, start, alive_in, with_task, with_state_at}
-use Rattle.cleanup.proofs.Rows.{state_changed_at}
-use Rattle.cleanup.proofs.Soundness.{value_of, phone_kept}
+use Rattle.switchboard.specs.State.{Tasks, KernelState, start, alive_in, with_task, with_state_at}
+use Rattle.switchboard.proofs.Rows.{state_changed_at}
+use Rattle.switchboard.proofs.Soundness.{value_of, phone_kept}
 use Rattle.task_system.specs.Run.{with_tasks, with_service}
 use Rattle.task_system.specs.Wiring.{service_wire, service_wires, wires_to_service, with_wire, with_wires, IsOpen, AreOpen}
 

@@ -4,7 +4,7 @@ use Rattle.std.specs.Prelude.{slice_get, get_or}
 use Rattle.ipc_ids.specs.declared.numbers.TaskNo.{TaskNo}
 use Rattle.ipc_ids.specs.declared.entry.Entry.{Entry}
 use Rattle.script_lines.specs.declared.plan.TaskPlan.{TaskPlan}
-use Rattle.cleanup.specs.State.{KernelState}
+use Rattle.switchboard.specs.State.{KernelState}
 use Rattle.kernel_core.specs.Kernel.{next_task, spawn_event}
 use Rattle.task_system.specs.declared.any.AnyProgram.{AnyProgram}
 use Rattle.task_system.specs.Any.{taken, TookFew}

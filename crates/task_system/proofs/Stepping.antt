@@ -8,7 +8,7 @@ use Rattle.ipc_ids.specs.declared.message.Outcome.{Outcome}
 use Rattle.ipc_ids.specs.declared.entry.Entry.{Entry}
 use Rattle.ipc_ids.specs.Program.{fits}
 use Rattle.ipc_ids.specs.Trace.{TraceState}
-use Rattle.cleanup.specs.State.{KernelState, is_alive}
+use Rattle.switchboard.specs.State.{KernelState, is_alive}
 use Rattle.kernel_core.specs.History.{served_entries, killed_entries}
 use Rattle.kernel_core.specs.Kernel.{serve, kill_event}
 use Rattle.task_system.specs.Any.{wanted, after, entries}

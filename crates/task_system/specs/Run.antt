@@ -16,9 +16,9 @@ use Rattle.script_lines.specs.declared.plan.Kind.TheVariants as kind
 use Rattle.script_lines.specs.declared.plan.TaskPlan.{TaskPlan}
 use Rattle.script_lines.specs.Plan.{Plan}
 use Rattle.script_reader.specs.Schedule.{MayCome, MayAllCome}
-use Rattle.cleanup.specs.State.{KernelState, Transition, is_alive, with_task}
-use Rattle.cleanup.specs.Serving.{Served}
-use Rattle.cleanup.specs.State as kernel
+use Rattle.switchboard.specs.State.{KernelState, Transition, is_alive, with_task}
+use Rattle.switchboard.specs.Serving.{Served}
+use Rattle.switchboard.specs.State as kernel
 use Rattle.kernel_core.specs.Kernel.{serve, kill_event, next_task, spawn_event}
 use Rattle.kernel_core.specs.History.{served_entries, killed_entries, gone_entries}
 use Rattle.raw_program.specs.Raw as raw

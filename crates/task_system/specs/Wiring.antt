@@ -4,7 +4,7 @@ use Rattle.ipc_ids.specs.declared.message.PhoneState.TheVariants.{Free, Connecte
 use Rattle.script_lines.specs.declared.plan.TaskPlan.{TaskPlan}
 use Rattle.script_lines.specs.declared.plan.Wire.{Wire}
 use Rattle.script_lines.specs.Sound.{has_service}
-use Rattle.cleanup.specs.State.{KernelState, is_alive, phone_at, with_phone}
+use Rattle.switchboard.specs.State.{KernelState, is_alive, phone_at, with_phone}
 
 -- phone 0 of a task leads to task 1
 abbrev pub service_wire : ℕ → Wire

@@ -5,7 +5,7 @@ ghost use Rattle.std.specs.Prelude.{IfOk, OnOk, OnErr, option_map, vec_len};
 ghost use Rattle.std.specs.Vec.{vec_capacity};
 ghost use Rattle.std.specs.Option.{option_copied};
 ghost use Rattle.ipc_ids.specs.Program.{fits};
-ghost use Rattle.cleanup.specs.State.{is_alive};
+ghost use Rattle.switchboard.specs.State.{is_alive};
 ghost use Rattle.kernel_core.specs.History.{served_entries, killed_entries, gone_entries};
 ghost use Rattle.kernel_core.specs.Kernel.{serve, kill_event};
 ghost use Rattle.task_system.specs.Any.{wanted};

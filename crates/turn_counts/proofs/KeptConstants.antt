@@ -10,7 +10,7 @@ use Rattle.ipc_ids.specs.declared.message.Request.TheVariants as ask
 use Rattle.ipc_ids.specs.declared.message.Event.{Event}
 use Rattle.ipc_ids.specs.declared.message.Event.TheVariants.{Step, Kill, Hangup, Spawn}
 use Rattle.script_lines.specs.declared.plan.TaskPlan.{TaskPlan}
-use Rattle.cleanup.specs.State.{is_alive}
+use Rattle.switchboard.specs.State.{is_alive}
 use Rattle.kernel_core.specs.Kernel.{serve, kill_event, next_task}
 use Rattle.task_system.specs.declared.any.AnyProgram.{AnyProgram}
 use Rattle.task_system.specs.declared.any.AnyProgram.TheVariants as any

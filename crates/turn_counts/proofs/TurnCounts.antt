@@ -8,8 +8,8 @@ use Rattle.ipc_ids.specs.declared.message.Request.TheVariants as ask
 use Rattle.ipc_ids.specs.declared.message.Event.{Event}
 use Rattle.ipc_ids.specs.declared.message.Event.TheVariants.{Step, Kill, Hangup, Spawn}
 use Rattle.script_lines.specs.declared.plan.TaskPlan.{TaskPlan}
-use Rattle.cleanup.specs.State.{KernelState, Transition, is_alive}
-use Rattle.cleanup.specs.Serving.{Served}
+use Rattle.switchboard.specs.State.{KernelState, Transition, is_alive}
+use Rattle.switchboard.specs.Serving.{Served}
 use Rattle.kernel_core.specs.Kernel.{serve, kill_event, spawn_event, next_task}
 use Rattle.kernel_core.specs.History.{served_entries}
 use Rattle.task_system.specs.declared.any.AnyProgram.{AnyProgram}

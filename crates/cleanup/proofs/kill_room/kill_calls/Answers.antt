@@ -1,6 +1,6 @@
 use Rattle.std.proofs.Common.{ap, ◌∙◌, arith}
 use Rattle.phone_table.specs.Phones.{state_at}
-use Rattle.cleanup.specs.Rooms.{calls_of_hangup}
+use Rattle.switchboard.specs.Rooms.{calls_of_hangup}
 use Rattle.cleanup.proofs.KillRoom.{total_next}
 use Rattle.cleanup.proofs.kill_room.kill_calls.Goals as goal
 

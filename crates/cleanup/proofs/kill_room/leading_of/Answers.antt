@@ -1,6 +1,6 @@
 use Rattle.std.proofs.Common.{ap, ◌∙◌, arith}
 use Rattle.phone_table.specs.Phones.{state_at}
-use Rattle.cleanup.specs.KillRoom.{leads_to}
+use Rattle.switchboard.specs.Rooms.{leads_to}
 use Rattle.cleanup.proofs.KillRoom.{total_next}
 use Rattle.cleanup.proofs.kill_room.leading_of.Goals as goal
 

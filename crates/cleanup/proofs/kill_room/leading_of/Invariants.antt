@@ -1,6 +1,7 @@
 use Rattle.std.proofs.Common.{◌≡◌, ◌≤◌}
 use Rattle.phone_table.specs.Phones.{state_at}
-use Rattle.cleanup.specs.KillRoom.{total, leads_to}
+use Rattle.cleanup.specs.KillRoom.{total}
+use Rattle.switchboard.specs.Rooms.{leads_to}
 use Rattle.cleanup.proofs.kill_room.leading_of.Given as goal
 
 -- what was counted so far

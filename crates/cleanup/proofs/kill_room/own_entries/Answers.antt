@@ -1,6 +1,6 @@
 use Rattle.std.proofs.Common.{ap, ◌∙◌, arith}
 use Rattle.phone_table.specs.Phones.{state_at}
-use Rattle.cleanup.specs.Rooms.{entries_of_hangup}
+use Rattle.switchboard.specs.Rooms.{entries_of_hangup}
 use Rattle.cleanup.proofs.KillRoom.{total_next}
 use Rattle.cleanup.proofs.kill_room.own_entries.Goals as goal
 

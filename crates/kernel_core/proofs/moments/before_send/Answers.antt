@@ -1,5 +1,5 @@
 use Rattle.std.proofs.Common.{sym}
-use Rattle.cleanup.specs.Kept.{first_usable_of}
+use Rattle.switchboard.specs.Kept.{first_usable_of}
 use Rattle.kernel_core.proofs.Sending.{found_phone, sent_keeping}
 use Rattle.kernel_core.proofs.moments.before_send.Goals as goal
 

@@ -1,9 +1,9 @@
 use Rattle.std.proofs.Common.{◌∙◌, arith}
 use Rattle.answerbox.specs.Calls.{call_at}
-use Rattle.cleanup.specs.Joins.{drop_answer}
+use Rattle.switchboard.specs.Joins.{drop_answer}
 use Rattle.kernel_core.specs.Receiving.{next_unawaited}
-use Rattle.cleanup.proofs.Lookups.{record_of}
-use Rattle.cleanup.proofs.Turns.{drained, uses_both, uses_less}
+use Rattle.switchboard.proofs.Lookups.{record_of}
+use Rattle.switchboard.proofs.Turns.{drained, uses_both, uses_less}
 use Rattle.kernel_core.proofs.receiving.drop_unawaited.Goals as goal
 
 pub loop-preserved : goal.loop-preserved

@@ -1,10 +1,10 @@
 use Rattle.std.proofs.Common.{◌-◌, ◌*◌}
 use Rattle.call_slab.specs.declared.call.Place.TheVariants.{Answers}
 use Rattle.answerbox.specs.Calls.{calls_at}
-use Rattle.cleanup.specs.Joins.{drop_answer}
-use Rattle.cleanup.specs.State.{drain}
-use Rattle.cleanup.specs.Rooms.{UsesRoom}
-use Rattle.cleanup.specs.Serving.{Completes}
+use Rattle.switchboard.specs.Joins.{drop_answer}
+use Rattle.switchboard.specs.State.{drain}
+use Rattle.switchboard.specs.Rooms.{UsesRoom}
+use Rattle.switchboard.specs.Serving.{Completes}
 use Rattle.kernel_core.specs.Receiving.{next_unawaited, drop_unawaited}
 use Rattle.kernel_core.proofs.receiving.drop_unawaited.Given as goal
 

@@ -1,4 +1,4 @@
-use Rattle.cleanup.proofs.SoundMemory.{from_one}
+use Rattle.switchboard.proofs.SoundMemory.{from_one}
 use Rattle.kernel_determined.proofs.AreasDetermined.{area_make_is_so, area_make_is_determined}
 use Rattle.kernel_determined.proofs.DropDetermined.{area_drop_is_so, area_drop_is_determined}
 use Rattle.kernel_determined.proofs.requests.areas_are_determined.Goals as goal

@@ -1,5 +1,5 @@
 use Rattle.std.proofs.Common.{sym, subst, ◌++◌}
-use Rattle.cleanup.specs.State.{KernelState}
+use Rattle.switchboard.specs.State.{KernelState}
 use Rattle.kernel_core.specs.Kernel.{serve}
 use Rattle.kernel_core.specs.History.{HistoryFits, served_entries}
 use Rattle.kernel_core.proofs.Steadiness.{few_active, few_stores, steady_served, served_after}

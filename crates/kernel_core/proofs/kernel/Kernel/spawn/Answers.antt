@@ -1,5 +1,5 @@
 use Rattle.std.proofs.Common.{sym, subst, ◌++◌, ◌∙◌, ap}
-use Rattle.cleanup.specs.State.{KernelState, with_event}
+use Rattle.switchboard.specs.State.{KernelState, with_event}
 use Rattle.kernel_core.specs.Kernel.{IsSteady, spawn_event}
 use Rattle.kernel_core.specs.History.{HistoryFits}
 use Rattle.kernel_core.proofs.SpawnedHistories.{spawn_fits, steady_spawn}

@@ -1,7 +1,7 @@
 use Rattle.std.proofs.Common.{◌≡◌, true, rules, subst, List}
 use Rattle.std.specs.Prelude.{OnErr}
 use Rattle.ipc_ids.specs.declared.entry.Entry.{Entry}
-use Rattle.cleanup.specs.State.{is_alive}
+use Rattle.switchboard.specs.State.{is_alive}
 use Rattle.task_system.specs.Run.{TellsPart}
 use Rattle.task_system.proofs.Stepping.{kill_told}
 use Rattle.task_system.proofs.Taking.{took_more}

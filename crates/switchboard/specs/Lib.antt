@@ -1,0 +1,11 @@
+pub mod State
+pub mod Sound
+pub mod Counts
+pub mod Serving
+pub mod Kept
+pub mod Joins
+pub mod Areas
+pub mod Data
+pub mod Sharing
+pub mod Board
+pub mod Rooms
