@@ -34,7 +34,7 @@ pub fn end(board: &mut Switchboard, who: TaskNo, out: &mut Trace) -> Result<(), 
     ensures events { board.new.state.events ≡ board.old.state.events }
     ensures unchanged { OnErr result (Leaves board.old board.new out.old out.new) }
 {
-    let _next = board.next_number();
+    board.check_numbers();
     let calls = kill_calls(board, who);
     let entries = kill_entries(board, who)?;
     board.reserve(calls)?;
@@ -87,7 +87,7 @@ fn end_phones_and_calls(board: &mut Switchboard, who: TaskNo, out: &mut Trace)
     ensures room { UsesRoom board.old board.new out.old out.new (kill_calls board.old.state who)
         (kill_moves board.old.state who) (phone_and_call_entries board.old.state who) }
 {
-    let _next = board.next_number();
+    board.check_numbers();
     hang_up_own_phones(board, who, out);
     slam_phones_to(board, who, out);
     settle_calls_at(board, Place::Incoming(who), out);
@@ -165,7 +165,7 @@ fn settle_calls_at(board: &mut Switchboard, place: Place, out: &mut Trace)
         (moves_at board.old.state place) (entries_at board.old.state place) }
 {
     for _ in 0..board.calls_at(place) {
-        let _next = board.next_number();
+        board.check_numbers();
         match board.front(place) {
             Some(number) => board.settle(number, &Reply::bare(Code::EHANGUP), None, out),
             None => return,

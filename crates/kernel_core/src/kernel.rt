@@ -129,7 +129,7 @@ impl Kernel {
             → HistoryFits (h ++ served_entries who request.now
             (serve self.old who request.now)) self.new) }
     {
-        let _next = self.board.next_number();
+        self.board.check_numbers();
         let (calls, entries) = room_of(&self.board, who, request);
         self.board.reserve(calls)?;
         out.reserve(entries)?;
@@ -160,7 +160,7 @@ impl Kernel {
         ensures history { OnOk result ((h : List Entry) → HistoryFits h self.old
             → HistoryFits (h ++ killed_entries who (kill_event self.old who)) self.new) }
     {
-        let _next = self.board.next_number();
+        self.board.check_numbers();
         end(&mut self.board, who, out)?;
         self.board.count_event();
         Ok(())

@@ -241,6 +241,16 @@ impl Switchboard {
         self.boxes.next_number()
     }
 
+    /// Reads the next number, so that a proof learns that no live call has it, and that there are
+    /// fewer live calls than that.
+    pub fn check_numbers(&self)
+        ensures free { call_at self.now.state.calls self.now.state.calls.next_number ≡ None }
+        ensures few { live_calls self.now.state < self.now.state.calls.next_number }
+        ensures numbered { AreNumbered self.now.state.calls }
+    {
+        let _next = self.boxes.next_number();
+    }
+
     /// The live call with this number.
     pub fn get(&self, call: CallNo) -> Option<&Call>
         ensures call { option_copied result ≡ call_at self.now.state.calls call.0 }

@@ -459,7 +459,7 @@ impl Switchboard {
         ensures room { UsesRoomToHangUp self.old self.new out.old out.new
             (phone_at self.old.state from.task from.phone.0) }
     {
-        let _next = self.next_number();
+        self.check_numbers();
         match self.hang_phone(from) {
             Err(code) => Err(code),
             Ok(Hung::Silent) => {

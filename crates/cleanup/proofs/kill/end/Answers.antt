@@ -16,7 +16,7 @@ end_reserved-requires-clause-room c =
     let counted = c.kill_calls-calls.ensures in
     record {
       numbers = omega (arith, number, calls, counted.calls, counted.few, c.requires.few_calls);
-      stamps = omega (arith, stamp, moves, few, counted.calls, counted.few, c.requires.few_calls, c.requires.few_stamps, c.next_number-next.ensures.few);
+      stamps = omega (arith, stamp, moves, few, counted.calls, counted.few, c.requires.few_calls, c.requires.few_stamps, c.check_numbers.ensures.few);
       calls = omega (arith, calls, counted.calls, c.in_ok-reserve.ensures.room);
       entries = omega (arith, entries, c.in_ok-entries.ensures, c.in_ok-reserve-2.ensures.room);
     }

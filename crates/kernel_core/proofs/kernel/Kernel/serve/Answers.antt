@@ -8,7 +8,7 @@ use Rattle.kernel_core.proofs.ServedHistories.{serve_fits}
 use Rattle.kernel_core.proofs.kernel.Kernel.serve.Goals as goal
 
 pub serve_request-requires-clause-few : goal.serve_request-requires-clause-few
-serve_request-requires-clause-few c = rw c.reserve.ensures.state (few_active c.self.inside.board.state c.self.invariant (rw (← c.self.view_is) at c.requires.few_events) c.next_number-next.ensures.few)
+serve_request-requires-clause-few c = rw c.reserve.ensures.state (few_active c.self.inside.board.state c.self.invariant (rw (← c.self.view_is) at c.requires.few_events) c.check_numbers.ensures.few)
 
 pub serve_request-requires-clause-few_tasks : goal.serve_request-requires-clause-few_tasks
 serve_request-requires-clause-few_tasks c = rw c.reserve.ensures.state c.self.invariant.tasks
