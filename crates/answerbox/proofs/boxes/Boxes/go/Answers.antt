@@ -28,7 +28,7 @@ invariant_of-self g c =
     let named = are_named c.self.inside.calls c.self.inside.next_number c.self.inside.next_stamp c.self.invariant.0.named in
     let sum = used-gone (table_of c.self.inside.calls c.self.inside.next_number c.self.inside.next_stamp) c.args.call.0 (changed c.args.change) c.args.place c.get.result.now named (change_number c.args.change) there in
     let table = ap used (goes_table c.self.inside.calls c.change.new.self c.relocate.new.calls c.self.inside.queues.items c.relocate.new.queues.items c.self.inside.owns.items c.self.inside.next_number c.self.inside.next_stamp c.args.call.0 c.unwrap-key.result c.args.place (changed c.args.change) (change_number c.args.change) (change_row c.args.change) (change_stamp c.args.change) (change_caller c.args.change) c.self.invariant.0 (sym c.key_of.ensures.key ∙ c.unwrap-key.ensures) c.change.ensures.calls c.relocate.ensures.calls c.relocate.ensures.rows (goes_within c.self.inside.calls c.self.inside.queues.items c.self.inside.owns.items c.self.inside.next_number c.self.inside.next_stamp c.args.call.0 c.unwrap-key.result c.args.place c.self.invariant.0 (sym c.key_of.ensures.key ∙ c.unwrap-key.ensures) (rw (← c.self.view_is) at c.requires.task))) in
-    (goes_keeps c.self.inside.calls c.change.new.self c.relocate.new.calls c.self.inside.queues.items c.relocate.new.queues.items c.self.inside.owns.items c.self.inside.next_number c.self.inside.next_stamp c.args.call.0 c.unwrap-key.result c.args.place (changed c.args.change) (change_number c.args.change) (change_row c.args.change) (change_stamp c.args.change) (change_caller c.args.change) c.self.invariant.0 (sym c.key_of.ensures.key ∙ c.unwrap-key.ensures) c.change.ensures.calls c.relocate.ensures.calls c.relocate.ensures.rows (goes_within c.self.inside.calls c.self.inside.queues.items c.self.inside.owns.items c.self.inside.next_number c.self.inside.next_stamp c.args.call.0 c.unwrap-key.result c.args.place c.self.invariant.0 (sym c.key_of.ensures.key ∙ c.unwrap-key.ensures) (rw (← c.self.view_is) at c.requires.task)), used_is _ _ _ _ _ _ c.used_after-used.ensures sum _ table c.self.invariant.1, few_after c.args.change c.get.result.now c.self.inside.used c.used_after-used.result c.used_after-used.ensures (rw (← c.self.view_is, ← c.self.invariant.1) at c.requires.few_bytes))
+    (goes_keeps c.self.inside.calls c.change.new.self c.relocate.new.calls c.self.inside.queues.items c.relocate.new.queues.items c.self.inside.owns.items c.self.inside.next_number c.self.inside.next_stamp c.args.call.0 c.unwrap-key.result c.args.place (changed c.args.change) (change_number c.args.change) (change_row c.args.change) (change_stamp c.args.change) (change_caller c.args.change) c.self.invariant.0 (sym c.key_of.ensures.key ∙ c.unwrap-key.ensures) c.change.ensures.calls c.relocate.ensures.calls c.relocate.ensures.rows (goes_within c.self.inside.calls c.self.inside.queues.items c.self.inside.owns.items c.self.inside.next_number c.self.inside.next_stamp c.args.call.0 c.unwrap-key.result c.args.place c.self.invariant.0 (sym c.key_of.ensures.key ∙ c.unwrap-key.ensures) (rw (← c.self.view_is) at c.requires.task)), used_is _ _ _ _ _ _ c.used_after-used.ensures sum _ table c.self.invariant.1, few_after c.args.change c.get.result.now c.self.inside.used c.used_after-used.result c.used_after-used.ensures c.self.invariant.2 (rw (← c.self.view_is, ← c.self.invariant.1) at c.requires.few_bytes))
 
 pub returns-clause-calls : goal.returns-clause-calls
 returns-clause-calls g c = rw (← c.self.view_is) (goes_table c.self.inside.calls c.change.new.self c.relocate.new.calls c.self.inside.queues.items c.relocate.new.queues.items c.self.inside.owns.items c.self.inside.next_number c.self.inside.next_stamp c.args.call.0 c.unwrap-key.result c.args.place (changed c.args.change) (change_number c.args.change) (change_row c.args.change) (change_stamp c.args.change) (change_caller c.args.change) c.self.invariant.0 (sym c.key_of.ensures.key ∙ c.unwrap-key.ensures) c.change.ensures.calls c.relocate.ensures.calls c.relocate.ensures.rows (goes_within c.self.inside.calls c.self.inside.queues.items c.self.inside.owns.items c.self.inside.next_number c.self.inside.next_stamp c.args.call.0 c.unwrap-key.result c.args.place c.self.invariant.0 (sym c.key_of.ensures.key ∙ c.unwrap-key.ensures) (rw (← c.self.view_is) at c.requires.task)))
