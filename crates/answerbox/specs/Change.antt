@@ -39,3 +39,18 @@ pub record Leaves (old new : BoxesState) (n : CallNo) (c : Call) : Type 0 where
   pub calls : new.calls ≡ without_call old.calls n.0
   pub tasks : new.tasks ≡ old.tasks
   pub spare : old.spare ≤ new.spare
+
+-- the call is live, and may go to the end of that place with what is decided of its record
+pub record MayGoBy {R : Type 0} (decides : Call → Change × R → Type 0) (b : BoxesState) (n : CallNo) (place : Place) : Type 0 where
+  pub live : IsSome (call_at b.calls n.0)
+  pub task : task_of place ≤ b.tasks
+  pub few_bytes : (c : Call) (change : Change) (told : R) → call_at b.calls n.0 ≡ Some c → decides c (change, told) → MayBring (used b.calls) change
+  pub few_stamps : b.calls.next_stamp < 2 ^ 63
+
+-- the call goes there with what was decided of its record
+pub record GoesBy {R : Type 0} (decides : Call → Change × R → Type 0) (old new : BoxesState) (n : CallNo) (place : Place) (told : R) : Type 0 where
+  pub record_was : Call
+  pub change : Change
+  pub there : call_at old.calls n.0 ≡ Some record_was
+  pub decided : decides record_was (change, told)
+  pub goes : Goes old new n change place
