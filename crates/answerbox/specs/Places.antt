@@ -1,5 +1,5 @@
 -- Where a live call stands, and which call came first to a place.
-use Rattle.std.specs.Prelude.{◌≡◌, ◌≤◌, ℕ, true, false, Option, None, Some, IfSome, IsSome}
+use Rattle.std.specs.Prelude.{◌≡◌, ◌≤◌, ℕ, true, false, Option, None, Some, IfSome, IfNone, IsSome}
 use Rattle.ipc_ids.specs.declared.numbers.CallNo.{CallNo}
 use Rattle.call_slab.specs.declared.call.Call.{Call}
 use Rattle.call_slab.specs.declared.call.Place.{Place}
@@ -18,13 +18,13 @@ pub record IsFrontOf (calls : CallTable) (n : ℕ) (place : Place) : Type 0 wher
 abbrev pub HasNoCalls : CallTable → Place → Type 0
 HasNoCalls calls place = (n : ℕ) (c : Call) → call_at calls n ≡ Some c → same_place c.place place ≡ false
 
--- the call with this number came first to the place
-pub record CameFirst (calls : CallTable) (place : Place) (n : CallNo) : Type 0 where
-  pub some : IsNumberOf calls (front calls place) n
-  pub live : IsSome (call_at calls n.0)
-  pub least : IsFrontOf calls n.0 place
+-- this is the number of the live call that a search finds, if it finds one
+abbrev pub IsFound : CallTable → Option Call → Option CallNo → Type 0
+IsFound calls found None = found ≡ None
+IsFound calls found (Some n) = IsNumberOf calls found n × IsSome (call_at calls n.0)
 
 -- this is the number of the call that came first to the place, if one stands there
-abbrev pub IsFirst : CallTable → Place → Option CallNo → Type 0
-IsFirst calls place None = (front calls place ≡ None) × HasNoCalls calls place
-IsFirst calls place (Some n) = CameFirst calls place n
+pub record IsFirst (calls : CallTable) (place : Place) (found : Option CallNo) : Type 0 where
+  pub first : IsFound calls (front calls place) found
+  pub least : IfSome found (λ n. IsFrontOf calls n.0 place)
+  pub empty : IfNone found (HasNoCalls calls place)

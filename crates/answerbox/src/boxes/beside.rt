@@ -3,6 +3,7 @@ ghost use Rattle.std.specs.Prelude.{◌≡◌, length, ◌+◌, ◌^◌, ◌<◌
 ghost use Rattle.answerbox.specs.Calls.{used, call_at, IsNumberOf, task_of, with_place, received, answered, answered_with, readdressed, with_change, next_of};
 ghost use Rattle.call_slab.specs.Change.{changed};
 ghost use Rattle.answerbox.specs.Change.{MayBring};
+ghost use Rattle.answerbox.specs.Places.{IsFound};
 ghost use Rattle.answerbox.specs.Blanks.{Opens};
 
 use crate::boxes::{Boxes, used_after};
@@ -202,9 +203,7 @@ impl Boxes {
         requires blank { Opens L.name L.parts blank.name blank.parts }
         requires live { IsSome (call_at self.now.calls call.0) }
         requires caller { IfSome (call_at self.now.calls call.0) (λ c. IsSome c.caller) }
-        ensures none { IfNone result (next_of self.now.calls call.0 ≡ None) }
-        ensures some { IfSome result (IsNumberOf self.now.calls (next_of self.now.calls call.0)) }
-        ensures live { IfSome result (λ n. IsSome (call_at self.now.calls n.0)) }
+        ensures { IsFound self.now.calls (next_of self.now.calls call.0) result }
     {
         let mut steps = Steps::<L>::new(blank);
         let key = self.calls.key_of(call, &mut steps).unwrap();
