@@ -94,12 +94,6 @@ same_sum : (x a b : ℕ) → x + a ≡ x + b → a ≡ b
 same_sum x a b h = omega arith
 
 -- what leaves the bytes of a call leaves those of all
-pub used-gone_same : (q : CallTable) (n : ℕ) (f : Call → Call) (place : Place) → AreNamed q → ((d : Call) → (f d).number ≡ d.number) → ((d : Call) → (f d).buffer ≡ d.buffer) → used (gone q n f place) ≡ used q
-used-gone_same q n f place named number bytes = by_call (call_at q n) refl where
-  by_call : (o : Option Call) → call_at q n ≡ o → used (gone q n f place) ≡ used q
-  by_call None is = rw is refl
-  by_call (Some c) is = same_sum (length c.buffer) _ _ (used-gone q n f place c named number is ∙ ap (λ (bytes : List ℕ). length bytes + used q) (bytes c))
-
 pub used-changed_same : (q : CallTable) (n : ℕ) (f : Call → Call) → AreNamed q → ((d : Call) → (f d).number ≡ d.number) → ((d : Call) → (f d).buffer ≡ d.buffer) → used (with_change q n f) ≡ used q
 used-changed_same q n f named number bytes = by_call (call_at q n) refl where
   by_call : (o : Option Call) → call_at q n ≡ o → used (with_change q n f) ≡ used q

@@ -8,7 +8,6 @@ ghost use Rattle.answerbox.specs.Blanks.{Opens};
 
 use crate::boxes::{Boxes, used_after};
 use crate::chains::Chain;
-use crate::moves::relocate;
 use call_slab::{Change, Place};
 use ipc_ids::{Buffer, CallNo, Label, Msg, Reply, Steps};
 use std::marker::Brand;
@@ -25,10 +24,13 @@ impl Boxes {
         ensures spare { self.new.spare ≡ self.old.spare }
         ensures steps { steps.new ≤ steps.old + 16 }
     {
-        let key = self.calls.key_of(call, steps).unwrap();
-        let stamp = self.next_stamp;
-        relocate(&mut self.calls, &mut self.queues, key, place, stamp, steps);
-        self.next_stamp = stamp + 1;
+        // It keeps the reply that it has.
+        self.go_by_counted(
+            call,
+            place,
+            |record| (Change::Reply(record.reply), ()),
+            steps,
+        );
     }
 
     /// Gives the call the message and the reserved phone of its receipt and moves it to the end of
