@@ -19,11 +19,11 @@ use Rattle.call_slab.specs.declared.change.Change.TheVariants.{Receipt, Answer, 
 use Rattle.call_slab.specs.Change.{changed}
 use Rattle.answerbox.specs.Change.{gone}
 use Rattle.answerbox.specs.Chain.{Slots, Core, core, cores, place_index, row_of, spot_at, spots, Chained, no_ends, first_of, last_of, count_at, AreFew, with_slots, appended_rows, unlinked_rows, more_queues, more_owns, IsGrown}
-use Rattle.answerbox.specs.Moving.{row_at, with_call, placed, out_rows, moved_slots, moved_rows, new_slots, left_slots, no_caller, forgotten_slots}
+use Rattle.answerbox.specs.Moving.{row_at, placed, out_rows, moved_slots, moved_rows, new_slots, left_slots, no_caller, forgotten_slots}
 use Rattle.answerbox.specs.Stored.{calls_in, Named, NumbersBelow, Stored, tasks_of, room_of, is_row, stands_in, Counted}
 use Rattle.answerbox.proofs.Counts.{count-insert, count-remove, count-swap, count-none}
 use Rattle.answerbox.proofs.Counted.{counted_out, counted_in, counted_kept, counted_as, few_counts, row_at_core, row_within, within_as}
-use Rattle.answerbox.proofs.Chain.{same_key, other_key, get_here, get_there, within_ends, length-unlinked, length-appended}
+use Rattle.answerbox.proofs.Chain.{same_key, other_key, within_ends, length-unlinked, length-appended}
 use Rattle.ipc_ids.specs.declared.numbers.TaskNo.{TaskNo}
 use Rattle.call_slab.specs.declared.call.Place.TheVariants.{Incoming, Dispatched, Answers}
 use Rattle.answerbox.proofs.Fronts.{first, second, greater, ties, not_tied}
@@ -464,16 +464,6 @@ few_queues a queues owns number stamp q = few_counts Queue queues (calls_in a) n
 
 pub few_owns : (a : CallsState) (queues owns : List Ends) (number stamp : ℕ) → Stored a queues owns number stamp → AreFew owns
 few_owns a queues owns number stamp q = few_counts Own owns (calls_in a) number q.own_counts (few_calls a queues owns number stamp q) q.few
-
--- the slots under whose key a call does not change
-pub change_nothing : (a : CallsState) (k : ℕ) → a ≡ change_call a k (λ c. c)
-change_nothing a k =
-    ap (λ (m : Slots). record a { slots = m }) (same_map nat_cmp_total nat_cmp-IsAntisymmetric _ _ (λ q.
-    ⊎_elim (λ (t : q ≡ k). rw (t, get_here (with_call (λ c. c)) a.slots k) (by (get a.slots k))) (λ (t : q ≡ k → ⊥). sym (get_there (with_call (λ c. c)) a.slots k q t)) (cases_eq q k)))
-  where
-    by : (o : Option Slot) → o ≡ option_map (with_call (λ c. c)) o
-    by None = refl
-    by (Some s) = refl
 
 -- where a call is live there are ends
 pub rows_some : (a : CallsState) (queues owns : List Ends) (number stamp n k : ℕ) → Stored a queues owns number stamp → get a.keys n ≡ Some k → 0 < length owns

@@ -14,7 +14,7 @@ use Rattle.answerbox.specs.Calls.{CallTable, call_at, enqueue, without_call, wit
 use Rattle.call_slab.specs.declared.change.Change.{Change}
 use Rattle.call_slab.specs.declared.change.Change.TheVariants.{Receipt, Answer, AnswerWith, Address, Message, Request, Reply, Reserved, Bytes}
 use Rattle.call_slab.specs.Change.{changed}
-use Rattle.answerbox.specs.Change.{brought, gone}
+use Rattle.answerbox.specs.Change.{MayBring, gone}
 use Rattle.call_slab.specs.Calls.{CallsState}
 use Rattle.answerbox.specs.Chain.{Core, cores}
 use Rattle.answerbox.specs.Stored.{calls_in, Named}
@@ -94,12 +94,6 @@ same_sum : (x a b : ℕ) → x + a ≡ x + b → a ≡ b
 same_sum x a b h = omega arith
 
 -- what leaves the bytes of a call leaves those of all
-pub used-gone_same : (q : CallTable) (n : ℕ) (f : Call → Call) (place : Place) → AreNamed q → ((d : Call) → (f d).number ≡ d.number) → ((d : Call) → (f d).buffer ≡ d.buffer) → used (gone q n f place) ≡ used q
-used-gone_same q n f place named number bytes = by_call (call_at q n) refl where
-  by_call : (o : Option Call) → call_at q n ≡ o → used (gone q n f place) ≡ used q
-  by_call None is = rw is refl
-  by_call (Some c) is = same_sum (length c.buffer) _ _ (used-gone q n f place c named number is ∙ ap (λ (bytes : List ℕ). length bytes + used q) (bytes c))
-
 pub used-changed_same : (q : CallTable) (n : ℕ) (f : Call → Call) → AreNamed q → ((d : Call) → (f d).number ≡ d.number) → ((d : Call) → (f d).buffer ≡ d.buffer) → used (with_change q n f) ≡ used q
 used-changed_same q n f named number bytes = by_call (call_at q n) refl where
   by_call : (o : Option Call) → call_at q n ≡ o → used (with_change q n f) ≡ used q
@@ -122,16 +116,16 @@ are_named a number stamp nm n c is = by_key (get a.keys n) refl (sym (look a n n
 pub used_is : (after before bytes new old now : ℕ) → after + before ≡ old + bytes → before + new ≡ bytes + now → (x : ℕ) → x ≡ new → old ≡ now → after ≡ x
 used_is after before bytes new old now made sum x is was = omega arith
 
-pub few_after : (change : Change) (c : Call) (old after : ℕ) → after + length c.buffer ≡ old + length (changed change c).buffer → old + brought change < 2 ^ 63 → after < 2 ^ 63
-few_after (Receipt msg reserved) c old after is few = omega (arith, is, few)
-few_after (Answer reply reserved) c old after is few = omega (arith, is, few)
-few_after (AnswerWith reply bytes) c old after is few = omega (arith, is, few)
-few_after (Address msg label reserved) c old after is few = omega (arith, is, few)
-few_after (Message msg label) c old after is few = omega (arith, is, few)
-few_after (Request request) c old after is few = omega (arith, is, few)
-few_after (Reply reply) c old after is few = omega (arith, is, few)
-few_after (Reserved reserved) c old after is few = omega (arith, is, few)
-few_after (Bytes bytes) c old after is few = omega (arith, is, few)
+pub few_after : (change : Change) (c : Call) (old after : ℕ) → after + length c.buffer ≡ old + length (changed change c).buffer → old < 2 ^ 63 → MayBring old change → after < 2 ^ 63
+few_after (Receipt msg reserved) c old after is few may = omega (arith, is, few)
+few_after (Answer reply reserved) c old after is few may = omega (arith, is, few)
+few_after (AnswerWith reply bytes) c old after is few may = omega (arith, is, may)
+few_after (Address msg label reserved) c old after is few may = omega (arith, is, few)
+few_after (Message msg label) c old after is few may = omega (arith, is, few)
+few_after (Request request) c old after is few may = omega (arith, is, few)
+few_after (Reply reply) c old after is few may = omega (arith, is, few)
+few_after (Reserved reserved) c old after is few may = omega (arith, is, few)
+few_after (Bytes bytes) c old after is few may = omega (arith, is, may)
 
 -- no call carries more than all
 pub carried : (q : CallTable) (n : ℕ) (c : Call) (all : ℕ) → call_at q n ≡ Some c → all ≡ used q → length c.buffer ≤ all

@@ -18,7 +18,6 @@ ghost use Rattle.switchboard.specs.Board.{IsPending, IsCallOf, IsLimit, IsSwitch
 ghost use Rattle.phone_table.specs.Usable.{IsConnected};
 ghost use Rattle.switchboard.specs.Rooms.{KeepsCalls, KeepsRoom};
 
-use crate::counted::{answer, answer_with, front, leave, readdress, receive};
 use crate::counts::{count_out, count_up};
 use crate::kept::{kept_phone, lent_phone, unless_freed};
 use crate::phones::{
@@ -28,7 +27,7 @@ use crate::phones::{
 use crate::sharing::Share;
 use address_space::{SpaceFault, Spaces};
 use answerbox::Boxes;
-use call_slab::{Call, Place};
+use call_slab::{Call, Change, Place};
 use data_hooks::{read_accept, read_deliver, write_accept, write_before_send};
 use ipc_ids::{
     Buffer, CallNo, Code, Label, MethodKind, Msg, NoMemory, PhoneNo, PhoneState, Reply, StoreNo,
@@ -268,7 +267,7 @@ impl Switchboard {
         ensures live { IfSome result (λ n. IsSome (call_at self.now.state.calls n.0)) }
         ensures there { IfSome result (λ n. IsAt self.now.state.calls n.0 place) }
     {
-        front(&self.boxes, place)
+        self.boxes.front_uncounted(place)
     }
 
     /// How many live calls stand at this place.
@@ -345,7 +344,7 @@ impl Switchboard {
             ≡ with_calls self.old.state (without_call self.old.state.calls call.0) }
         ensures room { KeepsRoom self.old self.new 0 }
     {
-        let call = leave(&mut self.boxes, call);
+        let call = self.boxes.leave_uncounted(call);
         count_out(&mut self.phones, call.caller, call.from);
         call
     }
@@ -364,19 +363,29 @@ impl Switchboard {
         count_out(&mut self.phones, caller, from);
     }
 
-    /// The call is received by that task as this message, with this phone reserved.
-    pub(crate) fn dispatch(&mut self, call: CallNo, msg: Msg, reserved: Option<Label>, by: TaskNo)
+    /// The call is received by that task as this message, with this phone reserved. Returns the
+    /// label that the task sees.
+    pub(crate) fn dispatch(
+        &mut self,
+        call: CallNo,
+        msg: Msg,
+        reserved: Option<Label>,
+        by: TaskNo,
+    ) -> Label
         requires live { IsSome (call_at self.old.state.calls call.0) }
         requires added { IsAdded self.old.state by }
         requires reserved { MayReserve self.old.state (call_at self.old.state.calls call.0)
             reserved by }
         requires few_stamps { self.old.state.calls.next_stamp < 2 ^ 63 }
+        ensures number { IfSome (call_at self.old.state.calls call.0) (λ c. c.number ≡ call) }
+        ensures label { IfSome (call_at self.old.state.calls call.0) (λ c. c.label ≡ result) }
         ensures state { self.new.state ≡ with_calls self.old.state
             (received self.old.state.calls call.0 msg reserved (Dispatched by)) }
         ensures room { KeepsRoom self.old self.new 0 }
     {
-        let place = Place::Dispatched(by);
-        receive(&mut self.boxes, call, msg, reserved, place);
+        self.boxes.go_by(call, Place::Dispatched(by), |record| {
+            (Change::Receipt(msg, reserved), record.label)
+        })
     }
 
     /// The call takes a reply that does not accept to the answers of its caller. Returns the phone
@@ -392,11 +401,11 @@ impl Switchboard {
             ≡ with_calls self.old.state (with_declined self.old.state.calls call.0 reply caller) }
         ensures room { KeepsRoom self.old self.new 0 }
     {
-        let record = self.boxes.get(call).unwrap();
-        let (lent, reserved) = (lent_phone(record), record.reserved);
-        let (left, place) = (unless_freed(lent, reserved), Place::Answers(caller));
-        answer(&mut self.boxes, call, reply, left, place);
-        lent
+        self.boxes.go_by(call, Place::Answers(caller), |record| {
+            let lent = lent_phone(record);
+            let left = unless_freed(lent, record.reserved);
+            (Change::Answer(reply, left), lent)
+        })
     }
 
     /// How many phones the task has.
@@ -478,12 +487,11 @@ impl Switchboard {
             ≡ with_calls self.old.state (with_passed self.old.state.calls call.0 msg label to) }
         ensures room { KeepsRoom self.old self.new 0 }
     {
-        let record = self.boxes.get(call).unwrap();
-        let (lent, reserved) = (lent_phone(record), record.reserved);
-        let left = unless_freed(lent, reserved);
-        let place = Place::Incoming(to);
-        readdress(&mut self.boxes, call, msg, label, left, place);
-        lent
+        self.boxes.go_by(call, Place::Incoming(to), |record| {
+            let lent = lent_phone(record);
+            let left = unless_freed(lent, record.reserved);
+            (Change::Address(msg, label, left), lent)
+        })
     }
 
     /// Keeps the caller's first usable phone, before a CONNECT_ME_TO is sent.
@@ -538,11 +546,11 @@ impl Switchboard {
             (record { code = result.1; args = reply.now.args }) caller) }
         ensures room { KeepsRoom self.old self.new 0 }
     {
-        let record = self.boxes.get(call).unwrap();
-        let (kept, reserved) = (kept_phone(record), record.reserved);
+        let kept = kept_phone(self.boxes.get(call).unwrap());
         let code = connect_to_caller(t, kept, caller, &mut self.phones);
         let (args, place) = (reply.args, Place::Answers(caller));
-        answer(&mut self.boxes, call, Reply { code, args }, reserved, place);
+        let change = Change::Reply(Reply { code, args });
+        self.boxes.go_uncounted(call, change, place);
         (kept, code)
     }
 
@@ -567,11 +575,10 @@ impl Switchboard {
             (with_reply self.old.state.calls call.0 reply.now caller) }
         ensures room { KeepsRoom self.old self.new 0 }
     {
-        let record = self.boxes.get(call).unwrap();
-        let (kept, reserved) = (kept_phone(record), record.reserved);
+        let kept = self.boxes.go_by(call, Place::Answers(caller), |record| {
+            (Change::Reply(*reply), kept_phone(record))
+        });
         connect_to_answerer(kept, t, &mut self.phones);
-        let place = Place::Answers(caller);
-        answer(&mut self.boxes, call, *reply, reserved, place);
         kept
     }
 
@@ -586,9 +593,8 @@ impl Switchboard {
             ≡ with_calls self.old.state (with_reply self.old.state.calls call.0 reply.now caller) }
         ensures room { KeepsRoom self.old self.new 0 }
     {
-        let reserved = self.boxes.get(call).unwrap().reserved;
         let place = Place::Answers(caller);
-        answer(&mut self.boxes, call, *reply, reserved, place);
+        self.boxes.go_uncounted(call, Change::Reply(*reply), place);
     }
 
     /// The bytes of the caller that a DATA_WRITE with these arguments carries.
@@ -689,7 +695,8 @@ impl Switchboard {
         out_before_send(&self.spaces, caller, args)
     }
 
-    /// Gives the task or its caller an area over the store of one of the other's.
+    /// Gives the task or its caller an area over the store of one of the other's, as a call with
+    /// these arguments asks.
     ///
     /// # Errors
     ///
@@ -697,25 +704,22 @@ impl Switchboard {
     pub(crate) fn share(
         &mut self,
         way: Share,
-        call: CallNo,
+        asked: &[u64; 5],
         reply: &Reply,
         t: TaskNo,
         caller: TaskNo,
     ) -> Result<StoreNo, Code>
-        requires live { IsSome (call_at self.old.state.calls call.0) }
         requires added { IsAdded self.old.state t }
         requires caller { IsAdded self.old.state caller }
-        ensures told { IfSome (call_at self.old.state.calls call.0) (λ c. result
-            ≡ (share_step way self.old.state.memory caller t c.request.args reply.now).told) }
-        ensures state { IfSome (call_at self.old.state.calls call.0) (λ c. self.new.state
-            ≡ with_memory self.old.state
-            (share_step way self.old.state.memory caller t c.request.args reply.now).memory) }
+        ensures told { result
+            ≡ (share_step way self.old.state.memory caller t asked.now reply.now).told }
+        ensures state { self.new.state ≡ with_memory self.old.state
+            (share_step way self.old.state.memory caller t asked.now reply.now).memory }
         ensures keeps { KeepsCalls self.old self.new }
     {
-        let args = &self.boxes.get(call).unwrap().request.args;
         match way {
-            Share::Out => out_accept(&mut self.spaces, caller, t, args, reply),
-            Share::In => in_accept(&mut self.spaces, caller, t, args, reply),
+            Share::Out => out_accept(&mut self.spaces, caller, t, asked, reply),
+            Share::In => in_accept(&mut self.spaces, caller, t, asked, reply),
         }
     }
 
@@ -732,8 +736,8 @@ impl Switchboard {
             (with_bytes self.old.state.calls call.0 reply bytes caller) }
         ensures room { KeepsRoom self.old self.new 0 }
     {
-        let place = Place::Answers(caller);
-        answer_with(&mut self.boxes, call, reply, bytes, place);
+        let (change, place) = (Change::AnswerWith(reply, bytes), Place::Answers(caller));
+        self.boxes.go_uncounted(call, change, place);
     }
 
     /// The phone, where there is one, is free. No call keeps it.

@@ -137,9 +137,7 @@ impl Switchboard {
             reserved,
             note,
         } = arrival;
-        let call = self.get(number).unwrap();
-        let (number, label) = (call.number, call.label);
-        self.dispatch(number, msg, reserved, who);
+        let label = self.dispatch(number, msg, reserved, who);
         out.push(Entry::Received {
             call: number,
             by: who,

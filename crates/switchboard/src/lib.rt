@@ -8,7 +8,6 @@
 
 mod areas;
 mod board;
-mod counted;
 mod counts;
 mod data;
 mod joins;

@@ -60,7 +60,7 @@ impl Switchboard {
         ensures room { UsesRoom self.old self.new out.old out.new 0 1 2 }
     {
         let asked = self.get(number).unwrap().request.args;
-        let told = self.share(way, number, reply, who, caller);
+        let told = self.share(way, &asked, reply, who, caller);
         let (code, args) = (code_told(&told), reply.args);
         let (task, base) = (way.taker(who, caller), way.base(&asked, &args));
         let note = shared_note(task, base, asked[1], asked[2], &told);

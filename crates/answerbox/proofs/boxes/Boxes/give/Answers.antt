@@ -6,9 +6,6 @@ use Rattle.answerbox.proofs.Names.{live_key}
 use Rattle.answerbox.proofs.Used.{used-changed, are_named, used_is, few_after, carried}
 use Rattle.answerbox.proofs.boxes.Boxes.give.Goals as goal
 
-pub new-steps-requires : goal.new-steps-requires
-new-steps-requires g c = record { name = c.requires.blank.0; parts = c.requires.blank.1; some = c.requires.blank.2 }
-
 pub unwrap-key-requires : goal.unwrap-key-requires
 unwrap-key-requires g c = rw c.key_of.ensures.key (live_key c.self.inside.calls c.args.call.0 c.self.invariant.0.named (rw (← c.self.view_is) at c.requires.live))
 
@@ -18,7 +15,7 @@ invariant_of-self g c =
     let named = are_named c.self.inside.calls c.self.inside.next_number c.self.inside.next_stamp c.self.invariant.0.named in
     let sum = used-changed (table_of c.self.inside.calls c.self.inside.next_number c.self.inside.next_stamp) c.args.call.0 (changed c.args.change) c.get.result.now named (change_number c.args.change) there in
     let table = ap used (given_table c.self.inside.calls c.change.new.self c.self.inside.queues.items c.self.inside.owns.items c.self.inside.next_number c.self.inside.next_stamp c.args.call.0 c.unwrap-key.result (changed c.args.change) (change_number c.args.change) (change_row c.args.change) (change_stamp c.args.change) (change_caller c.args.change) c.self.invariant.0 (sym c.key_of.ensures.key ∙ c.unwrap-key.ensures) c.change.ensures.calls) in
-    (given_keeps c.self.inside.calls c.change.new.self c.self.inside.queues.items c.self.inside.owns.items c.self.inside.next_number c.self.inside.next_stamp c.args.call.0 c.unwrap-key.result (changed c.args.change) (change_number c.args.change) (change_row c.args.change) (change_stamp c.args.change) (change_caller c.args.change) c.self.invariant.0 (sym c.key_of.ensures.key ∙ c.unwrap-key.ensures) c.change.ensures.calls, used_is _ _ _ _ _ _ c.used_after-used.ensures sum _ table c.self.invariant.1, few_after c.args.change c.get.result.now c.self.inside.used c.used_after-used.result c.used_after-used.ensures (rw (← c.self.view_is, ← c.self.invariant.1) at c.requires.few_bytes))
+    (given_keeps c.self.inside.calls c.change.new.self c.self.inside.queues.items c.self.inside.owns.items c.self.inside.next_number c.self.inside.next_stamp c.args.call.0 c.unwrap-key.result (changed c.args.change) (change_number c.args.change) (change_row c.args.change) (change_stamp c.args.change) (change_caller c.args.change) c.self.invariant.0 (sym c.key_of.ensures.key ∙ c.unwrap-key.ensures) c.change.ensures.calls, used_is _ _ _ _ _ _ c.used_after-used.ensures sum _ table c.self.invariant.1, few_after c.args.change c.get.result.now c.self.inside.used c.used_after-used.result c.used_after-used.ensures c.self.invariant.2 (rw (← c.self.view_is, ← c.self.invariant.1) at c.requires.few_bytes))
 
 pub returns-clause-calls : goal.returns-clause-calls
 returns-clause-calls g c = rw (← c.self.view_is) (given_table c.self.inside.calls c.change.new.self c.self.inside.queues.items c.self.inside.owns.items c.self.inside.next_number c.self.inside.next_stamp c.args.call.0 c.unwrap-key.result (changed c.args.change) (change_number c.args.change) (change_row c.args.change) (change_stamp c.args.change) (change_caller c.args.change) c.self.invariant.0 (sym c.key_of.ensures.key ∙ c.unwrap-key.ensures) c.change.ensures.calls)

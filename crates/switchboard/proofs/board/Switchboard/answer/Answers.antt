@@ -1,40 +1,28 @@
-use Rattle.std.proofs.Common.{◌≡◌, Some, None, arith, refl, sym, ap, ◌∙◌, inr}
-use Rattle.std.specs.Option.{option_copied}
+use Rattle.std.proofs.Common.{◌≡◌, Some, None, arith, refl, inr}
+use Rattle.call_slab.specs.declared.call.Call.{Call}
 use Rattle.call_slab.specs.declared.call.Place.TheVariants.{Answers}
 use Rattle.answerbox.specs.Calls.{call_at}
 use Rattle.switchboard.specs.Kept.{kept_phone}
-use Rattle.switchboard.proofs.Endings.{within}
 use Rattle.switchboard.proofs.Inner.{inner}
 use Rattle.switchboard.proofs.KeptCalls.{kept_put}
-use Rattle.switchboard.proofs.Live.{live_reply}
+use Rattle.switchboard.proofs.Live.{called, live_reply}
 use Rattle.switchboard.proofs.Switched.{switched_put}
 use Rattle.switchboard.proofs.board.Switchboard.answer.Goals as goal
-
-pub answer-requires-clause-task : goal.answer-requires-clause-task
-answer-requires-clause-task c =
-    let i = c.self.inside in
-    let l = within i.alive.items c.args.caller.0 (rw (← c.self.view_is) at c.requires.alive) in
-    omega (arith, c.self.invariant.0.places, l)
 
 pub invariant_of-self : goal.invariant_of-self
 invariant_of-self c =
     let i = c.self.inside in
-    let r = c.unwrap.result.now in
-    let is : call_at i.boxes.calls c.args.call.0 ≡ Some r = sym c.get.ensures.call ∙ ap option_copied c.unwrap.ensures in
+    let found = called (call_at i.boxes.calls c.args.call.0) c.args.caller (rw (← c.self.view_is) at c.requires.called) in
+    let r : Call = found.0 in
+    let is : call_at i.boxes.calls c.args.call.0 ≡ Some r = found.1 in
     let none : kept_phone (record r { reply = c.args.reply.now; place = Answers c.args.caller }) ≡ None = rw is at (rw (← c.self.view_is) at c.requires.unkept) in
-    rw (c.answer.ensures.calls, c.answer.ensures.tasks, is)
+    rw (c.go_uncounted.ensures.calls, c.go_uncounted.ensures.tasks, is)
     (switched_put c.args.call.0 r (record r { reply = c.args.reply.now }) (Answers c.args.caller) c.self.invariant.0 is refl refl refl refl (kept_put (inner i) c.args.call.0 r (record r { reply = c.args.reply.now }) (Answers c.args.caller) c.self.invariant.0.kept is (c.self.invariant.0.has_counts.numbered c.args.call.0 r is) (inr (rw none tt))), c.self.invariant.1)
-
-pub returns-clause-state : goal.returns-clause-state
-returns-clause-state c =
-    let r = c.unwrap.result.now in
-    let is : call_at c.self.inside.boxes.calls c.args.call.0 ≡ Some r = sym c.get.ensures.call ∙ ap option_copied c.unwrap.ensures in
-    rw (← c.self.view_is, c.answer.ensures.calls, is) refl
 
 pub returns-clause-room : goal.returns-clause-room
 returns-clause-room c =
     let i = c.self.inside in
-    let r = c.unwrap.result.now in
-    let is : call_at i.boxes.calls c.args.call.0 ≡ Some r = sym c.get.ensures.call ∙ ap option_copied c.unwrap.ensures in
+    let found = called (call_at i.boxes.calls c.args.call.0) c.args.caller (rw (← c.self.view_is) at c.requires.called) in
+    let is : call_at i.boxes.calls c.args.call.0 ≡ Some found.0 = found.1 in
     let l = live_reply i.phones.states i.phones.counts i.boxes.calls c.args.call.0 c.self.invariant.0.has_counts (rw is refl) c.args.reply.now c.args.caller in
-    rw (← c.self.view_is, c.answer.ensures.calls, is) (record { live = omega (arith, rw is at l); calls = omega (arith, c.answer.ensures.spare); places = c.answer.ensures.tasks })
+    rw (← c.self.view_is, c.go_uncounted.ensures.calls, is) (record { live = omega (arith, rw is at l); calls = omega (arith, c.go_uncounted.ensures.spare); places = c.go_uncounted.ensures.tasks })

@@ -3,18 +3,11 @@ use Rattle.call_slab.specs.declared.call.Call.{Call}
 use Rattle.call_slab.specs.declared.call.Place.TheVariants.{Answers}
 use Rattle.answerbox.specs.Calls.{call_at}
 use Rattle.switchboard.specs.Kept.{kept_phone}
-use Rattle.switchboard.proofs.Endings.{within}
 use Rattle.switchboard.proofs.Inner.{inner}
 use Rattle.switchboard.proofs.KeptCalls.{kept_put}
 use Rattle.switchboard.proofs.Live.{called, live_bytes}
 use Rattle.switchboard.proofs.Switched.{switched_bytes}
 use Rattle.switchboard.proofs.board.Switchboard.answer_with.Goals as goal
-
-pub answer_with-requires-clause-task : goal.answer_with-requires-clause-task
-answer_with-requires-clause-task c =
-    let i = c.self.inside in
-    let l = within i.alive.items c.args.caller.0 (rw (← c.self.view_is) at c.requires.alive) in
-    omega (arith, c.self.invariant.0.places, l)
 
 pub invariant_of-self : goal.invariant_of-self
 invariant_of-self c =
@@ -23,7 +16,7 @@ invariant_of-self c =
     let r : Call = found.0 in
     let is : call_at i.boxes.calls c.args.call.0 ≡ Some r = found.1 in
     let none : kept_phone (record r { reply = c.args.reply; place = Answers c.args.caller }) ≡ None = rw is at (rw (← c.self.view_is) at c.requires.unkept) in
-    rw (c.answer_with.ensures.calls, c.answer_with.ensures.tasks, is)
+    rw (c.go_uncounted.ensures.calls, c.go_uncounted.ensures.tasks, is)
     (switched_bytes c.args.call.0 r (record r { reply = c.args.reply; buffer = c.args.bytes }) (Answers c.args.caller) c.self.invariant.0 is refl refl refl (rw (← c.self.view_is) at c.requires.room) (kept_put (inner i) c.args.call.0 r (record r { reply = c.args.reply; buffer = c.args.bytes }) (Answers c.args.caller) c.self.invariant.0.kept is (c.self.invariant.0.has_counts.numbered c.args.call.0 r is) (inr (rw none tt))), c.self.invariant.1)
 
 pub returns-clause-room : goal.returns-clause-room
@@ -32,4 +25,4 @@ returns-clause-room c =
     let found = called (call_at i.boxes.calls c.args.call.0) c.args.caller (rw (← c.self.view_is) at c.requires.called) in
     let is : call_at i.boxes.calls c.args.call.0 ≡ Some found.0 = found.1 in
     let l = live_bytes i.phones.states i.phones.counts i.boxes.calls c.args.call.0 c.self.invariant.0.has_counts (rw is refl) c.args.reply c.args.bytes c.args.caller in
-    rw (← c.self.view_is, c.answer_with.ensures.calls, is) (record { live = omega (arith, rw is at l); calls = omega (arith, c.answer_with.ensures.spare); places = c.answer_with.ensures.tasks })
+    rw (← c.self.view_is, c.go_uncounted.ensures.calls, is) (record { live = omega (arith, rw is at l); calls = omega (arith, c.go_uncounted.ensures.spare); places = c.go_uncounted.ensures.tasks })

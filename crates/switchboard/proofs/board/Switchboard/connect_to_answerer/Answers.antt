@@ -1,12 +1,10 @@
-use Rattle.std.proofs.Common.{◌≡◌, Some, arith, refl, sym, ap, ◌∙◌, inr, length}
-use Rattle.std.specs.Option.{option_copied}
+use Rattle.std.proofs.Common.{rules, ◌≡◌, arith, refl, inr, length}
 use Rattle.ipc_ids.specs.declared.message.PhoneState.TheVariants.{Connected}
 use Rattle.ipc_ids.specs.declared.methods.MethodKind.TheVariants.{ConnectMeTo}
 use Rattle.call_slab.specs.declared.call.Place.TheVariants.{Answers}
-use Rattle.answerbox.specs.Calls.{call_at}
+use Rattle.answerbox.specs.Calls.{put_at}
 use Rattle.switchboard.specs.Board.{IsAdded, IsHeldCall}
 use Rattle.switchboard.specs.Kept.{kept_phone}
-use Rattle.switchboard.proofs.Endings.{within}
 use Rattle.switchboard.proofs.Inner.{inner}
 use Rattle.switchboard.proofs.Keepers.{waiting_there}
 use Rattle.switchboard.proofs.KeptCalls.{answerer_keeps, kept_put, put_unkept}
@@ -15,30 +13,27 @@ use Rattle.switchboard.proofs.Switched.{leads_here, switched_kept, switched_put}
 use Rattle.switchboard.proofs.Usable.{kept_waits}
 use Rattle.switchboard.proofs.board.Switchboard.connect_to_answerer.Goals as goal
 
-pub answer-requires-clause-task : goal.answer-requires-clause-task
-answer-requires-clause-task c =
-    let i = c.self.inside in
-    let l = within i.alive.items c.args.caller.0 (rw (← c.self.view_is) at c.requires.alive) in
-    omega (arith, c.self.invariant.0.places, l)
-
 pub connect_to_answerer-requires : goal.connect_to_answerer-requires
 connect_to_answerer-requires c =
     let i = c.self.inside in
-    let r = c.unwrap-record.result.now in
-    let is : call_at i.boxes.calls c.args.call.0 ≡ Some r = sym c.get.ensures.call ∙ ap option_copied c.unwrap-record.ensures in
-    record { waits = rw c.kept_phone-kept.ensures (kept_waits i.phones.states i.boxes.calls c.args.call.0 r c.self.invariant.0.kept is) }
+    let r = c.go_by-kept.ensures.record_was in
+    let is = c.go_by-kept.ensures.there in
+    let keeps : c.go_by-kept.result ≡ kept_phone r = search rules in
+    record { waits = rw keeps (kept_waits i.phones.states i.boxes.calls c.args.call.0 r c.self.invariant.0.kept is) }
 
 pub invariant_of-self : goal.invariant_of-self
 invariant_of-self c =
     let i = c.self.inside in
-    let r = c.unwrap-record.result.now in
-    let is : call_at i.boxes.calls c.args.call.0 ≡ Some r = sym c.get.ensures.call ∙ ap option_copied c.unwrap-record.ensures in
+    let r = c.go_by-kept.ensures.record_was in
+    let is = c.go_by-kept.ensures.there in
     let held : IsHeldCall r ConnectMeTo c.args.t c.args.caller = rw is at (rw (← c.self.view_is) at c.requires.held) in
     let added : IsAdded (inner i) c.args.t = rw (← c.self.view_is) at c.requires.added in
     let number = c.self.invariant.0.has_counts.numbered c.args.call.0 r is in
     let none = answerer_keeps r c.args.t c.args.caller c.args.reply.now held c.requires.accepts in
     let kept = kept_put (inner i) c.args.call.0 r (record r { reply = c.args.reply.now }) (Answers c.args.caller) c.self.invariant.0.kept is number (inr (rw none tt)) in
-    rw (c.answer.ensures.calls, c.answer.ensures.tasks, is, c.connect_to_answerer.ensures.states, c.connect_to_answerer.ensures.counts, c.kept_phone-kept.ensures) (
+    let goes : c.go_by-kept.new.self.calls ≡ put_at i.boxes.calls (record r { reply = c.args.reply.now }) (Answers c.args.caller) = search rules in
+    let keeps : c.go_by-kept.result ≡ kept_phone r = search rules in
+    rw (goes, c.go_by-kept.ensures.goes.tasks, c.connect_to_answerer.ensures.states, c.connect_to_answerer.ensures.counts, keeps) (
       switched_kept (kept_phone r) (Connected c.args.t)
           (switched_put c.args.call.0 r (record r { reply = c.args.reply.now }) (Answers c.args.caller) c.self.invariant.0 is refl refl refl refl kept)
           (waiting_there i.phones.states (kept_phone r) (kept_waits i.phones.states i.boxes.calls c.args.call.0 r c.self.invariant.0.kept is))
@@ -47,17 +42,11 @@ invariant_of-self c =
       c.self.invariant.1,
     )
 
-pub returns-clause-state : goal.returns-clause-state
-returns-clause-state c =
-    let i = c.self.inside in
-    let r = c.unwrap-record.result.now in
-    let is : call_at i.boxes.calls c.args.call.0 ≡ Some r = sym c.get.ensures.call ∙ ap option_copied c.unwrap-record.ensures in
-    rw (← c.self.view_is, c.answer.ensures.calls, is, c.connect_to_answerer.ensures.states, c.kept_phone-kept.ensures) refl
-
 pub returns-clause-room : goal.returns-clause-room
 returns-clause-room c =
     let i = c.self.inside in
-    let r = c.unwrap-record.result.now in
-    let is : call_at i.boxes.calls c.args.call.0 ≡ Some r = sym c.get.ensures.call ∙ ap option_copied c.unwrap-record.ensures in
+    let r = c.go_by-kept.ensures.record_was in
+    let is = c.go_by-kept.ensures.there in
     let l = live_reply i.phones.states i.phones.counts i.boxes.calls c.args.call.0 c.self.invariant.0.has_counts (rw is refl) c.args.reply.now c.args.caller in
-    rw (← c.self.view_is, c.answer.ensures.calls, is) (record { live = omega (arith, rw is at l); calls = omega (arith, c.answer.ensures.spare); places = c.answer.ensures.tasks })
+    let goes : c.go_by-kept.new.self.calls ≡ put_at i.boxes.calls (record r { reply = c.args.reply.now }) (Answers c.args.caller) = search rules in
+    rw (← c.self.view_is, goes) (record { live = omega (arith, rw is at l); calls = omega (arith, c.go_by-kept.ensures.goes.spare); places = c.go_by-kept.ensures.goes.tasks })

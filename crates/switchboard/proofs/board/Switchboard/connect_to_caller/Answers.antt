@@ -15,39 +15,33 @@ use Rattle.switchboard.proofs.Switched.{leads_here, switched_kept, switched_put}
 use Rattle.switchboard.proofs.Usable.{kept_waits}
 use Rattle.switchboard.proofs.board.Switchboard.connect_to_caller.Goals as goal
 
-pub answer-requires-clause-task : goal.answer-requires-clause-task
-answer-requires-clause-task c =
-    let i = c.self.inside in
-    let l = within i.alive.items c.args.caller.0 (rw (← c.self.view_is) at c.requires.alive) in
-    omega (arith, c.self.invariant.0.places, l)
-
 pub connect_to_caller-code-requires-clause-own : goal.connect_to_caller-code-requires-clause-own
 connect_to_caller-code-requires-clause-own c =
     let i = c.self.inside in
-    let r = c.unwrap-record.result.now in
-    let is : call_at i.boxes.calls c.args.call.0 ≡ Some r = sym c.get.ensures.call ∙ ap option_copied c.unwrap-record.ensures in
+    let r = c.unwrap.result.now in
+    let is : call_at i.boxes.calls c.args.call.0 ≡ Some r = sym c.get.ensures.call ∙ ap option_copied c.unwrap.ensures in
     let held : IsHeldCall r ConnectToMe c.args.t c.args.caller = rw is at (rw (← c.self.view_is) at c.requires.held) in
     rw c.kept_phone-kept.ensures (held_own r c.args.t c.args.caller held)
 
 pub connect_to_caller-code-requires-clause-waits : goal.connect_to_caller-code-requires-clause-waits
 connect_to_caller-code-requires-clause-waits c =
     let i = c.self.inside in
-    let r = c.unwrap-record.result.now in
-    let is : call_at i.boxes.calls c.args.call.0 ≡ Some r = sym c.get.ensures.call ∙ ap option_copied c.unwrap-record.ensures in
+    let r = c.unwrap.result.now in
+    let is : call_at i.boxes.calls c.args.call.0 ≡ Some r = sym c.get.ensures.call ∙ ap option_copied c.unwrap.ensures in
     rw c.kept_phone-kept.ensures (kept_waits i.phones.states i.boxes.calls c.args.call.0 r c.self.invariant.0.kept is)
 
 pub invariant_of-self : goal.invariant_of-self
 invariant_of-self c =
     let i = c.self.inside in
-    let r = c.unwrap-record.result.now in
-    let is : call_at i.boxes.calls c.args.call.0 ≡ Some r = sym c.get.ensures.call ∙ ap option_copied c.unwrap-record.ensures in
+    let r = c.unwrap.result.now in
+    let is : call_at i.boxes.calls c.args.call.0 ≡ Some r = sym c.get.ensures.call ∙ ap option_copied c.unwrap.ensures in
     let held : IsHeldCall r ConnectToMe c.args.t c.args.caller = rw is at (rw (← c.self.view_is) at c.requires.held) in
     let added = within i.alive.items c.args.caller.0 (rw (← c.self.view_is) at c.requires.alive) in
     let number = c.self.invariant.0.has_counts.numbered c.args.call.0 r is in
     let reply = record c.args.reply.now { code = c.connect_to_caller-code.result } in
     let none = caller_keeps r c.args.t c.args.caller reply held in
     let kept = kept_put (inner i) c.args.call.0 r (record r { reply = reply }) (Answers c.args.caller) c.self.invariant.0.kept is number (inr (rw none tt)) in
-    rw (c.answer.ensures.calls, c.answer.ensures.tasks, is, c.connect_to_caller-code.ensures.states, c.connect_to_caller-code.ensures.counts, c.kept_phone-kept.ensures) (
+    rw (c.go_uncounted.ensures.calls, c.go_uncounted.ensures.tasks, is, c.connect_to_caller-code.ensures.states, c.connect_to_caller-code.ensures.counts, c.kept_phone-kept.ensures) (
       switched_kept (kept_phone r) (Connected c.args.caller)
           (switched_put c.args.call.0 r (record r { reply = reply }) (Answers c.args.caller) c.self.invariant.0 is refl refl refl refl kept)
           (waiting_there i.phones.states (kept_phone r) (kept_waits i.phones.states i.boxes.calls c.args.call.0 r c.self.invariant.0.kept is))
@@ -59,14 +53,14 @@ invariant_of-self c =
 pub returns-clause-state : goal.returns-clause-state
 returns-clause-state c =
     let i = c.self.inside in
-    let r = c.unwrap-record.result.now in
-    let is : call_at i.boxes.calls c.args.call.0 ≡ Some r = sym c.get.ensures.call ∙ ap option_copied c.unwrap-record.ensures in
-    rw (← c.self.view_is, c.answer.ensures.calls, is, c.connect_to_caller-code.ensures.states, c.kept_phone-kept.ensures) refl
+    let r = c.unwrap.result.now in
+    let is : call_at i.boxes.calls c.args.call.0 ≡ Some r = sym c.get.ensures.call ∙ ap option_copied c.unwrap.ensures in
+    rw (← c.self.view_is, c.go_uncounted.ensures.calls, is, c.connect_to_caller-code.ensures.states, c.kept_phone-kept.ensures) refl
 
 pub returns-clause-room : goal.returns-clause-room
 returns-clause-room c =
     let i = c.self.inside in
-    let r = c.unwrap-record.result.now in
-    let is : call_at i.boxes.calls c.args.call.0 ≡ Some r = sym c.get.ensures.call ∙ ap option_copied c.unwrap-record.ensures in
+    let r = c.unwrap.result.now in
+    let is : call_at i.boxes.calls c.args.call.0 ≡ Some r = sym c.get.ensures.call ∙ ap option_copied c.unwrap.ensures in
     let l = live_reply i.phones.states i.phones.counts i.boxes.calls c.args.call.0 c.self.invariant.0.has_counts (rw is refl) (record c.args.reply.now { code = c.connect_to_caller-code.result }) c.args.caller in
-    rw (← c.self.view_is, c.answer.ensures.calls, is) (record { live = omega (arith, rw is at l); calls = omega (arith, c.answer.ensures.spare); places = c.answer.ensures.tasks })
+    rw (← c.self.view_is, c.go_uncounted.ensures.calls, is) (record { live = omega (arith, rw is at l); calls = omega (arith, c.go_uncounted.ensures.spare); places = c.go_uncounted.ensures.tasks })
