@@ -39,22 +39,24 @@ wanted_at registers (Some operation) = request_of registers operation
 abbrev pub wanted : RawState → Request
 wanted raw = wanted_at raw.registers (operation raw)
 
--- what an outcome makes of a program with this next operation
-abbrev pub after_at : RawState → Outcome → Option Op → RawState
-after_at raw got None = raw
-after_at raw got (Some operation) =
-    record raw {
-      place = place_after raw.registers raw.place operation got;
-      registers = registers_after raw.registers operation got;
-    }
+-- the registers after the next operation, if there is one, whose request had this outcome
+abbrev pub registers_by : List ℕ → Outcome → Option Op → List ℕ
+registers_by registers got None = registers
+registers_by registers got (Some operation) = registers_after registers operation got
 
--- one outcome more than before
-abbrev pub and_taken : ℕ → RawState → RawState
-and_taken before raw = record raw { taken = before + 1 }
+-- the place after it
+abbrev pub place_by : List ℕ → ℕ → Outcome → Option Op → ℕ
+place_by registers place got None = place
+place_by registers place got (Some operation) = place_after registers place operation got
 
 -- what an outcome makes of a program
 abbrev pub after : RawState → Outcome → RawState
-after raw got = and_taken raw.taken (after_at raw got (operation raw))
+after raw got =
+    record raw {
+      place = place_by raw.registers raw.place got (operation raw);
+      registers = registers_by raw.registers got (operation raw);
+      taken = raw.taken + 1;
+    }
 
 -- it has no entries of its own
 abbrev pub entries : RawState → Outcome → List Entry

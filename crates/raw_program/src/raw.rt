@@ -1,8 +1,7 @@
 //! The raw program, which does one operation of its body at a time.
 ghost use Rattle.std.specs.Prelude.{◌≡◌, ◌+◌, ◌^◌, ◌<◌, ◌++◌, true, IfOk, IsOk};
 ghost use Rattle.ipc_ids.specs.Program.{fits};
-ghost use Rattle.raw_program.specs.Raw.{started, operation, request_of, after_at};
-ghost use Rattle.raw_program.specs.Raw.{wanted, after, entries, taken};
+ghost use Rattle.raw_program.specs.Raw.{started, request_of, wanted, after, entries, taken};
 
 use crate::operations::Operations;
 use ipc_ids::{NoMemory, Op, Outcome, Program, Request, Trace};
@@ -57,9 +56,10 @@ impl Program for RawProgram {
         ensures entries { out.new.entries ≡ out.old.entries ++ entries self.old got.now }
         ensures taken { taken self.new ≡ taken self.old + 1 }
     {
-        let taken = self.taken;
-        self.step(got);
-        self.taken = taken + 1;
+        if let Some(op) = self.ops.get(self.place) {
+            self.place = self.registers.step(self.place, op, got);
+        }
+        self.taken += 1;
         Ok(())
     }
 
@@ -97,15 +97,6 @@ impl RawProgram {
         ensures { result.now ≡ self.now.registers }
     {
         self.registers.as_slice()
-    }
-
-    /// Does what an outcome says, and counts nothing.
-    fn step(&mut self, got: &Outcome)
-        ensures { self.new ≡ after_at self.old got.now (operation self.old) }
-    {
-        if let Some(op) = self.ops.get(self.place) {
-            self.place = self.registers.step(self.place, op, got);
-        }
     }
 
     fn request(&self, op: &Op) -> Request
