@@ -22,6 +22,7 @@ use Rattle.ipc_ids.specs.declared.op.Op.{Op}
 use Rattle.ipc_ids.specs.declared.op.Op.TheVariants as op
 use Rattle.ipc_ids.specs.Codes.{eok, elimit, ehangup}
 use Rattle.ipc_ids.specs.Methods.{connect_me_to}
+use Rattle.registers.specs.Registers.{value_in}
 use Rattle.fibril_core.specs.declared.conn.Conn.{Conn}
 use Rattle.fibril_core.specs.declared.conn.Queued.{Queued}
 use Rattle.fibril_core.specs.declared.conn.Taken.{Taken}
@@ -47,7 +48,7 @@ use Rattle.async_task.specs.declared.context.Slot.TheVariants as slot
 use Rattle.async_task.specs.declared.context.Context.{Context}
 use Rattle.async_task.specs.Turns.{Turn}
 use Rattle.async_task.specs.Turns as turn
-use Rattle.async_task.specs.Contexts.{slot_at, handle_at, value_of, at_next, with_received}
+use Rattle.async_task.specs.Contexts.{slot_at, handle_at, at_next, with_received}
 use Rattle.async_laws.proofs.WakeSlots.{context_set}
 use Rattle.async_task.specs.AsyncState.{AsyncState, without_entries, context_at, present_op}
 use Rattle.async_task.specs.Turns.{turn_now, work_turn}
@@ -205,7 +206,7 @@ does_same_but_next a f t (op.Wait k) o other = wait_same a f t k (slot_at t k)
 does_same_but_next a f t op.Next o other = absurd (other refl)
 does_same_but_next a f t op.Yield o other = (refl, refl)
 does_same_but_next a f t (op.OpenSession s phone m) o other =
-    let b : AsyncState = with_pool a (make_after a.pool s (value_of t phone) m (session_at a.pool s)) in
+    let b : AsyncState = with_pool a (make_after a.pool s (value_in t.registers phone) m (session_at a.pool s)) in
     let same : IsSame b (open_outcome b f t (made (session_at a.pool s))).state =
     open_same b f t (made (session_at a.pool s)) in
     (same.0, same.1)
@@ -635,7 +636,7 @@ does_kept a f t op.Next o n kept is = next_by is
     next_by (inl h) = held_by (take_held n a.conns f kept.conns h)
 does_kept a f t op.Yield o n kept is = does_same a f t op.Yield o n (refl, refl) is
 does_kept a f t (op.OpenSession s phone m) o n kept is =
-    let b : AsyncState = with_pool a (make_after a.pool s (value_of t phone) m (session_at a.pool s)) in
+    let b : AsyncState = with_pool a (make_after a.pool s (value_in t.registers phone) m (session_at a.pool s)) in
     let same : IsSame b (open_outcome b f t (made (session_at a.pool s))).state =
     open_same b f t (made (session_at a.pool s)) in
     does_same a f t (op.OpenSession s phone m) o n (same.0, same.1) is

@@ -22,6 +22,7 @@ use Rattle.ipc_ids.specs.declared.op.Op.TheVariants as op
 use Rattle.ipc_ids.specs.Codes.{eok, enoent, ebusy, elimit}
 use Rattle.ipc_ids.specs.Methods.{connect_me_to}
 use Rattle.ipc_ids.specs.Replies.{Waiter}
+use Rattle.registers.specs.Registers.{value_in}
 use Rattle.fibril_core.specs.declared.conn.Conn.{Conn}
 use Rattle.fibril_core.specs.declared.conn.Taken.{Taken}
 use Rattle.fibril_core.specs.declared.conn.Taken.TheVariants as taken
@@ -49,7 +50,7 @@ use Rattle.async_task.specs.declared.context.Slot.TheVariants as slot
 use Rattle.async_task.specs.declared.context.Context.{Context}
 use Rattle.async_task.specs.Turns.{Turn}
 use Rattle.async_task.specs.Turns as turn
-use Rattle.async_task.specs.Contexts.{slot_at, handle_at, value_of, with_slot, with_short, at_next, with_received}
+use Rattle.async_task.specs.Contexts.{slot_at, handle_at, with_slot, with_short, at_next, with_received}
 use Rattle.async_task.specs.Contexts.{new_context, after_done, after_refused, after_accepted, after_answered}
 use Rattle.async_task.specs.Contexts.{after_begun}
 use Rattle.async_task.specs.Kept.{kept_at}
@@ -244,13 +245,6 @@ close_code o s waits (Some x) c h = by (waits || any_begun s o.exchanges) h
     by true g = let same : ebusy ≡ c = cc g in λ e. not_ebusy (same ∙ e)
     by false g = idle (first_idle (Some s) o.exchanges) g
 
-raw_short : (t : Context) (p : Op) (o : Outcome) → (after_raw t p o).short ≡ t.short
-raw_short t p o = grind arith
-
-outcome_short : (t : Context) (o : Outcome) → (after_outcome t o).short ≡ t.short
-outcome_short t (outcome.Refused c) = refl
-outcome_short t _ = refl
-
 -- what each part of an event keeps, where X is to say of the fibril at a place that it met the limit
 module _ (X : ℕ → Type 0) (a : AsyncState) where
   abbrev Was : ℕ → Type 0
@@ -362,7 +356,7 @@ module _ (X : ℕ → Type 0) (a : AsyncState) where
     closed s o (close.HangIdle e phone) is_plan =
         (same_short (close_op a f t s o (close.HangIdle e phone)).state refl, tt)
     closed s o (close.Last phone) is_plan =
-        (kept (with_pool a (close_after a.pool s (close.Last phone))) (after_outcome t o) refl (outcome_short t o), tt)
+        (kept (with_pool a (close_after a.pool s (close.Last phone))) (after_outcome t o) refl refl, tt)
     closed s o (close.Refused c) is_plan =
         refused (with_pool a (close_after a.pool s (close.Refused c))) c refl
         (close_code a.pool s _ (session_at a.pool s) c is_plan)
@@ -377,12 +371,12 @@ module _ (X : ℕ → Type 0) (a : AsyncState) where
     does op.Next o met = nexts (take_answer (conn_of_fibril f a.conns))
     does op.Yield o met = (kept a (at_next t) refl refl, tt)
     does (op.OpenSession s phone m) o met =
-        opened (make_after a.pool s (value_of t phone) m (session_at a.pool s)) (session_at a.pool s)
+        opened (make_after a.pool s (value_in t.registers phone) m (session_at a.pool s)) (session_at a.pool s)
     does (op.Begin x s) o met =
         begins x s o (plan_begin a f t x s) refl (λ phone e g. met x s phone refl e g)
     does (op.End x) o met = ended x (handle_at t x)
     does (op.Close s) o met = closed s o (plan_close a s) refl
-    does p o met = (kept a (after_raw t p o) refl (raw_short t p o), tt)
+    does p o met = (kept a (after_raw t p o) refl refl, tt)
 
   -- a call comes
 

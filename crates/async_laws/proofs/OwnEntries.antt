@@ -19,6 +19,7 @@ use Rattle.ipc_ids.specs.declared.message.Outcome.{Outcome}
 use Rattle.ipc_ids.specs.declared.message.Outcome.TheVariants as outcome
 use Rattle.ipc_ids.specs.Codes.{eok, elimit}
 use Rattle.ipc_ids.specs.Methods.{connect_me_to}
+use Rattle.registers.specs.Registers.{value_in}
 use Rattle.fibril_core.specs.declared.conn.Taken.{Taken}
 use Rattle.fibril_core.specs.Fibrils.{why_of}
 use Rattle.fibril_core.specs.Conns as conns
@@ -34,7 +35,7 @@ use Rattle.async_task.specs.declared.context.Slot.{Slot}
 use Rattle.async_task.specs.declared.context.Context.{Context}
 use Rattle.async_task.specs.Turns.{Turn}
 use Rattle.async_task.specs.Turns as turn
-use Rattle.async_task.specs.Contexts.{slot_at, handle_at, value_of}
+use Rattle.async_task.specs.Contexts.{slot_at, handle_at}
 use Rattle.async_task.specs.AsyncState.{AsyncState, context_at, present_op}
 use Rattle.async_task.specs.Turns.{turn_now}
 use Rattle.async_task.specs.Wanted.{phone_by, plan_begin, plan_close}
@@ -130,7 +131,7 @@ own_op a f t (op.Wait k) o = own_wait a f t k (slot_at t k)
 own_op a f t op.Next o =
     own_next (with_taken a f) f t (conns.take_answer (conn_of_fibril f a.conns))
 own_op a f t (op.OpenSession s phone m) o =
-    own_open (with_pool a (make_after a.pool s (value_of t phone) m (session_at a.pool s))) f t
+    own_open (with_pool a (make_after a.pool s (value_in t.registers phone) m (session_at a.pool s))) f t
     (made (session_at a.pool s))
 own_op a f t (op.Begin x s) o = own_begin a f t x s o (plan_begin a f t x s)
 own_op a f t (op.End x) o = own_end a f t x (handle_at t x)

@@ -30,6 +30,7 @@ use Rattle.ipc_ids.specs.Program.{is_receive_outcome}
 use Rattle.ipc_ids.specs.Facts.{Terms, Fact, Answer, Sent, Gets, Ends, Begins, EndsExchange, Drops}
 use Rattle.ipc_ids.specs.Facts.{Other, if_mine, outcome_fact, facts_onto}
 use Rattle.ipc_ids.specs.Exchanges.{ConnectsTo}
+use Rattle.registers.specs.Registers.{value_in, request_in}
 use Rattle.fibril_core.specs.declared.conn.Taken.{Taken}
 use Rattle.fibril_core.specs.declared.conn.Taken.TheVariants as taken
 use Rattle.fibril_core.specs.declared.conn.Routed.{Routed}
@@ -52,11 +53,11 @@ use Rattle.async_task.specs.declared.context.Slot.TheVariants as slot
 use Rattle.async_task.specs.declared.context.Context.{Context}
 use Rattle.async_task.specs.Turns.{Turn}
 use Rattle.async_task.specs.Turns as turn
-use Rattle.async_task.specs.Contexts.{slot_at, handle_at, value_of}
+use Rattle.async_task.specs.Contexts.{slot_at, handle_at}
 use Rattle.async_task.specs.AsyncState.{AsyncState, Transition, context_at, present_op}
 use Rattle.async_task.specs.Turns.{turn_of, fibril_turn, work_turn, turn_now}
 use Rattle.async_task.specs.Wanted.{wanted, wanted_in, wanted_op, wanted_call, wanted_send}
-use Rattle.async_task.specs.Wanted.{wanted_begin, wanted_close, wanted_raw, unless_held, phone_by}
+use Rattle.async_task.specs.Wanted.{wanted_begin, wanted_close, unless_held, phone_by}
 use Rattle.async_task.specs.Wanted.{plan_begin, plan_close, any_waits}
 use Rattle.async_task.specs.Calls.{call_slot, send_over, wait_slot, next_call, with_taken}
 use Rattle.async_task.specs.Exchanges.{with_pool, open_outcome, begin_exchange, connect_refused_by}
@@ -130,13 +131,13 @@ no_answer : (r : Request) (o : Outcome) → fits r o ≡ true → (r ≡ ask.Rec
 no_answer r (outcome.Answered n reply) h away = absurd (away (receives r n reply h))
 no_answer r _ h away = refl
 
-raw_asks : (t : Context) (p : Op) → wanted_raw t p ≡ ask.Receive → ⊥
-raw_asks t p h = grind arith
+raw_asks : (registers : List ℕ) (p : Op) → request_in registers p ≡ ask.Receive → ⊥
+raw_asks registers p h = grind arith
 
 raw_fits : (a : AsyncState) (t : Context) (p : Op) (o : Outcome) (q : List Fact) → FitsOf q a →
-    fits (wanted_raw t p) o ≡ true → FitsOf (outcome_fact o ∷ q) a
+    fits (request_in t.registers p) o ≡ true → FitsOf (outcome_fact o ∷ q) a
 raw_fits a t p o q kept h =
-    rw (no_answer (wanted_raw t p) o h (raw_asks t p)) (one_other a q kept)
+    rw (no_answer (request_in t.registers p) o h (raw_asks t.registers p)) (one_other a q kept)
 
 -- operations that call and wait
 
@@ -384,7 +385,7 @@ op_fits a f t op.Next o q kept heard h =
 op_fits a f t op.Yield o q kept heard h =
     rw (done_is o h) (yield_fits q a.awaited a.pool a.order kept)
 op_fits a f t (op.OpenSession s phone m) o q kept heard h =
-    rw (done_is o h) (open_fits a f t s (value_of t phone) m q (session_at a.pool s) kept refl)
+    rw (done_is o h) (open_fits a f t s (value_in t.registers phone) m q (session_at a.pool s) kept refl)
 op_fits a f t (op.Begin x s) o q kept heard h =
     begin_fits a f t x s o q (plan_begin a f t x s) kept heard refl h
 op_fits a f t (op.End x) o q kept heard h =

@@ -15,6 +15,7 @@ use Rattle.ipc_ids.specs.declared.message.Outcome.TheVariants as outcome
 use Rattle.ipc_ids.specs.declared.op.Op.{Op}
 use Rattle.ipc_ids.specs.declared.op.Op.TheVariants as op
 use Rattle.ipc_ids.specs.Codes.{eok, elimit, enoent}
+use Rattle.registers.specs.Registers.{value_in}
 use Rattle.fibril_core.specs.Fibrils.{FibrilOrder, current, why_of}
 use Rattle.fibril_core.specs.Fibrils.{yield_now, wake_all, next_number}
 use Rattle.fibril_core.specs.Conns as conns
@@ -37,7 +38,7 @@ use Rattle.async_sessions.proofs.Sound.{sound_made, sound_begun, sound_connected
 use Rattle.async_sessions.proofs.Sound.{sound_ended, sound_closed}
 use Rattle.async_task.specs.declared.awaited.Awaited.{Awaited}
 use Rattle.async_task.specs.declared.context.Context.{Context}
-use Rattle.async_task.specs.Contexts.{slot_at, handle_at, value_of}
+use Rattle.async_task.specs.Contexts.{slot_at, handle_at}
 use Rattle.async_task.specs.Contexts.{at_next, after_refused}
 use Rattle.async_task.specs.Contexts.{with_short, after_begun, after_ended, after_done}
 use Rattle.async_task.specs.Contexts.{after_outcome}
@@ -275,15 +276,8 @@ closes_as a f t s o plan kept now is = by plan is
         (upheld a (with_session a.pool s None) kept (sound (close.Last phone) i)
         (last_upholds a.pool s
         (close_lasts a.pool s waits (session_at a.pool s) phone (says (close.Last phone) i))))
-        now.context (outcome_slots o)
-      where
-        outcome_slots : (q : Outcome) → (after_outcome t q).slots ≡ t.slots
-        outcome_slots (outcome.Refused c) = refl
-        outcome_slots _ = refl
+        now.context refl
     by (close.Refused c) i = same_slots a f t (after_refused t c) kept now.context refl
-
-raw_slots : (t : Context) (p : Op) (o : Outcome) → (after_raw t p o).slots ≡ t.slots
-raw_slots t p o = grind arith
 
 pub does : (a : AsyncState) (f : FibrilNo) (t : Context) (p : Op) (o : Outcome) → Keeps a →
     IsPresent a f t → IsNewCall a o → Keeps (do_op a f t p o).state
@@ -299,12 +293,12 @@ does a f t op.Yield o kept now new =
     (eased a (yield_now a.order) kept (eases_yield a.order f kept.order now.current))
     now.context refl
 does a f t (op.OpenSession s phone m) o kept now new =
-    opens a f t s (value_of t phone) m (session_at a.pool s) kept now refl
+    opens a f t s (value_in t.registers phone) m (session_at a.pool s) kept now refl
 does a f t (op.Begin x s) o kept now new =
     begins_as a f t x s o (plan_begin a f t x s) kept now new refl
 does a f t (op.End x) o kept now new = ends a f t x (handle_at t x) kept now
 does a f t (op.Close s) o kept now new = closes_as a f t s o (plan_close a s) kept now refl
-does a f t p o kept now new = same_slots a f t (after_raw t p o) kept now.context (raw_slots t p o)
+does a f t p o kept now new = same_slots a f t (after_raw t p o) kept now.context refl
 
 -- an answer comes
 

@@ -53,7 +53,8 @@ use Rattle.async_task.specs.declared.context.Slot.TheVariants as slot
 use Rattle.async_task.specs.declared.context.Context.{Context}
 use Rattle.async_task.specs.Turns.{Turn}
 use Rattle.async_task.specs.Turns as turn
-use Rattle.async_task.specs.Contexts.{slot_at, handle_at, value_of}
+use Rattle.async_task.specs.Contexts.{slot_at, handle_at}
+use Rattle.registers.specs.Registers.{value_in}
 use Rattle.async_task.specs.AsyncState.{AsyncState, AreServed, context_at, present_op}
 use Rattle.async_task.specs.Turns.{turn_now}
 use Rattle.async_task.specs.Wanted.{phone_by, plan_begin, plan_close}
@@ -308,7 +309,7 @@ op_near a f t op.Yield o =
     near 1 a _ (found_stamps a.order Ready (current a.order)) (omega arith) (no_number a.pool) refl
     (λ n i. i)
 op_near a f t (op.OpenSession s phone m) o =
-    open_near a f t s (value_of t phone) m (session_at a.pool s)
+    open_near a f t s (value_in t.registers phone) m (session_at a.pool s)
 op_near a f t (op.Begin x s) o = begin_near a f t x s o (plan_begin a f t x s)
 op_near a f t (op.End x) o = end_near a f t x (handle_at t x)
 op_near a f t (op.Close s) o = close_near a f t s o (plan_close a s)

@@ -5,4 +5,3 @@ pub mod Rising
 pub mod Served
 pub mod Waits
 pub mod Bounds
-mod RegisterExamples

@@ -1,5 +1,5 @@
 -- Operations that call, wait and yield, and those of raw bodies.
-use Rattle.std.specs.Prelude.{ℕ, true, ◌==◌, not, [], ◌∷◌, ◌++◌, Option, None, Some}
+use Rattle.std.specs.Prelude.{ℕ, [], ◌∷◌, ◌++◌, Option, None, Some}
 use Rattle.ipc_ids.specs.declared.numbers.CallNo.{CallNo}
 use Rattle.ipc_ids.specs.declared.numbers.FibrilNo.{FibrilNo}
 use Rattle.ipc_ids.specs.declared.numbers.Code.{Code}
@@ -9,8 +9,8 @@ use Rattle.ipc_ids.specs.declared.message.Outcome.{Outcome}
 use Rattle.ipc_ids.specs.declared.message.Outcome.TheVariants as outcome
 use Rattle.ipc_ids.specs.declared.entry.Entry.TheVariants as entry
 use Rattle.ipc_ids.specs.declared.op.Op.{Op}
-use Rattle.ipc_ids.specs.declared.op.Op.TheVariants as op
 use Rattle.ipc_ids.specs.Codes.{enoent, ebusy}
+use Rattle.registers.specs.Registers.{registers_after, place_after}
 use Rattle.fibril_core.specs.declared.conn.Taken.{Taken}
 use Rattle.fibril_core.specs.declared.conn.Taken.TheVariants as taken
 use Rattle.fibril_core.specs.Fibrils.{block_on, yield_now}
@@ -18,8 +18,8 @@ use Rattle.fibril_core.specs.Conns.{take_next}
 use Rattle.async_task.specs.declared.context.Slot.{Slot}
 use Rattle.async_task.specs.declared.context.Slot.TheVariants as slot
 use Rattle.async_task.specs.declared.context.Context.{Context}
-use Rattle.async_task.specs.Contexts.{at_next, jump_if, value_of, with_register, after_outcome}
-use Rattle.async_task.specs.Contexts.{after_refused, after_accepted, after_answered, with_received}
+use Rattle.async_task.specs.Contexts.{at_next, after_refused, after_accepted, after_answered}
+use Rattle.async_task.specs.Contexts.{with_received}
 use Rattle.async_task.specs.AsyncState.{AsyncState, Transition, without_entries, with_context}
 use Rattle.async_task.specs.Wanted.{bare_msg}
 
@@ -91,18 +91,13 @@ with_taken a f = record a { conns = take_next f a.conns }
 abbrev pub yield_op : AsyncState → FibrilNo → Context → AsyncState
 yield_op a f t = record (with_context a f (at_next t)) { order = yield_now a.order }
 
--- what a fibril keeps after an operation that has no need of fibrils; one that no body has is
--- passed over
+-- what a fibril keeps after an operation that has no need of fibrils
 abbrev pub after_raw : Context → Op → Outcome → Context
-after_raw t (op.Set k value) o = at_next (with_register t k (value_of t value))
-after_raw t (op.Jump to) o = jump_if t true to
-after_raw t (op.JumpEqual left right to) o = jump_if t (value_of t left == value_of t right) to
-after_raw t (op.JumpDiffer left right to) o =
-    jump_if t (not (value_of t left == value_of t right)) to
-after_raw t op.Receive o = at_next t
-after_raw t (op.Call phone method args) o = at_next t
-after_raw t (op.Hangup phone) o = at_next t
-after_raw t _ o = after_outcome t o
+after_raw t p o =
+    record t {
+      place = place_after t.registers t.place p o;
+      registers = registers_after t.registers p o;
+    }
 
 -- the same of the operation that is there
 abbrev pub after_present : Context → Outcome → Option Op → Context

@@ -11,6 +11,7 @@ use Rattle.ipc_ids.specs.declared.message.Outcome.TheVariants as outcome
 use Rattle.ipc_ids.specs.declared.op.Body.{Body}
 use Rattle.ipc_ids.specs.declared.op.Op.{Op}
 use Rattle.ipc_ids.specs.declared.op.Op.TheVariants as op
+use Rattle.registers.specs.Registers.{value_in}
 use Rattle.fibril_core.specs.Fibrils.{no_fibrils}
 use Rattle.fibril_core.specs.Conns.{no_conns, conn_of_fibril}
 use Rattle.fibril_core.specs.Conns as conns
@@ -18,7 +19,7 @@ use Rattle.async_sessions.specs.Sessions.{no_sessions}
 use Rattle.async_task.specs.declared.context.Context.{Context}
 use Rattle.async_task.specs.Turns.{Turn}
 use Rattle.async_task.specs.Turns as turn
-use Rattle.async_task.specs.Contexts.{new_context, slot_at, handle_at, value_of}
+use Rattle.async_task.specs.Contexts.{new_context, slot_at, handle_at}
 use Rattle.async_task.specs.AsyncState.{AsyncState, Transition, without_entries, with_context}
 use Rattle.async_task.specs.Turns.{turn_now}
 use Rattle.async_task.specs.Wanted.{phone_by, plan_begin, plan_close}
@@ -37,7 +38,7 @@ do_op a f t (op.Wait k) o = wait_slot a f t k (slot_at t k)
 do_op a f t op.Next o =
     next_call (with_taken a f) f t (conns.take_answer (conn_of_fibril f a.conns))
 do_op a f t op.Yield o = without_entries (yield_op a f t)
-do_op a f t (op.OpenSession s phone m) o = open_session a f t s (value_of t phone) m
+do_op a f t (op.OpenSession s phone m) o = open_session a f t s (value_in t.registers phone) m
 do_op a f t (op.Begin x s) o = begin_op a f t x s o (plan_begin a f t x s)
 do_op a f t (op.End x) o = end_op a f t x (handle_at t x)
 do_op a f t (op.Close s) o = close_op a f t s o (plan_close a s)

@@ -12,6 +12,7 @@ use Rattle.ipc_ids.specs.declared.op.Value.TheVariants.{Number}
 use Rattle.ipc_ids.specs.declared.op.Op.{Op}
 use Rattle.ipc_ids.specs.declared.op.Op.TheVariants as op
 use Rattle.ipc_ids.specs.Methods.{connect_me_to}
+use Rattle.registers.specs.Registers.{value_in, msg_in, request_in}
 use Rattle.fibril_core.specs.Fibrils.{why_of}
 use Rattle.async_sessions.specs.declared.sessions.Begin.{Begin}
 use Rattle.async_sessions.specs.declared.sessions.Begin.TheVariants as begin
@@ -24,13 +25,14 @@ use Rattle.async_task.specs.declared.context.Slot.TheVariants as slot
 use Rattle.async_task.specs.declared.context.Context.{Context}
 use Rattle.async_task.specs.Turns.{Turn}
 use Rattle.async_task.specs.Turns as turn
-use Rattle.async_task.specs.Contexts.{value_of, msg_of, reply_of, slot_at, handle_at}
+use Rattle.async_task.specs.Contexts.{slot_at, handle_at}
 use Rattle.async_task.specs.AsyncState.{AsyncState, context_at, present_op}
 use Rattle.async_task.specs.Turns.{turn_now}
 
 -- a call from a slot, which is in use or not
 abbrev pub wanted_call : Context → Value → Value → List Value → Slot → Request
-wanted_call t phone method args slot.Closed = ask.Call (value_of t phone) (msg_of t method args)
+wanted_call t phone method args slot.Closed =
+    ask.Call (value_in t.registers phone) (msg_in t.registers method args)
 wanted_call t phone method args (slot.Sent n) = ask.Nothing
 wanted_call t phone method args (slot.Answered n r) = ask.Nothing
 
@@ -98,24 +100,6 @@ wanted_close (close.HangIdle e phone) = ask.Hangup phone
 wanted_close (close.Last phone) = ask.Hangup phone
 wanted_close (close.Refused c) = ask.Nothing
 
--- what an operation on memory asks; the others ask for nothing
-abbrev pub wanted_of_memory : Context → Op → Request
-wanted_of_memory t (op.Area base pages rights) =
-    ask.AreaMake (value_of t base) (value_of t pages) (value_of t rights)
-wanted_of_memory t (op.Unarea base) = ask.AreaDrop (value_of t base)
-wanted_of_memory t (op.Poke at bytes) = ask.Poke (value_of t at) bytes
-wanted_of_memory t (op.Peek at count) = ask.Peek (value_of t at) (value_of t count)
-wanted_of_memory t _ = ask.Nothing
-
--- what an operation asks that has no need of fibrils; the others ask for nothing
-abbrev pub wanted_raw : Context → Op → Request
-wanted_raw t (op.Answer call code args) = ask.Answer (value_of t call) (reply_of t code args)
-wanted_raw t (op.Forward call phone mode) =
-    ask.Forward (value_of t call) (value_of t phone) mode None
-wanted_raw t (op.ForwardWith call phone mode method args) =
-    ask.Forward (value_of t call) (value_of t phone) mode (Some (msg_of t method args))
-wanted_raw t other = wanted_of_memory t other
-
 -- what an operation asks
 abbrev pub wanted_op : AsyncState → FibrilNo → Context → Op → Request
 wanted_op a f t (op.CallSlot k phone method args) =
@@ -124,7 +108,7 @@ wanted_op a f t (op.Send k x method args) =
     wanted_send t method args (slot_at t k) (phone_by a.pool f (handle_at t x))
 wanted_op a f t (op.Begin x s) = wanted_begin (plan_begin a f t x s)
 wanted_op a f t (op.Close s) = wanted_close (plan_close a s)
-wanted_op a f t other = wanted_raw t other
+wanted_op a f t other = request_in t.registers other
 
 abbrev pub wanted_in : AsyncState → Turn → Request
 wanted_in a (turn.Work n c) = ask.Answer n.0 (record { code = c; args = replicate 5 0 })

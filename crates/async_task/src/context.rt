@@ -1,8 +1,6 @@
 //! What a fibril keeps.
-ghost use Rattle.std.specs.Prelude.{◌≡◌, ◌<◌, OnOk, OnErr};
-ghost use Rattle.async_task.specs.Contexts.{new_context, with_register, with_five, at_next};
-ghost use Rattle.async_task.specs.Contexts.{jump_if};
-ghost use Rattle.async_task.specs.Contexts.{value_of, values_of, msg_of, reply_of, slot_at};
+ghost use Rattle.std.specs.Prelude.{◌≡◌, OnOk, OnErr};
+ghost use Rattle.async_task.specs.Contexts.{new_context, at_next, slot_at};
 ghost use Rattle.async_task.specs.Contexts.{with_slot, handle_at, with_handle, with_short};
 ghost use Rattle.async_task.specs.Contexts.{after_done, after_refused, after_outcome};
 ghost use Rattle.async_task.specs.Contexts.{with_received, after_accepted, after_answered};
@@ -11,7 +9,8 @@ ghost use Rattle.async_task.specs.Calls.{after_raw};
 
 use crate::handles::Handles;
 use crate::slots::FibrilSlots;
-use ipc_ids::{CallNo, Code, ExchangeNo, Label, Msg, NoMemory, Op, Outcome, Reply, Value};
+use ipc_ids::{CallNo, Code, ExchangeNo, Label, Msg, NoMemory, Op, Outcome, Reply};
+use registers::{Registers, next_place};
 use std::alloc::Global;
 
 /// What a slot holds.
@@ -29,7 +28,7 @@ pub enum Slot {
 pub struct Context {
     pub body: usize,
     pub place: usize,
-    pub registers: [u64; 32],
+    pub registers: Registers,
     pub slots: FibrilSlots,
     pub handles: Handles,
     pub short: bool,
@@ -43,97 +42,18 @@ impl Context {
         Context {
             body,
             place: 0,
-            registers: [0; 32],
+            registers: Registers::new(),
             slots: FibrilSlots::new(alloc),
             handles: Handles::new(),
             short: false,
         }
     }
 
-    /// A register holds that. There is none from 32 on.
-    fn set_register(&mut self, register: u32, value: u64)
-        ensures { self.new ≡ with_register self.old register value }
-    {
-        if register < 32 {
-            self.registers[register as usize] = value;
-        }
-    }
-
-    /// Five registers, from `first` on.
-    fn set_five(&mut self, first: u32, values: &[u64; 5])
-        requires { first < 1000 }
-        ensures { self.new ≡ with_five self.old first values.now }
-    {
-        self.set_register(first, values[0]);
-        self.set_register(first + 1, values[1]);
-        self.set_register(first + 2, values[2]);
-        self.set_register(first + 3, values[3]);
-        self.set_register(first + 4, values[4]);
-    }
-
     /// At the next operation.
     pub(crate) fn advance(&mut self)
         ensures { self.new ≡ at_next self.old }
     {
-        if self.place < 1 << 62 {
-            self.place += 1;
-        }
-    }
-
-    /// At another operation where `jumps` says so, else at the next one.
-    fn jump_if(&mut self, jumps: bool, to: u32)
-        ensures { self.new ≡ jump_if self.old jumps to }
-    {
-        if jumps {
-            self.place = to as usize;
-        } else {
-            self.advance();
-        }
-    }
-
-    /// A number, or what a register holds.
-    pub(crate) fn value(&self, value: Value) -> u64
-        ensures { result ≡ value_of self.now value }
-    {
-        match value {
-            Value::Number(number) => number,
-            Value::Register(register) => {
-                self.registers.get(register as usize).copied().unwrap_or(0)
-            }
-        }
-    }
-
-    /// What each of these is.
-    fn values(&self, args: &[Value; 5]) -> [u64; 5]
-        ensures { result ≡ values_of self.now args.now }
-    {
-        [
-            self.value(args[0]),
-            self.value(args[1]),
-            self.value(args[2]),
-            self.value(args[3]),
-            self.value(args[4]),
-        ]
-    }
-
-    /// The message of a call, or of a forward that changes it.
-    pub(crate) fn msg(&self, method: Value, args: &[Value; 5]) -> Msg
-        ensures { result ≡ msg_of self.now method args.now }
-    {
-        Msg {
-            method: self.value(method),
-            args: self.values(args),
-        }
-    }
-
-    /// The reply of an answer.
-    pub(crate) fn reply(&self, code: Value, args: &[Value; 5]) -> Reply
-        ensures { result ≡ reply_of self.now code args.now }
-    {
-        Reply {
-            code: Code(self.value(code)),
-            args: self.values(args),
-        }
+        self.place = next_place(self.place);
     }
 
     /// What a slot holds.
@@ -187,7 +107,7 @@ impl Context {
     pub(crate) fn done(&mut self)
         ensures { self.new ≡ after_done self.old }
     {
-        self.set_register(0, 0);
+        self.registers.tell_done();
         self.advance();
     }
 
@@ -195,54 +115,30 @@ impl Context {
     pub(crate) fn refused(&mut self, code: Code)
         ensures { self.new ≡ after_refused self.old code }
     {
-        self.set_register(0, code.0);
+        self.registers.tell_refused(code);
         self.advance();
     }
 
-    /// The request of an operation was done or refused.
+    /// The request of an operation had this outcome.
     pub(crate) fn outcome(&mut self, got: &Outcome)
         ensures { self.new ≡ after_outcome self.old got.now }
     {
-        match got {
-            Outcome::Refused(code) => self.refused(*code),
-            _ => self.done(),
-        }
+        self.registers.tell(got);
+        self.advance();
     }
 
-    /// What an operation changes that has no need of fibrils. One that no body has is passed over.
+    /// What an operation changes that has no need of fibrils.
     pub(crate) fn raw(&mut self, op: &Op, got: &Outcome)
         ensures { self.new ≡ after_raw self.old op.now got.now }
     {
-        match op {
-            Op::Set { register, value } => {
-                let value = self.value(*value);
-                self.set_register(*register, value);
-                self.advance();
-            }
-            Op::Jump(to) => self.jump_if(true, *to),
-            Op::JumpEqual { left, right, to } => {
-                let jumps = self.value(*left) == self.value(*right);
-                self.jump_if(jumps, *to);
-            }
-            Op::JumpDiffer { left, right, to } => {
-                let jumps = self.value(*left) != self.value(*right);
-                self.jump_if(jumps, *to);
-            }
-            Op::Receive | Op::Call { .. } | Op::Hangup(_) => self.advance(),
-            _ => self.outcome(got),
-        }
+        self.place = self.registers.step(self.place, op, got);
     }
 
     /// A call was received.
     pub(crate) fn received(&mut self, call: CallNo, msg: &Msg, label: Label)
         ensures { self.new ≡ with_received self.old call msg.now label }
     {
-        self.set_register(0, 0);
-        self.set_register(2, call.0);
-        self.set_register(3, msg.method);
-        self.set_five(4, &msg.args);
-        self.set_register(16, label.task.0);
-        self.set_register(17, label.phone.0 as u64);
+        self.registers.tell_received(call, msg, label);
     }
 
     /// The call of the slot was accepted.
@@ -255,8 +151,7 @@ impl Context {
         ensures unchanged { OnErr result (self.new ≡ self.old) }
     {
         self.hold(slot, Slot::Sent(call))?;
-        self.set_register(0, 0);
-        self.set_register(1, call.0);
+        self.registers.tell_accepted(call);
         self.advance();
         Ok(())
     }
@@ -265,10 +160,7 @@ impl Context {
     pub(crate) fn answered(&mut self, slot: u32, call: CallNo, reply: &Reply)
         ensures { self.new ≡ after_answered self.old slot call reply.now }
     {
-        self.set_register(0, 0);
-        self.set_register(9, call.0);
-        self.set_register(10, reply.code.0);
-        self.set_five(11, &reply.args);
+        self.registers.tell_answered(call, reply);
         self.close_slot(slot);
         self.advance();
     }

@@ -69,7 +69,7 @@ impl Machine {
                 phone,
                 mode,
             } => {
-                let phone = t.value(phone);
+                let phone = t.registers.value(phone);
                 self.open_session(f, session, phone, mode, out);
             }
             Op::Begin { handle, session } => {

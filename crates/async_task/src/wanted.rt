@@ -5,8 +5,7 @@ ghost use Rattle.fibril_core.specs.Fibrils.{current};
 ghost use Rattle.async_task.specs.Turns.{fibril_turn, turn_of};
 ghost use Rattle.async_task.specs.Wanted.{wanted_in};
 ghost use Rattle.async_task.specs.AsyncState.{context_at};
-ghost use Rattle.async_task.specs.Wanted.{wanted, wanted_op, wanted_raw, wanted_of_memory};
-ghost use Rattle.async_task.specs.Wanted.{wanted_call, wanted_send};
+ghost use Rattle.async_task.specs.Wanted.{wanted, wanted_op, wanted_call, wanted_send};
 ghost use Rattle.async_task.specs.Wanted.{wanted_begin, wanted_close, phone_by, plan_begin};
 ghost use Rattle.async_task.specs.Wanted.{plan_close, waits_for, any_waits, begins_in, is_begin_of};
 
@@ -80,7 +79,7 @@ impl Machine {
                 f, t, *handle, *session,
             )),
             Op::Close(session) => wanted_close(&self.plan_close(*session)),
-            _ => wanted_raw(t, op),
+            _ => t.registers.request(op),
         }
     }
 
@@ -157,8 +156,8 @@ fn wanted_call(t: &Context, phone: Value, method: Value, args: &[Value; 5], slot
 {
     match slot {
         Slot::Closed => Request::Call {
-            phone: t.value(phone),
-            msg: t.msg(method, args),
+            phone: t.registers.value(phone),
+            msg: t.registers.msg(method, args),
         },
         Slot::Sent(_) | Slot::Answered(_, _) => Request::Nothing,
     }
@@ -203,66 +202,6 @@ fn wanted_close(plan: &Close) -> Request
         Close::HangIdle(_, phone) => Request::Hangup { phone: *phone },
         Close::Last(phone) => Request::Hangup { phone: *phone },
         Close::Refused(_) => Request::Nothing,
-    }
-}
-
-/// What an operation asks that has no need of fibrils. The others ask for nothing.
-fn wanted_raw(t: &Context, op: &Op) -> Request
-    ensures { result ≡ wanted_raw t.now op.now }
-{
-    match op {
-        Op::Answer { call, code, args } => Request::Answer {
-            call: t.value(*call),
-            reply: t.reply(*code, args),
-        },
-        Op::Forward { call, phone, mode } => Request::Forward {
-            call: t.value(*call),
-            phone: t.value(*phone),
-            mode: *mode,
-            change: None,
-        },
-        Op::ForwardWith {
-            call,
-            phone,
-            mode,
-            method,
-            args,
-        } => Request::Forward {
-            call: t.value(*call),
-            phone: t.value(*phone),
-            mode: *mode,
-            change: Some(t.msg(*method, args)),
-        },
-        _ => wanted_of_memory(t, op),
-    }
-}
-
-/// What an operation on memory asks. The others ask for nothing.
-fn wanted_of_memory(t: &Context, op: &Op) -> Request
-    ensures { result ≡ wanted_of_memory t.now op.now }
-{
-    match op {
-        Op::Area {
-            base,
-            pages,
-            rights,
-        } => Request::AreaMake {
-            base: t.value(*base),
-            pages: t.value(*pages),
-            rights: t.value(*rights),
-        },
-        Op::Unarea(base) => Request::AreaDrop {
-            base: t.value(*base),
-        },
-        Op::Poke { at, bytes } => Request::Poke {
-            at: t.value(*at),
-            bytes: bytes.copy(),
-        },
-        Op::Peek { at, count } => Request::Peek {
-            at: t.value(*at),
-            count: t.value(*count),
-        },
-        _ => Request::Nothing,
     }
 }
 

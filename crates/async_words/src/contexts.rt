@@ -77,7 +77,7 @@ fn push_context(context: &Context, out: &mut Vec<u64>) -> Result<(), AllocError>
 {
     out.push(context.body as u64)?;
     out.push(context.place as u64)?;
-    push_numbers(&context.registers, out)?;
+    push_numbers(context.registers.as_slice(), out)?;
     push_slots(&context.slots, out)?;
     push_handles(&context.handles, out)?;
     push_bool(context.short, out)

@@ -5,8 +5,7 @@ use Rattle.ipc_ids.specs.declared.message.Msg.{Msg}
 use Rattle.ipc_ids.specs.declared.message.Reply.{Reply}
 use Rattle.ipc_ids.specs.declared.op.Value.{Value}
 use Rattle.ipc_ids.specs.declared.op.Value.TheVariants.{Number, Register}
-use Rattle.async_task.specs.declared.context.Context.{Context}
-use Rattle.async_task.specs.Contexts.{value_in, msg_of, reply_of}
+use Rattle.registers.specs.Registers.{value_in, msg_in, reply_in}
 use Rattle.program_examples.specs.FibrilLaws.{Is, Are, IsMessage, IsReply, FibrilsAskAsGiven}
 
 -- ---- values
@@ -22,31 +21,31 @@ values_are registers [] (n ∷ ns) are = absurd are
 values_are registers (v ∷ vs) [] are = absurd are
 values_are registers (v ∷ vs) (n ∷ ns) are = rw (value_is registers v n are.0, values_are registers vs ns are.1) refl
 
-pub message_is : (t : Context) (method : Value) (args : List Value) (msg : Msg)
-    → IsMessage t.registers method args msg → msg_of t method args ≡ msg
-message_is t method args msg is = rw (
-  value_is t.registers method msg.method is.method_is,
-  values_are t.registers args msg.args is.args_are,
+pub message_is : (registers : List ℕ) (method : Value) (args : List Value) (msg : Msg)
+    → IsMessage registers method args msg → msg_in registers method args ≡ msg
+message_is registers method args msg is = rw (
+  value_is registers method msg.method is.method_is,
+  values_are registers args msg.args is.args_are,
 ) refl
 
-pub reply_is : (t : Context) (coded : Value) (args : List Value) (said : Reply)
-    → IsReply t.registers coded args said → reply_of t coded args ≡ said
-reply_is t coded args said is = rw (
-  value_is t.registers coded said.code.0 is.code_is,
-  values_are t.registers args said.args is.args_are,
+pub reply_is : (registers : List ℕ) (coded : Value) (args : List Value) (said : Reply)
+    → IsReply registers coded args said → reply_in registers coded args ≡ said
+reply_is registers coded args said is = rw (
+  value_is registers coded said.code.0 is.code_is,
+  values_are registers args said.args is.args_are,
 ) refl
 
 pub asks : FibrilsAskAsGiven
 asks = record {
   answer = λ a f t call coded args n said does number saying.
-      rw (does, value_is t.registers call n number, reply_is t coded args said saying) refl;
+      rw (does, value_is t.registers call n number, reply_is t.registers coded args said saying) refl;
   forward = λ a f t call phone mode n p does number over.
       rw (does, value_is t.registers call n number, value_is t.registers phone p over) refl;
   forward_with = λ a f t call phone method mode args n p msg does number over message. rw (
     does,
     value_is t.registers call n number,
     value_is t.registers phone p over,
-    message_is t method args msg message,
+    message_is t.registers method args msg message,
   ) refl;
   area = λ a f t base pages rights b p r does one two three. rw (
     does,

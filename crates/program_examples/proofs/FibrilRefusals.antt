@@ -134,7 +134,7 @@ phone_none f t x a h = by_handle (slice_get t.handles x) refl where
 pub calls : CallsGoAsGiven
 calls = record {
   asked = λ a f t k phone method args p msg does free over message.
-      rw (does, free, value_is t.registers phone p over, message_is t method args msg message) refl;
+      rw (does, free, value_is t.registers phone p over, message_is t.registers method args msg message) refl;
   busy = λ a f t k phone method args does used. elim used [
     | inl one ↦ refusal 8 a f t (op.CallSlot k phone method args) t.short does (rw (
       does,
@@ -150,7 +150,7 @@ calls = record {
 pub sends : SendsGoOverTheExchange
 sends = record {
   asked = λ a f t k x phone method args msg does begun free message.
-      rw (does, phone_is f t x phone a begun, free, message_is t method args msg message) refl;
+      rw (does, phone_is f t x phone a begun, free, message_is t.registers method args msg message) refl;
   none = λ a f t k x method args does not. refusal 1 a f t (op.Send k x method args) t.short does (rw (
     does,
     phone_none f t x a not,

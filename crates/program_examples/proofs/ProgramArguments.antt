@@ -14,12 +14,13 @@ use Rattle.ipc_ids.specs.declared.op.Op.TheVariants as op
 use Rattle.ipc_ids.specs.declared.op.Body.{Body}
 use Rattle.ipc_ids.specs.declared.op.Value.{Value}
 use Rattle.ipc_ids.specs.declared.op.Value.TheVariants.{Number}
+use Rattle.registers.specs.Registers.{value_in, request_in}
 use Rattle.raw_program.specs.Raw.{RawState}
 use Rattle.raw_program.specs.Raw as raw
 use Rattle.async_task.specs.declared.context.Context.{Context}
 use Rattle.async_task.specs.declared.context.Slot.{Slot}
 use Rattle.async_task.specs.declared.context.Slot.TheVariants as slot
-use Rattle.async_task.specs.Contexts.{value_of, slot_at, handle_at}
+use Rattle.async_task.specs.Contexts.{slot_at, handle_at}
 use Rattle.async_task.specs.AsyncState.{AsyncState, context_at, op_in, present_op}
 use Rattle.async_task.specs.Turns.{Turn, turn_of, fibril_turn, work_turn}
 use Rattle.async_task.specs.Turns as turn
@@ -51,24 +52,29 @@ module _ {A : Type 0} (P : A → Type 0) where
   at : (xs : List A) (i : ℕ) (x : A) → All P xs → slice_get xs i ≡ Some x → P x
   at xs i x all is = subst P (get_or_from_slice_get xs i x x is) (all i x (slice_get_within xs i x is))
 
+-- ---- requests that bodies of every kind make
+
+asks_by : (registers : List ℕ) (x : Op) → GivesFive x → CarriesFive (request_in registers x)
+asks_by registers (op.Answer call code args) five = length-map args (value_in registers) ∙ five
+asks_by registers (op.Forward call phone mode) five = tt
+asks_by registers (op.ForwardWith call phone mode method args) five = length-map args (value_in registers) ∙ five
+asks_by registers (op.Area base pages rights) five = tt
+asks_by registers (op.Unarea base) five = tt
+asks_by registers (op.Poke address bytes) five = tt
+asks_by registers (op.Peek address count) five = tt
+asks_by registers _ five = tt
+
 -- ---- raw programs
 
-raw_asks_by : (p : RawState) (x : Op) → GivesFive x → CarriesFive (raw.request_of p x)
-raw_asks_by p (op.Call phone method args) five = length-map args (raw.value_of p) ∙ five
+raw_asks_by : (p : RawState) (x : Op) → GivesFive x → CarriesFive (raw.request_of p.registers x)
+raw_asks_by p (op.Call phone method args) five = length-map args (value_in p.registers) ∙ five
 raw_asks_by p op.Receive five = tt
-raw_asks_by p (op.Answer call code args) five = length-map args (raw.value_of p) ∙ five
-raw_asks_by p (op.Forward call phone mode) five = tt
-raw_asks_by p (op.ForwardWith call phone mode method args) five = length-map args (raw.value_of p) ∙ five
 raw_asks_by p (op.Hangup phone) five = tt
-raw_asks_by p (op.Area base pages rights) five = tt
-raw_asks_by p (op.Unarea base) five = tt
-raw_asks_by p (op.Poke address bytes) five = tt
-raw_asks_by p (op.Peek address count) five = tt
-raw_asks_by p _ five = tt
+raw_asks_by p x five = asks_by p.registers x five
 
 pub raw_asks : (p : RawState) → All GivesFive p.ops → CarriesFive (raw.wanted p)
 raw_asks p five = by (raw.operation p) refl where
-  by : (o : Option Op) → raw.operation p ≡ o → CarriesFive (raw.wanted_at p o)
+  by : (o : Option Op) → raw.operation p ≡ o → CarriesFive (raw.wanted_at p.registers o)
   by None is = tt
   by (Some x) is = raw_asks_by p x (at GivesFive p.ops p.place x five is)
 
@@ -86,7 +92,7 @@ closes (close.Refused c) = tt
 
 calls : (t : Context) (phone method : Value) (args : List Value) → length args ≡ 5 → (s : Slot)
     → CarriesFive (fibrils.wanted_call t phone method args s)
-calls t phone method args five slot.Closed = length-map args (value_of t) ∙ five
+calls t phone method args five slot.Closed = length-map args (value_in t.registers) ∙ five
 calls t phone method args five (slot.Sent n) = tt
 calls t phone method args five (slot.Answered n r) = tt
 
@@ -102,14 +108,7 @@ module _ (a : AsyncState) where
       sends t method args five (slot_at t k) (fibrils.phone_by a.pool f (handle_at t x))
   does f t (op.Begin x s) five = begins (fibrils.plan_begin a f t x s)
   does f t (op.Close s) five = closes (fibrils.plan_close a s)
-  does f t (op.Answer call code args) five = length-map args (value_of t) ∙ five
-  does f t (op.Forward call phone mode) five = tt
-  does f t (op.ForwardWith call phone mode method args) five = length-map args (value_of t) ∙ five
-  does f t (op.Area base pages rights) five = tt
-  does f t (op.Unarea base) five = tt
-  does f t (op.Poke address bytes) five = tt
-  does f t (op.Peek address count) five = tt
-  does f t _ five = tt
+  does f t x five = asks_by t.registers x five
 
   module _ (five : GiveFive a.bodies) where
     present : (t : Context) (x : Op) → present_op a t ≡ Some x → GivesFive x

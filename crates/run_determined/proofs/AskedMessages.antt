@@ -7,7 +7,6 @@ use Rattle.ipc_ids.specs.declared.message.Event.{Event}
 use Rattle.ipc_ids.specs.declared.message.Outcome.{Outcome}
 use Rattle.ipc_ids.specs.declared.message.Request.{Request}
 use Rattle.ipc_ids.specs.declared.message.Request.TheVariants as request
-use Rattle.ipc_ids.specs.declared.op.Op.{Op}
 use Rattle.ipc_ids.specs.declared.op.Body.{Body}
 use Rattle.script_lines.specs.declared.plan.Kind.{Kind}
 use Rattle.script_lines.specs.declared.plan.Kind.TheVariants as kind
@@ -30,7 +29,7 @@ use Rattle.run_determined.proofs.AsyncSteps.{step_still}
 use Rattle.run_determined.proofs.ByEvent as happens
 use Rattle.run_determined.proofs.ByEvent.{Happens, what_happens, states_keep, all_at}
 use Rattle.run_determined.proofs.ScheduleLines.{bodies_still}
-use Rattle.run_determined.proofs.TaskPrograms.{raw_ops, at_set, at_last}
+use Rattle.run_determined.proofs.TaskPrograms.{at_set, at_last}
 
 -- ---- a program
 
@@ -51,7 +50,7 @@ asks_with_five (any.Block p) it =
     subst (λ (s : block.BlockState). CarriesFive (block.wanted s)) (sym it.3) (server_asks it.0 it.1 it.2)
 
 after_is : (p : AnyProgram) (o : Outcome) → IsOfFive p → IsOfFive (after p o)
-after_is (any.Raw p) o it = subst (λ (ops : List Op). All GivesFive ops) (sym (raw_ops p o)) it
+after_is (any.Raw p) o it = it
 after_is (any.Async p) o it = subst (λ (bodies : List Body). GiveFive bodies) (sym (step_still p.state o).1) it
 after_is (any.Naming p) o it = (o ∷ it.0, ap (λ (s : naming.NamingState). naming.after s o) it.1)
 after_is (any.Block p) o it = (it.0, it.1, o ∷ it.2, ap (λ (s : block.BlockState). block.after s o) it.3)

@@ -20,6 +20,7 @@ use Rattle.ipc_ids.specs.declared.entry.Entry.{Entry}
 use Rattle.ipc_ids.specs.declared.entry.Entry.TheVariants as entry
 use Rattle.ipc_ids.specs.Codes.{eok, elimit}
 use Rattle.ipc_ids.specs.Methods.{connect_me_to}
+use Rattle.registers.specs.Registers.{value_in}
 use Rattle.fibril_core.specs.declared.conn.Taken.{Taken}
 use Rattle.fibril_core.specs.declared.conn.Taken.TheVariants as taken
 use Rattle.fibril_core.specs.Fibrils.{why_of, next_number}
@@ -37,7 +38,7 @@ use Rattle.async_task.specs.declared.context.Slot.TheVariants as slot
 use Rattle.async_task.specs.declared.context.Context.{Context}
 use Rattle.async_task.specs.Turns.{Turn, turn_now}
 use Rattle.async_task.specs.Turns as turn
-use Rattle.async_task.specs.Contexts.{slot_at, handle_at, value_of}
+use Rattle.async_task.specs.Contexts.{slot_at, handle_at}
 use Rattle.async_task.specs.AsyncState.{AsyncState, Transition, context_at, present_op}
 use Rattle.async_task.specs.Wanted.{phone_by, plan_begin, plan_close}
 use Rattle.async_task.specs.Calls.{call_outcome, call_slot, send_over, wait_slot, next_call, with_taken}
@@ -145,7 +146,7 @@ op_steps o a f t (op.Send k x method args) = over_steps o a f t k (slot_at t k) 
 op_steps o a f t (op.Wait k) = wait_steps o a f t k (slot_at t k)
 op_steps o a f t op.Next = next_steps o (with_taken a f) f t (conns.take_answer (conn_of_fibril f a.conns))
 op_steps o a f t (op.OpenSession s phone m) =
-    open_steps o (with_pool a (make_after a.pool s (value_of t phone) m (session_at a.pool s))) f t
+    open_steps o (with_pool a (make_after a.pool s (value_in t.registers phone) m (session_at a.pool s))) f t
     (made (session_at a.pool s))
 op_steps o a f t (op.Begin x s) = begin_steps o a f t x s (plan_begin a f t x s)
 op_steps o a f t (op.End x) = end_steps o a f t x (handle_at t x)

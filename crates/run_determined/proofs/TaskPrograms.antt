@@ -1,16 +1,13 @@
 -- Every task runs the program of its plan, after each event of a run.
-use Rattle.std.proofs.Common.{◌≡◌, ℕ, zero, suc, ◌+◌, ◌-◌, Bool, true, false, ◌⊎◌, inl, inr, List, [], ◌∷◌, ◌++◌, length, length-append, Option, None, Some, refl, ap, sym, subst, ◌∙◌, arith}
-use Rattle.std.specs.Prelude.{◌==◌, if◌then◌else◌, slice_get, slice_set}
+use Rattle.std.proofs.Common.{◌≡◌, ℕ, zero, suc, ◌+◌, ◌-◌, ◌⊎◌, inl, inr, List, [], ◌∷◌, ◌++◌, length, length-append, Option, None, Some, refl, ap, sym, subst, ◌∙◌, arith}
+use Rattle.std.specs.Prelude.{slice_get, slice_set}
 use Rattle.std.specs.Option.{option_to_list}
 use Rattle.std.proofs.lemmas.List.{append-nil, length-set}
 use Rattle.std.proofs.lemmas.Option.{same_Some, slice_get_within}
 use Rattle.ipc_ids.specs.declared.numbers.TaskNo.{TaskNo}
 use Rattle.ipc_ids.specs.declared.message.Outcome.{Outcome}
-use Rattle.ipc_ids.specs.declared.message.Outcome.TheVariants as got
 use Rattle.ipc_ids.specs.declared.message.Event.{Event}
 use Rattle.ipc_ids.specs.declared.message.Event.TheVariants.{Step, Kill, Hangup, Spawn}
-use Rattle.ipc_ids.specs.declared.op.Op.{Op}
-use Rattle.ipc_ids.specs.declared.op.Op.TheVariants as op
 use Rattle.script_lines.specs.declared.plan.Kind.{Kind}
 use Rattle.script_lines.specs.declared.plan.Kind.TheVariants as kind
 use Rattle.script_lines.specs.declared.plan.TaskPlan.{TaskPlan}
@@ -18,8 +15,6 @@ use Rattle.script_lines.specs.Plan.{Plan}
 use Rattle.script_lines.specs.Sound.{IsSound}
 use Rattle.script_reader.specs.Schedule.{MayAllCome}
 use Rattle.kernel_core.specs.Kernel.{serve, next_task}
-use Rattle.raw_program.specs.Raw as raw
-use Rattle.raw_program.specs.Raw.{RawState}
 use Rattle.async_task.specs.Steps.{bare_task}
 use Rattle.task_system.specs.declared.any.AnyProgram.{AnyProgram}
 use Rattle.task_system.specs.declared.any.AnyProgram.TheVariants as any
@@ -29,49 +24,17 @@ use Rattle.run_laws.specs.RunHistory.{beginning, RunFits}
 use Rattle.run_laws.proofs.RunHistories.{turn_fits, start_told, turn_templates, later_may, may_from}
 use Rattle.route_laws.specs.Leads.{Beginning}
 use Rattle.ipc_ids.specs.declared.entry.Entry.{Entry}
-use Rattle.run_determined.specs.ScheduleLines.{AreFirstOps}
 use Rattle.run_determined.specs.TaskPrograms.{plans_after, IsProgramOf, RunThePlans, TasksRunTheirPlans}
 use Rattle.run_determined.proofs.AsyncSteps.{step_still}
 use Rattle.run_determined.proofs.ByEvent as happens
 use Rattle.run_determined.proofs.ByEvent.{Happens, what_happens, may_part}
 use Rattle.run_determined.proofs.ScheduleLines.{bodies_still, first_ops}
 
--- ---- a raw program keeps its operations
-
-outcome_ops : (p : RawState) (o : Outcome) → (raw.after_outcome p o).ops ≡ p.ops
-outcome_ops p got.Done = refl
-outcome_ops p (got.Refused code) = refl
-outcome_ops p (got.Accepted call) = refl
-outcome_ops p (got.Received call msg label) = refl
-outcome_ops p (got.Answered call reply) = refl
-outcome_ops p (got.Bytes bytes) = refl
-outcome_ops p got.Empty = refl
-
-choice_ops : (p x y : RawState) (b : Bool) → x.ops ≡ p.ops → y.ops ≡ p.ops → (if b then x else y).ops ≡ p.ops
-choice_ops p x y true h g = h
-choice_ops p x y false h g = g
-
-operation_ops : (p : RawState) (next : Op) (o : Outcome) → (raw.after_operation p next o).ops ≡ p.ops
-operation_ops p (op.Set k value) o = refl
-operation_ops p (op.Jump to) o = refl
-operation_ops p (op.JumpEqual left right to) o =
-    choice_ops p (raw.at_place p to) (raw.at_next p) (raw.value_of p left == raw.value_of p right) refl refl
-operation_ops p (op.JumpDiffer left right to) o =
-    choice_ops p (raw.at_next p) (raw.at_place p to) (raw.value_of p left == raw.value_of p right) refl refl
-operation_ops p _ o = outcome_ops p o
-
-pub raw_ops : (p : RawState) (o : Outcome) → (raw.after p o).ops ≡ p.ops
-raw_ops p o = by_next (raw.operation p) where
-  by_next : (next : Option Op) → (raw.after_at p o next).ops ≡ p.ops
-  by_next None = refl
-  by_next (Some next) = operation_ops p next o
-
 -- ---- a program stays that of its plan
 
 after_keeps : (t : ℕ) (plan : TaskPlan) (k : Kind) (p : AnyProgram) (o : Outcome) → IsProgramOf t plan k p
     → IsProgramOf t plan k (after p o)
-after_keeps t plan kind.Raw (any.Raw p) o it =
-    subst (λ (ops : List Op). AreFirstOps ops plan.bodies) (sym (raw_ops p o)) it
+after_keeps t plan kind.Raw (any.Raw p) o it = it
 after_keeps t plan kind.Async (any.Async p) o it =
     let still = step_still p.state o in
     (ap (λ (me : TaskNo). me.0) still.0 ∙ it.0, still.1 ∙ it.1)

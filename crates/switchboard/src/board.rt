@@ -136,7 +136,8 @@ impl Switchboard {
 
     /// The phones of all tasks.
     pub fn phones(&self) -> &PhoneRows
-        ensures { result.now.states ≡ self.now.state.tasks.phones }
+        ensures states { result.now.states ≡ self.now.state.tasks.phones }
+        ensures rows { length result.now.states ≡ length self.now.state.tasks.alive }
     {
         &self.phones
     }
@@ -150,7 +151,8 @@ impl Switchboard {
 
     /// The areas of all tasks.
     pub fn spaces(&self) -> &Spaces
-        ensures { result.now ≡ self.now.state.memory }
+        ensures memory { result.now ≡ self.now.state.memory }
+        ensures rows { length result.now.areas ≡ length self.now.state.tasks.alive }
     {
         &self.spaces
     }

@@ -30,7 +30,7 @@ use Rattle.async_sessions.specs.declared.sessions.Close.TheVariants as close
 use Rattle.async_sessions.specs.declared.sessions.Ended.{Ended}
 use Rattle.async_sessions.specs.Sessions.{end_after, end_answer, held_by as is_held, make_after, made, session_at, close_after}
 use Rattle.async_task.specs.Wanted.{plan_close}
-use Rattle.async_task.specs.Contexts.{value_of as context_value}
+use Rattle.registers.specs.Registers.{value_in}
 use Rattle.async_task.specs.declared.awaited.Awaited.{Awaited}
 use Rattle.async_task.specs.declared.context.Context.{Context}
 use Rattle.async_task.specs.declared.context.Slot.{Slot}
@@ -155,7 +155,7 @@ did a f t (op.Wait slot) o = has_waited a f t slot _
 did a f t op.Next o = took a f t _
 did a f t op.Yield o = record { me = refl; bodies = refl }
 did a f t (op.OpenSession session phone m) o =
-    opened a (with_pool a (make_after a.pool session (context_value t phone) m (session_at a.pool session))) f t
+    opened a (with_pool a (make_after a.pool session (value_in t.registers phone) m (session_at a.pool session))) f t
     (made (session_at a.pool session)) (record { me = refl; bodies = refl })
 did a f t (op.Begin handle session) o = begun a f t handle session o _
 did a f t (op.End handle) o = ended a f t handle _

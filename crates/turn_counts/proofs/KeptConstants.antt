@@ -17,8 +17,7 @@ use Rattle.task_system.specs.declared.any.AnyProgram.TheVariants as any
 use Rattle.task_system.specs.Any.{wanted, after}
 use Rattle.task_system.specs.Run.{RunState, RunTransition, gone, step_by, program_at, program_of, request_served, killed, spawn_by, turn, state_after}
 use Rattle.turn_counts.specs.Alike.{uncounted, uncounted_program, uncounted_programs, AreAlikeStates}
-use Rattle.turn_counts.specs.Constants.{Constant, Raw, Async, constant, Constants, constants, made_from, made_by, made_by_all, with_made}
-use Rattle.turn_counts.proofs.RawKept.{raw_keeps}
+use Rattle.turn_counts.specs.Constants.{Constant, Async, constant, Constants, constants, made_from, made_by, made_by_all, with_made}
 use Rattle.turn_counts.proofs.AsyncKept.{async_keeps}
 
 -- ---- an outcome
@@ -28,7 +27,7 @@ async_constant : (me me' : TaskNo) (bodies bodies' : List Body) → me ≡ me' �
 async_constant me me' bodies bodies' h k = ap (λ z. Async z bodies) h ∙ ap (Async me') k
 
 pub program_keeps : (p : AnyProgram) (o : Outcome) → constant (after p o) ≡ constant p
-program_keeps (any.Raw p) o = ap Raw (raw_keeps p o)
+program_keeps (any.Raw p) o = refl
 program_keeps (any.Naming p) o = refl
 program_keeps (any.Async p) o =
     let h = async_keeps p o in

@@ -6,20 +6,19 @@ use Rattle.task_system.specs.declared.any.AnyProgram.{AnyProgram}
 use Rattle.task_system.specs.declared.any.AnyProgram.TheVariants as any
 use Rattle.task_system.specs.Any.{wanted, after, entries}
 use Rattle.turn_counts.specs.Alike.{uncounted_program, uncounted_programs, AreAlikePrograms}
-use Rattle.turn_counts.proofs.RawCounts.{raw_after, raw_wanted}
 use Rattle.turn_counts.proofs.ServiceCounts.{naming_after, block_after, block_wanted}
 
 -- ---- of a program whose count is left out
 
 pub after_uncounted : (p : AnyProgram) (o : Outcome)
     → uncounted_program (after (uncounted_program p) o) ≡ uncounted_program (after p o)
-after_uncounted (any.Raw p) o = ap any.Raw (raw_after p o)
+after_uncounted (any.Raw p) o = refl
 after_uncounted (any.Naming p) o = ap any.Naming (naming_after p o)
 after_uncounted (any.Async p) o = refl
 after_uncounted (any.Block p) o = ap any.Block (block_after p o)
 
 pub wanted_uncounted : (p : AnyProgram) → wanted (uncounted_program p) ≡ wanted p
-wanted_uncounted (any.Raw p) = raw_wanted p
+wanted_uncounted (any.Raw p) = refl
 wanted_uncounted (any.Naming p) = refl
 wanted_uncounted (any.Async p) = refl
 wanted_uncounted (any.Block p) = block_wanted p
