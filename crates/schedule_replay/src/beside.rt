@@ -1,6 +1,6 @@
-//! Calls that the program does not make, for who uses the crate alone: a run whose events are held in
-//! a slice, and one that is made whole. The program has its events read or made one by one, by an
-//! `EventsLeft` or a `GeneratedFeed`.
+//! Calls that the program does not make, for who uses the crate alone: a feed of the events of a
+//! slice, and a run that is made whole. The program's events come from an `EventsLeft`, which keeps
+//! steps of a task in a row once, or from a `GeneratedFeed`, which makes each as it is asked for.
 ghost use Rattle.std.specs.Prelude.{◌≡◌, ◌≤◌, [], ◌∷◌, ◌++◌, length, All, IfOk, OnOk, OnErr};
 ghost use Rattle.ipc_ids.specs.Tables.{most_events};
 ghost use Rattle.script_reader.specs.Schedule.{IsOnTaskOf, MayAllCome};
