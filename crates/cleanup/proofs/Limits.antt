@@ -322,7 +322,7 @@ idle_before rows limit t p idle = by_state (state_at rows t p) refl where
     later : (s : PhoneState) → state_at rows t p ≡ Some s → state_at (rows ++ replicate limit Free ∷ []) t p ≡ Some s
     later s is =
         let row = some_of (Rattle.phone_table.specs.Phones.row_at rows t) (λ r. slice_get r p) s is in
-        rw (Rattle.cleanup.proofs.Soundness.row_before rows (replicate limit Free) t row.0 row.1, row.2) refl
+        rw (Rattle.switchboard.proofs.Soundness.row_before rows (replicate limit Free) t row.0 row.1, row.2) refl
 
 pub within_task : (k : KernelState) (limit : ℕ) → IsWithinLimits k → IsWithinLimits (with_task k limit)
 within_task k limit h = record {
@@ -334,7 +334,7 @@ within_task k limit h = record {
   later : (t p : ℕ) → state_at k.tasks.phones t p ≡ Some HungUp → state_at (k.tasks.phones ++ replicate limit Free ∷ []) t p ≡ Some HungUp
   later t p is =
       let row = some_of (Rattle.phone_table.specs.Phones.row_at k.tasks.phones t) (λ r. slice_get r p) HungUp is in
-      rw (Rattle.cleanup.proofs.Soundness.row_before k.tasks.phones (replicate limit Free) t row.0 row.1, row.2) refl
+      rw (Rattle.switchboard.proofs.Soundness.row_before k.tasks.phones (replicate limit Free) t row.0 row.1, row.2) refl
 
 -- a kill
 

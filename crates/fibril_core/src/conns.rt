@@ -12,6 +12,8 @@ ghost use Rattle.fibril_core.specs.ConnLaws.{IsSound};
 ghost use Rattle.indexmap.specs.IndexMap.{spare};
 ghost use Rattle.ipc_ids.specs.declared.numbers.Label.{Label};
 
+mod beside;
+
 use crate::conn::{
     Conn, Queue, Routed, Taken, count_owed, fibril_of, lose_label, owed_by, route_to, take_first,
 };
@@ -123,27 +125,6 @@ impl Conns {
             closed: false,
             close_call: None,
         });
-    }
-
-    /// Starts a connection, which the fibril serves. An older one with that label loses the label
-    /// and is closed.
-    ///
-    /// # Errors
-    ///
-    /// `NoMemory` where there was no room and no memory was found. Nothing has changed then.
-    pub fn start(&mut self, label: Label, f: FibrilNo) -> Result<(), NoMemory>
-        requires serves_none { conn_of_fibril f self.old.conns ≡ None }
-        ensures conns { OnOk result (self.new.conns ≡ start label f self.old.conns) }
-        ensures unchanged { OnErr result (self.new.conns ≡ self.old.conns) }
-        ensures full { OnErr result (self.old.spare ≡ 0) }
-    {
-        match self.reserve() {
-            Ok(()) => {
-                self.start_reserved(label, f);
-                Ok(())
-            }
-            Err(e) => Err(e),
-        }
     }
 
     /// Takes a received call to the connection to which its label leads.

@@ -1,14 +1,16 @@
 //! Fibrils by number, and since when each is ready or blocked.
-ghost use Rattle.std.specs.Prelude.{◌≡◌, ◌+◌, ◌++◌, ◌^◌, ◌<◌, ◌≤◌, ◌==◌, true, length, position, OnOk, OnErr, IfOk, IsSome};
+ghost use Rattle.std.specs.Prelude.{◌≡◌, ◌+◌, ◌++◌, ◌^◌, ◌<◌, ◌≤◌, ◌==◌, true, length, position, OnOk, OnErr, IsSome};
 ghost use Rattle.std.specs.VecDeque.{deque_capacity, deque_len};
 ghost use Rattle.fibril_core.specs.Fibrils.{no_fibrils, current, first_blocked, next_number, fibril_at};
 ghost use Rattle.fibril_core.specs.Fibrils.{why_of, IsWithinBounds, spawned, block_on, yield_now};
-ghost use Rattle.fibril_core.specs.Fibrils.{end_current, make_ready, wake_first, wake_all};
+ghost use Rattle.fibril_core.specs.Fibrils.{end_current, make_ready, wake_all};
 ghost use Rattle.fibril_core.specs.FibrilLaws.{IsSound, IsQueue, IsQueueBut};
 ghost use Rattle.fibril_core.specs.LiveFibrils.{AreLive, waits, is_waiting, MakesRoom};
 
+mod beside;
+
 use crate::live_fibrils::LiveFibrils;
-use ipc_ids::{CallNo, FibrilNo, NoMemory, Why};
+use ipc_ids::{FibrilNo, NoMemory, Why};
 use std::alloc::Global;
 use std::collections::VecDeque;
 use std::marker::Model;
@@ -132,24 +134,6 @@ impl Fibrils {
         number
     }
 
-    /// Makes a fibril, which is ready behind the others, and gives its number.
-    ///
-    /// # Errors
-    ///
-    /// `NoMemory` where there was no room and no memory was found. Nothing has changed then.
-    pub fn spawn(&mut self) -> Result<FibrilNo, NoMemory>
-        requires bounds { IsWithinBounds self.old.order }
-        ensures number { IfOk result (λ f. f ≡ next_number self.old.order) }
-        ensures order { OnOk result (self.new.order ≡ spawned self.old.order) }
-        ensures unchanged { OnErr result (self.new.order ≡ self.old.order) }
-        ensures full { OnErr result (self.old.spare ≡ 0) }
-    {
-        match self.reserve() {
-            Ok(()) => Ok(self.spawn_reserved()),
-            Err(e) => Err(e),
-        }
-    }
-
     /// Those that have not ended, by rising number, in two slices. Takes no memory.
     pub fn live(&self) -> (&[Fibril], &[Fibril])
         ensures { AreLive (result.0.now ++ result.1.now) self.now.order.fibrils }
@@ -221,20 +205,6 @@ impl Fibrils {
         ensures spare { self.new.spare ≡ self.old.spare }
     {
         self.make_ready(f);
-    }
-
-    /// Makes ready, and gives, the fibril that blocked first on the answer of this call.
-    pub fn wake_answer(&mut self, call: CallNo) -> Option<FibrilNo>
-        requires bounds { IsWithinBounds self.old.order }
-        ensures fibril { result ≡ first_blocked self.old.order (Why.Answer call) }
-        ensures order { self.new.order ≡ wake_first self.old.order (Why.Answer call) }
-        ensures spare { self.new.spare ≡ self.old.spare }
-    {
-        let first = self.live.first(Status::Blocked(Why::Answer(call)));
-        if let Some(f) = first {
-            self.make_ready(f);
-        }
-        first
     }
 
     /// Makes all fibrils ready that are blocked on the mutex of the session, in the order of their

@@ -1,6 +1,6 @@
 -- The files of the shelf in memory, as its contracts see them.
 use Rattle.std.specs.Prelude.{ℕ, List, map, string_bytes}
-use Rattle.io_edge.specs.declared.mem_shelf.StoredFile.{StoredFile}
+use Rattle.io_edge.specs.declared.beside.mem_shelf.StoredFile.{StoredFile}
 
 -- a name and its bytes
 abbrev pub named : StoredFile → List ℕ × List ℕ

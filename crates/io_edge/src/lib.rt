@@ -3,18 +3,16 @@
 //! which reads to the end and writes whole by functions over any reader and any writer.
 #![tactic(auto)]
 
+mod beside;
 mod file_shelf;
-mod mem_shelf;
-mod mem_sink;
 mod out_sink;
 mod shelf;
 mod sink;
 mod stream;
 mod words;
 
+pub use beside::{MemShelf, MemSink};
 pub use file_shelf::FileShelf;
-pub use mem_shelf::MemShelf;
-pub use mem_sink::MemSink;
 pub use out_sink::OutSink;
 pub use shelf::{LoadFault, Shelf};
 pub use sink::{PutFailed, Sink};

@@ -6,6 +6,7 @@
 #![tactic(auto)]
 
 mod areas;
+mod beside;
 mod held;
 mod kills;
 mod lives;
@@ -13,4 +14,5 @@ mod stores;
 mod verdict;
 
 pub use areas::is_head;
-pub use verdict::{Laws, Verdict, check_laws};
+pub use beside::check_laws;
+pub use verdict::{Laws, Verdict};

@@ -1,5 +1,5 @@
 //! The verdict on a list of entries.
-ghost use Rattle.std.specs.Prelude.{◌≡◌, ◌<◌, ◌≤◌, ◌+◌, ◌^◌, ◌↔◌, List, [], ◌∷◌, IfOk, OnOk, IsTrue};
+ghost use Rattle.std.specs.Prelude.{◌≡◌, ◌<◌, ◌≤◌, ◌+◌, ◌^◌, ◌↔◌, List, [], ◌∷◌, OnOk, IsTrue};
 ghost use Rattle.ipc_ids.specs.Holdings.{present};
 ghost use Rattle.ipc_ids.specs.Laws.{LivesAreLawful};
 ghost use Rattle.ipc_ids.specs.declared.entry.Entry.{Entry};
@@ -8,7 +8,7 @@ ghost use Rattle.law_check.specs.Passing.{in_order};
 ghost use Rattle.law_check.specs.Judging.{Judges, Stands, events_of};
 ghost use Rattle.law_check.specs.Verdict.{IsVerdict};
 
-use crate::areas::{Areas, is_head};
+use crate::areas::Areas;
 use crate::kills::Kills;
 use ipc_ids::{Entry, NoMemory};
 use std::alloc::Global;
@@ -106,26 +106,4 @@ impl Laws {
             calls: self.kills.lives.count(),
         }
     }
-}
-
-/// Tells whether the entries satisfy the law of a call's life, of one answer, of a kill and of
-/// shared areas, and if not, which of them is the first that fails. Any list may be given.
-///
-/// # Errors
-///
-/// `NoMemory` where memory ran out.
-pub fn check_laws(alloc: Global, entries: &[Entry]) -> Result<Verdict, NoMemory>
-    ensures { IfOk result (λ verdict. IsVerdict entries.now verdict) }
-{
-    let mut laws = Laws::new(alloc);
-    let mut now = None;
-    let mut last = None;
-    for entry in entries {
-        laws.take(now, last, entry)?;
-        if is_head(entry) {
-            now = Some(entry);
-        }
-        last = Some(entry);
-    }
-    Ok(laws.verdict())
 }

@@ -1,7 +1,7 @@
 //! Makes a run of a number: a script of sixteen tasks that call one another, and events on them.
-ghost use Rattle.std.specs.Prelude.{◌≡◌, ◌<◌, ◌≤◌, [], ◌∷◌, ◌++◌, length, All, IfOk, OnOk, OnErr};
+ghost use Rattle.std.specs.Prelude.{◌≡◌, ◌<◌, ◌≤◌, ◌++◌, length, IfOk, OnOk};
 ghost use Rattle.ipc_ids.specs.Tables.{most_events};
-ghost use Rattle.script_reader.specs.Schedule.{IsOnTaskOf, MayAllCome};
+ghost use Rattle.script_reader.specs.Schedule.{MayAllCome};
 ghost use Rattle.schedule_replay.specs.Generator.{event_of, generated_count, generated_events, generated_name, generated_operations, generated_plan, generated_task, next_number, wires_of};
 
 use crate::feed::Feed;
@@ -20,61 +20,6 @@ const WIRED: u32 = 15;
 const METHOD: u64 = 512;
 
 const NO_ARGUMENTS: [Value; 5] = [Value::Number(0); 5];
-
-/// Events in their order.
-#[derive(Drop)]
-pub struct Events {
-    items: Vec<Event>,
-}
-
-impl Model for Events {
-    ghost use Rattle.std.specs.Prelude.{List};
-    ghost use Rattle.ipc_ids.specs.declared.message.Event.{Event};
-
-    ghost Value = { List Event };
-
-    ghost view = { λ events. events.items.items };
-}
-
-/// A script, and events on its tasks.
-#[derive(Drop)]
-pub struct Generated {
-    pub script: Script,
-    pub events: Events,
-}
-
-impl Events {
-    /// No events. Takes no memory.
-    pub fn new(alloc: Global) -> Events
-        ensures { result ≡ [] }
-    {
-        Events {
-            items: Vec::new(alloc),
-        }
-    }
-
-    /// Adds an event at the end.
-    ///
-    /// # Errors
-    ///
-    /// `NoMemory` where no memory was found; no event is added then.
-    pub fn push(&mut self, item: Event) -> Result<(), NoMemory>
-        ensures ok { OnOk result (self.new ≡ self.old ++ item ∷ []) }
-        ensures err { OnErr result (self.new ≡ self.old) }
-    {
-        match self.items.push(item) {
-            Ok(()) => Ok(()),
-            Err(_) => Err(NoMemory),
-        }
-    }
-
-    /// The events in their order.
-    pub fn as_slice(&self) -> &[Event]
-        ensures { result.now ≡ self.now }
-    {
-        self.items.as_slice()
-    }
-}
 
 /// The events of a seed, each made as it is asked for. Contracts see the list of those that are
 /// left.
@@ -243,7 +188,7 @@ pub fn generated_script(alloc: Global) -> Result<Script, NoMemory>
 
 /// What the number becomes by an event: a linear congruence over 64 bits.
 #[tactic(auto, unfolding(crate::specs::Generator::next_number))]
-fn next_number(number: u64) -> u64
+pub(crate) fn next_number(number: u64) -> u64
     ensures { result ≡ next_number number }
 {
     number
@@ -254,7 +199,7 @@ fn next_number(number: u64) -> u64
 /// The event of a number: the highest 4 bits say which task, and where the 12 below them are 0, the
 /// task is killed.
 #[tactic(auto, unfolding(crate::specs::Generator::event_of))]
-fn event_of(number: u64) -> Event
+pub(crate) fn event_of(number: u64) -> Event
     ensures { result ≡ event_of number }
 {
     let task = TaskNo((number >> 60) + 1);
@@ -263,38 +208,4 @@ fn event_of(number: u64) -> Event
     } else {
         Event::Step(task)
     }
-}
-
-#[tactic(auto, using(crate::proofs::GeneratedScript::one_event_more, crate::proofs::GeneratedScript::all_events_made))]
-fn events_from(alloc: Global, seed: u64, count: u64) -> Result<Events, NoMemory>
-    ensures { IfOk result (λ made. made ≡ generated_events seed count) }
-{
-    let mut events = Events::new(alloc);
-    let mut number = seed;
-    for _done in 0..count {
-        number = next_number(number);
-        events.push(event_of(number))?;
-    }
-    Ok(events)
-}
-
-/// A script of sixteen tasks, the same for every seed, and so many events on its tasks, at most
-/// 65,536, which the seed determines: steps, and here and there a kill.
-///
-/// # Errors
-///
-/// `NoMemory` where no memory was found.
-#[tactic(auto, using(crate::proofs::GeneratedScript::generated_on_tasks, crate::proofs::GeneratedScript::generated_may, crate::proofs::GeneratedScript::generated_events_count))]
-pub fn generate(alloc: Global, seed: u64, events: u64) -> Result<Generated, NoMemory>
-    requires { events ≤ most_events }
-    ensures script { IfOk result (λ made. made.script ≡ generated_plan) }
-    ensures events { IfOk result (λ made. made.events ≡ generated_events seed events) }
-    ensures count { IfOk result (λ made. length made.events ≡ events) }
-    ensures tasks { IfOk result (λ made. All (IsOnTaskOf made.script) made.events) }
-    ensures may { IfOk result (λ made. MayAllCome (length made.script.tasks)
-        (length made.script.templates) made.events) }
-{
-    let script = generated_script(alloc)?;
-    let events = events_from(alloc, seed, events)?;
-    Ok(Generated { script, events })
 }

@@ -6,17 +6,20 @@
 //! laws of every run follow from it.
 //!
 //! `replay` runs the events of a `Feed` and writes the text of each on the way, through a buffer of
-//! 4,096 bytes; `KeepsUp` says how little of it can be missing where the run ends early. `generate`
-//! makes a script and events of a number, so that a long run needs no files.
+//! 4,096 bytes; `KeepsUp` says how little of it can be missing where the run ends early.
+//! `generated_script` and a `GeneratedFeed` make a script and events of a number, so that a long run
+//! needs no files.
 #![tactic(auto)]
 
+mod beside;
 mod feed;
 mod generator;
 mod machine;
 mod streaming;
 mod text_buffer;
 
-pub use feed::{Feed, SliceFeed};
-pub use generator::{Events, Generated, GeneratedFeed, generate, generated_script};
+pub use beside::{Events, Generated, SliceFeed, generate};
+pub use feed::Feed;
+pub use generator::{GeneratedFeed, generated_script};
 pub use machine::Replay;
 pub use streaming::{ReplayFault, replay};

@@ -26,8 +26,8 @@ use Rattle.trace_reader.specs.Words.{number_of, code_of, before, behind}
 use Rattle.trace_reader.specs.Line.{join, words_of, AreArgs, IsBuilt}
 use Rattle.trace_reader.specs.Read.{entry_in, nth, read, IsPlain, outcome_in, mode_in, exchange_mode_in, is}
 use Rattle.trace_reader.specs.Trace.{IsNoLine, AreBuilt, IsFirstBad}
-use Rattle.trace_reader.specs.declared.trace.TraceFault.{TraceFault}
-use Rattle.trace_reader.specs.declared.trace.TraceFault.TheVariants.{Bad}
+use Rattle.trace_reader.specs.declared.beside.TraceFault.{TraceFault}
+use Rattle.trace_reader.specs.declared.beside.TraceFault.TheVariants.{Bad}
 use Rattle.trace_reader.proofs.Parts.{nths, parts_join, lacks_join, before_mark, before_all, is_marked, whole_cut}
 use Rattle.trace_reader.proofs.Again.{one_more, large_code, number_again, small_again, task_again, label_again, owner_again, fibril_again, code_again, bytes_again}
 use Rattle.trace_reader.proofs.Joined.{is_joined, words_lack}

@@ -3,8 +3,8 @@ use Rattle.std.specs.Prelude.{ℕ, ◌≡◌, ◌+◌, length, List, [], ◌∷�
 use Rattle.ipc_ids.specs.declared.entry.Entry.{Entry}
 use Rattle.trace_print.specs.Text.{text_of_entry, text_of}
 use Rattle.ipc_ids.specs.Trace.{TraceState}
-use Rattle.trace_reader.specs.declared.trace.TraceFault.{TraceFault}
-use Rattle.trace_reader.specs.declared.trace.TraceFault.TheVariants.{Bad, NoMemory}
+use Rattle.trace_reader.specs.declared.beside.TraceFault.{TraceFault}
+use Rattle.trace_reader.specs.declared.beside.TraceFault.TheVariants.{Bad, NoMemory}
 use Rattle.trace_reader.specs.Line.{IsBuilt}
 
 -- each entry is a value that the types of an entry have

@@ -3,12 +3,13 @@
 #![tactic(auto)]
 
 mod asked;
+mod beside;
 mod first_words;
 mod laws;
 mod line;
 mod part;
 mod trace;
 
+pub use beside::{TraceFault, read_entry, read_trace};
 pub use laws::bytes_are_one_trace;
-pub use line::read_entry;
-pub use trace::{Reader, TraceFault, read_trace};
+pub use trace::Reader;

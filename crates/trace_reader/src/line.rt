@@ -1,19 +1,15 @@
 //! What a line is read as.
-ghost use Rattle.std.specs.Prelude.{◌≡◌, ◌++◌, ◌∷◌, [], IfSome, IfNone};
-ghost use Rattle.trace_reader.specs.Line.{IsBuilt};
-ghost use Rattle.trace_reader.specs.Read.{HasWords, entry_in, effect_in, fibril_effect_in, exchange_effect_in, gets_in, ends_in, call_effect_in, call_end_in, head_in, nth, texts};
-ghost use Rattle.trace_print.specs.Text.{text_of_entry};
-ghost use Rattle.ipc_ids.specs.declared.entry.Entry.{Entry};
+ghost use Rattle.std.specs.Prelude.{◌≡◌};
+ghost use Rattle.trace_reader.specs.Read.{entry_in, effect_in, fibril_effect_in, exchange_effect_in, gets_in, ends_in, call_effect_in, call_end_in, head_in, nth, texts};
 
 use crate::asked::{
     answerer_in, exchange_mode_in, outcome_in, request_in, slot_in, state_in, way_in, why_in,
 };
 use crate::first_words::Words;
 use crate::part::{
-    code_of, fibril_of, first_line, is, label_of, number_of, owner_of, reply_at, small_of, task_of,
+    code_of, fibril_of, is, label_of, number_of, owner_of, reply_at, small_of, task_of,
 };
 use ipc_ids::{CallNo, Entry, ExchangeNo, Reply, StoreNo};
-use trace_print::Comparison;
 
 fn call_end_in(line: &Words) -> Entry
     ensures { result ≡ call_end_in (nth (texts line.now)) }
@@ -238,36 +234,4 @@ pub fn entry_in(line: &Words) -> Entry
     } else {
         head_in(line)
     }
-}
-
-/// The entry whose text is this line, which has these words, and a line feed.
-fn entry_of<'a>(words: &Words, line: &'a [u8], comparison: &mut Comparison<'a>) -> Option<Entry>
-    requires { HasWords (texts words.now) line.now }
-    ensures some { IfSome result (λ e. text_of_entry e ≡ line.now ++ 10 ∷ []) }
-    ensures built { IfSome result (λ e. IsBuilt e) }
-    ensures none { IfNone result ((e : Entry) → IsBuilt e → text_of_entry e ≡ line.now ++ 10 ∷ []
-        → ⊥) }
-{
-    let entry = entry_in(words);
-    if comparison.is_of(&entry, line) {
-        Some(entry)
-    } else {
-        None
-    }
-}
-
-/// The entry whose text is this line and a line feed; `None` where the line is the text of no entry
-/// whose values fit their types. `= EOK` is read as `Done`. It takes no memory.
-pub fn read_entry(line: &[u8]) -> Option<Entry>
-    ensures some { IfSome result (λ e. text_of_entry e ≡ line.now ++ 10 ∷ []) }
-    ensures built { IfSome result (λ e. IsBuilt e) }
-    ensures none { IfNone result ((e : Entry) → IsBuilt e → text_of_entry e ≡ line.now ++ 10 ∷ []
-        → ⊥) }
-{
-    let mut words = Words::new();
-    let count = first_line(line, &mut words);
-    if count < line.len() {
-        return None;
-    }
-    entry_of(&words, line, &mut Comparison::new())
 }

@@ -1,25 +1,14 @@
-//! Reads a whole trace.
-ghost use Rattle.std.specs.Prelude.{◌≡◌, ◌≢◌, ◌<◌, ◌++◌, List, ℕ, Ok, Err, IfOk, IfSome, IfNone, length};
-ghost use Rattle.ipc_ids.specs.declared.entry.Entry.{Entry};
-ghost use Rattle.trace_print.specs.Text.{text_of, text_of_entry};
+//! Reads the entries of a trace.
+ghost use Rattle.std.specs.Prelude.{◌≡◌, ◌<◌, ◌++◌, IfSome, IfNone, length};
+ghost use Rattle.trace_print.specs.Text.{text_of_entry};
 ghost use Rattle.trace_reader.specs.Line.{IsBuilt};
-ghost use Rattle.trace_reader.specs.Trace.{IsFirstBad, IsTrace, AreBuilt, IsNoLine, IsOnly};
+ghost use Rattle.trace_reader.specs.Trace.{IsNoLine};
 
 use crate::first_words::Words;
 use crate::line::entry_in;
 use crate::part::first_line;
-use ipc_ids::{Entry, NoMemory, Trace};
-use std::alloc::Global;
+use ipc_ids::Entry;
 use trace_print::Comparison;
-
-/// Why bytes are no trace.
-#[derive(Clone, Copy, Debug, PartialEq, Eq)]
-pub enum TraceFault {
-    /// The first line, from 1 on, that is the text of no entry, or lacks its line feed.
-    Bad { line: u64 },
-    /// Memory ran out.
-    NoMemory,
-}
 
 /// What reads entries one after the other. It takes no memory.
 #[derive(Drop)]
@@ -57,37 +46,4 @@ impl<'a> Reader<'a> {
             None
         }
     }
-}
-
-/// The entries whose text the bytes are: no other entries without a refusal that says EOK have it.
-///
-/// # Errors
-///
-/// `Bad` just where the bytes are the text of no entries, with the first line that is none's text or
-/// lacks its line feed; `NoMemory` where memory ran out, which may come for any bytes.
-pub fn read_trace(alloc: Global, bytes: &[u8]) -> Result<Trace, TraceFault>
-    ensures read { IfOk result (λ trace. IsTrace trace.entries bytes.now) }
-    ensures only { (es : List Entry) → AreBuilt es → text_of es ≡ bytes.now → IsOnly es result }
-    ensures bad { (line : ℕ) → result ≡ Err (TraceFault.Bad line) → IsFirstBad bytes.now line }
-{
-    let mut trace = Trace::new(alloc);
-    let mut reader = Reader::new();
-    let mut rest = bytes;
-    while !rest.is_empty() {
-        match reader.first_entry(rest) {
-            Some((entry, behind)) => {
-                if trace.reserve(1).is_err() {
-                    return Err(TraceFault::NoMemory);
-                }
-                trace.push(entry);
-                rest = behind;
-            }
-            None => {
-                return Err(TraceFault::Bad {
-                    line: trace.entries().len() as u64 + 1,
-                })
-            }
-        }
-    }
-    Ok(trace)
 }
