@@ -29,6 +29,9 @@ impl Model for Operations {
 }
 
 impl Operations {
+    ghost use Rattle.std.specs.Prelude.{◌≡◌, ◌^◌, ◌<◌, ◌++◌, ◌∷◌, [], length, slice_get, IfOk, OnOk, IfSome};
+    ghost use Rattle.std.specs.Option.{option_copied};
+
     /// Each of these once more.
     ///
     /// # Errors
@@ -50,7 +53,9 @@ impl Operations {
     /// The operation with this number, from 0 on.
     #[inline(always)]
     pub fn get(&self, place: usize) -> Option<&Op>
-        ensures { option_copied result ≡ slice_get self.now place }
+        ensures operation { option_copied result ≡ slice_get self.now place }
+        ensures within { IfSome result (λ _. place < length self.now) }
+        ensures few { length self.now < 2 ^ 63 }
     {
         match number_at(self.which.as_slice(), place) {
             Some(at) => Some(&self.distinct[at as usize]),
@@ -78,7 +83,9 @@ impl Operations {
 /// The number at this place.
 #[inline(always)]
 fn number_at(numbers: &[u32], place: usize) -> Option<u32>
-    ensures { result ≡ slice_get numbers.now place }
+    ensures number { result ≡ slice_get numbers.now place }
+    ensures within { IfSome result (λ _. place < length numbers.now) }
+    ensures few { length numbers.now < 2 ^ 63 }
 {
     numbers.get(place).copied()
 }
