@@ -31,6 +31,17 @@ entries_uncounted (any.Block p) o = refl
 
 -- ---- of two that differ in their counts alone
 
+pub alike_wanted : (p q : AnyProgram) → AreAlikePrograms p q → wanted p ≡ wanted q
+alike_wanted p q h = sym (wanted_uncounted p) ∙ ap wanted h ∙ wanted_uncounted q
+
+pub alike_entries : (p q : AnyProgram) (o : Outcome) → AreAlikePrograms p q → entries p o ≡ entries q o
+alike_entries p q o h = sym (entries_uncounted p o) ∙ ap (λ z. entries z o) h ∙ entries_uncounted q o
+
+pub alike_after : (p q : AnyProgram) (o : Outcome)
+    → AreAlikePrograms p q → AreAlikePrograms (after p o) (after q o)
+alike_after p q o h =
+    sym (after_uncounted p o) ∙ ap (λ z. uncounted_program (after z o)) h ∙ after_uncounted q o
+
 -- ---- of the programs of a run
 
 twice : (p : AnyProgram) → uncounted_program (uncounted_program p) ≡ uncounted_program p
