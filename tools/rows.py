@@ -4,11 +4,11 @@ from __future__ import annotations
 import re
 from itertools import groupby
 
-from scripts import METHODS
+from scripts import METHODS, RIGHTS
 from traces import Event, Line
 
 ARROWS = ("call", "answer", "forward", "kernel")
-RIGHTS = {"1": "R", "2": "W", "3": "RW"}
+RIGHT_NAMES = {str(number): name for number, name in enumerate(RIGHTS, 1)}
 MOST_BYTES = 8  # that are shown of a poke or a peek
 LEAST_ALIKE = 4  # events or rows that are drawn as the first, a count and the last
 
@@ -110,9 +110,8 @@ class Story:
                 "gets": f"gets answer {it.call}, {it.place}",
                 "blocks": f"waits: {it.why}",
                 "starts": f"starts, for {it.label}",
-                "ends": "ends",
+                "ends": f"ends exchange {it.exchange}" if it.exchange else "ends",
                 "begins": f"begins exchange {it.exchange}: {it.mode}, session {it.session}, phone {it.phone}",
-                "ends_exchange": f"ends exchange {it.exchange}",
                 "drops": f"drops exchange {it.exchange}",
                 "refused": f"is refused: {it.code}"}
         return Row("box", it.fibril.partition("/")[0], text=f"{it.fibril} {told[it.kind]}")
@@ -169,7 +168,7 @@ class Story:
         return None if is_told else Row("box", task, text=f"{it.over} hung up")
 
     def area(self, _: Event, it: Line) -> Row:
-        what = f"{counted(it.pages, 'page')}, {RIGHTS.get(it.rights, it.rights)}, store {it.store}"
+        what = f"{counted(it.pages, 'page')}, {RIGHT_NAMES.get(it.rights, it.rights)}, store {it.store}"
         return Row("box", it.task, text=f"area at {it.base}: {what}")
 
     def unarea(self, _: Event, it: Line) -> Row:

@@ -7,13 +7,20 @@ from __future__ import annotations
 import re
 from typing import Iterator
 
-from traces import Event, Line
+from traces import CODES, Event, Line
 
+# made by tools/words: methods
 METHODS = ("PHONE_HUNGUP", "CONNECT_TO_ME", "CONNECT_ME_TO", "DATA_WRITE", "DATA_READ", "SHARE_OUT", "SHARE_IN")
-CODES = ("EOK", "ENOENT", "EPERM", "EEXIST", "EINVAL", "ELIMIT", "EHANGUP", "EFORWARD", "EBUSY", "ENOMEM")
-VALUES = {"R": 1, "W": 2, "RW": 3, "RESTRICT": 1,
-          **{name: number for names in (METHODS, CODES) for number, name in enumerate(names)}}
+# made by tools/words: rights
+RIGHTS = ("R", "W", "RW")
+# made by tools/words: flags
+FLAGS = ["RESTRICT"]
+# made by tools/words: structure
 STRUCTURE = ("ns", "task", "template", "fibril", "connection", "wire")
+# made by tools/words: kinds and modes
+KINDS_AND_MODES = ("raw", "async", "block", "plain", "route", "atomic", "serialize", "parallel")
+VALUES = {**{name: number for names in (METHODS, CODES) for number, name in enumerate(names)},
+          **{name: number for names in (RIGHTS, FLAGS) for number, name in enumerate(names, 1)}}
 REGISTERS = 32
 ARGUMENTS = 5
 

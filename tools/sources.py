@@ -1,5 +1,5 @@
 """Reads the definitions and the contracts of the crates as text: what each file defines, what it names, and where that
-stands. For tools/reading, tools/claims and docs/check."""
+stands. For tools/reading, tools/claims, tools/words and docs/check."""
 from __future__ import annotations
 
 import os

@@ -15,79 +15,170 @@ NUMBER = r"\d+"
 TASK = r"t[1-9]\d*"
 PHONE = TASK + r"\.\d+"
 FIBRIL = TASK + r"/[1-9]\d*"
-CODE = r"(?:EOK|ENOENT|EPERM|EEXIST|EINVAL|ELIMIT|EHANGUP|EFORWARD|EBUSY|ENOMEM|[1-9]\d+)"
-FIVE = NUMBER + f"(?: {NUMBER})" + "{4}"
 BYTES = r"(?:(?:[0-9a-f]{2})+|-)"
-AREA = f"(?P<base>{NUMBER}) (?P<pages>{NUMBER}) (?P<rights>{NUMBER})"
-RANGE = f"(?P<at>{NUMBER}) (?P<count>{NUMBER})"
-STORE = f"store (?P<store>{NUMBER})"
 
-# Each form of a line, by the name of its kind, with the parts that the tools use.
-HEADS = {
-    "call": f"(?P<task>{TASK}) call (?P<phone>{NUMBER}) (?P<method>{NUMBER}) (?P<args>{FIVE})",
-    "receive": f"(?P<task>{TASK}) receive",
-    "answer": f"(?P<task>{TASK}) answer (?P<call>{NUMBER}) (?P<code>{CODE}) (?P<args>{FIVE})",
-    "forward": f"(?P<task>{TASK}) forward (?P<call>{NUMBER}) (?P<phone>{NUMBER}) (?P<mode>plain|route)"
-               f"(?: (?P<method>{NUMBER}) (?P<args>{FIVE}))?",
-    "hangup": f"(?P<task>{TASK}) hangup (?P<phone>{NUMBER})",
-    "area": f"(?P<task>{TASK}) area {AREA}",
-    "unarea": f"(?P<task>{TASK}) unarea (?P<base>{NUMBER})",
-    "poke": f"(?P<task>{TASK}) poke (?P<at>{NUMBER}) (?P<bytes>{BYTES})",
-    "peek": f"(?P<task>{TASK}) peek {RANGE}",
-    "nothing": f"(?P<task>{TASK}) nothing",
-    "kill": f"kill (?P<task>{TASK})",
-    "spawn": f"spawn (?P<task>{TASK})",
-    "ended": f"(?P<task>{TASK}) ended",
+# made by tools/words: codes
+CODES = ("EOK", "ENOENT", "EPERM", "EEXIST", "EINVAL", "ELIMIT", "EHANGUP", "EFORWARD", "EBUSY", "ENOMEM")
+
+# The shapes of lines, in which N is a number, T a task, P a phone, F a fibril, C a code, and B bytes.
+# made by tools/words: head shapes
+HEADS = (
+    "T call N N N N N N N",
+    "T receive",
+    "T answer N C N N N N N",
+    "T forward N N plain",
+    "T forward N N plain N N N N N N",
+    "T forward N N route",
+    "T forward N N route N N N N N N",
+    "T hangup N",
+    "T area N N N",
+    "T unarea N",
+    "T poke N B",
+    "T peek N N",
+    "T nothing",
+    "T ended",
+    "kill T",
+    "spawn T",
+)
+# made by tools/words: outcome shapes
+OUTCOMES = (
+    "= EOK",
+    "= C",
+    "= call N",
+    "= received N N N N N N N from P",
+    "= answer N C N N N N N",
+    "= EMPTY",
+    "= bytes B",
+)
+# made by tools/words: effect shapes
+EFFECTS = (
+    "call N accepted P method N to T",
+    "call N accepted P method N back",
+    "call N received T",
+    "call N forwarded T to T label P",
+    "call N answered C N N N N N by T",
+    "call N answered C N N N N N by kernel",
+    "call N delivered T",
+    "call N dropped T",
+    "call N vanished",
+    "call N forgotten",
+    "phone P free",
+    "phone P connecting",
+    "phone P connected T",
+    "phone P hungup",
+    "phone P slammed",
+    "area T N N N store N",
+    "unarea T N",
+    "write T N N store N",
+)
+# made by tools/words: fibril shapes
+OWN = (
+    "F sent N slot N",
+    "F sent N begin",
+    "F gets N slot N C N N N N N",
+    "F gets N begin C N N N N N",
+    "F blocks answer N",
+    "F blocks mutex N",
+    "F blocks phone",
+    "F blocks message",
+    "F starts P",
+    "F ends",
+    "F refused C",
+    "F begins exchange N atomic session N phone N",
+    "F begins exchange N serialize session N phone N",
+    "F begins exchange N parallel session N phone N",
+    "F ends exchange N",
+    "F drops exchange N",
+)
+
+CODE = rf"(?:{'|'.join(CODES)}|[1-9]\d+)"
+KINDS = {"N": NUMBER, "T": TASK, "P": PHONE, "F": FIBRIL, "C": CODE, "B": BYTES}
+# What is named as one: five arguments, and a place or a reason with its number.
+UNIT = re.compile(r"N(?: N){4}(?! N)|slot N|(?<=blocks )\S+(?: N)?|\S+")
+# The kind of an outcome by its word.
+TOLD = {"EOK": "refused or done", "C": "refused or done", "call": "is accepted", "received": "is received",
+        "answer": "is answered", "EMPTY": "empty", "bytes": "is read"}
+# The names of the parts that the tools use, by the kind of the line, one for each unit of its shapes: `-` where there is
+# none, and with `=` before it where it may be a word that stands for itself.
+HEAD_PARTS = {
+    "call": "task - phone method args",
+    "receive": "task",
+    "answer": "task - call code args",
+    "forward": "task - call phone =mode method args",
+    "hangup": "task - phone",
+    "area": "task - base pages rights",
+    "unarea": "task - base",
+    "poke": "task - at bytes",
+    "peek": "task - at count",
+    "nothing": "task",
+    "ended": "task",
+    "kill": "- task",
+    "spawn": "- task",
 }
-EFFECTS = {
-    "accepted": f"call (?P<call>{NUMBER}) accepted (?P<over>{PHONE}) method (?P<method>{NUMBER})"
-                f" (?:to (?P<to>{TASK})|back)",
-    "received": f"call (?P<call>{NUMBER}) received (?P<task>{TASK})",
-    "forwarded": f"call (?P<call>{NUMBER}) forwarded (?P<task>{TASK}) to (?P<to>{TASK}) label (?P<label>{PHONE})",
-    "answered": f"call (?P<call>{NUMBER}) answered (?P<code>{CODE}) (?P<args>{FIVE})"
-                f" by (?:(?P<task>{TASK})|kernel)",
-    "delivered": f"call (?P<call>{NUMBER}) delivered (?P<task>{TASK})",
-    "dropped": f"call (?P<call>{NUMBER}) dropped (?P<task>{TASK})",
-    "vanished": f"call (?P<call>{NUMBER}) vanished",
-    "forgotten": f"call (?P<call>{NUMBER}) forgotten",
-    "phone": f"phone (?P<over>{PHONE}) (?P<state>free|connecting|connected (?P<to>{TASK})|hungup|slammed)",
-    "area": f"area (?P<task>{TASK}) {AREA} {STORE}",
-    "unarea": f"unarea (?P<task>{TASK}) (?P<base>{NUMBER})",
-    "write": f"write (?P<task>{TASK}) {RANGE} {STORE}",
+OUTCOME_PARTS = {
+    "refused or done": "- =code",
+    "is accepted": "- - call",
+    "is received": "- - call method args - label",
+    "is answered": "- - call code args",
+    "is read": "- - bytes",
 }
-OUTCOMES = {
-    "refused or done": f"= (?P<code>{CODE})",
-    "is accepted": f"= call (?P<call>{NUMBER})",
-    "is received": f"= received (?P<call>{NUMBER}) (?P<method>{NUMBER}) (?P<args>{FIVE}) from (?P<label>{PHONE})",
-    "is answered": f"= answer (?P<call>{NUMBER}) (?P<code>{CODE}) (?P<args>{FIVE})",
-    "empty": "= EMPTY",
-    "is read": f"= bytes (?P<bytes>{BYTES})",
+EFFECT_PARTS = {
+    "accepted": "- call - over - method - to",
+    "received": "- call - task",
+    "forwarded": "- call - task - to - label",
+    "answered": "- call - code args - task",
+    "delivered": "- call - task",
+    "dropped": "- call - task",
+    "vanished": "- call",
+    "forgotten": "- call",
+    "phone": "- over =state to",
+    "area": "- task base pages rights - store",
+    "unarea": "- task base",
+    "write": "- task at count - store",
 }
-OWN = {
-    "sent": f"(?P<fibril>{FIBRIL}) sent (?P<call>{NUMBER}) (?P<place>slot {NUMBER}|begin)",
-    "gets": f"(?P<fibril>{FIBRIL}) gets (?P<call>{NUMBER}) (?P<place>slot {NUMBER}|begin) (?P<code>{CODE}) (?P<args>{FIVE})",
-    "blocks": f"(?P<fibril>{FIBRIL}) blocks (?P<why>answer {NUMBER}|mutex {NUMBER}|phone|message)",
-    "starts": f"(?P<fibril>{FIBRIL}) starts (?P<label>{PHONE})",
-    "ends": f"(?P<fibril>{FIBRIL}) ends",
-    "begins": f"(?P<fibril>{FIBRIL}) begins exchange (?P<exchange>{NUMBER}) (?P<mode>atomic|serialize|parallel)"
-              f" session (?P<session>{NUMBER}) phone (?P<phone>{NUMBER})",
-    "ends_exchange": f"(?P<fibril>{FIBRIL}) ends exchange (?P<exchange>{NUMBER})",
-    "drops": f"(?P<fibril>{FIBRIL}) drops exchange (?P<exchange>{NUMBER})",
-    "refused": f"(?P<fibril>{FIBRIL}) refused (?P<code>{CODE})",
+OWN_PARTS = {
+    "sent": "fibril - call =place",
+    "gets": "fibril - call =place code args",
+    "blocks": "fibril - =why",
+    "starts": "fibril - label",
+    "ends": "fibril - - exchange",
+    "begins": "fibril - - exchange =mode - session - phone",
+    "drops": "fibril - - exchange",
+    "refused": "fibril - code",
 }
 
 
 Forms = Tuple["tuple[str, re.Pattern[str]]", ...]
 
 
-def compiled(forms: dict[str, str], before: str = "") -> Forms:
-    return tuple((kind, re.compile(before + form + r"\Z", re.ASCII)) for kind, form in forms.items())
+def kind_of(words: list[str]) -> str:
+    """The kind of a line with a shape of these words."""
+    if words[0] == "=":
+        return TOLD.get(words[1], words[1])
+    return words[2] if words[0] == "call" else words[1] if words[0] in KINDS else words[0]
 
 
-HEAD_FORMS = compiled(HEADS)
-EFFECT_FORMS = compiled(EFFECTS, "  ")
-OUTCOME_FORMS = compiled(OUTCOMES, "  ")
-OWN_FORMS = compiled(OWN, "  ")
+def piece(unit: str, name: str) -> str:
+    """The pattern of a unit of a shape, with its name if it has one."""
+    form = " ".join(KINDS.get(word, word) for word in unit.split())
+    is_named = name != "-" and (name.startswith("=") or unit.split()[0] in KINDS)
+    return f"(?P<{name.lstrip('=')}>{form})" if is_named else form
+
+
+def compiled(shapes: tuple[str, ...], parts: dict[str, str], before: str = "") -> Forms:
+    forms = []
+    for shape in shapes:
+        kind, units = kind_of(shape.split()), UNIT.findall(shape)
+        names = parts.get(kind, "").split() + ["-"] * len(units)
+        form = " ".join(piece(unit, name) for unit, name in zip(units, names))
+        forms.append((kind, re.compile(f"{before}{form}\\Z", re.ASCII)))
+    return tuple(forms)
+
+
+HEAD_FORMS = compiled(HEADS, HEAD_PARTS)
+EFFECT_FORMS = compiled(EFFECTS, EFFECT_PARTS, "  ")
+OUTCOME_FORMS = compiled(OUTCOMES, OUTCOME_PARTS, "  ")
+OWN_FORMS = compiled(OWN, OWN_PARTS, "  ")
 
 
 class Line:

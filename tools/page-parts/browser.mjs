@@ -440,7 +440,8 @@ async function edit(browser, address) {
   await browser.shot("edited");
 }
 
-/** Searches in a lesson: a goal at fault, one that no schedule meets, and one that is met, whose run is opened.
+/** Searches in a lesson: a goal at fault, one that no schedule meets, and two that are met, whose runs are opened: the one
+ * that is looked for where no goal is named is lost.
  * @param {Browser} browser @param {string} address */
 async function search(browser, address) {
   await browser.go(`${address}lesson/mutex-order`);
@@ -453,9 +454,14 @@ async function search(browser, address) {
     const told = await browser.run(`document.querySelector("#told").innerText`);
     expect(told.startsWith(due), `the goal ${goal} is told as ${told}`);
   }
-  await ask("b: = answer");
-  await browser.click("#search");
-  await until(browser, `document.querySelector("#editor").hidden`);
+  for (const goal of ["", "b: = answer"]) {
+    if (goal) await browser.click("#edit");
+    await ask(goal);
+    await browser.click("#search");
+    await until(browser, `document.querySelector("#editor").hidden`);
+    const found = await browser.run(`document.querySelector("#schedule").textContent`);
+    expect(found.includes(`# ${goal || "lost"}: `), `for the goal '${goal}' the schedule found is ${found}`);
+  }
   await browser.press("End");
   const shown = await browser.run(LINES);
   expect(shown.includes("= answer 1 EOK 0 0 0 0 0"), `the last event of what was found is shown as ${shown}`);

@@ -2,17 +2,21 @@
 // first event and what a raw task does next, the schedule which line an event is of; all else is what the trace says.
 // A value of 64 bits is kept as its decimal digits, which are equal exactly where the values are.
 
+// made by tools/words: methods
 export const METHODS = ["PHONE_HUNGUP", "CONNECT_TO_ME", "CONNECT_ME_TO", "DATA_WRITE", "DATA_READ", "SHARE_OUT", "SHARE_IN"];
+// made by tools/words: codes
 export const CODES = ["EOK", "ENOENT", "EPERM", "EEXIST", "EINVAL", "ELIMIT", "EHANGUP", "EFORWARD", "EBUSY", "ENOMEM"];
-export const RIGHTS = ["", "R", "W", "RW"];
+// made by tools/words: rights
+export const RIGHTS = ["", ...["R", "W", "RW"]];
+// made by tools/words: flags
+const FLAGS = ["", ...["RESTRICT"]];
 const EACH = 1024; // events between two states that are kept
 const NEAR = 32; // events between two states that are kept near the place that was asked for last
 const REGISTERS = 32;
 const PHONES = 64; // of a task whose line says nothing else
 const JUMPS = ["jump", "jumpeq", "jumpne"];
 const WORDS = new Map(/** @type {[string, string][]} */ ([]).concat(
-  [["RESTRICT", "1"]],
-  ...[METHODS, CODES, RIGHTS].map(list => list.map((name, number) => /** @type {[string, string]} */ ([name, String(number)])))));
+  ...[METHODS, CODES, RIGHTS, FLAGS].map(list => list.map((name, number) => /** @type {[string, string]} */ ([name, String(number)])))));
 WORDS.delete("");
 
 /**

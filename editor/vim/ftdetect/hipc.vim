@@ -17,10 +17,12 @@ function! s:ByFirstLine() abort
     let l:number = nextnonblank(l:number + 1)
   endwhile
   let l:line = getline(l:number)
+  " made by tools/words: kinds
   if l:line =~# '^\s*\(ns\s*\|\(task\|template\)\s\+[a-z][a-z0-9_]*\s\+\(raw\|async\|block\)\>.*\)$'
     set filetype=hipcscript
   elseif l:line =~# s:schedule && l:line !~# '^kill t\d\+$'
     set filetype=hipcschedule
+  " made by tools/words: heads
   elseif l:line =~# '^\(t\d\+ \(call\|receive\|answer\|forward\|hangup\|area\|unarea\|poke\|peek\|nothing\|ended\)\>\|\(kill\|spawn\) t\d\+$\)'
     set filetype=hipctrace
   endif

@@ -7,6 +7,7 @@ syntax iskeyword @,48-57,_
 syntax match hipcComment /#.*$/
 syntax match hipcBadByte /[^\x20-\x7e\t]/
 syntax match hipcUnknown /^\s*\zs[^ \t#]\+/
+" made by tools/words: events but kill
 syntax match hipcOperation /^\s*\zs\(step\|hangup\|spawn\)\>/
 syntax match hipcKill /^\s*\zskill\>/
 syntax match hipcTimes /\s\zsx\ze\s\+[0-9]/

@@ -4,17 +4,23 @@ if exists('b:current_syntax')
 endif
 syntax case match
 syntax iskeyword @,48-57,_
-syntax match hipcOutcome /^  =\( call\| received\| answer\| bytes\| EMPTY\)\?/
-syntax keyword hipcEffect accepted received forwarded answered delivered dropped connecting connected free area write sent gets blocks starts begins ends drops refused
+" made by tools/words: outcomes
+syntax match hipcOutcome /^  =\( \(call\|received\|answer\|EMPTY\|bytes\)\)\?/
+" made by tools/words: effects
+syntax keyword hipcEffect accepted received forwarded answered delivered dropped free connecting connected area write sent gets blocks starts ends refused begins drops
+" made by tools/words: ends
 syntax keyword hipcEnd vanished forgotten hungup slammed unarea
-syntax keyword hipcWord method to back label by kernel from plain route phone store slot begin answer mutex message exchange session atomic serialize parallel
+" made by tools/words: words between
+syntax keyword hipcWord plain route from slot begin answer mutex phone message exchange atomic session serialize parallel method to back label by kernel store
 syntax match hipcTask /\<t[0-9]\+\([./][0-9]\+\)\?\>/
 syntax match hipcNumber /\<[0-9]\{1,20\}\>/
 syntax match hipcBytes /\(^t[0-9]\+ poke [0-9]\+ \|^  = bytes \)\@<=\(\x\+\|-\)$/
+" made by tools/words: requests
 syntax match hipcHead /^t[0-9]\+ \(call\|receive\|answer\|forward\|hangup\|area\|unarea\|poke\|peek\|nothing\)\>/ contains=hipcTask
 syntax match hipcHead /^spawn\ze t[0-9]\+$/
 syntax match hipcKill /^kill t[0-9]\+$/
 syntax match hipcEnded /^t[0-9]\+ ended$/
+" made by tools/words: codes
 syntax keyword hipcCode EOK ENOENT EPERM EEXIST EINVAL ELIMIT EHANGUP EFORWARD EBUSY ENOMEM
 
 highlight default link hipcHead Statement
