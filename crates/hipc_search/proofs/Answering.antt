@@ -1,5 +1,5 @@
 -- What is due, from what the calls of the program say.
-use Rattle.std.proofs.Common.{◌≡◌, ℕ, ◌≤◌, List, length, Option, Result, Ok, Err, sym, ap, subst, ◌∙◌, arith}
+use Rattle.std.proofs.Common.{◌≡◌, ℕ, ◌≤◌, true, List, length, Option, Result, Ok, Err, sym, ap, subst, ◌∙◌, arith}
 use Rattle.std.specs.Prelude.{IfOk, ◌≢◌, codes}
 use Rattle.std.specs.Io.KnownBytes.{Appends}
 use Rattle.io_edge.specs.Edge.{AppendsStart}
@@ -10,7 +10,7 @@ use Rattle.script_lines.specs.Plan.{Plan}
 use Rattle.script_lines.specs.Sound as script
 use Rattle.script_reader.specs.EventLine.{EventsAndNames}
 use Rattle.script_reader.specs.Schedule.{MayAllCome}
-use Rattle.search_goals.specs.GoalText.{Asked}
+use Rattle.search_goals.specs.GoalList.{Sought, all_precede}
 use Rattle.schedule_search.specs.declared.problem.MostMade.{MostMade}
 use Rattle.schedule_search.specs.Search.{Search, IsSound}
 use Rattle.hipc_search.specs.declared.moves.Listed.TheVariants.{Kills, Hangups}
@@ -54,7 +54,7 @@ no_memory_told A status told h ok m =
 
 -- ---- what is asked
 
-module _ (c : Command) (plan : Plan) (first : EventsAndNames) (asked : Asked) where
+module _ (c : Command) (plan : Plan) (first : EventsAndNames) (sought : Sought) where
   abbrev templates : List (List ℕ)
   templates = task_names plan.templates
 
@@ -68,44 +68,69 @@ module _ (c : Command) (plan : Plan) (first : EventsAndNames) (asked : Asked) wh
   bounds_told = bounds_in templates c.spawn
 
   pub kills_at_fault : (fault : ℕ × Reason) → kills_told ≡ Err fault
-      → search_with c plan first (Ok asked) ≡ Err (fault_line (codes "kill word") fault)
-  kills_at_fault fault e = ap (λ k. search_by plan first c.kills asked k hangups_told bounds_told) e
+      → search_with c plan first (Ok sought) ≡ Err (fault_line (codes "kill word") fault)
+  kills_at_fault fault e = ap (λ k. search_by plan first c.kills sought k hangups_told bounds_told) e
 
   pub hangups_at_fault : (killed : List Event) (fault : ℕ × Reason) → kills_told ≡ Ok killed → hangups_told ≡ Err fault
-      → search_with c plan first (Ok asked) ≡ Err (fault_line (codes "hangup word") fault)
+      → search_with c plan first (Ok sought) ≡ Err (fault_line (codes "hangup word") fault)
   hangups_at_fault killed fault e f =
-      ap (λ k. search_by plan first c.kills asked k hangups_told bounds_told) e
-      ∙ ap (λ h. search_by plan first c.kills asked (Ok killed) h bounds_told) f
+      ap (λ k. search_by plan first c.kills sought k hangups_told bounds_told) e
+      ∙ ap (λ h. search_by plan first c.kills sought (Ok killed) h bounds_told) f
 
   pub bounds_at_fault : (killed hangups : List Event) (fault : ℕ × Reason) → kills_told ≡ Ok killed
       → hangups_told ≡ Ok hangups → bounds_told ≡ Err fault
-      → search_with c plan first (Ok asked) ≡ Err (fault_line (codes "spawn word") fault)
+      → search_with c plan first (Ok sought) ≡ Err (fault_line (codes "spawn word") fault)
   bounds_at_fault killed hangups fault e f g =
-      ap (λ k. search_by plan first c.kills asked k hangups_told bounds_told) e
-      ∙ ap (λ h. search_by plan first c.kills asked (Ok killed) h bounds_told) f
-      ∙ ap (λ b. search_by plan first c.kills asked (Ok killed) (Ok hangups) b) g
+      ap (λ k. search_by plan first c.kills sought k hangups_told bounds_told) e
+      ∙ ap (λ h. search_by plan first c.kills sought (Ok killed) h bounds_told) f
+      ∙ ap (λ b. search_by plan first c.kills sought (Ok killed) (Ok hangups) b) g
 
   pub search_is : (killed hangups moves : List Event) (bounds : List MostMade) → kills_told ≡ Ok killed
       → hangups_told ≡ Ok hangups → bounds_told ≡ Ok bounds
       → moves ≡ moves_of (length first.names) killed hangups bounds
-      → search_with c plan first (Ok asked)
-      ≡ Ok (record { plan = plan; from = first.events; moves = moves; kills = c.kills; spawns = bounds; asked = asked })
+      → search_with c plan first (Ok sought)
+      ≡ Ok (record {
+        plan = plan;
+        from = first.events;
+        moves = moves;
+        kills = c.kills;
+        spawns = bounds;
+        earlier = sought.earlier;
+        asked = sought.last;
+      })
   search_is killed hangups moves bounds e f g is =
-      ap (λ k. search_by plan first c.kills asked k hangups_told bounds_told) e
-      ∙ ap (λ h. search_by plan first c.kills asked (Ok killed) h bounds_told) f
-      ∙ ap (λ b. search_by plan first c.kills asked (Ok killed) (Ok hangups) b) g
+      ap (λ k. search_by plan first c.kills sought k hangups_told bounds_told) e
+      ∙ ap (λ h. search_by plan first c.kills sought (Ok killed) h bounds_told) f
+      ∙ ap (λ b. search_by plan first c.kills sought (Ok killed) (Ok hangups) b) g
       ∙ ap (λ (m : List Event). search_made m) (sym is) where
         search_made : List Event → Result Search (List ℕ)
         search_made m =
-            Ok (record { plan = plan; from = first.events; moves = m; kills = c.kills; spawns = bounds; asked = asked })
+            Ok (record {
+              plan = plan;
+              from = first.events;
+              moves = m;
+              kills = c.kills;
+              spawns = bounds;
+              earlier = sought.earlier;
+              asked = sought.last;
+            })
 
 -- the search that is asked is sound
-pub search_sound : (plan : Plan) (from moves : List Event) (kills : Option ℕ) (asked : Asked) (tasks : ℕ)
+pub search_sound : (plan : Plan) (from moves : List Event) (kills : Option ℕ) (sought : Sought) (tasks : ℕ)
     (killed hangups : List Event) (bounds : List MostMade) → script.IsSound plan
     → MayAllCome (length plan.tasks) (length plan.templates) from → length from ≤ 32768 → tasks ≤ 64
     → length hangups ≤ 4096 → length bounds ≤ 64 → moves ≡ moves_of tasks killed hangups bounds
-    → IsSound (record { plan = plan; from = from; moves = moves; kills = kills; spawns = bounds; asked = asked })
-search_sound plan from moves kills asked tasks killed hangups bounds sound may few some few_hangups few_bounds is =
+    → all_precede sought.earlier ≡ true
+    → IsSound (record {
+      plan = plan;
+      from = from;
+      moves = moves;
+      kills = kills;
+      spawns = bounds;
+      earlier = sought.earlier;
+      asked = sought.last;
+    })
+search_sound plan from moves kills sought tasks killed hangups bounds sound may few some few_hangups few_bounds is precede =
     let all = moves_few tasks killed hangups bounds some in
     let long = ap (λ (ms : List Event). length ms) is in
     record {
@@ -113,4 +138,5 @@ search_sound plan from moves kills asked tasks killed hangups bounds sound may f
       may = may;
       few = omega (arith, few);
       few_moves = omega (arith, few_hangups, few_bounds, all, long);
+      precede = precede;
     }

@@ -1,4 +1,5 @@
 pub mod Numbers
+pub mod Behind
 pub mod Lists
 pub mod Steps
 pub mod Looking

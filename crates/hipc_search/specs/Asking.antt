@@ -12,12 +12,13 @@ use Rattle.script_lines.specs.Text.{is_allowed}
 use Rattle.script_lines.specs.declared.plan.TaskPlan.{TaskPlan}
 use Rattle.script_reader.specs.EventLine.{EventsAndNames, no_events, after_event}
 use Rattle.script_reader.specs.Reading.{reading}
-use Rattle.search_goals.specs.GoalText.{Asked, IsRest, goal_of}
+use Rattle.search_goals.specs.GoalText.{IsRest}
+use Rattle.search_goals.specs.GoalList.{Sought, Fault, alone, goals_of}
 use Rattle.schedule_search.specs.declared.problem.MostMade.{MostMade}
 use Rattle.schedule_search.specs.Search.{Search}
 use Rattle.hipc_search.specs.declared.moves.Listed.TheVariants.{Kills, Hangups}
-use Rattle.hipc_search.specs.Command.{Command, Asks, Goal, Survey}
-use Rattle.hipc_search.specs.Line.{fault_line}
+use Rattle.hipc_search.specs.Command.{Command, Asks, Goals, Survey, goals_text}
+use Rattle.hipc_search.specs.Line.{fault_line, goal_place}
 use Rattle.hipc_search.specs.Moves.{listed_in, bounds_in, moves_of}
 
 -- ---- the events that come first
@@ -50,37 +51,38 @@ first_in (Err fault) = Err fault
 
 -- ---- the search
 
--- what is looked for: a goal, or its first fault; a survey looks for states at rest
-abbrev pub asked_by : (names : List (List ℕ)) → List TaskPlan → Asks → Result Asked (ℕ × Reason)
-asked_by names tasks (Goal text) = goal_of names tasks text
-asked_by names tasks Survey = Ok IsRest
+-- what is looked for: goals, or their first fault; a survey looks for states at rest
+abbrev pub asked_by : (names : List (List ℕ)) → List TaskPlan → Asks → Result Sought Fault
+asked_by names tasks (Goals first later) = goals_of names tasks first later
+asked_by names tasks Survey = Ok (alone IsRest)
 
--- the bytes of a goal may stand in a line
+-- the bytes of goals may stand in a line
 abbrev pub MayStand : Asks → Type 0
-MayStand (Goal text) = list_all is_allowed text ≡ true
+MayStand (Goals first later) = list_all is_allowed (goals_text first later) ≡ true
 MayStand Survey = ⊤
 
 -- behind events that come first, by what the lists say
-abbrev pub search_by : Plan → EventsAndNames → Option ℕ → Asked → (killed hangups : Result (List Event) (ℕ × Reason))
+abbrev pub search_by : Plan → EventsAndNames → Option ℕ → Sought → (killed hangups : Result (List Event) (ℕ × Reason))
     → Result (List MostMade) (ℕ × Reason) → Result Search (List ℕ)
-search_by plan first kills asked (Err fault) hangups bounds = Err (fault_line (codes "kill word") fault)
-search_by plan first kills asked (Ok killed) (Err fault) bounds = Err (fault_line (codes "hangup word") fault)
-search_by plan first kills asked (Ok killed) (Ok hangups) (Err fault) = Err (fault_line (codes "spawn word") fault)
-search_by plan first kills asked (Ok killed) (Ok hangups) (Ok bounds) =
+search_by plan first kills sought (Err fault) hangups bounds = Err (fault_line (codes "kill word") fault)
+search_by plan first kills sought (Ok killed) (Err fault) bounds = Err (fault_line (codes "hangup word") fault)
+search_by plan first kills sought (Ok killed) (Ok hangups) (Err fault) = Err (fault_line (codes "spawn word") fault)
+search_by plan first kills sought (Ok killed) (Ok hangups) (Ok bounds) =
     Ok (record {
       plan = plan;
       from = first.events;
       moves = moves_of (length first.names) killed hangups bounds;
       kills = kills;
       spawns = bounds;
-      asked = asked;
+      earlier = sought.earlier;
+      asked = sought.last;
     })
 
 -- by what is looked for
-abbrev pub search_with : Command → Plan → EventsAndNames → Result Asked (ℕ × Reason) → Result Search (List ℕ)
-search_with command plan first (Err fault) = Err (fault_line (codes "goal word") fault)
-search_with command plan first (Ok asked) =
-    search_by plan first command.kills asked (listed_in Kills first.names command.kill)
+abbrev pub search_with : Command → Plan → EventsAndNames → Result Sought Fault → Result Search (List ℕ)
+search_with command plan first (Err fault) = Err (fault_line (goal_place fault.0) fault.1)
+search_with command plan first (Ok sought) =
+    search_by plan first command.kills sought (listed_in Kills first.names command.kill)
     (listed_in Hangups first.names command.hangup) (bounds_in (task_names plan.templates) command.spawn)
 
 -- the search that is asked for behind these events, or the line of the first fault: of the goal, or of a list

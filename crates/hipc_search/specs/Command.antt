@@ -1,8 +1,11 @@
 -- Which search the words of a command line ask for.
-use Rattle.std.specs.Prelude.{ℕ, List, [], ◌∷◌, Bool, Option, None, Some, codes, nat_eq, nat_le, if◌then◌else◌}
+use Rattle.std.specs.Prelude.{ℕ, List, [], ◌∷◌, ◌++◌, Bool, Option, None, Some, codes, nat_eq, nat_le, String, if◌then◌else◌}
 use Rattle.std.specs.List.{starts_with}
 use Rattle.std.specs.Option.{option_map, option_and_then}
 use Rattle.std.specs.Str.{bytes_eq}
+use Rattle.std.specs.Borrow.{Bor}
+use Rattle.std.specs.declared.alloc.Global.{Global}
+use Rattle.command_line.specs.Command.{texts}
 use Rattle.script_lines.specs.Word.{number}
 use Rattle.hipc_search.specs.declared.command.Options.{Options as GivenOptions}
 use Rattle.hipc_search.specs.declared.command.Asks.{Asks as GivenAsks}
@@ -63,17 +66,33 @@ with_option o option value =
     else (if bytes_eq option (codes "--events") then with_events o value
     else (if bytes_eq option (codes "--states") then with_states o value else None))))))
 
--- words that are options, each with its value behind it
-abbrev pub options_of : Options → List (List ℕ) → Option Options
-options_of so_far [] = Some so_far
+abbrev pub is_then : List ℕ → Bool
+is_then word = bytes_eq word (codes "--then")
+
+-- the goals of words that are `--then` and a goal, again and again
+abbrev pub goals_behind : List (List ℕ) → Option (List (List ℕ))
+goals_behind [] = Some []
+goals_behind (word ∷ []) = None
+goals_behind (word ∷ goal ∷ others) =
+    if is_then word then option_map (λ goals. goal ∷ goals) (goals_behind others) else None
+
+-- words that are options, each with its value behind it, and then goals, each behind `--then`
+abbrev pub options_of : Options → List (List ℕ) → Option (Options × List (List ℕ))
+options_of so_far [] = Some (so_far, [])
 options_of so_far (option ∷ []) = None
 options_of so_far (option ∷ value ∷ others) =
-    option_and_then (λ more. options_of more others) (with_option so_far option value)
+    if is_then option then option_map (λ goals. (so_far, goals)) (goals_behind (option ∷ value ∷ others))
+    else option_and_then (λ more. options_of more others) (with_option so_far option value)
 
--- what is asked of the schedules: the first that meets the goal of a text, or each state at rest
+-- what is asked of the schedules: the first that meets the goals of these texts in turn, or each state at rest
 pub data Asks : Type 0 where
-  Goal : List ℕ → Asks
+  Goals : (first : List ℕ) (later : List (List ℕ)) → Asks
   Survey : Asks
+
+-- the texts of goals as a comment has them
+abbrev pub goals_text : (first : List ℕ) (later : List (List ℕ)) → List ℕ
+goals_text first [] = first
+goals_text first (goal ∷ later) = goals_text (first ++ (codes ", then " ++ goal)) later
 
 -- what is searched: the script by the name of its file, what is asked, and what the options say, where the numbers of
 -- events and of states are there
@@ -137,7 +156,7 @@ goal_and_others [] = (codes "lost", [])
 goal_and_others (word ∷ words) = if is_option word then (codes "lost", word ∷ words) else (word, words)
 
 abbrev pub as_goal : List ℕ × List (List ℕ) → Asks × List (List ℕ)
-as_goal words = (Goal words.0, words.1)
+as_goal words = (Goals words.0 [], words.1)
 
 -- a survey where the words begin so, else a goal; and the words that are left
 abbrev pub asks_and_others : List (List ℕ) → Asks × List (List ℕ)
@@ -145,11 +164,22 @@ asks_and_others [] = as_goal (goal_and_others [])
 asks_and_others (word ∷ words) =
     if bytes_eq word (codes "--survey") then (Survey, words) else as_goal (goal_and_others (word ∷ words))
 
+-- with goals that come later; a survey has none
+abbrev pub with_later : Asks → List (List ℕ) → Option Asks
+with_later (Goals first _) later = Some (Goals first later)
+with_later Survey [] = Some Survey
+with_later Survey (goal ∷ later) = None
+
+abbrev pub command_behind : List ℕ → Asks → Options × List (List ℕ) → Option Command
+command_behind script asks behind =
+    option_and_then (λ all. command_for script all behind.0) (with_later asks behind.1)
+
 -- what the words behind the name of a script ask
 abbrev pub command_with : List ℕ → Asks × List (List ℕ) → Option Command
-command_with script words = option_and_then (command_for script words.0) (options_of no_options words.1)
+command_with script words = option_and_then (command_behind script words.0) (options_of no_options words.1)
 
--- the words are `SCRIPT`, `SCRIPT GOAL` or `SCRIPT --survey`, and options; or they are no command
+-- the words are `SCRIPT`, `SCRIPT GOAL` or `SCRIPT --survey`, options, and then goals, each behind `--then`; or they are
+-- no command
 abbrev pub command_of : List (List ℕ) → Option Command
 command_of [] = None
 command_of (script ∷ words) = if is_option script then None else command_with script (asks_and_others words)
@@ -167,9 +197,18 @@ said_options o =
       states = o.states;
     }
 
+-- of words, each second: what stands behind each `--then`
+abbrev pub goals_in : List (List ℕ) → List (List ℕ)
+goals_in [] = []
+goals_in (word ∷ []) = []
+goals_in (word ∷ goal ∷ others) = goal ∷ goals_in others
+
 abbrev pub said_asks : GivenAsks → Asks
-said_asks (asked.Goal text) = Goal text.now
+said_asks (asked.Goals first later) = Goals first.now (goals_in (texts later.now))
 said_asks asked.Survey = Survey
+
+abbrev pub said_behind : GivenOptions × Bor (List (String Global)) → Options × List (List ℕ)
+said_behind behind = (said_options behind.0, goals_in (texts behind.1.now))
 
 abbrev pub said : GivenCommand → Command
 said c =

@@ -17,7 +17,7 @@ use Rattle.schedule_search.specs.Right.{IsRight}
 use Rattle.schedule_search.specs.Survey.{IsSurvey, schedules_of}
 use Rattle.hipc_search.specs.declared.status.Status.{Status}
 use Rattle.hipc_search.specs.declared.status.Status.TheVariants.{Found, FoundWithin, NoneAtAll, NoneWithin, NotKnown, Usage, CannotRead, BadScript, BadSchedule, BadGoal, WriteFailed, NoMemory}
-use Rattle.hipc_search.specs.Command.{Command, Asks, Goal, Survey, command_of}
+use Rattle.hipc_search.specs.Command.{Command, Asks, Goals, Survey, goals_text, command_of}
 use Rattle.hipc_search.specs.Line.{usage_line, fault_line, none_line, none_within_line, not_known_line}
 use Rattle.hipc_search.specs.Asking.{first_events, search_for}
 use Rattle.hipc_search.specs.Schedule.{IsSchedule}
@@ -82,7 +82,8 @@ DueForSurvey s most room before status text =
 
 -- due by what is asked
 abbrev pub DueForAsks : Search → (most room : ℕ) → (before : List ℕ) → Asks → Answers
-DueForAsks s most room before (Goal goal) status text = DueForSearch s most room before goal status text
+DueForAsks s most room before (Goals first later) status text =
+    DueForSearch s most room before (goals_text first later) status text
 DueForAsks s most room before Survey status text = DueForSurvey s most room before status text
 
 -- ---- the files

@@ -1,5 +1,5 @@
 -- The lines that are answered where no schedule is.
-use Rattle.std.specs.Prelude.{ℕ, ◌++◌, List, codes, decimal}
+use Rattle.std.specs.Prelude.{ℕ, ◌==◌, ◌++◌, List, codes, decimal, if◌then◌else◌}
 use Rattle.script_lines.specs.declared.fault.Reason.{Reason}
 use Rattle.script_lines.specs.Text.{text_of_reason}
 
@@ -7,12 +7,17 @@ use Rattle.script_lines.specs.Text.{text_of_reason}
 abbrev pub usage_line : List ℕ
 usage_line =
     codes "usage: hipc-search SCRIPT [GOAL | --survey] [--kill NAME,..] [--kills N] "
-    ++ codes "[--hangup NAME.PHONE,..] [--spawn TEMPLATE:N,..] [--from SCHEDULE] [--events N] [--states N]\n"
+    ++ codes "[--hangup NAME.PHONE,..] [--spawn TEMPLATE:N,..] [--from SCHEDULE] [--events N] [--states N] "
+    ++ codes "[--then GOAL]..\n"
 
 -- the line of a first fault: where it is, as `script line` or `goal word`, the number, and the reason
 abbrev pub fault_line : List ℕ → ℕ × Reason → List ℕ
 fault_line place fault =
     place ++ codes " " ++ decimal fault.0 ++ codes ": " ++ text_of_reason fault.1 ++ codes "\n"
+
+-- where a goal is at fault: the first, or one behind `--then`, which has a number
+abbrev pub goal_place : ℕ → List ℕ
+goal_place n = if n == 1 then codes "goal word" else codes "goal " ++ decimal n ++ codes " word"
 
 -- nothing leads to what is looked for, and there are so many states
 abbrev pub none_line : ℕ → List ℕ

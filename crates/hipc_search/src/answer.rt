@@ -6,10 +6,10 @@ ghost use Rattle.search_goals.specs.Writing.{AreNamed};
 ghost use Rattle.command_line.specs.Due.{cannot_line};
 ghost use Rattle.schedule_search.specs.Search.{IsSound};
 ghost use Rattle.schedule_search.specs.Problem.{search_of};
-ghost use Rattle.hipc_search.specs.Line.{usage_line, fault_line, none_line, none_within_start, states_end, none_within_line, not_known_line};
+ghost use Rattle.hipc_search.specs.Line.{usage_line, fault_line, goal_place, none_line, none_within_start, states_end, none_within_line, not_known_line};
 ghost use Rattle.hipc_search.specs.Schedule.{Precedes};
 ghost use Rattle.hipc_search.specs.Due.{Says, IsOfText, DueForSearch};
-ghost use Rattle.hipc_search.specs.declared.status.Status.TheVariants.{CannotRead, Usage};
+ghost use Rattle.hipc_search.specs.declared.status.Status.TheVariants.{BadGoal, CannotRead, Usage};
 
 use crate::command::Command;
 use crate::schedule::found_text;
@@ -21,7 +21,8 @@ use search_goals::TaskNames;
 use std::alloc::Global;
 
 const USAGE: &[u8] = b"usage: hipc-search SCRIPT [GOAL | --survey] [--kill NAME,..] [--kills N] \
-[--hangup NAME.PHONE,..] [--spawn TEMPLATE:N,..] [--from SCHEDULE] [--events N] [--states N]\n";
+[--hangup NAME.PHONE,..] [--spawn TEMPLATE:N,..] [--from SCHEDULE] [--events N] [--states N] \
+[--then GOAL]..\n";
 
 /// A status, and the text that is due with it.
 #[derive(Drop)]
@@ -75,6 +76,24 @@ pub(crate) fn fault_answer(
     })
 }
 
+/// The same for a goal, of which each but the first has a number.
+pub(crate) fn goal_fault_answer(
+    alloc: Global,
+    goal: u64,
+    word: u64,
+    reason: Reason,
+) -> Result<Answer, NoMemory>
+    ensures says { IfOk result (λ answer. Says BadGoal (fault_line (goal_place goal) (word, reason))
+        answer.status answer.text.items) }
+    ensures told { IfOk result (λ answer. IsOfText answer.status) }
+{
+    if goal == 1 {
+        return fault_answer(alloc, Status::BadGoal, "goal word", word, reason);
+    }
+    let place = format!(in alloc; "goal {goal} word")?;
+    fault_answer(alloc, Status::BadGoal, place.as_str(), word, reason)
+}
+
 /// The line for a search that ended with no schedule.
 fn none_text(alloc: Global, states: u64) -> Result<Vec<u8>, NoMemory>
     ensures { IfOk result (λ text. text.items ≡ none_line states) }
@@ -124,7 +143,7 @@ pub(crate) fn search_answer(
     command: &Command<'_>,
     names: TaskNames,
     before: &[u8],
-    goal: &str,
+    goal: &[u8],
 ) -> Result<Answer, NoMemory>
     requires sound { IsSound (search_of problem.now) }
     requires named { AreNamed problem.now.script.now.templates }

@@ -1,9 +1,9 @@
 //! What the words of a command line ask.
-ghost use Rattle.std.specs.Prelude.{◌≡◌, ◌≤◌, ◌<◌, ◌∷◌, IfSome, IfNone, length};
+ghost use Rattle.std.specs.Prelude.{◌≡◌, ◌≤◌, ◌<◌, ◌∷◌, IfSome, IfNone, is_some, length};
 ghost use Rattle.std.specs.Option.{option_map};
 ghost use Rattle.command_line.specs.Command.{texts};
-ghost use Rattle.hipc_search.specs.Command.{no_options, with_kill, with_hangup, with_spawn, with_from, with_kills, with_events, with_states, with_option, options_of};
-ghost use Rattle.hipc_search.specs.Command.{up_to, given_or, given, command_for, is_option, goal_and_others, as_goal, asks_and_others, command_of, said_options, said_asks, said};
+ghost use Rattle.hipc_search.specs.Command.{no_options, with_kill, with_hangup, with_spawn, with_from, with_kills, with_events, with_states, with_option, goals_behind, options_of};
+ghost use Rattle.hipc_search.specs.Command.{up_to, given_or, given, command_for, is_option, goal_and_others, as_goal, asks_and_others, with_later, command_of, goals_in, said_options, said_asks, said_behind, said};
 
 use script_reader::number;
 
@@ -28,8 +28,9 @@ pub(crate) struct Options<'a> {
 /// What is asked of the schedules of a script.
 #[derive(Clone, Copy)]
 pub(crate) enum Asks<'a> {
-    /// The first that meets the goal of this text.
-    Goal(&'a str),
+    /// The first that meets the goal of a text and then, in turn, those of the words, in which each
+    /// stands behind `--then`.
+    Goals { first: &'a str, later: &'a [String] },
     /// Each state at rest.
     Survey,
 }
@@ -195,14 +196,14 @@ fn with_option<'a>(options: Options<'a>, option: &str, value: &'a str) -> Option
 
 /// An option and its value, and the words behind them.
 #[derive(Clone, Copy)]
-struct Pair<'a> {
-    option: &'a str,
-    value: &'a str,
-    others: &'a [String],
+pub(crate) struct Pair<'a> {
+    pub option: &'a str,
+    pub value: &'a str,
+    pub others: &'a [String],
 }
 
 /// The option and its value at the front; `None` where there are fewer than two words.
-fn next_pair(words: &[String]) -> Option<Pair<'_>>
+pub(crate) fn next_pair(words: &[String]) -> Option<Pair<'_>>
     ensures some { IfSome result (λ pair. texts words.now
         ≡ pair.option.now ∷ pair.value.now ∷ texts pair.others.now) }
     ensures none { IfNone result (length words.now < 2) }
@@ -218,30 +219,69 @@ fn next_pair(words: &[String]) -> Option<Pair<'_>>
     }
 }
 
-/// These options, where no word is left.
-fn last_options<'a>(options: Options<'a>, words: &'a [String]) -> Option<Options<'a>>
-    requires { length words.now < 2 }
-    ensures { option_map said_options result
-        ≡ options_of (said_options options.entry) (texts words.now) }
+/// Whether the words are `--then` and a goal, again and again. There are no more calls than goals.
+fn are_goals(words: &[String]) -> bool
+    ensures { result ≡ is_some (goals_behind (texts words.now)) }
 {
-    match words {
-        [] => Some(options),
-        _ => None,
+    match next_pair(words) {
+        Some(pair) => {
+            if pair.option == "--then" {
+                are_goals(pair.others)
+            } else {
+                false
+            }
+        }
+        None => words.is_empty(),
     }
 }
 
-/// These options and those that the words are, each with its value behind it. There are no more
-/// calls than options.
-fn options_behind<'a>(options: Options<'a>, words: &'a [String]) -> Option<Options<'a>>
-    ensures { option_map said_options result
+/// These options, where all words that are left are goals.
+fn last_options<'a>(
+    options: Options<'a>,
+    words: &'a [String],
+) -> Option<(Options<'a>, &'a [String])>
+    ensures { option_map said_behind result
+        ≡ option_map (λ goals. (said_options options.entry, goals)) (goals_behind (texts words.now)) }
+{
+    if are_goals(words) {
+        Some((options, words))
+    } else {
+        None
+    }
+}
+
+/// These options and those that the words are, each with its value behind it, and the words of the
+/// goals behind them. There are no more calls than options.
+fn options_behind<'a>(
+    options: Options<'a>,
+    words: &'a [String],
+) -> Option<(Options<'a>, &'a [String])>
+    ensures { option_map said_behind result
         ≡ options_of (said_options options.entry) (texts words.now) }
 {
     match next_pair(words) {
-        Some(pair) => match with_option(options, pair.option, pair.value) {
-            Some(more) => options_behind(more, pair.others),
-            None => None,
-        },
+        Some(pair) => {
+            if pair.option == "--then" {
+                return last_options(options, words);
+            }
+            match with_option(options, pair.option, pair.value) {
+                Some(more) => options_behind(more, pair.others),
+                None => None,
+            }
+        }
         None => last_options(options, words),
+    }
+}
+
+/// The same with goals that come later; a survey has none.
+fn with_later<'a>(asks: Asks<'a>, later: &'a [String]) -> Option<Asks<'a>>
+    ensures { option_map said_asks result
+        ≡ with_later (said_asks asks.entry) (goals_in (texts later.now)) }
+{
+    match (asks, next_pair(later)) {
+        (Asks::Goals { first, .. }, _) => Some(Asks::Goals { first, later }),
+        (Asks::Survey, None) => Some(Asks::Survey),
+        (Asks::Survey, Some(_)) => None,
     }
 }
 
@@ -337,7 +377,11 @@ fn as_goal(words: &[String]) -> (Asks<'_>, &[String])
     ensures others { texts result.1.now ≡ (as_goal (goal_and_others (texts words.now))).1 }
 {
     let (goal, others) = goal_and_others(words);
-    (Asks::Goal(goal), others)
+    let asks = Asks::Goals {
+        first: goal,
+        later: &[],
+    };
+    (asks, others)
 }
 
 /// A survey where the words begin with `--survey`, else a goal; and the words that are left.
@@ -357,8 +401,8 @@ fn asks_and_others(words: &[String]) -> (Asks<'_>, &[String])
     }
 }
 
-/// The command that the words are, `SCRIPT`, `SCRIPT GOAL` or `SCRIPT --survey`, and options; `None`
-/// where they are no command.
+/// The command that the words are, `SCRIPT`, `SCRIPT GOAL` or `SCRIPT --survey`, options, and then
+/// goals, each behind `--then`; `None` where they are no command.
 pub(crate) fn command_of(words: &[String]) -> Option<Command<'_>>
     ensures command { option_map said result ≡ command_of (texts words.now) }
     ensures few { IfSome result (λ command. command.events ≤ 10000) }
@@ -370,6 +414,7 @@ pub(crate) fn command_of(words: &[String]) -> Option<Command<'_>>
         return None;
     }
     let (asks, others) = asks_and_others(behind);
-    let options = options_behind(no_options(), others)?;
+    let (options, later) = options_behind(no_options(), others)?;
+    let asks = with_later(asks, later)?;
     command_for(script.as_str(), asks, options)
 }

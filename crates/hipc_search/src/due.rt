@@ -1,12 +1,12 @@
 //! Does what is due for a command line: words, files, and the sink that takes the text.
-ghost use Rattle.std.specs.Prelude.{◌≡◌, ◌≢◌, ◌≤◌, ◌<◌, ◌++◌, ◌∷◌, ◌⊎◌, [], Ok, Some, IfOk, length};
+ghost use Rattle.std.specs.Prelude.{◌≡◌, ◌≢◌, ◌≤◌, ◌<◌, ◌++◌, ◌∷◌, ◌⊎◌, [], true, Ok, Some, IfOk, length};
 ghost use Rattle.std.specs.Io.KnownBytes.{Appends, Keeps};
 ghost use Rattle.std.specs.Option.{option_map};
 ghost use Rattle.io_edge.specs.Edge.{AppendsStart, Rose};
 ghost use Rattle.script_lines.specs.Names.{task_names};
 ghost use Rattle.script_lines.specs.Sound.{IsSound};
 ghost use Rattle.script_reader.specs.Schedule.{MayAllCome};
-ghost use Rattle.search_goals.specs.GoalText.{said as said_goal};
+ghost use Rattle.search_goals.specs.GoalList.{all_precede, said_all, sought_by};
 ghost use Rattle.search_goals.specs.Writing.{IsNamed};
 ghost use Rattle.command_line.specs.Command.{texts};
 ghost use Rattle.command_line.specs.Due.{LosesOneAtMost};
@@ -16,7 +16,7 @@ ghost use Rattle.hipc_search.specs.Schedule.{Precedes};
 ghost use Rattle.hipc_search.specs.Due.{DueForAsked, DueForEvents, DueForPlan, DueForBytes, DueForFiles, Due, files_of, loaded_by, IsOfText, Whole, Part};
 ghost use Rattle.hipc_search.specs.declared.status.Status.TheVariants.{WriteFailed, NoMemory as Memory};
 
-use crate::answer::{Answer, cannot_answer, fault_answer, usage_answer};
+use crate::answer::{Answer, cannot_answer, fault_answer, goal_fault_answer, usage_answer};
 use crate::command::{Command, command_of};
 use crate::goal::{asked_for, first_events};
 use crate::moves::{Listed, bounds_in, listed_in, moves_of};
@@ -27,7 +27,7 @@ use ipc_ids::{Event, NoMemory};
 use schedule_search::Problem;
 use script_lines::{Names, names_of};
 use script_reader::{ScheduleFault, Script, ScriptFault, read_script};
-use search_goals::{Goal, GoalFault, TaskNames};
+use search_goals::{GoalFault, Goals, GoalsFault, TaskNames};
 use std::alloc::Global;
 
 // One more byte than a file may have, so that a longer one shows.
@@ -42,14 +42,14 @@ fn templates_in(alloc: Global, script: &Script) -> Result<Names, NoMemory>
 }
 
 /// Reads the lists of kills, of hangups and of templates, and searches or surveys.
-fn with_goal(
+fn with_goals(
     alloc: Global,
     command: &Command<'_>,
     script: &Script,
     from: &[Event],
     names: TaskNames,
     before: &[u8],
-    goal: &Goal,
+    goals: &Goals,
 ) -> Result<Answer, NoMemory>
     requires events { command.now.events ≤ 10000 }
     requires named { IsNamed script.now }
@@ -59,9 +59,10 @@ fn with_goal(
     requires first { Precedes script.now before.now
         (record { events = from.now; names = names }) }
     requires allowed { MayStand (said command.now).asks }
+    requires precede { all_precede (said_all goals.now.earlier.items) ≡ true }
     ensures due { IfOk result (λ answer. DueForAsked (said command.now) before.now
         (search_with (said command.now) script.now
-        (record { events = from.now; names = names }) (Ok (said_goal goal.now)))
+        (record { events = from.now; names = names }) (Ok (sought_by goals.now)))
         answer.status answer.text.items) }
     ensures told { IfOk result (λ answer. IsOfText answer.status) }
 {
@@ -102,7 +103,8 @@ fn with_goal(
         moves: moves.as_slice(),
         kills: command.kills,
         spawns: bounds.as_slice(),
-        goal,
+        earlier: goals.earlier.as_slice(),
+        goal: &goals.last,
     };
     asks_answer(alloc, &problem, command, names, before)
 }
@@ -130,11 +132,11 @@ fn with_events(
 {
     let table = names.to_table(alloc)?;
     match asked_for(alloc, &table, script, command.asks) {
-        Ok(goal) => with_goal(alloc, command, script, from, names, before, &goal),
-        Err(GoalFault::Bad { word, reason }) => {
-            fault_answer(alloc, Status::BadGoal, "goal word", word, reason)
+        Ok(goals) => with_goals(alloc, command, script, from, names, before, &goals),
+        Err(GoalsFault::Bad { goal, word, reason }) => {
+            goal_fault_answer(alloc, goal, word, reason)
         }
-        Err(GoalFault::NoMemory) => Err(NoMemory),
+        Err(GoalsFault::NoMemory) => Err(NoMemory),
     }
 }
 

@@ -1,35 +1,60 @@
-//! What is asked of a script: a goal, and the events that come first.
+//! What is asked of a script: goals, and the events that come first.
 ghost use Rattle.std.specs.Prelude.{◌≡◌, ◌≤◌, true, Ok, IfOk, length};
 ghost use Rattle.std.specs.List.{list_all};
-ghost use Rattle.script_lines.specs.Text.{is_allowed};
+ghost use Rattle.command_line.specs.Command.{texts};
+ghost use Rattle.script_lines.specs.Text.{is_allowed, texts as line_words};
 ghost use Rattle.script_reader.specs.EventLine.{no_events, after_event};
 ghost use Rattle.script_reader.specs.Reading.{reading, fault_in_schedule, Agrees};
 ghost use Rattle.script_reader.specs.Schedule.{MayAllCome};
-ghost use Rattle.search_goals.specs.GoalText.{said as said_goal, goal_of, Answers};
+ghost use Rattle.search_goals.specs.GoalList.{all_precede, goals_of, said_all, AnswersGoals};
 ghost use Rattle.search_goals.specs.Writing.{AreNamed};
 ghost use Rattle.hipc_search.specs.Asking.{first_events, said_first, first_in, asked_by, MayStand};
-ghost use Rattle.hipc_search.specs.Command.{said_asks};
+ghost use Rattle.hipc_search.specs.Command.{goals_in, goals_text, said_asks};
 
-use crate::command::Asks;
+use crate::command::{Asks, next_pair};
 use crate::known::names_behind;
-use ipc_ids::Event;
+use ipc_ids::{Event, NoMemory};
 use script_lines::Names;
 use script_reader::{Reason, ScheduleFault, Script, read_schedule};
-use search_goals::{Goal, GoalFault, TaskNames, read_goal_for};
+use search_goals::{Goal, Goals, GoalsFault, TaskNames, read_goals_for};
 use std::alloc::Global;
 
 const MOST_FIRST_BYTES: usize = 524_288;
 
 const MOST_FIRST_EVENTS: usize = 32_768;
 
-/// The goal that a text says, of tasks of these names.
-#[tactic(auto, using(crate::proofs::Looking::is_allowed_text))]
-fn goal_for(alloc: Global, names: &Names, script: &Script, text: &str) -> Result<Goal, GoalFault>
-    ensures value { Answers said_goal result (goal_of names.now script.now.tasks text.now) }
-    ensures allowed { IfOk result (λ _. list_all is_allowed text.now ≡ true) }
+/// The texts of the goals in words, in which each stands behind `--then`.
+fn goal_texts(alloc: Global, words: &[String]) -> Result<Vec<&[u8]>, NoMemory>
+    ensures { IfOk result (λ goals. line_words goals.items ≡ goals_in (texts words.now)) }
 {
-    match read_goal_for(alloc, names, script.tasks.as_slice(), text.as_bytes()) {
-        Ok(goal) => Ok(goal),
+    let mut goals = Vec::new(alloc);
+    let mut left = words;
+    while let Some(pair) = next_pair(left) {
+        goals.push(pair.value.as_bytes())?;
+        left = pair.others;
+    }
+    Ok(goals)
+}
+
+/// The goals that texts say, of tasks of these names.
+#[tactic(auto, using(crate::proofs::Looking::are_allowed))]
+fn goals_for(
+    alloc: Global,
+    names: &Names,
+    script: &Script,
+    first: &str,
+    later: &[String],
+) -> Result<Goals, GoalsFault>
+    ensures value { AnswersGoals result
+        (goals_of names.now script.now.tasks first.now (goals_in (texts later.now))) }
+    ensures precede { IfOk result (λ goals. all_precede (said_all goals.earlier.items) ≡ true) }
+    ensures allowed { IfOk result (λ _.
+        list_all is_allowed (goals_text first.now (goals_in (texts later.now))) ≡ true) }
+{
+    let texts = goal_texts(alloc, later)?;
+    let tasks = script.tasks.as_slice();
+    match read_goals_for(alloc, names, tasks, first.as_bytes(), texts.as_slice()) {
+        Ok(goals) => Ok(goals),
         Err(fault) => Err(fault),
     }
 }
@@ -40,14 +65,18 @@ pub(crate) fn asked_for(
     names: &Names,
     script: &Script,
     asks: Asks<'_>,
-) -> Result<Goal, GoalFault>
-    ensures value { Answers said_goal result
+) -> Result<Goals, GoalsFault>
+    ensures value { AnswersGoals result
         (asked_by names.now script.now.tasks (said_asks asks.entry)) }
+    ensures precede { IfOk result (λ goals. all_precede (said_all goals.earlier.items) ≡ true) }
     ensures allowed { IfOk result (λ _. MayStand (said_asks asks.entry)) }
 {
     match asks {
-        Asks::Goal(text) => goal_for(alloc, names, script, text),
-        Asks::Survey => Ok(Goal::Rest),
+        Asks::Goals { first, later } => goals_for(alloc, names, script, first, later),
+        Asks::Survey => Ok(Goals {
+            earlier: Vec::new(alloc),
+            last: Goal::Rest,
+        }),
     }
 }
 

@@ -1,14 +1,17 @@
 //! The text of a schedule that was found.
 ghost use Rattle.std.specs.Prelude.{◌≡◌, ◌≤◌, ◌<◌, ◌^◌, ◌++◌, true, IfOk, OnOk, length, take};
 ghost use Rattle.std.specs.List.{list_all};
+ghost use Rattle.command_line.specs.Command.{texts};
 ghost use Rattle.script_lines.specs.Text.{is_allowed};
 ghost use Rattle.search_goals.specs.GoalText.{said as said_goal};
 ghost use Rattle.search_goals.specs.Lines.{comment_text};
 ghost use Rattle.search_goals.specs.Writing.{AreNamed, tasks_behind};
 ghost use Rattle.schedule_search.specs.Search.{IsSound, may_try, first_tasks};
 ghost use Rattle.schedule_search.specs.Problem.{search_of};
+ghost use Rattle.hipc_search.specs.Command.{goals_in, goals_text};
 ghost use Rattle.hipc_search.specs.Schedule.{found_comment, asks_for_end, closing, IsSchedule, Precedes};
 
+use crate::command::next_pair;
 use crate::moves::push_living;
 use ipc_ids::{Event, NoMemory};
 use schedule_search::Problem;
@@ -76,13 +79,29 @@ fn closing(
     Ok(steps)
 }
 
+/// The texts of goals as the comment has them: the first, and those in words, in which each stands
+/// behind `--then`.
+pub(crate) fn goals_text(alloc: Global, first: &str, later: &[String]) -> Result<Vec<u8>, NoMemory>
+    ensures { IfOk result (λ text. text.items
+        ≡ goals_text first.now (goals_in (texts later.now))) }
+{
+    let mut text = Vec::from_slice(alloc, first.as_bytes())?;
+    let mut left = later;
+    while let Some(pair) = next_pair(left) {
+        text.extend_from_slice(b", then ")?;
+        text.extend_from_slice(pair.value.as_bytes())?;
+        left = pair.others;
+    }
+    Ok(text)
+}
+
 /// The schedule of the events that were found, behind the bytes of those that come first, where the
 /// tasks have these names.
 pub(crate) fn found_text(
     alloc: Global,
     problem: &Problem<'_>,
     before: &[u8],
-    goal: &str,
+    goal: &[u8],
     names: TaskNames,
     events: &[Event],
 ) -> Result<Vec<u8>, NoMemory>
@@ -100,7 +119,7 @@ pub(crate) fn found_text(
 {
     let mut names = names;
     let mut text = Vec::from_slice(alloc, before)?;
-    push_comment(alloc, &mut text, goal.as_bytes(), events.len())?;
+    push_comment(alloc, &mut text, goal, events.len())?;
     push_events(alloc, &mut text, problem.script, &mut names, events)?;
     let steps = closing(alloc, problem, events, names.len() as u64)?;
     push_events(

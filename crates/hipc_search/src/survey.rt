@@ -12,6 +12,7 @@ ghost use Rattle.hipc_search.specs.Due.{IsOfText, DueForSurvey, DueForAsks};
 use crate::answer::{Answer, not_known_text, search_answer};
 use crate::command::{Asks, Command};
 use crate::listing::listing;
+use crate::schedule::goals_text;
 use crate::status::Status;
 use ipc_ids::NoMemory;
 use schedule_search::{Problem, RestingStates, survey_schedules};
@@ -139,7 +140,10 @@ pub(crate) fn asks_answer(
     ensures told { IfOk result (λ answer. IsOfText answer.status) }
 {
     match command.asks {
-        Asks::Goal(goal) => search_answer(alloc, problem, command, names, before, goal),
+        Asks::Goals { first, later } => {
+            let goal = goals_text(alloc, first, later)?;
+            search_answer(alloc, problem, command, names, before, goal.as_slice())
+        }
         Asks::Survey => survey_answer(alloc, problem, command, before),
     }
 }

@@ -1,5 +1,5 @@
 -- Moves to states of one code: a move more leads to such again, and to what is looked for from both or from neither.
-use Rattle.std.proofs.Common.{ℕ, ◌≡◌, ◌⊎◌, inl, inr, ◌+◌, Bool, true, false, ◌&&◌, nat_le, nat_eq, Option, None, Some, List, [], ◌∷◌, ◌++◌, length, refl, sym, ◌∙◌, ap, arith}
+use Rattle.std.proofs.Common.{ℕ, ◌≡◌, ◌⊎◌, inl, inr, ◌+◌, Bool, true, false, ◌&&◌, nat_le, nat_eq, Option, None, Some, List, [], ◌∷◌, ◌++◌, length, refl, sym, ◌∙◌, ap, subst, arith}
 use Rattle.std.specs.Prelude.{if◌then◌else◌}
 use Rattle.std.specs.Cmp.Lexicographic.{pointwise}
 use Rattle.std.specs.List.{list_all, range_with_len}
@@ -17,14 +17,17 @@ use Rattle.run_words.specs.RunWords.{run_words}
 use Rattle.search_goals.specs.GoalText.{Asked, LosesCall, IsRest, IsStuck, HoldAll, HasLine}
 use Rattle.search_goals.specs.Goals.{meets_line}
 use Rattle.state_goals.proofs.Alike.{all_alike}
-use Rattle.schedule_search.specs.Search.{Search, IsSound, AreOf, kills_in, is_within, may_try, first_state, state_behind, last_told, event_at, events_of}
+use Rattle.schedule_search.specs.Search.{Search, IsSound, AreOf, kills_in, is_within, may_try, first_state, state_behind, event_at, events_of}
 use Rattle.schedule_search.specs.OpenCalls.{has_open_call}
 use Rattle.schedule_search.specs.Meeting.{changes_nothing, is_at_rest, IsMet, Meets, Finds}
-use Rattle.schedule_search.specs.Code.{counted, words_behind, code_behind, rest_words, Fits}
+use Rattle.schedule_search.specs.Left.{is_met, Left, left_here, left_behind, IsOver}
+use Rattle.schedule_search.specs.Code.{counted, words_behind, goals_left, code_behind, rest_words, Fits}
 use Rattle.schedule_search.proofs.Words.{WordsTell, words_tell}
 use Rattle.schedule_search.proofs.Tries.{kills_more, stays_untried, spawns_alike, tries_alike}
-use Rattle.schedule_search.proofs.Behind.{after_both, told_more, moves_are_of, spawned_by, reached, reached_alike}
+use Rattle.schedule_search.proofs.Behind.{after_both, moves_are_of, spawned_by, reached, reached_alike}
+use Rattle.schedule_search.proofs.Fronts.{same_front}
 use Rattle.schedule_search.proofs.Steps.{lost_alike}
+use Rattle.schedule_search.proofs.Turns.{nothing_left, all_met, left_more, same_left}
 
 -- ---- goals
 
@@ -56,31 +59,40 @@ module _ (plan : Plan) (spawned : List ℕ) (tell : WordsTell plan spawned) (a b
   met_alike (HoldAll conditions) told other e met = sym (all_alike a b (tell.alike a b h k same) conditions) ∙ met
   met_alike (HasLine head asked) told other e met = sym (ap (meets_line head asked) e) ∙ met
 
--- ---- codes
+  test_alike : (asked : Asked) (told : List Entry) → is_met asked a told ≡ is_met asked b told
+  test_alike LosesCall told = refl
+  test_alike IsRest told = rest_alike
+  test_alike (IsStuck task) told = stuck_alike task
+  test_alike (HoldAll conditions) told = all_alike a b (tell.alike a b h k same) conditions
+  test_alike (HasLine head asked) told = refl
 
-same_front : (a b v w : List ℕ) → length a ≡ length b → a ++ v ≡ b ++ w → (a ≡ b) × (v ≡ w)
-same_front [] [] v w l e = (refl, e)
-same_front [] (y ∷ b) v w l e = absurd (omega (arith, l))
-same_front (x ∷ a) [] v w l e = absurd (omega (arith, l))
-same_front (x ∷ a) (y ∷ b) v w l e =
-    let first : x ≡ y = cc e in
-    let later = same_front a b v w (omega (arith, l)) (cc e) in
-    (ap (λ (z : ℕ). z ∷ a) first ∙ ap (λ (z : List ℕ). y ∷ z) later.0, later.1)
+  pub here_alike : (goals : List Asked) (told : List Entry) → left_here goals a told ≡ left_here goals b told
+  here_alike [] told = refl
+  here_alike (goal ∷ goals) told =
+      ap (λ (z : Bool). if z then left_here goals a [] else record { goals = goal ∷ goals; told = told }) (test_alike goal told)
+      ∙ ap (λ (z : Left). if is_met goal b told then z else record { goals = goal ∷ goals; told = told }) (here_alike goals [])
+
+  -- what is left over in the one is over in the other
+  pub over_alike : (asked : Asked) (left : Left) → IsOver asked left a → IsOver asked left b
+  over_alike asked left over = (over.0, met_alike asked left.told left.told refl over.1)
+
+-- ---- codes
 
 -- a list with its length before it is told from what stands behind it
 told_apart : (a b v w : List ℕ) → length a ∷ (a ++ v) ≡ length b ∷ (b ++ w) → (a ≡ b) × (v ≡ w)
 told_apart a b v w e = same_front a b v w (cc e) (cc e)
 
 -- two lists that may both be missing are the same: both are, or their parts are the same
-abbrev AreSame : (x y : Bool) (k j : ℕ) (v w : List ℕ) → Type 0
-AreSame x y k j v w = ((x ≡ true) × (y ≡ true) × (k ≡ j) × (v ≡ w)) ⊎ ((x ≡ false) × (y ≡ false))
+abbrev AreSame : (x y : Bool) (k j m n : ℕ) (v w : List ℕ) → Type 0
+AreSame x y k j m n v w =
+    ((x ≡ true) × (y ≡ true) × (k ≡ j) × (m ≡ n) × (v ≡ w)) ⊎ ((x ≡ false) × (y ≡ false))
 
-parts_same : (x y : Bool) (k j : ℕ) (v w : List ℕ) → (if x then k ∷ v else []) ≡ (if y then j ∷ w else [])
-    → AreSame x y k j v w
-parts_same true true k j v w e = inl (refl, refl, cc e, cc e)
-parts_same true false k j v w e = absurd (cc e)
-parts_same false true k j v w e = absurd (cc e)
-parts_same false false k j v w e = inr (refl, refl)
+parts_same : (x y : Bool) (k j m n : ℕ) (v w : List ℕ)
+    → (if x then k ∷ (m ∷ v) else []) ≡ (if y then j ∷ (n ∷ w) else []) → AreSame x y k j m n v w
+parts_same true true k j m n v w e = inl (refl, refl, cc e, cc e, cc e)
+parts_same true false k j m n v w e = absurd (cc e)
+parts_same false true k j m n v w e = absurd (cc e)
+parts_same false false k j m n v w e = inr (refl, refl)
 
 -- the same templates and the same words
 pub record AreToldAlike (s : Search) (es fs : List Event) : Type 0 where
@@ -92,6 +104,7 @@ pub record AreOneCode (s : Search) (es fs : List Event) : Type 0 where
   pub one : may_try s es ≡ true
   pub other : may_try s fs ≡ true
   pub kills : counted s.kills (kills_in es) ≡ counted s.kills (kills_in fs)
+  pub left : goals_left s es ≡ goals_left s fs
   pub told : AreToldAlike s es fs
 
 -- so it is, or neither may be tried
@@ -110,14 +123,14 @@ module _ (s : Search) (es fs : List Event) where
       ∙ ap (λ (z : List ℕ). length (spawns_of fs) ∷ (spawns_of fs ++ z)) t.words
 
   by_parts : AreSame (may_try s es) (may_try s fs) (counted s.kills (kills_in es)) (counted s.kills (kills_in fs))
-      (words_behind s es) (words_behind s fs) → AreAlike s es fs
-  by_parts (inl h) = inl (record { one = h.0; other = h.1; kills = h.2; told = behind_alike h.3 })
+      (goals_left s es) (goals_left s fs) (words_behind s es) (words_behind s fs) → AreAlike s es fs
+  by_parts (inl h) = inl (record { one = h.0; other = h.1; kills = h.2; left = h.3; told = behind_alike h.4 })
   by_parts (inr h) = inr h
 
   pub alike_by : code_behind s es ≡ code_behind s fs → AreAlike s es fs
   alike_by e =
       by_parts (parts_same (may_try s es) (may_try s fs) (counted s.kills (kills_in es)) (counted s.kills (kills_in fs))
-      (words_behind s es) (words_behind s fs) e)
+      (goals_left s es) (goals_left s fs) (words_behind s es) (words_behind s fs) e)
 
 counted_more : (most : Option ℕ) (k j more : ℕ) → counted most k ≡ counted most j → counted most (k + more) ≡ counted most (j + more)
 counted_more None k j more e = refl
@@ -163,28 +176,48 @@ module _ (s : Search) (sound : IsSound s) where
     words_alike =
         ap run_words (more es x) ∙ (tell es).words a b x here there alike.told.words ∙ ap run_words (sym (more fs x))
 
-    entries_alike : last_told [] (first_state s) (es ++ x ∷ []) ≡ last_told [] (first_state s) (fs ++ x ∷ [])
-    entries_alike =
-        told_more [] (first_state s) es x ∙ (tell es).entries a b x here there alike.told.words
-        ∙ sym (told_more [] (first_state s) fs x)
-
     pub told_more_alike : AreToldAlike s (es ++ x ∷ []) (fs ++ x ∷ [])
     told_more_alike =
         record { spawns = spawns_alike s es fs x alike.one alike.other alike.told.spawns; words = words_alike }
 
-    code_alike : code_behind s (es ++ x ∷ []) ≡ code_behind s (fs ++ x ∷ [])
-    code_alike =
-        ap (λ (z : Bool). if z then counted s.kills (kills_in (es ++ x ∷ [])) ∷ words_behind s (es ++ x ∷ []) else []) tried_alike
-        ∙ ap (λ (n : ℕ). if may_try s (fs ++ x ∷ []) then n ∷ words_behind s (es ++ x ∷ []) else []) kills_alike
-        ∙ ap (λ (z : List ℕ). if may_try s (fs ++ x ∷ []) then counted s.kills (kills_in (fs ++ x ∷ [])) ∷ z else [])
+    -- where both may be tried, they leave the same
+    left_alike : may_try s (es ++ x ∷ []) ≡ true → left_behind s (es ++ x ∷ []) ≡ left_behind s (fs ++ x ∷ [])
+    left_alike tried =
+        let goals : List Asked = (left_behind s fs).goals in
+        let now : RunState = (turn a x).state in
+        let next : RunState = (turn b x).state in
+        let reached_one : IsReached s.plan (spawned_by s (es ++ x ∷ [])) now =
+        subst (IsReached s.plan (spawned_by s (es ++ x ∷ []))) (more es x) (reached s sound (es ++ x ∷ []) tried) in
+        let reached_other : IsReached s.plan (spawned_by s (es ++ x ∷ [])) next =
+        subst (IsReached s.plan (spawned_by s (es ++ x ∷ []))) (more fs x)
+        (reached_alike s sound (es ++ x ∷ []) (fs ++ x ∷ []) told_more_alike.spawns (sym tried_alike ∙ tried)) in
+        left_more s es x
+        ∙ ap (λ (z : List Asked). left_here z now (turn a x).entries) (same_left s es fs alike.left)
+        ∙ here_alike s.plan (spawned_by s (es ++ x ∷ [])) (tell (es ++ x ∷ [])) now next reached_one reached_other
+        ((tell es).words a b x here there alike.told.words) goals (turn a x).entries
+        ∙ ap (left_here goals next) ((tell es).entries a b x here there alike.told.words)
+        ∙ sym (left_more s fs x)
+
+    code_alike : may_try s (es ++ x ∷ []) ≡ true → code_behind s (es ++ x ∷ []) ≡ code_behind s (fs ++ x ∷ [])
+    code_alike tried =
+        ap (λ (z : Bool). if z then counted s.kills (kills_in (es ++ x ∷ [])) ∷ (goals_left s (es ++ x ∷ []) ∷ words_behind s (es ++ x ∷ [])) else []) tried_alike
+        ∙ ap (λ (n : ℕ). if may_try s (fs ++ x ∷ []) then n ∷ (goals_left s (es ++ x ∷ []) ∷ words_behind s (es ++ x ∷ [])) else []) kills_alike
+        ∙ ap (λ (z : Left). if may_try s (fs ++ x ∷ []) then counted s.kills (kills_in (fs ++ x ∷ [])) ∷ (length z.goals ∷ words_behind s (es ++ x ∷ [])) else []) (left_alike tried)
+        ∙ ap (λ (z : List ℕ). if may_try s (fs ++ x ∷ []) then counted s.kills (kills_in (fs ++ x ∷ [])) ∷ (goals_left s (fs ++ x ∷ []) ∷ z) else [])
         (told_behind s (es ++ x ∷ []) (fs ++ x ∷ []) told_more_alike)
 
     meets_alike : may_try s (es ++ x ∷ []) ≡ true → Meets s (es ++ x ∷ []) → Meets s (fs ++ x ∷ [])
-    meets_alike tried =
-        met_alike s.plan (spawned_by s (es ++ x ∷ [])) (tell (es ++ x ∷ [])) (state_behind s (es ++ x ∷ [])) (state_behind s (fs ++ x ∷ []))
+    meets_alike tried meets =
+        let one : RunState = state_behind s (es ++ x ∷ []) in
+        let other : RunState = state_behind s (fs ++ x ∷ []) in
+        let over : IsOver s.asked (left_behind s (es ++ x ∷ [])) one = nothing_left s (es ++ x ∷ []) sound.precede meets in
+        let same : IsOver s.asked (left_behind s (fs ++ x ∷ [])) one =
+        subst (λ (z : Left). IsOver s.asked z one) (left_alike tried) over in
+        all_met s (fs ++ x ∷ []) sound.precede
+        (over_alike s.plan (spawned_by s (es ++ x ∷ [])) (tell (es ++ x ∷ [])) one other
         (reached s sound (es ++ x ∷ []) tried)
         (reached_alike s sound (es ++ x ∷ []) (fs ++ x ∷ []) told_more_alike.spawns (sym tried_alike ∙ tried))
-        words_alike s.asked (last_told [] (first_state s) (es ++ x ∷ [])) (last_told [] (first_state s) (fs ++ x ∷ [])) entries_alike
+        words_alike s.asked (left_behind s (fs ++ x ∷ [])) same)
 
     finds_alike : AreOf s.moves (fs ++ x ∷ []) → Finds s (es ++ x ∷ []) → Finds s (fs ++ x ∷ [])
     finds_alike of_fs finds =
@@ -194,12 +227,19 @@ module _ (s : Search) (sound : IsSound s) where
         }
 
   no_code : (es : List Event) → may_try s es ≡ false → code_behind s es ≡ []
-  no_code es e = ap (λ (z : Bool). if z then counted s.kills (kills_in es) ∷ words_behind s es else []) e
+  no_code es e =
+      ap (λ (z : Bool). if z then counted s.kills (kills_in es) ∷ (goals_left s es ∷ words_behind s es) else []) e
+
+  both_untried : (es fs : List Event) → may_try s es ≡ false → may_try s fs ≡ false → code_behind s es ≡ code_behind s fs
+  both_untried es fs h k = no_code es h ∙ sym (no_code fs k)
 
   codes_more : (es fs : List Event) (x : Event) → AreAlike s es fs → code_behind s (es ++ x ∷ []) ≡ code_behind s (fs ++ x ∷ [])
-  codes_more es fs x (inl h) = code_alike es fs x h
+  codes_more es fs x (inl h) = by_test (may_try s (es ++ x ∷ [])) refl where
+    by_test : (b : Bool) → may_try s (es ++ x ∷ []) ≡ b → code_behind s (es ++ x ∷ []) ≡ code_behind s (fs ++ x ∷ [])
+    by_test true tried = code_alike es fs x h tried
+    by_test false untried = both_untried (es ++ x ∷ []) (fs ++ x ∷ []) untried (sym (tried_alike es fs x h) ∙ untried)
   codes_more es fs x (inr h) =
-      no_code (es ++ x ∷ []) (stays_untried s es x h.0) ∙ sym (no_code (fs ++ x ∷ []) (stays_untried s fs x h.1))
+      both_untried (es ++ x ∷ []) (fs ++ x ∷ []) (stays_untried s es x h.0) (stays_untried s fs x h.1)
 
   finds_more : (es fs : List Event) (x : Event) → AreOf s.moves (fs ++ x ∷ []) → AreAlike s es fs
       → Finds s (es ++ x ∷ []) → Finds s (fs ++ x ∷ [])

@@ -2,7 +2,6 @@
 use Rattle.std.proofs.Common.{ℕ, ◌≡◌, ◌<◌, ◌+◌, true, List, [], ◌∷◌, ◌++◌, length, length-append, refl, sym, subst, arith, Some, slice_get}
 use Rattle.std.proofs.lemmas.Grind.{flat_map-append}
 use Rattle.std.proofs.lemmas.Option.{slice_get-get_or}
-use Rattle.ipc_ids.specs.declared.entry.Entry.{Entry}
 use Rattle.ipc_ids.specs.declared.message.Event.{Event}
 use Rattle.ipc_ids.specs.declared.message.Event.TheVariants.{Spawn}
 use Rattle.script_reader.specs.Schedule.{MayAllCome}
@@ -10,7 +9,7 @@ use Rattle.task_system.specs.Run.{RunState, start, turn, state_after, MayAllHapp
 use Rattle.run_laws.proofs.RunHistories.{may_from, may_on}
 use Rattle.search_core.specs.Moves.{AreMoves}
 use Rattle.run_words.specs.Reached.{IsReached, spawn_of, spawns_of}
-use Rattle.schedule_search.specs.Search.{Search, IsSound, AreOf, first_tasks, may_try, first_state, state_behind, last_told, event_at, events_of}
+use Rattle.schedule_search.specs.Search.{Search, IsSound, AreOf, first_tasks, may_try, first_state, state_behind, event_at, events_of}
 use Rattle.schedule_search.proofs.Tries.{all_come, come_both, tried_parts}
 
 -- ---- one event more
@@ -18,10 +17,6 @@ use Rattle.schedule_search.proofs.Tries.{all_come, come_both, tried_parts}
 pub after_both : (now : RunState) (es fs : List Event) → state_after now (es ++ fs) ≡ state_after (state_after now es) fs
 after_both now [] fs = refl
 after_both now (e ∷ es) fs = after_both (turn now e).state es fs
-
-pub told_more : (told : List Entry) (now : RunState) (es : List Event) (e : Event) → last_told told now (es ++ e ∷ []) ≡ (turn (state_after now es) e).entries
-told_more told now [] e = refl
-told_more told now (x ∷ es) e = told_more (turn now x).entries (turn now x).state es e
 
 -- ---- the events of moves
 
@@ -46,7 +41,7 @@ events_counted moves (m ∷ p) =
 -- ---- they may come
 
 -- what may come behind other events may come behind the state that they leave
-may_behind : (now : RunState) (xs ys : List Event) → MayAllHappen now (xs ++ ys) → MayAllHappen (state_after now xs) ys
+pub may_behind : (now : RunState) (xs ys : List Event) → MayAllHappen now (xs ++ ys) → MayAllHappen (state_after now xs) ys
 may_behind now [] ys may = may
 may_behind now (x ∷ xs) ys may =
     may_behind (turn now x).state xs ys (may_on now (turn now x).state x (x ∷ xs ++ ys) (xs ++ ys) refl refl may)

@@ -2,14 +2,13 @@
 use Rattle.std.proofs.Common.{ℕ, ◌≡◌, ◌≤◌, ◌<◌, ◌+◌, Bool, true, false, ◌&&◌, List, [], ◌∷◌, ◌++◌, length, take, drop, get_or, sym, ◌∙◌, ap}
 use Rattle.std.proofs.lemmas.Grind.{flat_map-append}
 use Rattle.std.proofs.lemmas.List.{append-nil, drop_more, drop_all, take_more, take_all}
-use Rattle.ipc_ids.specs.declared.entry.Entry.{Entry}
 use Rattle.ipc_ids.specs.declared.message.Event.{Event}
 use Rattle.task_system.specs.Run.{RunState, turn, state_after, MayHappen, MayAllHappen}
 use Rattle.run_laws.proofs.RunHistories.{may_now, may_on}
 use Rattle.script_reader.specs.Schedule.{tasks_after}
 use Rattle.run_words.specs.Reached.{spawn_of, spawns_of}
 use Rattle.search_goals.specs.Writing.{tasks_behind}
-use Rattle.schedule_search.specs.Search.{may_come, may_all_come, last_told}
+use Rattle.schedule_search.specs.Search.{may_come, may_all_come}
 
 module _ (events : List Event) (i : ℕ) (e d : Event) (within : i < length events) (is : e ≡ get_or events i d) where
   left_is : drop i events ≡ e ∷ drop (i + 1) events
@@ -25,14 +24,6 @@ module _ (events : List Event) (i : ℕ) (e d : Event) (within : i < length even
       → state_after next (drop (i + 1) events) ≡ whole
   state_later now next whole to h =
       ap (λ (z : RunState). state_after z (drop (i + 1) events)) to ∙ ap (state_after now) (sym left_is) ∙ h
-
-  pub told_later : (now next : RunState) (before told whole : List Entry) → next ≡ (turn now e).state → told ≡ (turn now e).entries
-      → last_told before now (drop i events) ≡ whole → last_told told next (drop (i + 1) events) ≡ whole
-  told_later now next before told whole to told_is h =
-      ap (λ (z : List Entry). last_told z next (drop (i + 1) events)) told_is
-      ∙ ap (λ (z : RunState). last_told (turn now e).entries z (drop (i + 1) events)) to
-      ∙ ap (last_told before now) (sym left_is)
-      ∙ h
 
   -- the same of how many tasks there are, and of what may come
   pub tasks_later : (now next whole : ℕ) → next ≡ tasks_after now e → tasks_behind now (drop i events) ≡ whole
@@ -76,6 +67,3 @@ module _ (events : List Event) (i : ℕ) (over : length events ≤ i) where
 
   pub state_there : (now whole : RunState) → state_after now (drop i events) ≡ whole → now ≡ whole
   state_there now whole h = ap (state_after now) (sym (drop_all i events over)) ∙ h
-
-  pub told_there : (now : RunState) (told whole : List Entry) → last_told told now (drop i events) ≡ whole → told ≡ whole
-  told_there now told whole h = ap (last_told told now) (sym (drop_all i events over)) ∙ h

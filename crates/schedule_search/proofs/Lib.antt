@@ -1,5 +1,7 @@
 pub mod Words
 pub mod Behind
+pub mod Fronts
+pub mod Turns
 pub mod Alike
 pub mod Resting
 pub mod Paths
@@ -7,6 +9,7 @@ pub mod Steps
 pub mod Stuck
 pub mod Losses
 pub mod Doing
+pub mod Following
 pub mod Ranges
 pub mod Visiting
 pub mod Rights

@@ -1,5 +1,5 @@
 -- What the tests of events say, and what stays as it is where one event more comes.
-use Rattle.std.proofs.Common.{ℕ, ◌≡◌, ◌≤◌, ◌+◌, Bool, true, false, ◌&&◌, List, [], ◌∷◌, ◌++◌, length, length-append, None, Some, refl, sym, ◌∙◌, ap, arith, le-leb}
+use Rattle.std.proofs.Common.{ℕ, ◌≡◌, ◌≤◌, ◌+◌, Bool, true, false, ◌&&◌, List, [], ◌∷◌, ◌++◌, length, length-append, None, Some, refl, sym, ◌∙◌, ap, arith, le-leb, append_assoc, append-nil}
 use Rattle.std.specs.Prelude.{Option, ◌==◌, nat_le, nat_lt}
 use Rattle.std.specs.List.{count_by}
 use Rattle.std.proofs.lemmas.Bool.{and_parts, and_from, both_ways, leb-true, ltb-true}
@@ -154,6 +154,12 @@ module _ (s : Search) where
         come = (and_parts (may_all_come (first_tasks s) templates es) (may_come (tasks_behind (first_tasks s) es) templates x)
             (sym (come_more (first_tasks s) templates es x) ∙ parts.come)).0;
       })
+
+  -- so may those before any others
+  pub front_tried : (es fs : List Event) → may_try s (es ++ fs) ≡ true → may_try s es ≡ true
+  front_tried es [] h = ap (may_try s) (sym (append-nil es)) ∙ h
+  front_tried es (f ∷ fs) h =
+      tried_before es f (front_tried (es ++ f ∷ []) fs (ap (may_try s) (append_assoc es (f ∷ []) fs) ∙ h))
 
   pub stays_untried : (es : List Event) (x : Event) → may_try s es ≡ false → may_try s (es ++ x ∷ []) ≡ false
   stays_untried es x h = by_test (may_try s (es ++ x ∷ [])) refl where

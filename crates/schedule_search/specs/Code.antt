@@ -6,6 +6,7 @@ use Rattle.run_words.specs.RunWords.{run_words}
 use Rattle.search_core.specs.Moves.{AreMoves}
 use Rattle.schedule_search.specs.Search.{Search, IsSound, kills_in, may_try, state_behind, events_of}
 use Rattle.schedule_search.specs.Meeting.{is_at_rest, Finds}
+use Rattle.schedule_search.specs.Left.{left_behind}
 
 -- how many kills a code tells of: where any number may come, of none
 abbrev pub counted : Option ℕ → ℕ → ℕ
@@ -17,9 +18,14 @@ counted (Some most) kills = kills
 abbrev pub words_behind : Search → List Event → List ℕ
 words_behind s es = length (spawns_of es) ∷ (spawns_of es ++ run_words (state_behind s es))
 
--- the same with the kills among the events; nothing where they may not be tried
+-- how many goals are left of those that come before the last
+abbrev pub goals_left : Search → List Event → ℕ
+goals_left s es = length (left_behind s es).goals
+
+-- the same with the kills among the events and the goals that are left; nothing where they may not be tried
 abbrev pub code_behind : Search → List Event → List ℕ
-code_behind s es = if may_try s es then counted s.kills (kills_in es) ∷ words_behind s es else []
+code_behind s es =
+    if may_try s es then counted s.kills (kills_in es) ∷ (goals_left s es ∷ words_behind s es) else []
 
 -- the words of the state behind these events, where they may be tried and no step of a task changes anything there
 abbrev pub rest_words : Search → List Event → Option (List ℕ)

@@ -2,6 +2,7 @@ pub mod Search
 pub mod OpenCalls
 pub mod Lost
 pub mod Meeting
+pub mod Left
 pub mod Code
 pub mod Problem
 pub mod Right

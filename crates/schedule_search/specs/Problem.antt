@@ -2,6 +2,7 @@
 use Rattle.std.specs.Prelude.{◌≡◌, ◌<◌, ◌^◌, true, List, length}
 use Rattle.ipc_ids.specs.declared.message.Event.{Event}
 use Rattle.search_goals.specs.GoalText.{said}
+use Rattle.search_goals.specs.GoalList.{said_all}
 use Rattle.schedule_search.specs.declared.problem.Problem.{Problem}
 use Rattle.schedule_search.specs.Search.{Search, IsSound, AreOf, may_try}
 
@@ -14,6 +15,7 @@ search_of problem =
       moves = problem.moves.now;
       kills = problem.kills;
       spawns = problem.spawns.now;
+      earlier = said_all problem.earlier.now;
       asked = said problem.goal.now;
     }
 

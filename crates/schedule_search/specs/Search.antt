@@ -10,25 +10,28 @@ use Rattle.script_lines.specs.Sound as script
 use Rattle.script_reader.specs.Schedule.{MayAllCome, tasks_after}
 use Rattle.task_system.specs.Run.{RunState, start, turn, state_after}
 use Rattle.search_goals.specs.GoalText.{Asked}
+use Rattle.search_goals.specs.GoalList.{all_precede}
 use Rattle.search_goals.specs.Writing.{tasks_behind}
 use Rattle.schedule_search.specs.declared.problem.MostMade.{MostMade}
 
 -- the script, the events that come first, those of which the others are made, how many of these may be kills, where
--- that is bounded, from which templates how many tasks may be made, and what is looked for
+-- that is bounded, from which templates how many tasks may be made, what is looked for, and what before that, in turn
 pub record Search : Type 0 where
   pub plan : Plan
   pub from : List Event
   pub moves : List Event
   pub kills : Option ℕ
   pub spawns : List MostMade
+  pub earlier : List Asked
   pub asked : Asked
 
--- the script is sound, and the first events may come
+-- the script is sound, the first events may come, and what is looked for first is told by one state and one event
 pub record IsSound (s : Search) : Type 0 where
   pub script : script.IsSound s.plan
   pub may : MayAllCome (length s.plan.tasks) (length s.plan.templates) s.from
   pub few : length s.from ≤ most_events
   pub few_moves : length s.moves < 2 ^ 16
+  pub precede : all_precede s.earlier ≡ true
 
 -- ---- which events may be tried
 

@@ -2,6 +2,7 @@
 ghost use Rattle.std.specs.Prelude.{◌≡◌, ℕ, List, Option, true, length};
 ghost use Rattle.ipc_ids.specs.declared.numbers.TaskNo.{TaskNo};
 ghost use Rattle.ipc_ids.specs.declared.entry.Entry.{Entry};
+ghost use Rattle.ipc_ids.specs.declared.message.Event.{Event};
 ghost use Rattle.ipc_ids.specs.declared.message.Event.TheVariants.{Step};
 ghost use Rattle.script_lines.specs.Plan.{Plan};
 ghost use Rattle.script_lines.specs.Sound.{IsSound, IsTask};
@@ -9,9 +10,11 @@ ghost use Rattle.task_system.specs.Run.{RunState, turn};
 ghost use Rattle.turn_counts.specs.Alike.{AreAlikeStates};
 ghost use Rattle.run_words.specs.Reached.{IsReached};
 ghost use Rattle.search_goals.specs.GoalText.{LosesCall, IsStuck};
+ghost use Rattle.search_goals.specs.GoalList.{all_precede};
 ghost use Rattle.schedule_search.specs.Search as search;
-ghost use Rattle.schedule_search.specs.Search.{Search};
-ghost use Rattle.schedule_search.specs.Meeting.{is_at_rest, IsMet};
+ghost use Rattle.schedule_search.specs.Search.{Search, state_behind};
+ghost use Rattle.schedule_search.specs.Meeting.{is_at_rest, IsMet, Meets};
+ghost use Rattle.schedule_search.specs.Left.{IsOver, left_behind};
 ghost use Rattle.schedule_search.specs.Code.{Fits};
 
 /// A state of a script is at rest where each step of each task leaves a state that differs from it in
@@ -38,4 +41,13 @@ pub fn stuck_states_have_lost_a_call()
 /// or from neither.
 pub fn codes_stand_for_schedules()
     ensures { (s : Search) → search.IsSound s → Fits s }
+{}
+
+/// Events meet goals in turn where they leave none of them when each is taken as met at the first
+/// moment at which it is, and there only: waiting for a later moment wins nothing.
+pub fn waiting_wins_nothing()
+    ensures over { (s : Search) (es : List Event) → all_precede s.earlier ≡ true → Meets s es
+        → IsOver s.asked (left_behind s es) (state_behind s es) }
+    ensures meets { (s : Search) (es : List Event) → all_precede s.earlier ≡ true
+        → IsOver s.asked (left_behind s es) (state_behind s es) → Meets s es }
 {}

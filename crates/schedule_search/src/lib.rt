@@ -7,16 +7,19 @@
 //! Where a call is looked for that is never answered, whatever steps of tasks come, each visit searches
 //! the steps behind a state.
 //!
-//! The code of a state is its words (`run_words`), the templates of the tasks that were made, and the
-//! number of kills so far. The laws here say that states of one code go on alike, for each move and each
-//! goal, and what it is that a state is at rest.
+//! The code of a state is its words (`run_words`), the templates of the tasks that were made, the
+//! number of kills so far, and that of the goals that are left of those before the last. The laws here
+//! say that states of one code go on alike, for each move and each goal, what it is that a state is at
+//! rest, and that goals which are met in turn are met so as soon as may be.
 #![tactic(auto)]
 
 mod ahead;
 mod at_rest;
 mod kills;
 mod laws;
+mod left;
 mod lost_calls;
+mod meeting;
 mod open_calls;
 mod outcome;
 mod path;
@@ -29,7 +32,10 @@ mod trying;
 mod visits;
 
 pub use at_rest::{RestingStates, survey_schedules};
-pub use laws::{codes_stand_for_schedules, nothing_moves_at_rest, stuck_states_have_lost_a_call};
+pub use laws::{
+    codes_stand_for_schedules, nothing_moves_at_rest, stuck_states_have_lost_a_call,
+    waiting_wins_nothing,
+};
 pub use outcome::{Outcome, search_schedules};
 pub use problem::{MostMade, Problem};
 pub use spawns::tasks_behind;

@@ -2,7 +2,7 @@
 ghost use Rattle.std.specs.Prelude.{◌≡◌, ◌+◌, ◌^◌, ◌<◌, ◌≤◌, [], length, IfOk, OnOk};
 ghost use Rattle.task_system.specs.Run.{start, turn, state_after, MayHappen, MayAllHappen};
 ghost use Rattle.run_words.specs.RunWords.{run_words};
-ghost use Rattle.schedule_search.specs.Search.{first_state, state_behind, last_told};
+ghost use Rattle.schedule_search.specs.Search.{IsSound, first_state, state_behind};
 ghost use Rattle.schedule_search.specs.Problem.{search_of, CanDo};
 
 use crate::problem::Problem;
@@ -44,7 +44,7 @@ pub(crate) fn do_event(
     }
 }
 
-/// One event after the other, where the entries of the last stay.
+/// One event after the other.
 pub(crate) fn do_events(
     replay: &mut Replay,
     told: &mut Trace,
@@ -53,8 +53,6 @@ pub(crate) fn do_events(
     requires few { replay.old.state.kernel.events + length events.now ≤ 2 ^ 24 }
     requires may { MayAllHappen replay.old.state events.now }
     ensures state { OnOk result (replay.new.state ≡ state_after replay.old.state events.now) }
-    ensures entries { OnOk result (told.new.entries
-        ≡ last_told told.old.entries replay.old.state events.now) }
     ensures count { OnOk result (replay.new.state.kernel.events
         ≤ replay.old.state.kernel.events + length events.now) }
 {
@@ -64,8 +62,24 @@ pub(crate) fn do_events(
     Ok(())
 }
 
-/// The tasks of a problem behind these events, which come behind those that come first. The entries
-/// of the last of these events are told, and none where there is no such event.
+/// The tasks of a problem behind the events that come first. Nothing is told.
+pub(crate) fn begun(
+    alloc: Global,
+    problem: &Problem<'_>,
+    told: &mut Trace,
+) -> Result<Replay, AllocError>
+    requires sound { IsSound (search_of problem.now) }
+    ensures state { IfOk result (λ replay. replay.state ≡ first_state (search_of problem.now)) }
+    ensures entries { OnOk result (told.new.entries ≡ []) }
+    ensures count { IfOk result (λ replay. replay.state.kernel.events ≤ 65536) }
+{
+    let mut replay = started(alloc, problem.script)?;
+    do_events(&mut replay, told, problem.from)?;
+    told.clear();
+    Ok(replay)
+}
+
+/// The tasks of a problem behind these events, which come behind those that come first.
 pub(crate) fn replayed(
     alloc: Global,
     problem: &Problem<'_>,
@@ -75,14 +89,10 @@ pub(crate) fn replayed(
     requires can { CanDo (search_of problem.now) events.now }
     ensures state { IfOk result (λ replay. replay.state
         ≡ state_behind (search_of problem.now) events.now) }
-    ensures entries { OnOk result (told.new.entries
-        ≡ last_told [] (first_state (search_of problem.now)) events.now) }
     ensures count { IfOk result (λ replay. replay.state.kernel.events
         ≤ 65536 + length events.now) }
 {
-    let mut replay = started(alloc, problem.script)?;
-    do_events(&mut replay, told, problem.from)?;
-    told.clear();
+    let mut replay = begun(alloc, problem, told)?;
     do_events(&mut replay, told, events)?;
     Ok(replay)
 }

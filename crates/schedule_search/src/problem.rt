@@ -24,7 +24,8 @@ pub struct MostMade {
 /// What is searched: the schedules that begin with `from` and go on with moves, each of which is one
 /// of `moves` and can come any number of times, once there is the task that it is on. At most `kills`
 /// of the moves of a schedule are kills or, with `None`, any number; and of each template that
-/// `spawns` names they make no more tasks than it says.
+/// `spawns` names they make no more tasks than it says. They meet the goals of `earlier` in turn, and
+/// then `goal`.
 #[derive(Drop)]
 pub struct Problem<'a> {
     pub script: &'a Script,
@@ -32,6 +33,7 @@ pub struct Problem<'a> {
     pub moves: &'a [Event],
     pub kills: Option<u32>,
     pub spawns: &'a [MostMade],
+    pub earlier: &'a [Goal],
     pub goal: &'a Goal,
 }
 

@@ -2,72 +2,22 @@
 ghost use Rattle.std.specs.Prelude.{◌≡◌, ◌∷◌, ◌++◌, true, false, Some, IfOk, OnOk, length};
 ghost use Rattle.run_words.specs.Reached.{spawn_of, spawns_of};
 ghost use Rattle.run_words.specs.RunWords.{run_words};
-ghost use Rattle.schedule_search.specs.Search.{state_behind};
-ghost use Rattle.schedule_search.specs.Meeting.{IsMet, Finds};
-ghost use Rattle.schedule_search.specs.Code.{code_behind};
+ghost use Rattle.schedule_search.specs.Search.{may_try, state_behind};
+ghost use Rattle.schedule_search.specs.Meeting.{Finds};
+ghost use Rattle.schedule_search.specs.Left.{left_behind};
+ghost use Rattle.schedule_search.specs.Code.{goals_left, code_behind};
 ghost use Rattle.schedule_search.specs.Problem.{search_of, CanTry, CanDo};
-ghost use Rattle.search_goals.specs.GoalText.{said};
 
 use crate::kills::{counted, kills_in};
-use crate::lost_calls::has_lost_call;
-use crate::place::replayed;
+use crate::left::{Behind, followed};
+use crate::meeting::is_last_met;
 use crate::problem::Problem;
-use crate::rest::{is_at_rest, is_stuck};
 use crate::trying::may_try;
 use ipc_ids::{Event, Trace};
 use run_words::push_run;
 use schedule_replay::Replay;
 use search_core::Visit;
-use search_goals::{Goal, meets_line};
-use state_goals::all_hold;
 use std::alloc::{AllocError, Global};
-
-/// All events that lead to a state.
-fn all_events(alloc: Global, first: &[Event], later: &[Event]) -> Result<Vec<Event>, AllocError>
-    ensures { IfOk result (λ all. all.items ≡ first.now ++ later.now) }
-{
-    let mut all = Vec::from_slice(alloc, first)?;
-    all.extend_from_slice(later)?;
-    Ok(all)
-}
-
-/// Whether what is looked for is in the state behind these events, where `replay` stands, or in the
-/// entries that were told last; `None` where there is no room to tell.
-fn is_met(
-    alloc: Global,
-    problem: &Problem<'_>,
-    events: &[Event],
-    replay: &Replay,
-    told: &Trace,
-    room: u32,
-) -> Result<Option<bool>, AllocError>
-    requires can { CanDo (search_of problem.now) events.now }
-    requires here { replay.now.state ≡ state_behind (search_of problem.now) events.now }
-    ensures met { IfOk result (λ o. o ≡ Some true
-        → IsMet (said problem.now.goal.now) replay.now.state told.now.entries) }
-    ensures unmet { IfOk result (λ o. o ≡ Some false
-        → IsMet (said problem.now.goal.now) replay.now.state told.now.entries → ⊥) }
-{
-    match problem.goal {
-        Goal::Lost => has_lost_call(alloc, problem, events, replay, room),
-        Goal::Rest => Ok(Some(is_at_rest(alloc, problem, events, replay)?)),
-        Goal::Stuck(task) => Ok(Some(is_stuck(alloc, problem, events, replay, *task)?)),
-        Goal::When(conditions) => {
-            let all = all_events(alloc, problem.from, events)?;
-            Ok(Some(all_hold(
-                conditions.as_slice(),
-                problem.script,
-                all.as_slice(),
-                replay.system(),
-            )))
-        }
-        Goal::Line { head, asked } => Ok(Some(meets_line(
-            head.as_slice(),
-            asked.as_slice(),
-            told.entries(),
-        ))),
-    }
-}
 
 /// Adds the template of the task that an event makes, if it makes one.
 fn push_spawn(event: &Event, spawned: &mut Vec<u64>) -> Result<(), AllocError>
@@ -122,20 +72,63 @@ pub(crate) fn words_behind(
     Ok(words)
 }
 
-/// So many kills, and the same.
-pub(crate) fn code_of(
+/// So many kills, so many goals that are left, and the same.
+fn code_of(
     alloc: Global,
     kills: u64,
+    left: u64,
     events: &[Event],
     replay: &Replay,
 ) -> Result<Vec<u64>, AllocError>
-    ensures { IfOk result (λ code. code.items ≡ kills
-        ∷ (length (spawns_of events.now) ∷ (spawns_of events.now ++ run_words replay.now.state))) }
+    ensures { IfOk result (λ code. code.items ≡ kills ∷ (left
+        ∷ (length (spawns_of events.now) ∷ (spawns_of events.now ++ run_words replay.now.state)))) }
 {
     let mut code = Vec::new(alloc);
     code.push(kills)?;
+    code.push(left)?;
     push_behind(alloc, events, replay, &mut code)?;
     Ok(code)
+}
+
+/// Whether events that may be tried lead to what is looked for; `None` where there is no room to tell.
+/// `behind` is where they lead, and what counts for the last goal is told.
+fn is_found(
+    alloc: Global,
+    problem: &Problem<'_>,
+    events: &[Event],
+    behind: &Behind,
+    told: &Trace,
+    room: u32,
+) -> Result<Option<bool>, AllocError>
+    requires can { CanDo (search_of problem.now) events.now }
+    requires here { behind.now.replay.state ≡ state_behind (search_of problem.now) events.now }
+    requires left { behind.now.left ≡ goals_left (search_of problem.now) events.now }
+    requires entries { told.now.entries
+        ≡ (left_behind (search_of problem.now) events.now).told }
+    ensures met { IfOk result (λ o. o ≡ Some true → Finds (search_of problem.now) events.now) }
+    ensures unmet { IfOk result (λ o. o ≡ Some false
+        → Finds (search_of problem.now) events.now → ⊥) }
+{
+    if behind.left > 0 {
+        return Ok(Some(false));
+    }
+    is_last_met(alloc, problem, events, &behind.replay, told, room)
+}
+
+/// The code of where events lead.
+fn code_there(
+    alloc: Global,
+    problem: &Problem<'_>,
+    events: &[Event],
+    behind: &Behind,
+) -> Result<Vec<u64>, AllocError>
+    requires tried { may_try (search_of problem.now) events.now ≡ true }
+    requires here { behind.now.replay.state ≡ state_behind (search_of problem.now) events.now }
+    requires left { behind.now.left ≡ goals_left (search_of problem.now) events.now }
+    ensures { IfOk result (λ code. code.items ≡ code_behind (search_of problem.now) events.now) }
+{
+    let kills = counted(problem.kills, kills_in(events));
+    code_of(alloc, kills, behind.left as u64, events, &behind.replay)
 }
 
 /// Whether these events may be tried and lead to what is looked for, and the code of where they lead.
@@ -160,10 +153,9 @@ pub(crate) fn visit_behind(
         });
     }
     let mut told = Trace::new(alloc);
-    let replay = replayed(alloc, problem, events, &mut told)?;
-    let met = is_met(alloc, problem, events, &replay, &told, room)?;
-    let kills = counted(problem.kills, kills_in(events));
-    let code = code_of(alloc, kills, events, &replay)?;
+    let behind = followed(alloc, problem, events, &mut told)?;
+    let met = is_found(alloc, problem, events, &behind, &told, room)?;
+    let code = code_there(alloc, problem, events, &behind)?;
     Ok(Visit { met, code })
 }
 
@@ -180,7 +172,6 @@ pub(crate) fn code_behind(
         return Ok(Vec::new(alloc));
     }
     let mut told = Trace::new(alloc);
-    let replay = replayed(alloc, problem, events, &mut told)?;
-    let kills = counted(problem.kills, kills_in(events));
-    code_of(alloc, kills, events, &replay)
+    let behind = followed(alloc, problem, events, &mut told)?;
+    code_there(alloc, problem, events, &behind)
 }

@@ -1,7 +1,6 @@
 use Rattle.std.proofs.Common.{ℕ, Result, sym, subst}
 use Rattle.std.specs.Prelude.{IfOk}
-use Rattle.script_lines.specs.declared.fault.Reason.{Reason}
-use Rattle.search_goals.specs.GoalText.{Asked}
+use Rattle.search_goals.specs.GoalList.{Sought, Fault}
 use Rattle.hipc_search.specs.Asking.{search_with}
 use Rattle.hipc_search.specs.Command.{said}
 use Rattle.hipc_search.specs.Due.{DueForAsked}
@@ -10,16 +9,16 @@ use Rattle.hipc_search.proofs.due.with_events.Goals as goal
 pub returns-in-Ok-clause-due : goal.returns-in-Ok-clause-due
 returns-in-Ok-clause-due c =
     subst
-    (λ (r : Result Asked (ℕ × Reason)). IfOk c.with_goal.result
+    (λ (r : Result Sought Fault). IfOk c.with_goals.result
     (λ answer. DueForAsked (said c.args.command.now) c.args.before.now (search_with (said c.args.command.now) c.args.script.now
     (record { events = c.args.from.now; names = c.args.names }) r) answer.status answer.text.items))
-    (sym (rw c.in_ok-table.ensures at c.in-Ok.ensures.value)) c.with_goal.ensures.due
+    (sym (rw c.in_ok-table.ensures at c.in-Ok.ensures.value)) c.with_goals.ensures.due
 
 pub returns-in-Err-Bad-clause-due : goal.returns-in-Err-Bad-clause-due
 returns-in-Err-Bad-clause-due c =
     let fault = rw c.in-Err-Bad.field-0-is at c.in-Err-Bad.ensures.value in
     subst
-    (λ (r : Result Asked (ℕ × Reason)). IfOk c.fault_answer.result
+    (λ (r : Result Sought Fault). IfOk c.goal_fault_answer.result
     (λ answer. DueForAsked (said c.args.command.now) c.args.before.now (search_with (said c.args.command.now) c.args.script.now
     (record { events = c.args.from.now; names = c.args.names }) r) answer.status answer.text.items))
-    (sym (rw c.in_ok-table.ensures at fault)) c.fault_answer.ensures.says
+    (sym (rw c.in_ok-table.ensures at fault)) c.goal_fault_answer.ensures.says

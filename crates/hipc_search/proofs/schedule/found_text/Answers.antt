@@ -46,7 +46,7 @@ returns c =
     c.push_events.new.names c.push_events-2.new.names c.in_ok-text.text.items
     c.push_comment.new.text.items c.push_events.new.text.items c.push_events-2.new.text.items (omega (arith, tasks, count))
     c.requires.few_first c.requires.short c.requires.first c.requires.allowed c.requires.few c.in_ok-text.ensures.items
-    (rw c.as_bytes.ensures.value at c.in_ok-push_comment.ensures) c.in_ok-push_events.ensures
+    c.in_ok-push_comment.ensures c.in_ok-push_events.ensures
     (subst (λ (es : List Event). Writes (task_names c.args.problem.now.script.now.templates) c.push_events.new.names
     c.push_events.new.text.items c.push_events-2.new.text.items es c.push_events-2.new.names)
     (c.as_slice.ensures.value ∙ c.in_ok-steps.ensures) c.in_ok-push_events-2.ensures)

@@ -1,5 +1,5 @@
 use Rattle.std.proofs.Common.{ℕ, refl, arith}
-use Rattle.schedule_search.proofs.Doing.{may_first, may_later, state_later, told_later, state_there, told_there}
+use Rattle.schedule_search.proofs.Doing.{may_first, may_later, state_later, state_there}
 use Rattle.schedule_search.proofs.place.do_events.Goals as goal
 
 pub do_event-requires-clause-may : goal.do_event-requires-clause-may
@@ -13,13 +13,9 @@ loop-event-preserved c =
     let next = c.do_event.new.replay.state in
     record {
       leads = state_later c.args.events.now i _ _ c.loop-event-test.true refl now next _ c.in_ok-do_event.ensures.state c.loop-event.invariant.leads;
-      tells = told_later c.args.events.now i _ _ c.loop-event-test.true refl now next _ _ _ c.in_ok-do_event.ensures.state c.in_ok-do_event.ensures.entries c.loop-event.invariant.tells;
       may = may_later c.args.events.now i _ _ c.loop-event-test.true refl now next c.in_ok-do_event.ensures.state c.loop-event.invariant.may;
       few = omega (arith, c.in_ok-do_event.ensures.count, c.loop-event.invariant.few);
     }
 
 pub returns-clause-state : goal.returns-clause-state
 returns-clause-state c = state_there c.args.events.now c.loop-event.event-index c.loop-event-test.false _ _ c.loop-event.invariant.leads
-
-pub returns-clause-entries : goal.returns-clause-entries
-returns-clause-entries c = told_there c.args.events.now c.loop-event.event-index c.loop-event-test.false _ _ _ c.loop-event.invariant.tells
