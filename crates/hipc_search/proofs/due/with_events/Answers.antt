@@ -1,4 +1,4 @@
-use Rattle.std.proofs.Common.{ℕ, Result, sym, subst}
+use Rattle.std.proofs.Common.{Result, sym, subst}
 use Rattle.std.specs.Prelude.{IfOk}
 use Rattle.search_goals.specs.GoalList.{Sought, Fault}
 use Rattle.hipc_search.specs.Asking.{search_with}
