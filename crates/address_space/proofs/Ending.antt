@@ -5,6 +5,7 @@ use Rattle.std.specs.List.{list_any, position_or_len}
 use Rattle.std.specs.Option.{unwrap_or}
 use Rattle.std.proofs.lemmas.Bool.Decides.{nat_tests}
 use Rattle.std.proofs.lemmas.List.Edits.{length-remove}
+use Rattle.std.proofs.lemmas.Bool.{or_right, or_left}
 use Rattle.ipc_ids.specs.declared.numbers.TaskNo.{TaskNo}
 use Rattle.address_space.specs.Areas.{Area, lower, least_base, place_of}
 use Rattle.address_space.specs.Memory.{Memory, areas_of, count_areas, drop_place, drop_area, first_area}
@@ -20,13 +21,6 @@ lower_if b least base false e = inl e
 lower_of : (so_far : Option ℕ) (b base : ℕ) → lower so_far b ≡ Some base → (so_far ≡ Some base) ⊎ ((b == base) ≡ true)
 lower_of None b base e = inr (same_base b base e)
 lower_of (Some least) b base e = lower_if b least base (nat_lt b least) e
-
-or_left : (b c : Bool) → b ≡ true → (b || c) ≡ true
-or_left b c h = rw h
-
-or_right : (b c : Bool) → c ≡ true → (b || c) ≡ true
-or_right true c h = refl
-or_right false c h = h
 
 here_of : (so_far : Option ℕ) (a : Area) (areas : List Area) (base : ℕ) → (so_far ≡ Some base) ⊎ ((a.base == base) ≡ true) → (so_far ≡ Some base) ⊎ (list_any (λ b. b.base == base) (a ∷ areas) ≡ true)
 here_of so_far a areas base (inl before) = inl before
@@ -90,7 +84,7 @@ has_row [] i some = absurd (omega arith)
 has_row (row ∷ rows) zero some = omega arith
 has_row (row ∷ rows) (suc i) some = let lt = has_row rows i some in omega arith
 
-own_row : (rows : List (List Area)) (i : ℕ) (row : List Area) → i < length rows → unwrap_or (slice_get (slice_set rows i row) i) [] ≡ row
+pub own_row : (rows : List (List Area)) (i : ℕ) (row : List Area) → i < length rows → unwrap_or (slice_get (slice_set rows i row) i) [] ≡ row
 own_row [] i row lt = absurd (omega arith)
 own_row (r ∷ rows) zero row lt = refl
 own_row (r ∷ rows) (suc i) row lt = own_row rows i row (omega arith)

@@ -7,11 +7,12 @@ use Rattle.std.specs.Ordering.{nat_cmp, eq_by_cmp}
 use Rattle.std.specs.Cmp.{nat_cmp_total}
 use Rattle.std.specs.FinMap.{FinMap, get, insert, get-empty, get-insert, get-remove}
 use Rattle.std.specs.FinMap as map
-use Rattle.std.proofs.lemmas.Bool.{eq-eqb, ne_eqb}
+use Rattle.std.proofs.lemmas.Bool.{eq-eqb, ne_eqb, or_right, or_left}
 use Rattle.std.proofs.lemmas.Bool.Decides.{nat_tests}
 use Rattle.ipc_ids.specs.declared.numbers.Code.{Code}
 use Rattle.ipc_ids.specs.declared.numbers.TaskNo.{TaskNo}
 use Rattle.ipc_ids.specs.Codes.{eperm}
+use Rattle.ipc_ids.proofs.Common.{is_some}
 use Rattle.address_space.specs.declared.area.Right.TheVariants.{Write}
 use Rattle.address_space.specs.declared.spaces.Spot.{Spot}
 use Rattle.address_space.specs.Areas.{Area, is_subset, refusal, place_of, stands_over}
@@ -24,14 +25,6 @@ use Rattle.address_space.specs.Sound.{AreHeld}
 or_case : (a b : Bool) → (a || b) ≡ true → (a ≡ true) ⊎ (b ≡ true)
 or_case true b h = inl refl
 or_case false b h = inr h
-
-or_left : (a b : Bool) → a ≡ true → (a || b) ≡ true
-or_left true b h = refl
-or_left false b h = absurd (cc h)
-
-or_right : (a b : Bool) → b ≡ true → (a || b) ≡ true
-or_right true b h = refl
-or_right false b h = h
 
 or_other : (a b : Bool) → a ≡ false → (a || b) ≡ true → b ≡ true
 or_other true b h g = absurd (cc h)
@@ -63,9 +56,6 @@ module _ {X : Type 0} (p : X → Bool) where
   any_here (y ∷ xs) (suc i) x few h = or_right (p y) _ (any_here xs i x (omega arith) h)
 
 -- the stores after one came or went
-
-some_is : {A : Type 0} (o : Option A) (x : A) → o ≡ Some x → IsSome o
-some_is o x is = rw is refl
 
 inserted : (stores : FinMap nat_cmp (List ℕ)) (key : ℕ) (bytes : List ℕ) (n : ℕ) → IsSome (get (insert stores key bytes) n) → (n ≡ key) ⊎ IsSome (get stores n)
 inserted stores key bytes n some = by_key (eq_by_cmp nat_cmp n key) refl (subst IsSome (get-insert nat_cmp_total stores key bytes n) some) where
@@ -148,7 +138,7 @@ there_still : (stores : FinMap nat_cmp (List ℕ)) (key at : ℕ) (new : List �
 there_still stores key at new n = by_store (get stores key) refl where
   by_store : (o : Option (List ℕ)) → get stores key ≡ o → IsSome (get (write_at stores key at new) n) → IsSome (get stores n)
   by_store None is some = rw is at some
-  by_store (Some bytes) is some = elim (inserted stores key (written_over bytes at new) n (rw is at some)) [ inl e ↦ rw e (some_is (get stores key) bytes is) | inr e ↦ e ]
+  by_store (Some bytes) is some = elim (inserted stores key (written_over bytes at new) n (rw is at some)) [ inl e ↦ rw e (is_some (get stores key) bytes is) | inr e ↦ e ]
 
 held_spot : (m : Memory) (new : List ℕ) (spot : Option Spot) → AreHeld m → AreHeld (write_spot m new spot).memory
 held_spot m new None h = h

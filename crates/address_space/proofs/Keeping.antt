@@ -2,8 +2,9 @@
 use Rattle.std.proofs.Common.{◌≡◌, ℕ, zero, suc, ◌+◌, ◌-◌, ◌*◌, ◌<◌, ◌≤◌, ◌==◌, Bool, true, false, cond, ◌&&◌, List, [], ◌∷◌, ◌++◌, length, get_or, Option, Some, None, refl, sym, ◌∙◌, subst, arith, All}
 use Rattle.std.proofs.lemmas.Grind.{common_steps}
 use Rattle.std.proofs.Math.ListN.{set}
-use Rattle.std.specs.Prelude.{if◌then◌else◌, ◌||◌, remove, nat_le, slice_get, option_map, IsSome, replicate, Result, Ok, Err, OnOk, OnErr}
+use Rattle.std.specs.Prelude.{if◌then◌else◌, remove, nat_le, slice_get, option_map, IsSome, replicate, Result, Ok, Err, OnOk, OnErr}
 use Rattle.ipc_ids.specs.declared.trace.NoMemory.{NoMemory}
+use Rattle.ipc_ids.proofs.Common.{same_by_keys}
 use Rattle.std.specs.List.{list_any}
 use Rattle.std.specs.Option.{unwrap_or}
 use Rattle.std.specs.Ordering.{nat_cmp, eq_by_cmp}
@@ -16,6 +17,7 @@ use Rattle.std.proofs.lemmas.Bool.Decides.{nat_tests}
 use Rattle.std.proofs.lemmas.List.Edits.{length-remove}
 use Rattle.std.proofs.lemmas.List.Quantifiers.{all_pairs_push, all_pairs_remove}
 use Rattle.std.proofs.lemmas.List.{length-append}
+use Rattle.std.proofs.lemmas.Bool.{or_parts}
 use Rattle.address_space.specs.declared.area.Right.{Right}
 use Rattle.address_space.specs.Areas.{Area, IsInRange, holder, holds, allows, end_of, overlaps, stands_over, is_taken}
 use Rattle.address_space.specs.Stores.{StoreTable, HasBytes, written_over, write_at, with_zeros}
@@ -63,9 +65,6 @@ over_cond : (b : Bool) (xs : List ℕ) (o p : Option (List ℕ)) (n : ℕ) → (
 over_cond true xs o p n same e = sym (same refl) ∙ e
 over_cond false xs o p n same e = e
 
-eq_keys : (q n : ℕ) → eq_by_cmp nat_cmp q n ≡ true → q ≡ n
-eq_keys q n h = grind (arith, nat_tests)
-
 ne_keys : (q n : ℕ) → q < n → eq_by_cmp nat_cmp q n ≡ false
 ne_keys q n h = grind (arith, nat_tests)
 
@@ -77,7 +76,7 @@ over_put stores next n xs ys a is same o =
     record {
       bytes =
           rw (get-insert nat_cmp_total stores n ys a.store)
-          (over_cond (eq_by_cmp nat_cmp a.store n) ys None (get stores a.store) (a.pages * 4096) (λ t. rw (eq_keys a.store n t, is, same) refl) o.bytes);
+          (over_cond (eq_by_cmp nat_cmp a.store n) ys None (get stores a.store) (a.pages * 4096) (λ t. rw (same_by_keys a.store n t, is, same) refl) o.bytes);
       old = o.old;
     }
 
@@ -101,14 +100,10 @@ over_new stores next bytes a is e = record { bytes = rw (get-insert nat_cmp_tota
 pub over_taken : (stores : FinMap nat_cmp (List ℕ)) (next n : ℕ) (a : Area) → (a.store == n) ≡ false → IsOver stores next a → IsOver (fin.remove stores n) next a
 over_taken stores next n a apart o = record { bytes = rw (get-remove nat_cmp_total stores n a.store, ne_tests a.store n apart) o.bytes; old = o.old }
 
-none_any : (b c : Bool) → (b || c) ≡ false → (b ≡ false) × (c ≡ false)
-none_any true c h = absurd (cc h)
-none_any false c h = (refl, h)
-
 pub all_apart : {X : Type 0} (P R : X → Type 0) (q : X → Bool) → ((x : X) → q x ≡ false → P x → R x) → (xs : List X) → list_any q xs ≡ false → All P xs → All R xs
 all_apart P R q f [] h all = All-nil R
 all_apart P R q f (x ∷ xs) h all =
-    let n = none_any (q x) (list_any q xs) h in
+    let n = or_parts (q x) (list_any q xs) h in
     All-cons R x xs (f x n.0 (All-head P x xs all)) (all_apart P R q f xs n.1 (All-tail P x xs all))
 
 pub all_taken : (stores : FinMap nat_cmp (List ℕ)) (next n : ℕ) (areas : List (List Area)) → is_used n areas ≡ false → All (All (IsOver stores next)) areas → All (All (IsOver (fin.remove stores n) next)) areas
@@ -166,8 +161,8 @@ lawful_removed areas i h l =
 
 none_at : {X : Type 0} (q : X → Bool) (xs : List X) (k : ℕ) (d : X) → list_any q xs ≡ false → k < length xs → q (get_or xs k d) ≡ false
 none_at q [] k d h lt = absurd (omega arith)
-none_at q (x ∷ xs) zero d h lt = (none_any (q x) (list_any q xs) h).0
-none_at q (x ∷ xs) (suc k) d h lt = none_at q xs k d (none_any (q x) (list_any q xs) h).1 (omega arith)
+none_at q (x ∷ xs) zero d h lt = (or_parts (q x) (list_any q xs) h).0
+none_at q (x ∷ xs) (suc k) d h lt = none_at q xs k d (or_parts (q x) (list_any q xs) h).1 (omega arith)
 
 -- one area more
 pub lawful_pushed : (areas : List Area) (a : Area) → length areas < 16 → IsInRange a.base a.pages a.rights → is_taken a.base a.pages areas ≡ false → AreLawful areas → AreLawful (areas ++ a ∷ [])

@@ -3,7 +3,7 @@ use Rattle.std.proofs.Common.{◌≡◌, ℕ, zero, suc, ◌+◌, ◌-◌, ◌*�
 use Rattle.std.specs.Prelude.{if◌then◌else◌, Ok, slice_index_or}
 use Rattle.std.specs.List.{AllPairs}
 use Rattle.std.specs.Option.{unwrap_or}
-use Rattle.std.specs.Ordering.{nat_cmp, eq_by_cmp}
+use Rattle.std.specs.Ordering.{nat_cmp}
 use Rattle.std.specs.Cmp.{nat_cmp_total}
 use Rattle.std.specs.FinMap.{FinMap, get, get-insert}
 use Rattle.std.proofs.lemmas.Grind.{common_steps}
@@ -11,6 +11,7 @@ use Rattle.std.proofs.lemmas.List.{nil_from_length}
 use Rattle.std.proofs.lemmas.Bool.Decides.{nat_tests}
 use Rattle.ipc_ids.specs.declared.numbers.TaskNo.{TaskNo}
 use Rattle.ipc_ids.specs.declared.numbers.StoreNo.{StoreNo}
+use Rattle.ipc_ids.proofs.Common.{own_key}
 use Rattle.address_space.specs.declared.area.Right.{Right}
 use Rattle.address_space.specs.declared.area.Right.TheVariants.{Read, Write}
 use Rattle.address_space.specs.Areas.{Area, holder, holds}
@@ -56,12 +57,9 @@ one_holder at count r s (x ∷ areas) a b some apart e f =
 part_written : (bytes : List ℕ) (at : ℕ) (new : List ℕ) → at + length new ≤ length bytes → bytes_from (written_over bytes at new) at (length new) ≡ new
 part_written bytes at new h = grind (arith, common_steps)
 
-same_key : (n : ℕ) → eq_by_cmp nat_cmp n n ≡ true
-same_key n = grind (arith, nat_tests)
-
 pub back_if : (stores : FinMap nat_cmp (List ℕ)) (n at : ℕ) (new : List ℕ) (found : Option (List ℕ)) → get stores n ≡ found → HasBytes found (at + length new) → bytes_from (unwrap_or (get (write_at stores n at new) n) []) at (length new) ≡ new
 back_if stores n at new None is room = absurd room
-back_if stores n at new (Some bytes) is room = rw (is, get-insert nat_cmp_total stores n (written_over bytes at new) n, same_key n) (part_written bytes at new room)
+back_if stores n at new (Some bytes) is room = rw (is, get-insert nat_cmp_total stores n (written_over bytes at new) n, own_key n) (part_written bytes at new room)
 
 back_at : (m : Memory) (t : TaskNo) (at : ℕ) (new old : List ℕ) (store : Option StoreNo) (f g : Option Area) → holder at (length new) Read (areas_of m t) ≡ f → holder at (length new) Write (areas_of m t) ≡ g → 0 < length new → IsSound m → read_at m (length new) (spot_in at f) ≡ Ok old → (write_spot m new (spot_in at g)).told ≡ Ok store → read_at (write_spot m new (spot_in at g)).memory (length new) (spot_of (write_spot m new (spot_in at g)).memory t at (length new) Read) ≡ Ok new
 back_at m t at new old store None g e h some s can may = absurd (cc can)

@@ -1,5 +1,5 @@
 -- A list of stores by rising number, and the map that it stands for.
-use Rattle.std.proofs.Common.{◌≡◌, ℕ, zero, suc, ◌+◌, ◌<◌, ◌≤◌, Bool, true, false, cond, ◌&&◌, List, [], ◌∷◌, ◌++◌, length, get_or, Option, Some, None, refl, sym, ap, ◌∙◌, arith, T}
+use Rattle.std.proofs.Common.{◌≡◌, ℕ, zero, suc, ◌+◌, ◌<◌, ◌≤◌, Bool, true, false, cond, List, [], ◌∷◌, ◌++◌, length, get_or, Option, Some, None, refl, sym, ap, ◌∙◌, arith, T}
 use Rattle.std.proofs.Math.ListN.{set}
 use Rattle.std.specs.Prelude.{remove}
 use Rattle.address_space.specs.declared.stores.Store.{Store}
@@ -14,13 +14,10 @@ use Rattle.std.specs.FinMap.Entries.{below_all}
 use Rattle.std.proofs.lemmas.Bool.Decides.{nat_tests}
 use Rattle.std.specs.Prelude.{slice_get, IsSome, IfNone}
 use Rattle.std.proofs.lemmas.Option.{slice_get_read}
+use Rattle.ipc_ids.proofs.Common.{and_holds, keys_of_same}
 
 less : (x y : ℕ) → x < y → nat_cmp x y ≡ Less
 less x y h = sym (nat_cmp_is x y Less h)
-
-both : (a b : Bool) → T a → T b → T (a && b)
-both true b p q = q
-both false b p q = p
 
 above : (x low : ℕ) (cs : List Store) (high : ℕ) → x < low → RisesWithin low cs high → T (below_all nat_cmp x (keyed cs))
 above x low [] high h r = tt
@@ -31,7 +28,7 @@ above x low (c ∷ cs) high h r =
 pub keyed_sorted : (low : ℕ) (cs : List Store) (high : ℕ) → RisesWithin low cs high → T (is_sorted nat_cmp (keyed cs))
 keyed_sorted low [] high r = tt
 keyed_sorted low (c ∷ cs) high r =
-    both _ _ (above c.number (c.number + 1) cs high (omega arith) r.1) (keyed_sorted (c.number + 1) cs high r.1)
+    and_holds _ _ (above c.number (c.number + 1) cs high (omega arith) r.1) (keyed_sorted (c.number + 1) cs high r.1)
 
 -- what the map has at a number
 pub get-map_of : (low : ℕ) (cs : List Store) (high n : ℕ) → RisesWithin low cs high → fin.get (map_of cs) n ≡ find nat_cmp n (keyed cs)
@@ -71,9 +68,6 @@ shadowed false false x y d h = refl
 apart_keys : (q n k : ℕ) → n < k → eq_by_cmp nat_cmp q k ≡ true → eq_by_cmp nat_cmp q n ≡ false
 apart_keys q n k h e = grind (arith, nat_tests)
 
-same_keys : (q n : ℕ) → q ≡ n → eq_by_cmp nat_cmp q n ≡ true
-same_keys q n h = grind (arith, nat_tests)
-
 other_keys : (q n : ℕ) → n < q → eq_by_cmp nat_cmp q n ≡ false
 other_keys q n h = grind (arith, nat_tests)
 
@@ -102,7 +96,7 @@ rises_at low (d ∷ cs) high (suc i) c r h e = let g = rises_at (d.number + 1) c
 
 pub find-at : (low : ℕ) (cs : List Store) (high i : ℕ) (c : Store) → RisesWithin low cs high → i < length cs → c ≡ get_or cs i c → find nat_cmp c.number (keyed cs) ≡ Some c.bytes
 find-at low [] high i c r h e = absurd (omega arith)
-find-at low (d ∷ cs) high zero c r h e = rw (same_keys c.number d.number (ap (λ (x : Store). x.number) e)) (ap (λ (x : Store). Some x.bytes) (sym e))
+find-at low (d ∷ cs) high zero c r h e = rw (keys_of_same c.number d.number (ap (λ (x : Store). x.number) e)) (ap (λ (x : Store). Some x.bytes) (sym e))
 find-at low (d ∷ cs) high (suc i) c r h e =
     let g = rises_at (d.number + 1) cs high i c r.1 (omega arith) e in
     rw (other_keys c.number d.number (omega arith)) (find-at (d.number + 1) cs high i c r.1 (omega arith) e)

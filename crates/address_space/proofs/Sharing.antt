@@ -5,6 +5,7 @@ use Rattle.std.specs.List.{AllPairs, position_or_len}
 use Rattle.std.specs.FinMap.{get}
 use Rattle.std.proofs.lemmas.List.{nil_from_length}
 use Rattle.std.proofs.lemmas.Bool.Decides.{nat_tests}
+use Rattle.std.proofs.lemmas.Bool.{eqb-true}
 use Rattle.ipc_ids.specs.declared.numbers.TaskNo.{TaskNo}
 use Rattle.ipc_ids.specs.declared.numbers.StoreNo.{StoreNo}
 use Rattle.address_space.specs.declared.facts.Area as facts
@@ -37,14 +38,11 @@ first_passes : (p : Area → Bool) (areas : List Area) (a : Area) → slice_get 
 first_passes p [] a e = absurd (cc e)
 first_passes p (x ∷ areas) a e = first_if p x a areas (p x) refl e (λ r. first_passes p areas a r)
 
-same_base : (b base : ℕ) → (b == base) ≡ true → b ≡ base
-same_base b base h = grind (arith, nat_tests)
-
 at_base : (areas : List Area) (base : ℕ) (a : Area) → area_in areas (place_of base areas) ≡ Some a → IsAt areas base (position_or_len (λ x. x.base == base) areas) a
 at_base areas base a e =
     let i : ℕ = position_or_len (λ x. x.base == base) areas in
     let there : slice_get areas i ≡ Some a = placed areas i a (nat_lt i (length areas)) e in
-    record { there = there; begins = same_base a.base base (first_passes (λ x. x.base == base) areas a there) }
+    record { there = there; begins = eqb-true a.base base (first_passes (λ x. x.base == base) areas a there) }
 
 -- two areas that are apart have no range in common
 no_common : (at count : ℕ) (a b : Area) → 0 < count → AreApart a b → IsWithin a at count → IsWithin b at count → ⊥

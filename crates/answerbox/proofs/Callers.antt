@@ -6,9 +6,10 @@ use Rattle.std.specs.FinMap.{find, is_sorted, entries, entries_sorted, get-entri
 use Rattle.std.specs.FinMap.Entries.{below_all}
 use Rattle.std.proofs.lemmas.Bool.Decides.{nat_tests}
 use Rattle.call_slab.specs.declared.call.Call.{Call}
+use Rattle.call_slab.proofs.Live.{tie, past_tie}
 use Rattle.ipc_ids.specs.declared.numbers.TaskNo.{TaskNo}
 use Rattle.answerbox.specs.Calls.{CallTable, call_at, is_caller, first_from, calls_of}
-use Rattle.answerbox.proofs.Fronts.{first, second, greater, ties, not_tied, key_same}
+use Rattle.answerbox.proofs.Fronts.{first, second, greater, key_same}
 
 -- a call of the entries that t made and whose number is at least low
 pub record IsCallFrom (t : TaskNo) (low : ℕ) (at : ℕ → Option Call) (c : Call) : Type 0 where
@@ -19,12 +20,12 @@ pub record IsCallFrom (t : TaskNo) (low : ℕ) (at : ℕ → Option Call) (c : C
 
 further : (t : TaskNo) (low : ℕ) (e : ℕ × Call) (es : List (ℕ × Call)) (c : Call) → T (below_all nat_cmp e.0 es) → IsCallFrom t low (λ k. find nat_cmp k es) c → IsCallFrom t low (λ k. find nat_cmp k (e ∷ es)) c
 further t low e es c b h =
-    record { number = h.number; is = rw (not_tied h.number e.0 (greater e.0 es h.number c b h.is)) h.is; made = h.made; from = h.from }
+    record { number = h.number; is = rw (past_tie h.number e.0 (greater e.0 es h.number c b h.is)) h.is; made = h.made; from = h.from }
 
 here : (t : TaskNo) (low : ℕ) (e : ℕ × Call) (es : List (ℕ × Call)) (c : Call) (a b : Bool) → nat_le low e.0 ≡ a → is_caller t e.1.caller ≡ b → cond (a && b) (Some e.1) (first_from t low es) ≡ Some c → (first_from t low es ≡ Some c → IsCallFrom t low (λ k. find nat_cmp k (e ∷ es)) c) → IsCallFrom t low (λ k. find nat_cmp k (e ∷ es)) c
 here t low e es c true true l m g later =
     let same : e.1 ≡ c = cc in
-    record { number = e.0; is = rw (ties e.0) g; made = rw same at m; from = grind (arith, nat_tests) }
+    record { number = e.0; is = rw (tie e.0) g; made = rw same at m; from = grind (arith, nat_tests) }
 here t low e es c true false l m g later = later g
 here t low e es c false b l m g later = later g
 
@@ -70,8 +71,8 @@ at_end t low e x false b l m h = refl
 pub first_is_none : (t : TaskNo) (low : ℕ) (es : List (ℕ × Call)) → T (is_sorted nat_cmp es) → ((k : ℕ) (d : Call) → find nat_cmp k es ≡ Some d → low ≤ k → is_caller t d.caller ≡ true → ⊥) → first_from t low es ≡ None
 first_is_none t low [] s h = refl
 first_is_none t low (e ∷ es) s h =
-    at_end t low e (first_from t low es) (nat_le low e.0) (is_caller t e.1.caller) refl refl (h e.0 e.1 (rw (ties e.0) refl))
-    ∙ first_is_none t low es (second _ _ s) (λ k d f. h k d (rw (not_tied k e.0 (greater e.0 es k d (first _ _ s) f)) f))
+    at_end t low e (first_from t low es) (nat_le low e.0) (is_caller t e.1.caller) refl refl (h e.0 e.1 (rw (tie e.0) refl))
+    ∙ first_is_none t low es (second _ _ s) (λ k d f. h k d (rw (past_tie k e.0 (greater e.0 es k d (first _ _ s) f)) f))
 
 at_start : (t : TaskNo) (low : ℕ) (e : ℕ × Call) (x : Option Call) (a b : Bool) → nat_le low e.0 ≡ a → is_caller t e.1.caller ≡ b → low ≤ e.0 → is_caller t e.1.caller ≡ true → cond (a && b) (Some e.1) x ≡ Some e.1
 at_start t low e x true true l m h g = refl
@@ -83,7 +84,7 @@ pub first_is : (t : TaskNo) (low : ℕ) (es : List (ℕ × Call)) (n : ℕ) (c :
     → ((k : ℕ) (d : Call) → find nat_cmp k es ≡ Some d → is_caller t d.caller ≡ true → low ≤ k → n ≤ k) → first_from t low es ≡ Some c
 first_is t low [] n c s f made from least = absurd (cc f)
 first_is t low (e ∷ es) n c s f made from least =
-    by (is_eq (nat_cmp n e.0)) refl f (λ g. first_is t low es n c (second _ _ s) g made from (λ k d h. least k d (rw (not_tied k e.0 (greater e.0 es k d (first _ _ s) h)) h)))
+    by (is_eq (nat_cmp n e.0)) refl f (λ g. first_is t low es n c (second _ _ s) g made from (λ k d h. least k d (rw (past_tie k e.0 (greater e.0 es k d (first _ _ s) h)) h)))
   where
     by : (b : Bool) → is_eq (nat_cmp n e.0) ≡ b → cond b (Some e.1) (find nat_cmp n es) ≡ Some c → (find nat_cmp n es ≡ Some c → first_from t low es ≡ Some c) → first_from t low (e ∷ es) ≡ Some c
     by true q g later =
@@ -92,5 +93,5 @@ first_is t low (e ∷ es) n c s f made from least =
         at_start t low e (first_from t low es) (nat_le low e.0) (is_caller t e.1.caller) refl refl (omega arith) (rw same made) ∙ ap Some same
     by false q g later =
         let after : e.0 < n = greater e.0 es n c (first _ _ s) g in
-        at_end t low e (first_from t low es) (nat_le low e.0) (is_caller t e.1.caller) refl refl (λ l m. let le = least e.0 e.1 (rw (ties e.0) refl) m l in absurd (omega arith))
+        at_end t low e (first_from t low es) (nat_le low e.0) (is_caller t e.1.caller) refl refl (λ l m. let le = least e.0 e.1 (rw (tie e.0) refl) m l in absurd (omega arith))
         ∙ later g

@@ -5,9 +5,11 @@ use Rattle.std.specs.Ordering.{nat_cmp, eq_by_cmp}
 use Rattle.std.specs.Cmp.{nat_cmp_total}
 use Rattle.std.specs.FinMap.{get, insert, get-insert}
 use Rattle.std.specs.Option.{option_map_or}
-use Rattle.std.proofs.lemmas.Bool.{cases_eq, cases_lt}
+use Rattle.std.proofs.lemmas.Bool.{cases_eq, cases_lt, eqb-true}
 use Rattle.std.proofs.lemmas.Bool.Decides.{nat_tests}
 use Rattle.std.proofs.lemmas.List.{get_or-set_same, get_or-set_other, get_or_past, length-set}
+use Rattle.std.proofs.lemmas.Option.{same_Some}
+use Rattle.ipc_ids.proofs.Common.{keys_of_same}
 use Rattle.call_slab.specs.declared.slots.Slot.{Slot}
 use Rattle.call_slab.specs.declared.links.Links.{Links}
 use Rattle.call_slab.specs.Calls.{links_of}
@@ -17,10 +19,7 @@ use Rattle.answerbox.specs.declared.chains.Chain.{Chain}
 use Rattle.answerbox.specs.declared.chains.Chain.TheVariants.{Queue, Own}
 use Rattle.answerbox.specs.Order.{Spot, IsLeast, Linked}
 use Rattle.answerbox.specs.Chain.{Slots, core, cores, next_link, previous_link, with_next, with_previous, next_in, previous_in, no_ends, ends_at, first_of, last_of, next_put, previous_put, first_put, last_put, passed_slots, passed_ends, joined_slots, joined_ends, at_row, unlinked_slots, unlinked_rows, appended_slots, appended_rows}
-use Rattle.answerbox.proofs.Order.{some_same, is_key, is_key_true, is_key_false, group_same}
-
-pub same_key : (q k : ℕ) → q ≡ k → eq_by_cmp nat_cmp q k ≡ true
-same_key q k e = grind (arith, nat_tests)
+use Rattle.answerbox.proofs.Order.{is_key, is_key_true, is_key_false}
 
 pub other_key : (q k : ℕ) → (q ≡ k → ⊥) → eq_by_cmp nat_cmp q k ≡ false
 other_key q k e = grind (arith, nat_tests)
@@ -30,7 +29,7 @@ pub get_here : (f : Slot → Slot) (m : Slots) (k : ℕ) → get (at_key f m k) 
 get_here f m k =
     elim (get m k) as (λ o. get m k ≡ o → get (option_map_or (λ s. insert m k (f s)) o m) k ≡ option_map f o) [
       | None ↦ λ e. e
-      | Some s ↦ λ e. get-insert nat_cmp_total m k (f s) k ∙ ap (λ b. cond b (Some (f s)) (get m k)) (same_key k k refl)
+      | Some s ↦ λ e. get-insert nat_cmp_total m k (f s) k ∙ ap (λ b. cond b (Some (f s)) (get m k)) (keys_of_same k k refl)
     ] refl
 
 -- and at each other
@@ -222,7 +221,7 @@ first-last_put (Some k) o e = refl
 row_test : (b o : Option ℕ) (g : Ends → Option ℕ) (es : List Ends) (i j : ℕ) → cond (j == i) (cond (or_none b) o (g (ends_at es i))) (g (ends_at es j)) ≡ cond (or_none b) (cond (j == i) o (g (ends_at es j))) (g (ends_at es j))
 row_test b o g es i j =
     elim (j == i) as (λ t. (j == i) ≡ t → cond t (cond (or_none b) o (g (ends_at es i))) (g (ends_at es j)) ≡ cond (or_none b) (cond t o (g (ends_at es j))) (g (ends_at es j))) [
-      | true ↦ λ t. rw (group_same j i t) refl
+      | true ↦ λ t. rw (eqb-true j i t) refl
       | false ↦ λ t. elim (or_none b) as (λ u. g (ends_at es j) ≡ cond u (g (ends_at es j)) (g (ends_at es j))) [ true ↦ refl | false ↦ refl ]
     ] refl
 
@@ -274,4 +273,4 @@ same_test o p q k f g =
   where
     key_of_some : (p : Option ℕ) (k : ℕ) → p ≡ Some k → is_key p k ≡ true
     key_of_some None k e = absurd (cc e)
-    key_of_some (Some j) k e = key_is j k (some_same k j (sym e))
+    key_of_some (Some j) k e = key_is j k (same_Some k j (sym e))

@@ -3,6 +3,7 @@ use Rattle.std.proofs.Common.{◌≡◌, ℕ, ◌+◌, ◌-◌, ◌^◌, ◌<◌
 use Rattle.std.specs.Ordering.{nat_cmp}
 use Rattle.std.specs.FinMap.{FinMap, entries, get, len}
 use Rattle.std.proofs.lemmas.Bool.{cases_eq}
+use Rattle.std.proofs.lemmas.Option.{same_Some}
 use Rattle.call_slab.specs.declared.call.Call.{Call}
 use Rattle.call_slab.specs.declared.slots.Slot.{Slot}
 use Rattle.call_slab.specs.declared.links.Links.{Links}
@@ -13,7 +14,6 @@ use Rattle.answerbox.specs.Calls.{count_of}
 use Rattle.answerbox.specs.Chain.{Slots, Core, core, cores, row_of, rank_of, spot_at, spots, Chained, no_ends, ends_at, last_of, count_at, AreFew, passed_ends, joined_ends, IsBetween, unlinked_rows, appended_rows}
 use Rattle.answerbox.specs.Moving.{row_at}
 use Rattle.answerbox.specs.Stored.{is_row, stands_in, Counted}
-use Rattle.answerbox.proofs.Order.{some_same}
 use Rattle.answerbox.proofs.Counts.{count-len}
 use Rattle.answerbox.proofs.Chain.{key_is, key_not, within_ends}
 
@@ -95,7 +95,7 @@ row_at_core ch m k c e = by (get m k) e
   where
     by : (o : Option Slot) → option_map core o ≡ Some c → option_and_then (row_of ch) (call_of o) ≡ row_of ch c.call
     by None e = absurd (cc e)
-    by (Some s) e = ap (λ (x : Core). row_of ch x.call) (some_same (core s) c e)
+    by (Some s) e = ap (λ (x : Core). row_of ch x.call) (same_Some (core s) c e)
 
 pub row_within : (ch : Chain) (m : Slots) (es : List Ends) (top k : ℕ) (c : Core) → Chained ch m es top → cores m k ≡ Some c → IfSome (row_of ch c.call) (λ i. i < length es)
 row_within ch m es top k c q e = by (row_of ch c.call) refl

@@ -6,12 +6,12 @@ use Rattle.std.specs.declared.cmp.Ordering.{Ordering}
 use Rattle.std.specs.declared.cmp.Ordering.TheVariants.{Less, Equal, Greater}
 use Rattle.std.specs.FinMap.{FinMap, find, is_sorted, entries_sorted, put, get, insert, remove, entries, len, len-entries, same_map, nat_cmp-IsAntisymmetric, get-entries, get-insert, get-remove, entries-insert}
 use Rattle.std.specs.FinMap.Entries.{by_order}
-use Rattle.std.proofs.lemmas.Bool.Decides.{nat_tests}
 use Rattle.call_slab.specs.declared.call.Call.{Call}
 use Rattle.call_slab.specs.declared.call.Place.{Place}
+use Rattle.call_slab.proofs.Live.{past_tie, tie}
 use Rattle.ipc_ids.specs.declared.numbers.Label.{Label}
-use Rattle.answerbox.proofs.Fronts.{first, second, greater, not_tied}
-use Rattle.answerbox.proofs.Fronts as fronts
+use Rattle.ipc_ids.proofs.Common.{own_key, same_by_keys}
+use Rattle.answerbox.proofs.Fronts.{first, second, greater}
 use Rattle.answerbox.specs.Calls.{CallTable, call_at, enqueue, without_call, with_record, put_at, count_of, is_active_on, active_calls}
 
 placed : (o : Ordering) (n : ℕ) (c : Call) (p : Call → Bool) (e : ℕ × Call) (es rest : List (ℕ × Call)) → is_eq o ≡ false → count_of p rest ≡ cond (p c) 1 0 + count_of p es → count_of p (by_order o ((n, c) ∷ e ∷ es) ((e.0, c) ∷ es) (e ∷ rest)) ≡ cond (p c) 1 0 + count_of p (e ∷ es)
@@ -19,7 +19,7 @@ placed Less n c p e es rest apart h = refl
 placed Equal n c p e es rest apart h = absurd (cc apart)
 placed Greater n c p e es rest apart h = omega arith
 
-apart : (b : Bool) (x y : Option Call) (v : Call) → x ≡ Some v → cond b x y ≡ None → (b ≡ false) × (y ≡ None)
+pub apart : (b : Bool) (x y : Option Call) (v : Call) → x ≡ Some v → cond b x y ≡ None → (b ≡ false) × (y ≡ None)
 apart true x y v is h = absurd (cc h)
 apart false x y v is h = (refl, h)
 
@@ -36,21 +36,15 @@ there_again : (b : Bool) (x y : Option Call) → (b ≡ true → x ≡ y) → x 
 there_again true x y h = h refl
 there_again false x y h = refl
 
-same_number : (q n : ℕ) → eq_by_cmp nat_cmp q n ≡ true → q ≡ n
-same_number q n h = grind (arith, nat_tests)
-
-pub ties : (n : ℕ) → eq_by_cmp nat_cmp n n ≡ true
-ties n = grind (arith, nat_tests)
-
 -- a call is what was taken out, and the rest
 pub insert-remove : (m : FinMap nat_cmp Call) (n : ℕ) (c : Call) → get m n ≡ Some c → m ≡ insert (remove m n) n c
 insert-remove m n c is =
     same_map nat_cmp_total nat_cmp-IsAntisymmetric _ _ (λ q.
-    there_again (eq_by_cmp nat_cmp q n) (get m q) (Some c) (λ t. ap (get m) (same_number q n t) ∙ is)
+    there_again (eq_by_cmp nat_cmp q n) (get m q) (Some c) (λ t. ap (get m) (same_by_keys q n t) ∙ is)
     ∙ sym (get-insert nat_cmp_total (remove m n) n c q ∙ ap (cond (eq_by_cmp nat_cmp q n) (Some c)) (get-remove nat_cmp_total m n q)))
 
 pub count-remove : (p : Call → Bool) (m : FinMap nat_cmp Call) (n : ℕ) (c : Call) → get m n ≡ Some c → count_of p (entries m) ≡ cond (p c) 1 0 + count_of p (entries (remove m n))
-count-remove p m n c is = ap (λ (x : FinMap nat_cmp Call). count_of p (entries x)) (insert-remove m n c is) ∙ count-insert p (remove m n) n c (get-remove nat_cmp_total m n n ∙ rw (ties n))
+count-remove p m n c is = ap (λ (x : FinMap nat_cmp Call). count_of p (entries x)) (insert-remove m n c is) ∙ count-insert p (remove m n) n c (get-remove nat_cmp_total m n n ∙ rw (own_key n))
 
 shadow : (b : Bool) (x y : Option Call) → cond b None (cond b x y) ≡ cond b None y
 shadow true x y = refl
@@ -68,14 +62,14 @@ remove-insert m n d =
 pub count-replace : (p : Call → Bool) (m : FinMap nat_cmp Call) (n : ℕ) (c d : Call) → get m n ≡ Some c → cond (p c) 1 0 + count_of p (entries (insert m n d)) ≡ cond (p d) 1 0 + count_of p (entries m)
 count-replace p m n c d is =
     let out = count-remove p m n c is in
-    let back = count-remove p (insert m n d) n d (get-insert nat_cmp_total m n d n ∙ rw (ties n)) in
+    let back = count-remove p (insert m n d) n d (get-insert nat_cmp_total m n d n ∙ rw (own_key n)) in
     let same = ap (λ (x : FinMap nat_cmp Call). count_of p (entries x)) (remove-insert m n d) in
     omega arith
 
 -- a call in the place of another, counted from what is left without either
 pub count-swap : (p : Call → Bool) (m : FinMap nat_cmp Call) (n : ℕ) (d : Call) → count_of p (entries (insert m n d)) ≡ cond (p d) 1 0 + count_of p (entries (remove m n))
 count-swap p m n d =
-    count-remove p (insert m n d) n d (get-insert nat_cmp_total m n d n ∙ rw (ties n))
+    count-remove p (insert m n d) n d (get-insert nat_cmp_total m n d n ∙ rw (own_key n))
     ∙ ap (λ (x : FinMap nat_cmp Call). cond (p d) 1 0 + count_of p (entries x)) (remove-insert m n d)
 
 count-length : (p : Call → Bool) (es : List (ℕ × Call)) → count_of p es ≤ length es
@@ -148,8 +142,8 @@ active-len q label = count-len (is_active_on label) q.records
 count_alike_in : (p q : Call → Bool) (es : List (ℕ × Call)) → T (is_sorted nat_cmp es) → ((k : ℕ) (d : Call) → find nat_cmp k es ≡ Some d → p d ≡ q d) → count_of p es ≡ count_of q es
 count_alike_in p q [] s h = refl
 count_alike_in p q (e ∷ es) s h =
-    let here : p e.1 ≡ q e.1 = h e.0 e.1 (rw (fronts.ties e.0) refl) in
-    let rest = count_alike_in p q es (second _ _ s) (λ k d f. h k d (rw (not_tied k e.0 (greater e.0 es k d (first _ _ s) f)) f)) in
+    let here : p e.1 ≡ q e.1 = h e.0 e.1 (rw (tie e.0) refl) in
+    let rest = count_alike_in p q es (second _ _ s) (λ k d f. h k d (rw (past_tie k e.0 (greater e.0 es k d (first _ _ s) f)) f)) in
     rw (here, rest) refl
 
 pub count-alike : (p q : Call → Bool) (m : FinMap nat_cmp Call) → ((k : ℕ) (d : Call) → get m k ≡ Some d → p d ≡ q d) → count_of p (entries m) ≡ count_of q (entries m)

@@ -2,6 +2,8 @@
 use Rattle.std.proofs.Common.{◌≡◌, ℕ, ◌+◌, ◌<◌, ◌≤◌, Bool, true, false, ◌==◌, List, Option, None, Some, IsSome, IfSome, option_map, refl, sym, ap, ◌∙◌, arith}
 use Rattle.std.specs.FinMap.{get, entries, entries_sorted, get-entries}
 use Rattle.std.proofs.lemmas.Bool.Decides.{nat_tests}
+use Rattle.std.proofs.lemmas.Option.{same_Some}
+use Rattle.std.proofs.lemmas.Bool.{eqb-true}
 use Rattle.ipc_ids.specs.declared.numbers.TaskNo.{TaskNo}
 use Rattle.call_slab.specs.declared.call.Call.{Call}
 use Rattle.call_slab.specs.declared.call.Place.{Place}
@@ -18,7 +20,6 @@ use Rattle.answerbox.specs.Chain.{Slots, Core, cores, place_index, row_of, rank_
 use Rattle.answerbox.specs.Stored.{is_row, stands_in, calls_in, Named, Stored}
 use Rattle.answerbox.proofs.Callers.{first_is, first_is_none}
 use Rattle.answerbox.proofs.Fronts.{front_live, front-is_front, no_front-has_no_calls}
-use Rattle.answerbox.proofs.Order.{some_same, group_same}
 use Rattle.answerbox.proofs.Chain.{key_is}
 use Rattle.answerbox.proofs.Names.{under, look}
 use Rattle.answerbox.proofs.Keeping.{table_of}
@@ -29,7 +30,7 @@ key_of_call a r d h e = by (get a.keys r) refl (sym (look a r h) ∙ e)
   where
     by : (o : Option ℕ) → get a.keys r ≡ o → under (cores a.slots) o ≡ Some d → (j : ℕ) × (get a.keys r ≡ Some j) × (c : Core) × (cores a.slots j ≡ Some c) × (c.call ≡ d)
     by None f g = absurd (cc g)
-    by (Some j) f g = let own = h.names r j f in (j, f, own.0, own.1, some_same own.0.call d (sym (ap (option_map (λ (c : Core). c.call)) own.1) ∙ g))
+    by (Some j) f g = let own = h.names r j f in (j, f, own.0, own.1, same_Some own.0.call d (sym (ap (option_map (λ (c : Core). c.call)) own.1) ∙ g))
 
 -- what stands under a key is live
 pub call_of_key : (a : CallsState) (k : ℕ) (c : Core) → Named (cores a.slots) (get a.keys) → cores a.slots k ≡ Some c → get (calls_in a) c.call.number.0 ≡ Some c.call
@@ -48,7 +49,7 @@ call_of_spot ch m k x e = by (cores m k) refl e
     with : (c : Core) (o : Option ℕ) → row_of ch c.call ≡ o → option_map (λ g. record { group = g; rank = rank_of ch c.call }) o ≡ Some x → (row_of ch c.call ≡ Some x.group) × (rank_of ch c.call ≡ x.rank)
     with c None f g = absurd (cc g)
     with c (Some i) f g =
-        let s : ◌≡◌ {A = Spot} (record { group = i; rank = rank_of ch c.call }) x = some_same (record { group = i; rank = rank_of ch c.call }) x g in
+        let s : ◌≡◌ {A = Spot} (record { group = i; rank = rank_of ch c.call }) x = same_Some (record { group = i; rank = rank_of ch c.call }) x g in
         (f ∙ ap (λ (z : Spot). Some z.group) s, ap (λ (z : Spot). z.rank) s)
 
     by : (o : Option Core) → cores m k ≡ o → spot_at ch o ≡ Some x → (c : Core) × (cores m k ≡ Some c) × (row_of ch c.call ≡ Some x.group) × (rank_of ch c.call ≡ x.rank)
@@ -82,7 +83,7 @@ first_found ch a es top g low k h l m =
       one = λ r d e row same.
           let x = spot_of_call ch a r g d h e row in
           let j : x.0 ≡ k = l.apart x.0 k (record { group = g; rank = rank_of ch d }) m.spot x.4 m.is (sym m.here) (same ∙ rank) in
-          let core : x.1 ≡ c.0 = some_same x.1 c.0 (sym x.2 ∙ ap (cores a.slots) j ∙ c.1) in
+          let core : x.1 ≡ c.0 = same_Some x.1 c.0 (sym x.2 ∙ ap (cores a.slots) j ∙ c.1) in
           sym x.3 ∙ ap (λ (y : Core). y.call) core;
     }
 
@@ -118,7 +119,7 @@ by_both false false f g = refl
 
 -- two places are one where their queues are
 pub place_test : (p r : Place) → same_place p r ≡ (place_index p == place_index r)
-place_test p r = by_both _ _ (λ e. key_is _ _ (sym (place_same p r e))) (λ e. place_back p r (group_same _ _ e))
+place_test p r = by_both _ _ (λ e. key_is _ _ (sym (place_same p r e))) (λ e. place_back p r (eqb-true _ _ e))
 
 -- `front`: the first of the queue
 pub front_empty : (a : CallsState) (queues owns : List Ends) (number stamp : ℕ) (place : Place) → Stored a queues owns number stamp → first_of queues (place_index place) ≡ None → front (table_of a number stamp) place ≡ None
@@ -142,12 +143,12 @@ front_found a queues owns number stamp k place q e =
     by : (s : IsFirst Queue a (place_index place) 0 k) (o : Option Call) → front (table_of a number stamp) place ≡ o → o ≡ Some s.own.call
     by s None f =
         let none = no_front-has_no_calls (table_of a number stamp) place f s.own.call.number.0 s.own.call s.live in
-        absurd (cc (none, place_back s.own.call.place place (some_same _ _ s.row)))
+        absurd (cc (none, place_back s.own.call.place place (same_Some _ _ s.row)))
     by s (Some d) f =
         let live = front_live (table_of a number stamp) place d f in
         let row : row_of Queue d ≡ Some (place_index place) = ap Some (place_same d.place place live.2) in
         let first = front-is_front (table_of a number stamp) place live.0 d f live.1 in
-        let le : d.stamp ≤ s.own.call.stamp = first.least d s.own.call.number.0 s.own.call live.1 s.live (place_back s.own.call.place place (some_same _ _ s.row)) in
+        let le : d.stamp ≤ s.own.call.stamp = first.least d s.own.call.number.0 s.own.call live.1 s.live (place_back s.own.call.place place (same_Some _ _ s.row)) in
         let ge : s.own.call.stamp ≤ d.stamp = s.least live.0 d live.1 row (omega arith) in
         ap Some (s.one live.0 d live.1 row (omega arith))
 
@@ -157,21 +158,21 @@ caller_row t d e = by d.caller e
   where
     by : (o : Option TaskNo) → is_caller t o ≡ true → option_map (λ u. u.0) o ≡ Some t.0
     by None e = absurd (cc e)
-    by (Some u) e = ap Some (group_same u.0 t.0 e)
+    by (Some u) e = ap Some (eqb-true u.0 t.0 e)
 
 row_caller : (t : TaskNo) (d : Call) → row_of Own d ≡ Some t.0 → is_caller t d.caller ≡ true
 row_caller t d e = by d.caller e
   where
     by : (o : Option TaskNo) → option_map (λ u. u.0) o ≡ Some t.0 → is_caller t o ≡ true
     by None e = absurd (cc e)
-    by (Some u) e = key_is u.0 t.0 (sym (some_same u.0 t.0 e))
+    by (Some u) e = key_is u.0 t.0 (sym (same_Some u.0 t.0 e))
 
 -- a live call's number
 pub numbered : (a : CallsState) (r : ℕ) (d : Call) → Named (cores a.slots) (get a.keys) → get (calls_in a) r ≡ Some d → d.number.0 ≡ r
 numbered a r d h e =
     let x = key_of_call a r d h e in
     let own = h.names r x.0 x.1 in
-    let same : own.0 ≡ x.2 = some_same own.0 x.2 (sym own.1 ∙ x.3) in
+    let same : own.0 ≡ x.2 = same_Some own.0 x.2 (sym own.1 ∙ x.3) in
     ap (λ (y : Call). y.number.0) (sym x.4) ∙ ap (λ (y : Core). y.call.number.0) (sym same) ∙ own.2
 
 -- the first of a caller's calls from a number on

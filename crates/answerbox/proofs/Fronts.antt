@@ -5,8 +5,10 @@ use Rattle.std.specs.Ordering.{nat_cmp, is_eq, is_lt}
 use Rattle.std.specs.FinMap.{find, is_sorted, entries, entries_sorted, get-entries}
 use Rattle.std.specs.FinMap.Entries.{below_all}
 use Rattle.std.proofs.lemmas.Bool.Decides.{nat_tests}
+use Rattle.std.proofs.lemmas.Option.{same_Some}
 use Rattle.call_slab.specs.declared.call.Call.{Call}
 use Rattle.call_slab.specs.declared.call.Place.{Place}
+use Rattle.call_slab.proofs.Live.{tie, past_tie}
 use Rattle.answerbox.specs.Calls.{CallTable, call_at, same_place, sooner, front}
 use Rattle.answerbox.specs.Places.{IsFrontOf, HasNoCalls}
 
@@ -21,14 +23,11 @@ pub first : (a b : Bool) → T (a && b) → T a
 first true b p = tt
 first false b p = p
 
-lt_of : (a b : ℕ) → T (is_lt (nat_cmp a b)) → a < b
+pub lt_of : (a b : ℕ) → T (is_lt (nat_cmp a b)) → a < b
 lt_of a b h = grind (arith, nat_tests)
 
 pub key_same : (n k : ℕ) → is_eq (nat_cmp n k) ≡ true → k ≡ n
 key_same n k h = grind (arith, nat_tests)
-
-some_same : (c d : Call) → Some c ≡ Some d → c ≡ d
-some_same c d e = cc
 
 -- what stands after an entry has a greater number
 pub greater : (n : ℕ) (es : List (ℕ × Call)) (k : ℕ) (d : Call) → T (below_all nat_cmp n es) → find nat_cmp k es ≡ Some d → n < k
@@ -40,12 +39,6 @@ greater n (e ∷ es) k d b f =
       | false ↦ λ t g. greater n es k d (second _ _ b) g
     ] refl f
 
-pub ties : (n : ℕ) → is_eq (nat_cmp n n) ≡ true
-ties n = grind (arith, nat_tests)
-
-pub not_tied : (k n : ℕ) → n < k → is_eq (nat_cmp k n) ≡ false
-not_tied k n h = grind (arith, nat_tests)
-
 idle : (place : Place) (d : Call) (o : Option Call) → same_place d.place place ≡ false → pick place o d ≡ o
 idle place d o h = rw h
 
@@ -53,13 +46,13 @@ nobody : (place : Place) (es : List (ℕ × Call)) → T (is_sorted nat_cmp es) 
 nobody place [] s h = refl
 nobody place (e ∷ es) s h =
     let head : T (below_all nat_cmp e.0 es) = first _ _ s in
-    ap (λ o. fold (pick place) o (map (λ (x : ℕ × Call). x.1) es)) (idle place e.1 None (h e.0 e.1 (rw (ties e.0)))) ∙ (nobody place es (second _ _ s) (λ k d f. h k d (rw (not_tied k e.0 (greater e.0 es k d head f)) f)))
+    ap (λ o. fold (pick place) o (map (λ (x : ℕ × Call). x.1) es)) (idle place e.1 None (h e.0 e.1 (rw (tie e.0)))) ∙ (nobody place es (second _ _ s) (λ k d f. h k d (rw (past_tie k e.0 (greater e.0 es k d head f)) f)))
 
 sooner_of : (o : Option Call) (d c : Call) → sooner o d ≡ Some c → (o ≡ Some c) ⊎ ((d ≡ c) × (true ≡ true))
-sooner_of None d c g = inr (some_same d c g, refl)
+sooner_of None d c g = inr (same_Some d c g, refl)
 sooner_of (Some b) d c g =
     elim (nat_lt d.stamp b.stamp) as (λ t. cond t (Some d) (Some b) ≡ Some c → (Some b ≡ Some c) ⊎ ((d ≡ c) × (true ≡ true))) [
-      | true ↦ λ h. inr (some_same d c h, refl)
+      | true ↦ λ h. inr (same_Some d c h, refl)
       | false ↦ λ h. inl h
     ] g
 
@@ -76,8 +69,8 @@ picked place [] o c s f = inl f
 picked place (e ∷ es) o c s f =
     let head : T (below_all nat_cmp e.0 es) = first _ _ s in
     ⊎_elim
-    (λ (h : pick place o e.1 ≡ Some c). ⊎_elim (λ (g : o ≡ Some c). inl g) (λ (g : (e.1 ≡ c) × (same_place e.1.place place ≡ true)). inr (e.0, rw (ties e.0) (ap Some g.0), rw g.0 at g.1)) (one_of place o e.1 c h))
-    (λ (h : (k : ℕ) × (find nat_cmp k es ≡ Some c) × (same_place c.place place ≡ true)). inr (h.0, rw (not_tied h.0 e.0 (greater e.0 es h.0 c head h.1)) h.1, h.2))
+    (λ (h : pick place o e.1 ≡ Some c). ⊎_elim (λ (g : o ≡ Some c). inl g) (λ (g : (e.1 ≡ c) × (same_place e.1.place place ≡ true)). inr (e.0, rw (tie e.0) (ap Some g.0), rw g.0 at g.1)) (one_of place o e.1 c h))
+    (λ (h : (k : ℕ) × (find nat_cmp k es ≡ Some c) × (same_place c.place place ≡ true)). inr (h.0, rw (past_tie h.0 e.0 (greater e.0 es h.0 c head h.1)) h.1, h.2))
     (picked place es (pick place o e.1) c (second _ _ s) f)
 
 -- a front is live, and stands at the place
@@ -99,7 +92,7 @@ NoneSooner c place [] = Unit {0}
 NoneSooner c place (e ∷ es) = (same_place e.1.place place ≡ true → c.stamp ≤ e.1.stamp) × NoneSooner c place es
 
 at_most : (c b : Call) → Some b ≡ Some c → c.stamp ≤ b.stamp
-at_most c b is = let same : b ≡ c = some_same b c is in rw same (omega arith)
+at_most c b is = let same : b ≡ c = same_Some b c is in rw same (omega arith)
 
 lt_stamp : (a b : ℕ) (x : Bool) → nat_lt a b ≡ x → (x ≡ true → a < b) × (x ≡ false → b ≤ a)
 lt_stamp a b x is = (λ t. grind (arith, nat_tests), λ t. grind (arith, nat_tests))
@@ -133,7 +126,7 @@ none_sooner : (place : Place) (c : Call) (es : List (ℕ × Call)) (k : ℕ) (d 
 none_sooner place c [] k d h f at = absurd (cc f)
 none_sooner place c (e ∷ es) k d h f at =
     elim (is_eq (nat_cmp k e.0)) as (λ t. cond t (Some e.1) (find nat_cmp k es) ≡ Some d → c.stamp ≤ d.stamp) [
-      | true ↦ λ g. let same : e.1 ≡ d = some_same e.1 d g in rw same at h.0 at
+      | true ↦ λ g. let same : e.1 ≡ d = same_Some e.1 d g in rw same at h.0 at
       | false ↦ λ g. none_sooner place c es k d h.1 g at
     ] f
 
@@ -145,7 +138,7 @@ front-is_front q place n c first is =
     record {
       here = rw is found.2;
       least = λ b m d own other at.
-          let same : c ≡ b = some_same c b (sym is ∙ own) in
+          let same : c ≡ b = same_Some c b (sym is ∙ own) in
           rw same at (none_sooner place c (entries q.records) m d least.1 (sym (get-entries q.records m) ∙ other) at);
     }
 
@@ -176,7 +169,7 @@ none_here : (place : Place) (es : List (ℕ × Call)) (k : ℕ) (d : Call) → N
 none_here place [] k d h f = absurd (cc f)
 none_here place (e ∷ es) k d h f =
     elim (is_eq (nat_cmp k e.0)) as (λ t. cond t (Some e.1) (find nat_cmp k es) ≡ Some d → same_place d.place place ≡ false) [
-      | true ↦ λ g. let same : e.1 ≡ d = some_same e.1 d g in rw same at h.0
+      | true ↦ λ g. let same : e.1 ≡ d = same_Some e.1 d g in rw same at h.0
       | false ↦ λ g. none_here place es k d h.1 g
     ] f
 

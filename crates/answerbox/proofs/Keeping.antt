@@ -5,6 +5,7 @@ use Rattle.std.specs.Cmp.{nat_cmp_total}
 use Rattle.std.specs.Prelude.{Result, Ok, Err, OnOk, OnErr}
 use Rattle.std.specs.FinMap.{FinMap, find, get, insert, remove, entries, entries_sorted, is_sorted, len, len-entries, get-entries, get-insert, get-remove, get-empty, empty, same_map, nat_cmp-IsAntisymmetric}
 use Rattle.std.proofs.lemmas.Bool.{cases_eq}
+use Rattle.std.proofs.lemmas.Option.{same_Some}
 use Rattle.call_slab.specs.declared.call.Call.{Call}
 use Rattle.call_slab.specs.declared.call.Place.{Place}
 use Rattle.call_slab.specs.declared.slots.Slot.{Slot}
@@ -23,11 +24,12 @@ use Rattle.answerbox.specs.Moving.{row_at, placed, out_rows, moved_slots, moved_
 use Rattle.answerbox.specs.Stored.{calls_in, Named, NumbersBelow, Stored, tasks_of, room_of, is_row, stands_in, Counted}
 use Rattle.answerbox.proofs.Counts.{count-insert, count-remove, count-swap, count-none}
 use Rattle.answerbox.proofs.Counted.{counted_out, counted_in, counted_kept, counted_as, few_counts, row_at_core, row_within, within_as}
-use Rattle.answerbox.proofs.Chain.{same_key, other_key, within_ends, length-unlinked, length-appended}
+use Rattle.answerbox.proofs.Chain.{other_key, within_ends, length-unlinked, length-appended}
 use Rattle.ipc_ids.specs.declared.numbers.TaskNo.{TaskNo}
+use Rattle.ipc_ids.proofs.Common.{keys_of_same}
 use Rattle.call_slab.specs.declared.call.Place.TheVariants.{Incoming, Dispatched, Answers}
-use Rattle.answerbox.proofs.Fronts.{first, second, greater, ties, not_tied}
-use Rattle.answerbox.proofs.Order.{some_same}
+use Rattle.call_slab.proofs.Live.{tie, past_tie}
+use Rattle.answerbox.proofs.Fronts.{first, second, greater}
 use Rattle.answerbox.proofs.Names.{under, look, named_put, named_out, calls_put, calls_out, one_number}
 use Rattle.answerbox.proofs.Moving.{core_is, call_here, call_there, changed_chain, moved_queue, moved_own, moved_here, moved_there, new_queue, new_own, new_here, new_there, left_queue, left_own, left_here, left_there, forgotten_queue, forgotten_own, forgotten_here, forgotten_there}
 
@@ -49,14 +51,14 @@ module _ (a b : CallsState) (n k : ℕ) (f : Call → Call) (kept : (c : Call) �
       let had = nm.known k own.0 own.1 in
       named_put (cores a.slots) (cores b.slots) (get a.keys) (get b.keys) n k (λ r t. ap (λ m. get m r) keys) others (record { name = own.0.name; call = f own.0.call })
       nm (ap (λ m. get m n) keys ∙ at) (here own.0 own.1) (ap (λ m. m.0) (kept own.0.call) ∙ own.2) (had.1 ∙ own.2)
-      (λ r e. one_number a n k r nm at e) (λ j e. some_same j k (sym e ∙ at))
+      (λ r e. one_number a n k r nm at e) (λ j e. same_Some j k (sym e ∙ at))
 
   change_numbers : (number : ℕ) → NumbersBelow (cores a.slots) number → NumbersBelow (cores b.slots) number
   change_numbers number below j d e =
       ⊎_elim
       (λ (t : j ≡ k).
       let new : Core = record { name = own.0.name; call = f own.0.call } in
-      let same : new ≡ d = some_same new d (sym (here own.0 own.1) ∙ ap (cores b.slots) (sym t) ∙ e) in
+      let same : new ≡ d = same_Some new d (sym (here own.0 own.1) ∙ ap (cores b.slots) (sym t) ∙ e) in
       let num : d.call.number.0 ≡ own.0.call.number.0 = ap (λ (x : Core). x.call.number.0) (sym same) ∙ ap (λ m. m.0) (kept own.0.call) in
       rw num (below k own.0 own.1))
       (λ (t : j ≡ k → ⊥). below j d (sym (others j t) ∙ e))
@@ -310,7 +312,7 @@ module _ (a b : CallsState) (queues qs owns os : List Ends) (number stamp n k : 
       keys ∙ ap (λ o. remove a.keys (name_of o)) s.1 ∙ ap (λ (c : Core). remove a.keys c.name) s.2 ∙ ap (remove a.keys) (had.1 ∙ leaver.2)
 
   leave_none : get b.keys n ≡ None
-  leave_none = ap (λ m. get m n) leave_keys ∙ get-remove nat_cmp_total a.keys n n ∙ ap (λ t. cond t None (get a.keys n)) (same_key n n refl)
+  leave_none = ap (λ m. get m n) leave_keys ∙ get-remove nat_cmp_total a.keys n n ∙ ap (λ t. cond t None (get a.keys n)) (keys_of_same n n refl)
 
   leave_other : (r : ℕ) → (r ≡ n → ⊥) → get b.keys r ≡ get a.keys r
   leave_other r t = ap (λ m. get m r) leave_keys ∙ get-remove nat_cmp_total a.keys n r ∙ ap (λ u. cond u None (get a.keys r)) (other_key r n t)
@@ -378,7 +380,7 @@ module _ (a b : CallsState) (queues qs owns os : List Ends) (number stamp k : �
   comes_there j t = ap (λ (m : Slots). cores m j) slots ∙ new_there a.slots queues owns stamp number k call q.queued q.listed fresh last next within caller j t
 
   new_key : get b.keys call.number.0 ≡ Some k
-  new_key = ap (λ m. get m call.number.0) keys ∙ get-insert nat_cmp_total a.keys call.number.0 k call.number.0 ∙ ap (λ t. cond t (Some k) (get a.keys call.number.0)) (same_key call.number.0 call.number.0 refl)
+  new_key = ap (λ m. get m call.number.0) keys ∙ get-insert nat_cmp_total a.keys call.number.0 k call.number.0 ∙ ap (λ t. cond t (Some k) (get a.keys call.number.0)) (keys_of_same call.number.0 call.number.0 refl)
 
   old_keys : (r : ℕ) → (r ≡ call.number.0 → ⊥) → get b.keys r ≡ get a.keys r
   old_keys r t = ap (λ m. get m r) keys ∙ get-insert nat_cmp_total a.keys call.number.0 k r ∙ ap (λ u. cond u (Some k) (get a.keys r)) (other_key r call.number.0 t)
@@ -404,7 +406,7 @@ module _ (a b : CallsState) (queues qs owns os : List Ends) (number stamp k : �
       ⊎_elim
       (λ (t : j ≡ k).
       let new : Core = record { name = call.number.0; call = call } in
-      let same : new ≡ d = some_same new d (sym comes_here ∙ ap (cores b.slots) (sym t) ∙ e) in
+      let same : new ≡ d = same_Some new d (sym comes_here ∙ ap (cores b.slots) (sym t) ∙ e) in
       let num : d.call.number.0 ≡ number = ap (λ (x : Core). x.call.number.0) (sym same) ∙ next in
       let one = q.first in
       (omega arith, omega arith))
@@ -435,11 +437,11 @@ module _ (a b : CallsState) (queues qs owns os : List Ends) (number stamp k : �
 few_in : (es : List (ℕ × Call)) (low high : ℕ) → T (is_sorted nat_cmp es) → low ≤ high → ((k : ℕ) (d : Call) → find nat_cmp k es ≡ Some d → (low ≤ k) × (k < high)) → length es + low ≤ high
 few_in [] low high s h f = omega arith
 few_in (e ∷ es) low high s h f =
-    let here = f e.0 e.1 (rw (ties e.0) refl) in
+    let here = f e.0 e.1 (rw (tie e.0) refl) in
     one_more (length es) low e.0 high here.0
     (few_in es (e.0 + 1) high (second _ _ s) (upper e.0 high here.1) (λ k d g.
     let after : e.0 < k = greater e.0 es k d (first _ _ s) g in
-    let p = f k d (rw (not_tied k e.0 after) g) in
+    let p = f k d (rw (past_tie k e.0 after) g) in
     (upper e.0 k after, p.1)))
   where
     upper : (x y : ℕ) → x < y → x + 1 ≤ y

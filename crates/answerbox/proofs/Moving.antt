@@ -4,6 +4,8 @@ use Rattle.std.specs.Prelude.{option_and_then}
 use Rattle.std.specs.Cmp.{nat_cmp_total}
 use Rattle.std.specs.FinMap.{get, insert, get-insert, get-remove}
 use Rattle.std.proofs.lemmas.Bool.{cases_eq}
+use Rattle.std.proofs.lemmas.Option.{same_Some}
+use Rattle.ipc_ids.proofs.Common.{keys_of_same}
 use Rattle.call_slab.specs.declared.call.Call.{Call}
 use Rattle.call_slab.specs.declared.call.Place.{Place}
 use Rattle.call_slab.specs.declared.call.Place.TheVariants.{Incoming, Dispatched, Answers}
@@ -18,14 +20,14 @@ use Rattle.answerbox.specs.Calls.{task_of}
 use Rattle.answerbox.specs.Order.{Spot, Linked}
 use Rattle.answerbox.specs.Chain.{Slots, Core, core, cores, next_link, previous_link, next_in, previous_in, place_index, row_of, rank_of, spot_at, spots, first_of, last_of, Chained, unlinked_slots, unlinked_rows, appended_slots, appended_rows, IsBetween, IsBehind}
 use Rattle.answerbox.specs.Moving.{row_at, with_call, placed, out_slots, out_rows, moved_slots, moved_rows, new_slot, new_slots, left_slots, no_caller, forgotten_slots}
-use Rattle.answerbox.proofs.Order.{some_same, Without}
-use Rattle.answerbox.proofs.Chain.{same_key, other_key, get_here, get_there, live_cores, cores-unlinked, cores-appended, other-unlinked, other-appended, key_is, key_not, length-unlinked, within_ends}
+use Rattle.answerbox.proofs.Order.{Without}
+use Rattle.answerbox.proofs.Chain.{other_key, get_here, get_there, live_cores, cores-unlinked, cores-appended, other-unlinked, other-appended, key_is, key_not, length-unlinked, within_ends}
 use Rattle.answerbox.proofs.Passing.{live_spot, chain_kept, chain_passed, chain_left, chain_joined, between, behind}
 
 -- what a slot has, and what it is
 pub core_is : (o : Option Slot) (c : Core) → option_map core o ≡ Some c → (s : Slot) × (o ≡ Some s) × (core s ≡ c)
 core_is None c e = absurd (cc e)
-core_is (Some s) c e = (s, refl, some_same (core s) c e)
+core_is (Some s) c e = (s, refl, same_Some (core s) c e)
 
 pub live_is : (m : Slots) (k : ℕ) → IsSome (get m k) → (c : Core) × (cores m k ≡ Some c)
 live_is m k h = by (get m k) h
@@ -39,7 +41,7 @@ row_is ch m k c e = by (get m k) e
   where
     by : (o : Option Slot) → option_map core o ≡ Some c → row_of ch c.call ≡ option_and_then (row_of ch) (call_of o)
     by None e = absurd (cc e)
-    by (Some s) e = ap (λ (d : Core). row_of ch d.call) (sym (some_same (core s) c e))
+    by (Some s) e = ap (λ (d : Core). row_of ch d.call) (sym (same_Some (core s) c e))
 
 -- the spots without key k
 abbrev but : (ℕ → Option Spot) → ℕ → ℕ → Option Spot
@@ -161,7 +163,7 @@ module _ (m : Slots) (queues owns : List Ends) (stamp number k : ℕ) (c : Core)
   left_get q n = get-remove nat_cmp_total lone k q ∙ ap (λ b. cond b None (get lone q)) (other_key q k n)
 
   pub left_here : get (left_slots m k) k ≡ None
-  left_here = get-remove nat_cmp_total lone k k ∙ ap (λ b. cond b None (get lone k)) (same_key k k refl)
+  left_here = get-remove nat_cmp_total lone k k ∙ ap (λ b. cond b None (get lone k)) (keys_of_same k k refl)
 
   pub left_there : (q : ℕ) → (q ≡ k → ⊥) → cores (left_slots m k) q ≡ cores m q
   left_there q n = ap (option_map core) (left_get q n) ∙ lone_core q
@@ -227,7 +229,7 @@ module _ (m : Slots) (queues owns : List Ends) (stamp number k : ℕ) (c : Call)
   then_new = appended_slots Queue first_new queues (row_of Queue c) k
 
   new_at : get first_new k ≡ Some (new_slot c)
-  new_at = get-insert nat_cmp_total m k (new_slot c) k ∙ ap (λ b. cond b (Some (new_slot c)) (get m k)) (same_key k k refl)
+  new_at = get-insert nat_cmp_total m k (new_slot c) k ∙ ap (λ b. cond b (Some (new_slot c)) (get m k)) (keys_of_same k k refl)
 
   new_get : (q : ℕ) → (q ≡ k → ⊥) → get first_new q ≡ get m q
   new_get q n = get-insert nat_cmp_total m k (new_slot c) q ∙ ap (λ b. cond b (Some (new_slot c)) (get m q)) (other_key q k n)
@@ -305,7 +307,7 @@ small_task m es top k c l at few =
   where
     by : (o : Option Slot) → call_of o ≡ Some c → spot_at Queue (option_map core o) ≡ Some (record { group = place_index c.place; rank = c.stamp })
     by None e = absurd (cc e)
-    by (Some s) e = ap (λ (d : Call). Some (record { group = place_index d.place; rank = d.stamp })) (some_same s.call c e)
+    by (Some s) e = ap (λ (d : Call). Some (record { group = place_index d.place; rank = d.stamp })) (same_Some s.call c e)
 
 pub small_place : (p : Place) (n : ℕ) → place_index p < n → n < 2 ^ 63 → 3 * task_of p + 2 < 2 ^ 64
 small_place p n h f = let t = task_index p in omega arith
@@ -330,13 +332,13 @@ call_cores : (o p : Option Slot) → option_map core o ≡ option_map core p →
 call_cores None None e = refl
 call_cores None (Some p) e = absurd (cc e)
 call_cores (Some o) None e = absurd (cc e)
-call_cores (Some o) (Some p) e = ap (λ (d : Core). Some d.call) (some_same (core o) (core p) e)
+call_cores (Some o) (Some p) e = ap (λ (d : Core). Some d.call) (same_Some (core o) (core p) e)
 
 name_cores : (o p : Option Slot) → option_map core o ≡ option_map core p → name_of o ≡ name_of p
 name_cores None None e = refl
 name_cores None (Some p) e = absurd (cc e)
 name_cores (Some o) None e = absurd (cc e)
-name_cores (Some o) (Some p) e = ap (λ (d : Core). d.name) (some_same (core o) (core p) e)
+name_cores (Some o) (Some p) e = ap (λ (d : Core). d.name) (same_Some (core o) (core p) e)
 
 pub between_both : (m : Slots) (queues owns : List Ends) (stamp number k : ℕ) (row own : Option ℕ) (links : Links) (m1 : Slots) → Chained Queue m queues stamp → Chained Own m owns number → IsSome (get m k)
     → row ≡ row_at Queue m k → own ≡ row_at Own m k → links ≡ links_of (get m k) → m1 ≡ unlinked_slots Queue m row links → IsBetween Own m1 owns own links
@@ -359,4 +361,4 @@ call_is_core m k c x e f = by (get m k) e f
   where
     by : (o : Option Slot) → option_map core o ≡ Some c → call_of o ≡ Some x → x ≡ c.call
     by None e f = absurd (cc e)
-    by (Some s) e f = sym (some_same s.call x f) ∙ ap (λ (d : Core). d.call) (some_same (core s) c e)
+    by (Some s) e f = sym (same_Some s.call x f) ∙ ap (λ (d : Core). d.call) (same_Some (core s) c e)

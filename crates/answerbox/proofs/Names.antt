@@ -1,29 +1,27 @@
 -- The calls by number, through the keys.
 use Rattle.std.proofs.Common.{◌≡◌, ℕ, ◌<◌, true, false, cond, List, [], ◌∷◌, Option, None, Some, IsSome, option_map, refl, sym, ap, ◌∙◌, arith, ⊎_elim, T}
-use Rattle.std.specs.Ordering.{nat_cmp, eq_by_cmp, is_eq, is_lt}
+use Rattle.std.specs.Ordering.{nat_cmp, eq_by_cmp, is_eq}
 use Rattle.std.specs.Cmp.{nat_cmp_total}
 use Rattle.std.specs.Option.{option_map_or}
 use Rattle.std.specs.FinMap.{find, get, insert, remove, entries, entries_sorted, is_sorted, get-insert, get-remove, get-from_entries, get-entries, same_map, nat_cmp-IsAntisymmetric}
 use Rattle.std.specs.FinMap.Entries.{below_all}
 use Rattle.std.proofs.lemmas.Bool.{cases_eq}
-use Rattle.std.proofs.lemmas.Bool.Decides.{nat_tests}
+use Rattle.std.proofs.lemmas.Option.{same_Some}
+use Rattle.ipc_ids.proofs.Common.{keys_of_same}
 use Rattle.call_slab.specs.declared.call.Call.{Call}
 use Rattle.call_slab.specs.declared.slots.Slot.{Slot}
 use Rattle.call_slab.specs.Calls.{CallsState}
+use Rattle.call_slab.proofs.Live.{tie, past_tie}
 use Rattle.answerbox.specs.Chain.{Slots, Core, cores}
 use Rattle.answerbox.specs.Stored.{named, calls_in, Named}
-use Rattle.answerbox.proofs.Chain.{same_key, other_key}
-use Rattle.answerbox.proofs.Fronts.{first, second, key_same, ties, not_tied}
-use Rattle.answerbox.proofs.Order.{some_same}
+use Rattle.answerbox.proofs.Chain.{other_key}
+use Rattle.answerbox.proofs.Fronts.{first, second, key_same, lt_of}
 use Rattle.answerbox.proofs.Moving.{core_is}
 
 -- the call under the key, if any
 abbrev pub under : (ℕ → Option Core) → Option ℕ → Option Call
 under C None = None
 under C (Some k) = option_map (λ c. c.call) (C k)
-
-lt_of : (a b : ℕ) → T (is_lt (nat_cmp a b)) → a < b
-lt_of a b h = grind (arith, nat_tests)
 
 module _ {X : Type 0} where
   greater : (n : ℕ) (es : List (ℕ × X)) (k : ℕ) (d : X) → T (below_all nat_cmp n es) → find nat_cmp k es ≡ Some d → n < k
@@ -38,8 +36,8 @@ module _ {X : Type 0} where
 find-named : (es : List (ℕ × ℕ)) (m : Slots) (q : ℕ) → T (is_sorted nat_cmp es) → ((q k : ℕ) → find nat_cmp q es ≡ Some k → IsSome (get m k)) → find nat_cmp q (named es m) ≡ under (cores m) (find nat_cmp q es)
 find-named [] m q s h = refl
 find-named (e ∷ es) m q s h =
-    let rest = find-named es m q (second _ _ s) (λ r k f. h r k (rw (not_tied r e.0 (greater e.0 es r k (first _ _ s) f)) f)) in
-    by (get m e.1) refl (h e.0 e.1 (rw (ties e.0) refl)) rest
+    let rest = find-named es m q (second _ _ s) (λ r k f. h r k (rw (past_tie r e.0 (greater e.0 es r k (first _ _ s) f)) f)) in
+    by (get m e.1) refl (h e.0 e.1 (rw (tie e.0) refl)) rest
   where
     by : (o : Option Slot) → get m e.1 ≡ o → IsSome o → find nat_cmp q (named es m) ≡ under (cores m) (find nat_cmp q es) → find nat_cmp q (option_map_or (λ s. (e.0, s.call) ∷ named es m) o (named es m)) ≡ under (cores m) (cond (is_eq (nat_cmp q e.0)) (Some e.1) (find nat_cmp q es))
     by None g live rest = absurd (cc live)
@@ -71,7 +69,7 @@ module _ (C D : ℕ → Option Core) (K M : ℕ → Option ℕ) (n k : ℕ)
       record {
         names = λ q j f. ⊎_elim
             (λ (t : q ≡ n).
-            let same : k ≡ j = some_same k j (sym mk ∙ ap M (sym t) ∙ f) in
+            let same : k ≡ j = same_Some k j (sym mk ∙ ap M (sym t) ∙ f) in
             (c, ap D (sym same) ∙ dk, num ∙ sym t))
             (λ (t : q ≡ n → ⊥).
             let g : K q ≡ Some j = sym (keys q t) ∙ f in
@@ -80,7 +78,7 @@ module _ (C D : ℕ → Option Core) (K M : ℕ → Option ℕ) (n k : ℕ)
             (cases_eq q n);
         known = λ j d f. ⊎_elim
             (λ (t : j ≡ k).
-            let same : c ≡ d = some_same c d (sym dk ∙ ap D (sym t) ∙ f) in
+            let same : c ≡ d = same_Some c d (sym dk ∙ ap D (sym t) ∙ f) in
             rw (← same, t) (ap M num ∙ mk, name ∙ sym num))
             (λ (t : j ≡ k → ⊥).
             let g : C j ≡ Some d = sym (slots j t) ∙ f in
@@ -100,7 +98,7 @@ module _ (C D : ℕ → Option Core) (K M : ℕ → Option ℕ) (n k : ℕ)
             let p = a.names q j g in (
               p.0,
               slots j (λ u.
-                  let same : p.0 ≡ own.0 = some_same p.0 own.0 (sym p.1 ∙ ap C u ∙ own.1) in
+                  let same : p.0 ≡ own.0 = same_Some p.0 own.0 (sym p.1 ∙ ap C u ∙ own.1) in
                   t (sym p.2 ∙ ap (λ (x : Core). x.call.number.0) same ∙ own.2)) ∙ p.1,
               p.2,
             );
@@ -108,7 +106,7 @@ module _ (C D : ℕ → Option Core) (K M : ℕ → Option ℕ) (n k : ℕ)
             let t : j ≡ k → ⊥ = λ u. absurd (cc (ap D u ∙ dk, f)) in
             let g : C j ≡ Some d = sym (slots j t) ∙ f in
             let p = a.known j d g in
-            let r : d.call.number.0 ≡ n → ⊥ = λ u. t (some_same j k (sym p.0 ∙ ap K u ∙ kn)) in
+            let r : d.call.number.0 ≡ n → ⊥ = λ u. t (same_Some j k (sym p.0 ∙ ap K u ∙ kn)) in
             (keys d.call.number.0 r ∙ p.0, p.1);
       }
 
@@ -123,7 +121,7 @@ pub calls_put : (a b : CallsState) (n k : ℕ) (c : Core) → Named (cores a.slo
 calls_put a b n k c ha hb keys slots bn bk one =
     same_map nat_cmp_total nat_cmp-IsAntisymmetric _ _ (λ q.
     look b q hb ∙ ⊎_elim
-    (λ (t : q ≡ n). rw (t, bn, bk, same_key n n refl) refl)
+    (λ (t : q ≡ n). rw (t, bn, bk, keys_of_same n n refl) refl)
     (λ (t : q ≡ n → ⊥). rw (other_key q n t, keys q t) (under_other (cores a.slots) (cores b.slots) (get a.keys) (get b.keys) n k keys slots (get a.keys q) (λ u. t (one q u))))
     (cases_eq q n)
     ∙ sym (get-insert nat_cmp_total (calls_in a) n c.call q ∙ ap (cond (eq_by_cmp nat_cmp q n) (Some c.call)) (look a q ha)))
@@ -135,7 +133,7 @@ pub calls_out : (a b : CallsState) (n k : ℕ) → Named (cores a.slots) (get a.
 calls_out a b n k ha hb keys slots bn one =
     same_map nat_cmp_total nat_cmp-IsAntisymmetric _ _ (λ q.
     look b q hb ∙ ⊎_elim
-    (λ (t : q ≡ n). rw (t, bn, same_key n n refl) refl)
+    (λ (t : q ≡ n). rw (t, bn, keys_of_same n n refl) refl)
     (λ (t : q ≡ n → ⊥). rw (other_key q n t, keys q t) (under_other (cores a.slots) (cores b.slots) (get a.keys) (get b.keys) n k keys slots (get a.keys q) (λ u. t (one q u))))
     (cases_eq q n)
     ∙ sym (get-remove nat_cmp_total (calls_in a) n q ∙ ap (cond (eq_by_cmp nat_cmp q n) None) (look a q ha)))
@@ -145,5 +143,5 @@ pub one_number : (a : CallsState) (n k q : ℕ) → Named (cores a.slots) (get a
 one_number a n k q h e f =
     let x = h.names n k e in
     let y = h.names q k f in
-    let same : y.0 ≡ x.0 = some_same y.0 x.0 (sym y.1 ∙ x.1) in
+    let same : y.0 ≡ x.0 = same_Some y.0 x.0 (sym y.1 ∙ x.1) in
     sym y.2 ∙ ap (λ (c : Core). c.call.number.0) same ∙ x.2

@@ -1,11 +1,9 @@
 -- How the neighbours change where a key goes, or comes last.
 use Rattle.std.proofs.Common.{◌≡◌, ℕ, ◌+◌, ◌<◌, ◌≤◌, ◌⊎◌, Bool, true, false, cond, ◌==◌, Option, None, Some, refl, sym, ap, ◌∙◌, arith, ⊎_elim, inl, inr}
-use Rattle.std.proofs.lemmas.Bool.{cases_eq, cases_lt}
+use Rattle.std.proofs.lemmas.Bool.{cases_eq, cases_lt, eqb-true}
 use Rattle.std.proofs.lemmas.Bool.Decides.{nat_tests}
+use Rattle.std.proofs.lemmas.Option.{same_Some}
 use Rattle.answerbox.specs.Order.{Spot, Least, Greatest, IsLeast, IsGreatest, Apart, Linked}
-
-pub some_same : {A : Type 0} (x y : A) → Some x ≡ Some y → x ≡ y
-some_same x y e = cc
 
 -- the ranks without key k
 pub record Without (R S : ℕ → Option Spot) (k : ℕ) : Type 0 where
@@ -33,7 +31,7 @@ module _ (R S : ℕ → Option Spot) (k : ℕ) (w : Without R S k) where
   least_skips apart g low m (Some a) l =
       record {
         spot = l.spot;
-        is = w.kept a l.spot l.is (λ e. let same : l.spot ≡ m.spot = some_same l.spot m.spot (sym l.is ∙ ap R e ∙ m.is) in let r : l.spot.rank ≡ m.spot.rank = ap (λ (x : Spot). x.rank) same in let f = l.from in absurd (omega arith));
+        is = w.kept a l.spot l.is (λ e. let same : l.spot ≡ m.spot = same_Some l.spot m.spot (sym l.is ∙ ap R e ∙ m.is) in let r : l.spot.rank ≡ m.spot.rank = ap (λ (x : Spot). x.rank) same in let f = l.from in absurd (omega arith));
         here = l.here;
         from = let f = l.from in let f2 = m.from in omega arith;
         least = λ j y e s h.
@@ -53,7 +51,7 @@ module _ (R S : ℕ → Option Spot) (k : ℕ) (w : Without R S k) where
   greatest_skips apart g high m (Some a) l =
       record {
         spot = l.spot;
-        is = w.kept a l.spot l.is (λ e. let same : l.spot ≡ m.spot = some_same l.spot m.spot (sym l.is ∙ ap R e ∙ m.is) in let r : l.spot.rank ≡ m.spot.rank = ap (λ (x : Spot). x.rank) same in let f = l.below in absurd (omega arith));
+        is = w.kept a l.spot l.is (λ e. let same : l.spot ≡ m.spot = same_Some l.spot m.spot (sym l.is ∙ ap R e ∙ m.is) in let r : l.spot.rank ≡ m.spot.rank = ap (λ (x : Spot). x.rank) same in let f = l.below in absurd (omega arith));
         here = l.here;
         below = let f = l.below in let f2 = m.below in omega arith;
         greatest = λ j y e s h.
@@ -74,7 +72,7 @@ is_key_true (Some k) q e = let s : k ≡ q = grind (arith, nat_tests) in ap Some
 
 pub is_key_false : (o : Option ℕ) (q : ℕ) → is_key o q ≡ false → o ≡ Some q → ⊥
 is_key_false None q e f = cc
-is_key_false (Some k) q e f = let s : k ≡ q = some_same k q f in grind (arith, nat_tests)
+is_key_false (Some k) q e f = let s : k ≡ q = same_Some k q f in grind (arith, nat_tests)
 
 module _ (R S : ℕ → Option Spot) (k : ℕ) (w : Without R S k) (apart : Apart R) (x : Spot) (at : R k ≡ Some x) where
   -- whatever pointed to k points past it
@@ -83,7 +81,7 @@ module _ (R S : ℕ → Option Spot) (k : ℕ) (w : Without R S k) (apart : Apar
       elim (is_key o k) as (λ b. is_key o k ≡ b → IsLeast S g low (cond b next o)) [
         | true ↦ λ e.
             let m : Least R g low k = rw (is_key_true o k e) at l in
-            let same : x ≡ m.spot = some_same x m.spot (sym at ∙ m.is) in
+            let same : x ≡ m.spot = same_Some x m.spot (sym at ∙ m.is) in
             let n2 : IsLeast R g (m.spot.rank + 1) next = rw (same, m.here) at n in
             least_skips R S k w apart g low m next n2
         | false ↦ λ e. least_kept R S k w g low o l (is_key_false o k e)
@@ -94,7 +92,7 @@ module _ (R S : ℕ → Option Spot) (k : ℕ) (w : Without R S k) (apart : Apar
       elim (is_key o k) as (λ b. is_key o k ≡ b → IsGreatest S g high (cond b next o)) [
         | true ↦ λ e.
             let m : Greatest R g high k = rw (is_key_true o k e) at l in
-            let same : x ≡ m.spot = some_same x m.spot (sym at ∙ m.is) in
+            let same : x ≡ m.spot = same_Some x m.spot (sym at ∙ m.is) in
             let n2 : IsGreatest R g m.spot.rank next = rw (same, m.here) at n in
             greatest_skips R S k w apart g high m next n2
         | false ↦ λ e. greatest_kept R S k w g high o l (is_key_false o k e)
@@ -130,7 +128,7 @@ or_key (Some a) k = Some a
 module _ (R S : ℕ → Option Spot) (k : ℕ) (x : Spot) (w : With R S k x) (bound : (q : ℕ) (y : Spot) → R q ≡ Some y → y.rank < x.rank) where
   -- a key with its spot is k, or an old one
   spot_of : (q : ℕ) (y : Spot) → S q ≡ Some y → (x ≡ y) ⊎ (R q ≡ Some y)
-  spot_of q y e = ⊎_elim (λ (s : q ≡ k). inl (some_same x y (sym w.new ∙ ap S (sym s) ∙ e))) (λ (n : q ≡ k → ⊥). inr (w.old q y e n)) (cases_eq q k)
+  spot_of q y e = ⊎_elim (λ (s : q ≡ k). inl (same_Some x y (sym w.new ∙ ap S (sym s) ∙ e))) (λ (n : q ≡ k → ⊥). inr (w.old q y e n)) (cases_eq q k)
 
   least_joined : (low : ℕ) (o : Option ℕ) → low ≤ x.rank → IsLeast R x.group low o → IsLeast S x.group low (or_key o k)
   least_joined low None h l =
@@ -193,9 +191,6 @@ module _ (R S : ℕ → Option Spot) (k : ℕ) (x : Spot) (w : With R S k x) (bo
         greatest = λ j y e s t. ⊎_elim (λ (same : x ≡ y). absurd (n (sym s ∙ sym (ap (λ (z : Spot). z.group) same)))) (λ (f : R j ≡ Some y). l.greatest j y f s (b j y f)) (spot_of j y e);
       }
 
-pub group_same : (g h : ℕ) → (g == h) ≡ true → g ≡ h
-group_same g h t = grind (arith, nat_tests)
-
 pub group_other : (g h : ℕ) → (g == h) ≡ false → g ≡ h → ⊥
 group_other g h t e = grind (arith, nat_tests)
 
@@ -207,7 +202,7 @@ raised R g top high (Some a) b h l = record { spot = l.spot; is = l.is; here = l
 pointed_first : (R S : ℕ → Option Spot) (k : ℕ) (x : Spot) → With R S k x → ((q : ℕ) (y : Spot) → R q ≡ Some y → y.rank < x.rank) → (g low : ℕ) (o : Option ℕ) → low ≤ x.rank → IsLeast R g low o → IsLeast S g low (cond (g == x.group) (or_key o k) o)
 pointed_first R S k x w bound g low o h l =
     elim (g == x.group) as (λ b. (g == x.group) ≡ b → IsLeast S g low (cond b (or_key o k) o)) [
-      | true ↦ λ t. let e = group_same g x.group t in rw e (least_joined R S k x w bound low o h (rw e at l))
+      | true ↦ λ t. let e = eqb-true g x.group t in rw e (least_joined R S k x w bound low o h (rw e at l))
       | false ↦ λ t. least_other R S k x w bound g low o (group_other g x.group t) l
     ] refl
 
@@ -222,7 +217,7 @@ joined R S k x A B H L A' B' H' L' top l w h ka kb pa pb ph pl =
     record {
       afters = λ q y e. ⊎_elim
           (λ (s : q ≡ k).
-          let same : x ≡ y = some_same x y (sym w.new ∙ ap S (sym s) ∙ e) in
+          let same : x ≡ y = same_Some x y (sym w.new ∙ ap S (sym s) ∙ e) in
           let r : x.rank ≡ y.rank = ap (λ (z : Spot). z.rank) same in
           let none : A' q ≡ None = ap A' s ∙ ka in
           rw none (λ j z f g. ⊎_elim (λ (t : x ≡ z). let u : x.rank ≡ z.rank = ap (λ (v : Spot). v.rank) t in omega arith) (λ (t : R j ≡ Some z). let u = bound j z t in omega arith) (spot_of R S k x w bound j z f)))
@@ -233,7 +228,7 @@ joined R S k x A B H L A' B' H' L' top l w h ka kb pa pb ph pl =
           (cases_eq q k);
       befores = λ q y e. ⊎_elim
           (λ (s : q ≡ k).
-          let same : x ≡ y = some_same x y (sym w.new ∙ ap S (sym s) ∙ e) in
+          let same : x ≡ y = same_Some x y (sym w.new ∙ ap S (sym s) ∙ e) in
           let is : B' q ≡ L x.group = ap B' s ∙ kb in
           rw (is, ← same) (greatest_old R S k x w bound x.group x.rank (L x.group) (omega arith) (raised R x.group top x.rank (L x.group) l.bound h (l.lasts x.group))))
           (λ (n : q ≡ k → ⊥).
@@ -244,19 +239,19 @@ joined R S k x A B H L A' B' H' L' top l w h ka kb pa pb ph pl =
       firsts = λ g. rw (ph g) (pointed_first R S k x w bound g 0 (H g) (omega arith) (l.firsts g));
       lasts = λ g. rw (pl g)
           (elim (g == x.group) as (λ b. (g == x.group) ≡ b → IsGreatest S g (x.rank + 1) (cond b (Some k) (L g))) [
-            | true ↦ λ t. rw (group_same g x.group t) (greatest_new R S k x w bound (x.rank + 1) (omega arith))
+            | true ↦ λ t. rw (eqb-true g x.group t) (greatest_new R S k x w bound (x.rank + 1) (omega arith))
             | false ↦ λ t. greatest_other R S k x w bound g top (x.rank + 1) (L g) (group_other g x.group t) l.bound (omega arith) (l.lasts g)
           ] refl);
       bound = λ q y e. ⊎_elim (λ (t : x ≡ y). let u : x.rank ≡ y.rank = ap (λ (v : Spot). v.rank) t in omega arith) (λ (t : R q ≡ Some y). let u = bound q y t in omega arith) (spot_of R S k x w bound q y e);
       apart = λ i j y z e f s r. ⊎_elim
           (λ (a : i ≡ k). ⊎_elim (λ (b : j ≡ k). a ∙ sym b)
           (λ (b : j ≡ k → ⊥).
-          let same : x ≡ y = some_same x y (sym w.new ∙ ap S (sym a) ∙ e) in
+          let same : x ≡ y = same_Some x y (sym w.new ∙ ap S (sym a) ∙ e) in
           let u : x.rank ≡ y.rank = ap (λ (v : Spot). v.rank) same in
           let v = bound j z (w.old j z f b) in absurd (omega arith)) (cases_eq j k))
           (λ (a : i ≡ k → ⊥). ⊎_elim
           (λ (b : j ≡ k).
-          let same : x ≡ z = some_same x z (sym w.new ∙ ap S (sym b) ∙ f) in
+          let same : x ≡ z = same_Some x z (sym w.new ∙ ap S (sym b) ∙ f) in
           let u : x.rank ≡ z.rank = ap (λ (v : Spot). v.rank) same in
           let v = bound i y (w.old i y e a) in absurd (omega arith))
           (λ (b : j ≡ k → ⊥). l.apart i j y z (w.old i y e a) (w.old j z f b) s r) (cases_eq j k))
@@ -266,7 +261,7 @@ joined R S k x A B H L A' B' H' L' top l w h ka kb pa pb ph pl =
 -- neighbours point to each other
 module _ (R : ℕ → Option Spot) (A B H L : ℕ → Option ℕ) (top : ℕ) (l : Linked R A B H L top) where
   spots_same : (k : ℕ) (x y : Spot) → R k ≡ Some x → R k ≡ Some y → x ≡ y
-  spots_same k x y e f = some_same x y (sym e ∙ f)
+  spots_same k x y e f = same_Some x y (sym e ∙ f)
 
   one_greatest : (g high k : ℕ) (o : Option ℕ) → Greatest R g high k → IsGreatest R g high o → o ≡ Some k
   one_greatest g high k None m n = let b = m.below in let c : high ≤ m.spot.rank = n k m.spot m.is m.here in absurd (omega arith)

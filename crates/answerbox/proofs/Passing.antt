@@ -1,7 +1,8 @@
 -- A list stays linked where a call is passed over, and where one comes last.
 use Rattle.std.proofs.Common.{◌≡◌, ℕ, ◌+◌, ◌<◌, ◌≤◌, true, false, cond, ◌==◌, List, length, Option, None, Some, IsSome, IfSome, option_map, refl, sym, ap, ◌∙◌, arith, ⊎_elim}
 use Rattle.std.specs.FinMap.{get}
-use Rattle.std.proofs.lemmas.Bool.{cases_eq}
+use Rattle.std.proofs.lemmas.Bool.{cases_eq, eqb-true}
+use Rattle.std.proofs.lemmas.Option.{same_Some}
 use Rattle.call_slab.specs.declared.slots.Slot.{Slot}
 use Rattle.call_slab.specs.declared.links.Links.{Links}
 use Rattle.call_slab.specs.Calls.{links_of}
@@ -9,7 +10,7 @@ use Rattle.answerbox.specs.declared.chains.Ends.{Ends}
 use Rattle.answerbox.specs.declared.chains.Chain.{Chain}
 use Rattle.answerbox.specs.Order.{Spot, Greatest, IsLeast, IsGreatest, Linked}
 use Rattle.answerbox.specs.Chain.{Slots, Core, core, cores, next_link, previous_link, with_next, with_previous, next_in, previous_in, row_of, rank_of, spot_at, spots, first_of, last_of, next_put, passed_slots, passed_ends, joined_slots, joined_ends, at_row, Chained, unlinked_slots, unlinked_rows, appended_slots, appended_rows, IsBetween, IsBehind}
-use Rattle.answerbox.proofs.Order.{some_same, raised, Without, is_key, is_key_true, is_key_false, or_key, unlinked, joined, group_same, group_other, before_after, after_before, first_before, before_first, last_after, after_last}
+use Rattle.answerbox.proofs.Order.{raised, Without, is_key, is_key_true, is_key_false, or_key, unlinked, joined, group_other, before_after, after_before, first_before, before_first, last_after, after_last}
 use Rattle.answerbox.proofs.Chain.{live_cores, cores-next_put, cores-joined, next-with_next, previous-with_next, previous-with_previous, next-previous_put, previous-next_put, next-next_put, previous-previous_put, first-passed, last-passed, first-joined, last-joined, or_none, same_test, within_ends, link_here, link_there, key_is}
 
 pub live_spot : (ch : Chain) (m : Slots) (q : ℕ) (y : Spot) → spots ch m q ≡ Some y → IsSome (get m q)
@@ -23,7 +24,7 @@ live_spot ch m q y e = by (get m q) e
 end_test : (f b : Option ℕ) (g i k : ℕ) (o : Option ℕ) → ((f ≡ Some k) → (b ≡ None) × (g ≡ i)) → (b ≡ None → g ≡ i → f ≡ Some k) → cond (or_none b) (cond (g == i) o f) f ≡ cond (is_key f k) o f
 end_test f None g i k o to from =
     elim (g == i) as (λ t. (g == i) ≡ t → cond t o f ≡ cond (is_key f k) o f) [
-      | true ↦ λ t. let e : f ≡ Some k = from refl (group_same g i t) in rw (e, key_is k k refl) refl
+      | true ↦ λ t. let e : f ≡ Some k = from refl (eqb-true g i t) in rw (e, key_is k k refl) refl
       | false ↦ λ t. elim (is_key f k) as (λ u. is_key f k ≡ u → f ≡ cond u o f) [
         | true ↦ λ u. absurd (group_other g i t (to (is_key_true f k u)).1)
         | false ↦ λ u. refl
@@ -65,7 +66,7 @@ pass ch m es top k links x S l an bn at w =
     first-passed ch links es i g within
     ∙ end_test (first_of es g) b g i k a
     (λ h. let z = first_before R (next_in ch m) (previous_in ch m) (first_of es) (last_of es) top l g k h in
-    let same : z.0 ≡ x = some_same z.0 x (sym z.1 ∙ at) in
+    let same : z.0 ≡ x = same_Some z.0 x (sym z.1 ∙ at) in
     (sym bn ∙ z.3, sym z.2 ∙ ap (λ (x : Spot). x.group) same))
     (λ h t. rw t (before_first R (next_in ch m) (previous_in ch m) (first_of es) (last_of es) top l k x at (bn ∙ h)))
     ∙ ap (λ o. cond (is_key (first_of es g) k) o (first_of es g)) (sym an))
@@ -73,7 +74,7 @@ pass ch m es top k links x S l an bn at w =
     last-passed ch links es i g within
     ∙ end_test (last_of es g) a g i k b
     (λ h. let z = last_after R (next_in ch m) (previous_in ch m) (first_of es) (last_of es) top l g k h in
-    let same : z.0 ≡ x = some_same z.0 x (sym z.1 ∙ at) in
+    let same : z.0 ≡ x = same_Some z.0 x (sym z.1 ∙ at) in
     (sym an ∙ z.3, sym z.2 ∙ ap (λ (x : Spot). x.group) same))
     (λ h t. rw t (after_last R (next_in ch m) (previous_in ch m) (first_of es) (last_of es) top l k x at (an ∙ h)))
     ∙ ap (λ o. cond (is_key (last_of es g) k) o (last_of es g)) (sym bn))
@@ -140,12 +141,12 @@ join ch R A B es m top k x l at h within others back =
         elim (is_key (last_of es i) q) as (λ t. is_key (last_of es i) q ≡ t → cond t (Some k) (A q) ≡ cond (y.group == i) (or_key (A q) k) (A q)) [
           | true ↦ λ t.
               let z = last_after R A B (first_of es) (last_of es) top l i q (is_key_true (last_of es i) q t) in
-              let same : z.0 ≡ y = some_same z.0 y (sym z.1 ∙ f) in
+              let same : z.0 ≡ y = same_Some z.0 y (sym z.1 ∙ f) in
               let g : y.group ≡ i = ap (λ (x : Spot). x.group) (sym same) ∙ z.2 in
               rw (g, z.3, key_is i i refl) refl
           | false ↦ λ t.
               elim (y.group == i) as (λ u. (y.group == i) ≡ u → A q ≡ cond u (or_key (A q) k) (A q)) [
-                | true ↦ λ u. sym (keeps_some (A q) k (λ n. is_key_false (last_of es i) q t (rw (group_same y.group i u) at (after_last R A B (first_of es) (last_of es) top l q y f n))))
+                | true ↦ λ u. sym (keeps_some (A q) k (λ n. is_key_false (last_of es i) q t (rw (eqb-true y.group i u) at (after_last R A B (first_of es) (last_of es) top l q y f n))))
                 | false ↦ λ u. refl
               ] refl
         ] refl
@@ -154,7 +155,7 @@ join ch R A B es m top k x l at h within others back =
     firsts g =
         let i = x.group in
         elim (g == i) as (λ u. (g == i) ≡ u → cond (or_none (last_of es i)) (cond u (Some k) (first_of es g)) (first_of es g) ≡ cond u (or_key (first_of es g) k) (first_of es g)) [
-          | true ↦ λ u. rw (group_same g i u) (by (last_of es i) refl)
+          | true ↦ λ u. rw (eqb-true g i u) (by (last_of es i) refl)
           | false ↦ λ u. elim (or_none (last_of es i)) as (λ v. cond v (first_of es g) (first_of es g) ≡ first_of es g) [ true ↦ refl | false ↦ refl ]
         ] refl
       where

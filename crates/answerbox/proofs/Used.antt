@@ -2,12 +2,13 @@
 use Rattle.std.proofs.Common.{◌≡◌, ℕ, ◌≤◌, ◌<◌, ◌^◌, length, ◌+◌, Bool, true, false, cond, List, [], ◌∷◌, Option, None, Some, refl, ap, sym, ◌∙◌, arith}
 use Rattle.std.specs.Prelude.{option_map}
 use Rattle.std.specs.Ordering.{nat_cmp, eq_by_cmp, is_eq}
-use Rattle.std.proofs.lemmas.Bool.Decides.{nat_tests}
 use Rattle.std.specs.Cmp.{nat_cmp_total}
 use Rattle.std.specs.declared.cmp.Ordering.{Ordering}
 use Rattle.std.specs.declared.cmp.Ordering.TheVariants.{Less, Equal, Greater}
 use Rattle.std.specs.FinMap.{FinMap, find, put, get, insert, remove, entries, len, len-entries, get-entries, get-insert, get-remove, entries-insert, same_map, nat_cmp-IsAntisymmetric}
 use Rattle.std.specs.FinMap.Entries.{by_order}
+use Rattle.std.proofs.lemmas.Option.{same_Some}
+use Rattle.ipc_ids.proofs.Common.{own_key, same_by_keys}
 use Rattle.call_slab.specs.declared.call.Call.{Call}
 use Rattle.call_slab.specs.declared.call.Place.{Place}
 use Rattle.answerbox.specs.Calls.{CallTable, call_at, enqueue, without_call, with_record, with_change, put_at, sum_of, bytes_in, used}
@@ -19,18 +20,13 @@ use Rattle.call_slab.specs.Calls.{CallsState}
 use Rattle.answerbox.specs.Chain.{Core, cores}
 use Rattle.answerbox.specs.Stored.{calls_in, Named}
 use Rattle.answerbox.proofs.Names.{look, under}
-use Rattle.answerbox.proofs.Order.{some_same}
 use Rattle.answerbox.proofs.Keeping.{table_of}
-use Rattle.answerbox.proofs.Counts.{ties, insert-remove, remove-insert}
+use Rattle.answerbox.proofs.Counts.{insert-remove, remove-insert, apart}
 
 placed : (o : Ordering) (n : ℕ) (c : Call) (w : Call → ℕ) (e : ℕ × Call) (es rest : List (ℕ × Call)) → is_eq o ≡ false → sum_of w rest ≡ w c + sum_of w es → sum_of w (by_order o ((n, c) ∷ e ∷ es) ((e.0, c) ∷ es) (e ∷ rest)) ≡ w c + sum_of w (e ∷ es)
 placed Less n c w e es rest apart h = refl
 placed Equal n c w e es rest apart h = absurd (cc apart)
 placed Greater n c w e es rest apart h = omega arith
-
-apart : (b : Bool) (x y : Option Call) (v : Call) → x ≡ Some v → cond b x y ≡ None → (b ≡ false) × (y ≡ None)
-apart true x y v is h = absurd (cc h)
-apart false x y v is h = (refl, h)
 
 sum-put : (w : Call → ℕ) (n : ℕ) (c : Call) (es : List (ℕ × Call)) → find nat_cmp n es ≡ None → sum_of w (put nat_cmp n c es) ≡ w c + sum_of w es
 sum-put w n c [] h = refl
@@ -42,12 +38,12 @@ sum-insert : (w : Call → ℕ) (m : FinMap nat_cmp Call) (n : ℕ) (c : Call) �
 sum-insert w m n c h = rw (entries-insert nat_cmp_total m n c) (sum-put w n c (entries m) (sym (get-entries m n) ∙ h))
 
 sum-remove : (w : Call → ℕ) (m : FinMap nat_cmp Call) (n : ℕ) (c : Call) → get m n ≡ Some c → sum_of w (entries m) ≡ w c + sum_of w (entries (remove m n))
-sum-remove w m n c is = ap (λ (x : FinMap nat_cmp Call). sum_of w (entries x)) (insert-remove m n c is) ∙ sum-insert w (remove m n) n c (get-remove nat_cmp_total m n n ∙ rw (ties n))
+sum-remove w m n c is = ap (λ (x : FinMap nat_cmp Call). sum_of w (entries x)) (insert-remove m n c is) ∙ sum-insert w (remove m n) n c (get-remove nat_cmp_total m n n ∙ rw (own_key n))
 
 sum-replace : (w : Call → ℕ) (m : FinMap nat_cmp Call) (n : ℕ) (c d : Call) → get m n ≡ Some c → w c + sum_of w (entries (insert m n d)) ≡ w d + sum_of w (entries m)
 sum-replace w m n c d is =
     let out = sum-remove w m n c is in
-    let back = sum-remove w (insert m n d) n d (get-insert nat_cmp_total m n d n ∙ rw (ties n)) in
+    let back = sum-remove w (insert m n d) n d (get-insert nat_cmp_total m n d n ∙ rw (own_key n)) in
     let same = ap (λ (x : FinMap nat_cmp Call). sum_of w (entries x)) (remove-insert m n d) in
     omega arith
 
@@ -106,7 +102,7 @@ used-changed_same q n f named number bytes = by_call (call_at q n) refl where
 pub are_named : (a : CallsState) (number stamp : ℕ) → Named (cores a.slots) (get a.keys) → AreNamed (table_of a number stamp)
 are_named a number stamp nm n c is = by_key (get a.keys n) refl (sym (look a n nm) ∙ is) where
   by_core : (k : ℕ) (d : Core) → cores a.slots k ≡ Some d → d.call.number.0 ≡ n → option_map (λ e. e.call) (cores a.slots k) ≡ Some c → c.number.0 ≡ n
-  by_core k d at same there = let is : d.call ≡ c = some_same d.call c (ap (option_map (λ e. e.call)) (sym at) ∙ there) in ap (λ (x : Call). x.number.0) (sym is) ∙ same
+  by_core k d at same there = let is : d.call ≡ c = same_Some d.call c (ap (option_map (λ e. e.call)) (sym at) ∙ there) in ap (λ (x : Call). x.number.0) (sym is) ∙ same
 
   by_key : (o : Option ℕ) → get a.keys n ≡ o → under (cores a.slots) o ≡ Some c → c.number.0 ≡ n
   by_key None at there = absurd (cc there)
@@ -134,13 +130,10 @@ carried q n c all is same = let sum = used-without_call q n c is in omega (arith
 pub same_calls : (a b : CallsState) → b.slots ≡ a.slots → b.keys ≡ a.keys → calls_in b ≡ calls_in a
 same_calls a b slots keys = rw (slots, keys) refl
 
-same_number : (q n : ℕ) → eq_by_cmp nat_cmp q n ≡ true → q ≡ n
-same_number q n h = grind (arith, nat_tests)
-
 unchanged_map : (m : FinMap nat_cmp Call) (n : ℕ) → get m n ≡ None → remove m n ≡ m
 unchanged_map m n none = same_map nat_cmp_total nat_cmp-IsAntisymmetric _ _ (λ q. get-remove nat_cmp_total m n q ∙ by (eq_by_cmp nat_cmp q n) q refl) where
   by : (b : Bool) (q : ℕ) → eq_by_cmp nat_cmp q n ≡ b → cond b None (get m q) ≡ get m q
-  by true q t = sym (ap (get m) (same_number q n t) ∙ none)
+  by true q t = sym (ap (get m) (same_by_keys q n t) ∙ none)
   by false q t = refl
 
 -- a call that is over, where there is one, leaves no more

@@ -14,72 +14,23 @@ use Rattle.async_sessions.specs.declared.sessions.Exchange.{Exchange}
 use Rattle.async_sessions.specs.declared.sessions.Held.{Held}
 use Rattle.async_sessions.specs.declared.sessions.Held.TheVariants.{By, Idle}
 use Rattle.async_sessions.specs.declared.sessions.Close.TheVariants as close
-use Rattle.async_sessions.specs.Sessions.{Open, session_at, session_in, mode_answer, make_after}
-use Rattle.async_sessions.specs.Sessions.{close_after, exchange_at, held_by, held_in, same_held}
+use Rattle.async_sessions.specs.Sessions.{Open, session_at, session_in, mode_answer, make_after, exchange_of}
+use Rattle.async_sessions.specs.Sessions.{close_after, held_by, held_in, same_held}
 use Rattle.async_sessions.specs.Sessions.{in_session, sooner, first_idle, any_begun, is_other}
 use Rattle.async_sessions.specs.Sessions.{changed, changed_one, added, dropped, ended, begun_after}
+use Rattle.async_sessions.proofs.Lookups.{of-push, changed-number, of-change, find_exchange, of-drop, of-number}
 use Rattle.ipc_ids.specs.Facts.{Terms, Fact, Head, Accepts, Answer, Sent, Gets, Ends, Begins}
 use Rattle.ipc_ids.specs.Facts.{EndsExchange, Drops, Other}
 use Rattle.ipc_ids.specs.Exchanges.{ConnectsTo, Stage, Unused, Begun, Ended, Dropped, stage, IsFree}
 use Rattle.ipc_ids.specs.Exchanges.{IsAllowedOfExchange}
-use Rattle.async_laws.specs.KeptExchanges.{exchange_of, AreApart, terms, IsBegun, Agrees}
+use Rattle.async_laws.specs.KeptExchanges.{AreApart, terms, IsBegun, Agrees}
 use Rattle.async_laws.specs.KeptExchanges.{KeptExchanges}
 
 -- look-ups
 
-pub find_exchange : (e : ExchangeNo) (xs : List Exchange) → exchange_at e xs ≡ exchange_of e.0 xs
-find_exchange e [] = refl
-find_exchange e (x ∷ xs) =
-    grind (arith, find_exchange e xs, eq-eqb, ne_eqb, cases_eq x.number.0 e.0)
-
 abbrev pub changed_at : ExchangeNo → Held → ℕ → Option Exchange → Option Exchange
 changed_at e held stamp None = None
 changed_at e held stamp (Some x) = Some (changed_one e held stamp x)
-
-of_push : (x : Exchange) (m : ℕ) (xs : List Exchange) → exchange_of x.number.0 xs ≡ None →
-    exchange_of m (xs ++ x ∷ []) ≡ if x.number.0 == m then Some x else exchange_of m xs
-of_push x m [] h = refl
-of_push x m (y ∷ ys) h =
-    grind (
-      arith,
-      of_push x m ys,
-      eq-eqb,
-      ne_eqb,
-      cases_eq x.number.0 m,
-      cases_eq y.number.0 m,
-      cases_eq y.number.0 x.number.0,
-    )
-
-of_drop : (e : ExchangeNo) (m : ℕ) (xs : List Exchange) →
-    exchange_of m (filter (is_other e) xs) ≡ if e.0 == m then None else exchange_of m xs
-of_drop e m [] = grind (arith, cases_eq e.0 m, eq-eqb, ne_eqb)
-of_drop e m (x ∷ xs) =
-    grind (
-      arith,
-      of_drop e m xs,
-      eq-eqb,
-      ne_eqb,
-      cases_eq e.0 m,
-      cases_eq x.number.0 m,
-      cases_eq x.number.0 e.0,
-    )
-
-changed_number : (e : ExchangeNo) (held : Held) (stamp : ℕ) (x : Exchange) →
-    (changed_one e held stamp x).number ≡ x.number
-changed_number e held stamp x = grind (arith, cases_eq x.number.0 e.0)
-
-of_change : (e : ExchangeNo) (held : Held) (stamp m : ℕ) (xs : List Exchange) →
-    exchange_of m (changed e held stamp xs) ≡ changed_at e held stamp (exchange_of m xs)
-of_change e held stamp m [] = refl
-of_change e held stamp m (x ∷ xs) =
-    grind (
-      arith,
-      of_change e held stamp m xs,
-      changed_number e held stamp x,
-      eq-eqb,
-      ne_eqb,
-      cases_eq x.number.0 m,
-    )
 
 apart_push : (x : Exchange) (xs : List Exchange) → exchange_of x.number.0 xs ≡ None → AreApart xs →
     AreApart (xs ++ x ∷ [])
@@ -88,7 +39,7 @@ apart_push x (y ∷ ys) h i =
     grind (
       arith,
       apart_push x ys,
-      of_push x y.number.0 ys,
+      of-push x y.number.0 ys,
       i.0,
       i.1,
       eq-eqb,
@@ -102,7 +53,7 @@ apart_drop e (x ∷ xs) i =
     grind (
       arith,
       apart_drop e xs i.1,
-      of_drop e x.number.0 xs,
+      of-drop e x.number.0 xs,
       i.0,
       eq-eqb,
       ne_eqb,
@@ -116,14 +67,10 @@ apart_change e held stamp (x ∷ xs) i =
     grind (
       arith,
       apart_change e held stamp xs i.1,
-      of_change e held stamp x.number.0 xs,
-      changed_number e held stamp x,
+      of-change e held stamp x.number.0 xs,
+      changed-number e held stamp x,
       i.0,
     )
-
-of_number : (m : ℕ) (xs : List Exchange) (x : Exchange) → exchange_of m xs ≡ Some x → x.number.0 ≡ m
-of_number m [] x h = absurd (cc h)
-of_number m (y ∷ ys) x h = grind (arith, of_number m ys x, eq-eqb, ne_eqb, cases_eq y.number.0 m)
 
 abbrev pub IsIn : Exchange → List Exchange → Type 0
 IsIn x [] = ⊥
@@ -275,17 +222,17 @@ end_dropped : (f : FibrilNo) (e : ExchangeNo) (x : Exchange) (p : List Fact) (o 
 end_dropped f e x p o kept held narrow = record {
   lawful = (kept.lawful, grind (arith, kept.agree e.0));
   apart = apart_drop e o.exchanges kept.apart;
-  agree = λ d. grind (arith, eq-eqb, ne_eqb, of_drop e d o.exchanges, cases_eq e.0 d, kept.agree d);
+  agree = λ d. grind (arith, eq-eqb, ne_eqb, of-drop e d o.exchanges, cases_eq e.0 d, kept.agree d);
   modes = λ d y h. grind
-      (arith, eq-eqb, ne_eqb, of_drop e d o.exchanges, cases_eq e.0 d, kept.modes d y);
+      (arith, eq-eqb, ne_eqb, of-drop e d o.exchanges, cases_eq e.0 d, kept.modes d y);
   fresh = λ d h. grind (arith, eq-eqb, ne_eqb, cases_eq e.0 d, kept.fresh d);
   one = λ d c y z h i a b r g.
       grind (
         arith,
         eq-eqb,
         ne_eqb,
-        of_drop e c o.exchanges,
-        of_drop e d o.exchanges,
+        of-drop e c o.exchanges,
+        of-drop e d o.exchanges,
         cases_eq e.0 c,
         cases_eq e.0 d,
         kept.one d c y z,
@@ -319,21 +266,21 @@ end_as f e x p o kept held Parallel is = record {
     arith,
     eq-eqb,
     ne_eqb,
-    of_change e Idle o.next_stamp d o.exchanges,
-    of_number d o.exchanges,
+    of-change e Idle o.next_stamp d o.exchanges,
+    of-number d o.exchanges,
     cases_eq e.0 d,
     kept.agree d,
   );
   modes = λ d y h. grind
-      (arith, eq-eqb, ne_eqb, of_change e Idle o.next_stamp d o.exchanges, kept.modes d);
+      (arith, eq-eqb, ne_eqb, of-change e Idle o.next_stamp d o.exchanges, kept.modes d);
   fresh = λ d h. grind (arith, eq-eqb, ne_eqb, cases_eq e.0 d, kept.fresh d);
   one = λ d c y z h i a b r g.
       grind (
         arith,
         eq-eqb,
         ne_eqb,
-        of_change e Idle o.next_stamp c o.exchanges,
-        of_change e Idle o.next_stamp d o.exchanges,
+        of-change e Idle o.next_stamp c o.exchanges,
+        of-change e Idle o.next_stamp d o.exchanges,
         kept.one d c,
       );
 }
@@ -365,7 +312,7 @@ begin_new f s phone m p o kept is none connects =
         arith,
         eq-eqb,
         ne_eqb,
-        of_push (new_one o f s phone m) e o.exchanges unused,
+        of-push (new_one o f s phone m) e o.exchanges unused,
         cases_eq o.next_number e,
         kept.agree e,
       );
@@ -373,7 +320,7 @@ begin_new f s phone m p o kept is none connects =
         arith,
         eq-eqb,
         ne_eqb,
-        of_push (new_one o f s phone m) e o.exchanges unused,
+        of-push (new_one o f s phone m) e o.exchanges unused,
         cases_eq o.next_number e,
         kept.modes e x,
       );
@@ -383,8 +330,8 @@ begin_new f s phone m p o kept is none connects =
             arith,
             eq-eqb,
             ne_eqb,
-            of_push (new_one o f s phone m) e o.exchanges unused,
-            of_push (new_one o f s phone m) d o.exchanges unused,
+            of-push (new_one o f s phone m) e o.exchanges unused,
+            of-push (new_one o f s phone m) d o.exchanges unused,
             cases_eq o.next_number e,
             cases_eq o.next_number d,
             kept.one d e x y,
@@ -400,13 +347,13 @@ same_at : (e : ℕ) (x y : Exchange) (f : FibrilNo) (xs : List Exchange) →
     exchange_of e (changed x.number (By f) 0 xs) ≡ Some y → y.mode ≡ Serialize →
     exchange_of e xs ≡ Some y
 same_at e x y f xs at wide h serial =
-    same_look (exchange_of e xs) refl (subst (λ z. z ≡ Some y) (of_change x.number (By f) 0 e xs) h)
+    same_look (exchange_of e xs) refl (subst (λ z. z ≡ Some y) (of-change x.number (By f) 0 e xs) h)
   where
     same_look : (z : Option Exchange) → exchange_of e xs ≡ z →
         changed_at x.number (By f) 0 z ≡ Some y → exchange_of e xs ≡ Some y
     same_look None i k = absurd (cc k)
     same_look (Some z) i k = grind
-        (arith, eq-eqb, ne_eqb, of_number e xs z i, cases_eq z.number.0 x.number.0)
+        (arith, eq-eqb, ne_eqb, of-number e xs z i, cases_eq z.number.0 x.number.0)
 
 -- an exchange that is idle is begun again
 pub begin_again : (f : FibrilNo) (s : ℕ) (m : ExchangeMode) (x : Exchange) (p : List Fact)
@@ -434,7 +381,7 @@ begin_again f s m x p o kept is first =
       arith,
       eq-eqb,
       ne_eqb,
-      of_change x.number (By f) 0 e o.exchanges,
+      of-change x.number (By f) 0 e o.exchanges,
       cases_eq x.number.0 e,
       kept.modes e,
     ) in
@@ -448,8 +395,8 @@ begin_again f s m x p o kept is first =
         arith,
         eq-eqb,
         ne_eqb,
-        of_change x.number (By f) 0 e o.exchanges,
-        of_number e o.exchanges,
+        of-change x.number (By f) 0 e o.exchanges,
+        of-number e o.exchanges,
         cases_eq x.number.0 e,
         kept.agree e,
       );
@@ -485,7 +432,7 @@ drop_exchange s x p o kept first =
         arith,
         eq-eqb,
         ne_eqb,
-        of_drop x.number e o.exchanges,
+        of-drop x.number e o.exchanges,
         cases_eq x.number.0 e,
         kept.agree e,
       );
@@ -493,7 +440,7 @@ drop_exchange s x p o kept first =
         arith,
         eq-eqb,
         ne_eqb,
-        of_drop x.number e o.exchanges,
+        of-drop x.number e o.exchanges,
         cases_eq x.number.0 e,
         kept.modes e y,
       );
@@ -510,8 +457,8 @@ drop_exchange s x p o kept first =
             arith,
             eq-eqb,
             ne_eqb,
-            of_drop x.number e o.exchanges,
-            of_drop x.number d o.exchanges,
+            of-drop x.number e o.exchanges,
+            of-drop x.number d o.exchanges,
             cases_eq x.number.0 e,
             cases_eq x.number.0 d,
             kept.one d e y z,

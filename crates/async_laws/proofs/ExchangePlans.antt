@@ -1,8 +1,7 @@
 -- Terms a begin and a close come to keeps the law of exchanges.
 use Rattle.std.proofs.Common.{ℕ, ◌≡◌, Bool, true, false, Option, Some, None, List, ◌∷◌, refl, sym}
 use Rattle.std.proofs.Common.{subst, arith}
-use Rattle.std.specs.Prelude.{if◌then◌else◌, ◌==◌, ◌||◌}
-use Rattle.std.proofs.lemmas.Bool.{eq-eqb}
+use Rattle.std.specs.Prelude.{if◌then◌else◌, ◌||◌}
 use Rattle.ipc_ids.specs.declared.numbers.FibrilNo.{FibrilNo}
 use Rattle.ipc_ids.specs.declared.numbers.ExchangeNo.{ExchangeNo}
 use Rattle.ipc_ids.specs.declared.message.ExchangeMode.{ExchangeMode}
@@ -16,11 +15,9 @@ use Rattle.async_sessions.specs.Sessions.{Open, session_at, mode_answer, first_i
 use Rattle.async_sessions.specs.Sessions.{begin_answer, begin_in, serial_of, idle_of, short_of, begun_after}
 use Rattle.async_sessions.specs.Sessions.{dropped, close_answer, close_idle, close_after}
 use Rattle.ipc_ids.specs.Facts.{Fact, Begins, Drops}
+use Rattle.ipc_ids.proofs.Common.{is_same}
 use Rattle.async_laws.specs.KeptExchanges.{KeptExchanges}
 use Rattle.async_laws.proofs.ExchangeFacts.{begin_new, begin_again, drop_exchange, close_session}
-
-same : (n : ℕ) → (n == n) ≡ true
-same n = eq-eqb n n refl
 
 -- a begin over the session's phone
 begin_over_session : (p : List Fact) (o : Open) (f : FibrilNo) (s phone : ℕ) (e : ExchangeNo)
@@ -33,7 +30,7 @@ begin_over_session p o f s phone e m kept is free narrow new =
     subst (λ (d : ExchangeNo).
     KeptExchanges (Begins f.0 d.0 (record { mode = m; session = s; phone = phone }) ∷ p)
     (begun_after o f s d phone m)) (sym new)
-    (rw (same o.next_number) (begin_new f s phone m p o kept is free (λ i. absurd (narrow i))))
+    (rw (is_same o.next_number) (begin_new f s phone m p o kept is free (λ i. absurd (narrow i))))
 
 begin_idle : (p : List Fact) (o : Open) (f : FibrilNo) (s phone : ℕ) (short : Bool)
     (session : Session) (e : ExchangeNo) (m : ExchangeMode) (y : Option Exchange) →

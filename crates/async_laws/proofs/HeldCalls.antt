@@ -1,10 +1,10 @@
 -- No call that came is lost: what is kept stays so in each event.
 use Rattle.std.proofs.Common.{ℕ, zero, suc, ◌≡◌, ◌≢◌, ◌⊎◌, inl, inr, Bool, true, false}
 use Rattle.std.proofs.Common.{length, Option, Some, None, List, [], ◌∷◌, ◌++◌, refl, sym, ◌∙◌, ap, subst}
-use Rattle.std.specs.Prelude.{⊤, if◌then◌else◌, ◌==◌, ◌&&◌, slice_get, slice_index, position}
+use Rattle.std.specs.Prelude.{⊤, if◌then◌else◌, ◌==◌, slice_get, slice_index, position}
 use Rattle.std.specs.Prelude.{Result, Ok, Err}
 use Rattle.std.specs.List.{find}
-use Rattle.std.proofs.lemmas.Bool.{cases_eq, eqb-true}
+use Rattle.std.proofs.lemmas.Bool.{cases_eq, eqb-true, and_parts}
 use Rattle.ipc_ids.specs.declared.numbers.CallNo.{CallNo}
 use Rattle.ipc_ids.specs.declared.numbers.Code.{Code}
 use Rattle.ipc_ids.specs.declared.numbers.ExchangeNo.{ExchangeNo}
@@ -67,6 +67,7 @@ use Rattle.async_laws.specs.NoLostWakes.{IsQuiet, KeepsWakes}
 use Rattle.async_laws.specs.HeldCalls.{IsHanded, Comes, ReceivedCallsCome}
 use Rattle.async_laws.specs.HeldCalls.{IsIn, IsWith, IsHeld, IsOwed, IsKept, IsTakenNow, KeptCallsStay}
 use Rattle.async_laws.proofs.WakeConns.{take_others, route_none, route_others, finish_others, own_fibril}
+use Rattle.async_laws.proofs.OrderLaws.{at_last, before_last, open_is}
 
 -- what an event leaves of the calls that are kept
 abbrev pub IsSame : AsyncState → AsyncState → Type 0
@@ -284,20 +285,6 @@ take_held n cs f sound h = by (cases_eq h.fibril.0 f.0)
 
 -- a call comes to the connection
 
-before_last : (xs : List Queued) (i : ℕ) (q v : Queued) → slice_get xs i ≡ Some q →
-    slice_get (xs ++ v ∷ []) i ≡ Some q
-before_last [] i q v h = absurd (cc h)
-before_last (x ∷ xs) zero q v h = h
-before_last (x ∷ xs) (suc i) q v h = before_last xs i q v h
-
-both : (a b : Bool) → (a && b) ≡ true → (a ≡ true) × (b ≡ true)
-both true b h = (refl, h)
-both false b h = absurd (cc h)
-
-open_is : (q : Option CallNo) → is_open q ≡ true → q ≡ None
-open_is None h = refl
-open_is (Some n) h = absurd (cc h)
-
 route_with : (n call : CallNo) (msg : Msg) (c : Conn) → IsWith n c → IsWith n (route_to call msg c)
 route_with n call msg c h = by (closes msg.method c) refl h
   where
@@ -307,7 +294,7 @@ route_with n call msg c h = by (closes msg.method c) refl h
     by true is (inl i) = inl i
     by true is (inr i) =
         let none : c.close_call ≡ None =
-        open_is c.close_call (both (msg.method == 0) (is_open c.close_call) is).1 in
+        open_is c.close_call (and_parts (msg.method == 0) (is_open c.close_call) is).1 in
         absurd (cc (i, none))
     by false is (inl i) =
         inl (record {
@@ -686,10 +673,6 @@ kept_calls_stay a o n kept is = by (turn_kept a o n (turn_now a) kept is refl)
         }))
 
 -- a call that comes
-
-at_last : (xs : List Queued) (v : Queued) → slice_get (xs ++ v ∷ []) (length xs) ≡ Some v
-at_last [] v = refl
-at_last (x ∷ xs) v = at_last xs v
 
 routed_with : (n : CallNo) (msg : Msg) (c : Conn) → IsWith n (route_to n msg c)
 routed_with n msg c = by (closes msg.method c)

@@ -1,7 +1,7 @@
 -- A call that a task with fibrils keeps is kept once.
 use Rattle.std.proofs.Common.{ℕ, zero, suc, ◌+◌, ◌≡◌, ◌≤◌, ◌⊎◌, inl, inr, Bool, true, false}
 use Rattle.std.proofs.Common.{length, map, Option, Some, None, List, [], ◌∷◌, ◌++◌, refl, sym, ◌∙◌, ap, subst, arith}
-use Rattle.std.specs.Prelude.{if◌then◌else◌, ◌==◌, ◌&&◌, slice_get, slice_set, position}
+use Rattle.std.specs.Prelude.{if◌then◌else◌, ◌==◌, slice_get, slice_set, position}
 use Rattle.std.specs.List.{remove}
 use Rattle.std.proofs.lemmas.Bool.{eq-eqb, eqb-true}
 use Rattle.ipc_ids.specs.declared.numbers.CallNo.{CallNo}
@@ -18,6 +18,7 @@ use Rattle.ipc_ids.specs.declared.op.Op.TheVariants as op
 use Rattle.ipc_ids.specs.declared.op.Body.{Body}
 use Rattle.ipc_ids.specs.Codes.{ehangup}
 use Rattle.ipc_ids.specs.Methods.{connect_me_to}
+use Rattle.ipc_ids.proofs.Common.{and_second}
 use Rattle.fibril_core.specs.declared.conn.Conn.{Conn}
 use Rattle.fibril_core.specs.declared.conn.Queued.{Queued}
 use Rattle.fibril_core.specs.declared.conn.Taken.{Taken}
@@ -147,10 +148,6 @@ queue_push : (m : CallNo) (qs : List Queued) (q : Queued) → times_in m (qs ++ 
 queue_push m [] q = omega arith
 queue_push m (x ∷ qs) q = let more = queue_push m qs q in omega (arith, more)
 
-both : (x y : Bool) → (x && y) ≡ true → y ≡ true
-both true y h = h
-both false y h = absurd (cc h)
-
 routed_at : (m n : CallNo) (msg : Msg) (c : Conn) → at m (route_to n msg c) ≡ at m c + once n m
 routed_at m n msg c = by (closes msg.method c) refl
   where
@@ -166,7 +163,7 @@ routed_at m n msg c = by (closes msg.method c) refl
         } else record c { queue = c.queue ++ record { call = n; msg = msg } ∷ [] })
         ≡ at m c + once n m
     by true is =
-        let none = unclosed c.close_call (both (msg.method == 0) (is_open c.close_call) is) in
+        let none = unclosed c.close_call (and_second (msg.method == 0) (is_open c.close_call) is) in
         omega (arith, none)
     by false is = let more = queue_push m c.queue (record { call = n; msg = msg }) in omega (arith, more)
 

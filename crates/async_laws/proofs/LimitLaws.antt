@@ -83,13 +83,13 @@ use Rattle.async_laws.proofs.TakenCalls.{context_apart, present_number, waiting_
 
 -- ---- a begin that met the limit sends no connect call
 
-connect_in : (o : Open) (s : ℕ) (x : Session) (p : ℕ) (m : ExchangeMode) →
+pub connect_in : (o : Open) (s : ℕ) (x : Session) (p : ℕ) (m : ExchangeMode) →
     AnswersIn o s true x (begin.Connect p) m → ⊥
 connect_in o s x p mode.Atomic h = absurd (cc h)
 connect_in o s x p mode.Serialize h = h
 connect_in o s x p mode.Parallel h = absurd (cc h.1)
 
-connect_says : (o : Open) (s : ℕ) (x : Option Session) (p : ℕ) →
+pub connect_says : (o : Open) (s : ℕ) (x : Option Session) (p : ℕ) →
     AnswersBegin o s true (begin.Connect p) x → ⊥
 connect_says o s None p h = absurd (cc h)
 connect_says o s (Some x) p h = connect_in o s x p x.mode h

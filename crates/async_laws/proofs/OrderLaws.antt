@@ -1,11 +1,10 @@
 -- In which order fibrils go on and calls are taken, and what becomes of a call that comes.
 use Rattle.std.proofs.Common.{ℕ, zero, suc, ◌+◌, ◌≡◌, ◌≢◌, ◌⊎◌, inl, inr, Bool, true, false}
 use Rattle.std.proofs.Common.{length, Option, Some, None, List, [], ◌∷◌, ◌++◌, refl, sym, ◌∙◌, ap, subst, arith}
-use Rattle.std.specs.Prelude.{if◌then◌else◌, ◌==◌, ◌&&◌, slice_get, position}
-use Rattle.std.proofs.lemmas.Bool.{eqb-true}
+use Rattle.std.specs.Prelude.{if◌then◌else◌, ◌==◌, slice_get, position}
+use Rattle.std.proofs.lemmas.Bool.{eqb-true, and_parts}
 use Rattle.ipc_ids.specs.declared.numbers.CallNo.{CallNo}
 use Rattle.ipc_ids.specs.declared.numbers.Code.{Code}
-use Rattle.ipc_ids.specs.declared.message.ExchangeMode.{ExchangeMode}
 use Rattle.ipc_ids.specs.declared.message.ExchangeMode.TheVariants as mode
 use Rattle.ipc_ids.specs.declared.message.Outcome.TheVariants as outcome
 use Rattle.ipc_ids.specs.declared.op.Op.TheVariants as op
@@ -21,11 +20,9 @@ use Rattle.fibril_core.specs.Conns.{conn_of_label, leads_to, rest_of, route_answ
 use Rattle.fibril_core.specs.Conns as conns
 use Rattle.fibril_core.proofs.Orders.{found_becomes}
 use Rattle.fibril_core.proofs.Connections.{finds}
-use Rattle.async_sessions.specs.declared.sessions.Session.{Session}
 use Rattle.async_sessions.specs.declared.sessions.Begin.{Begin}
 use Rattle.async_sessions.specs.declared.sessions.Begin.TheVariants as begin
-use Rattle.async_sessions.specs.Sessions.{Open, session_at}
-use Rattle.async_sessions.specs.SessionLaws.{AnswersBegin, AnswersIn}
+use Rattle.async_sessions.specs.Sessions.{session_at}
 use Rattle.async_task.specs.declared.context.Context.{Context}
 use Rattle.async_task.specs.Turns.{Turn}
 use Rattle.async_task.specs.Contexts.{with_short, handle_at}
@@ -41,6 +38,7 @@ use Rattle.async_laws.proofs.WakeCalls.{IsPresent}
 use Rattle.async_laws.proofs.WakeFibrils.{present_is}
 use Rattle.async_laws.proofs.WakeSessions.{unless_is, answers_as}
 use Rattle.async_laws.proofs.WakeSlots.{context_now}
+use Rattle.async_laws.proofs.LimitLaws.{connect_says}
 
 pub yields_go_behind : YieldsGoBehind
 yields_go_behind a o f t kept is =
@@ -49,13 +47,13 @@ yields_go_behind a o f t kept is =
 
 -- a list with one more at its end
 
-before_last : (xs : List Queued) (i : ℕ) (q v : Queued) → slice_get xs i ≡ Some q →
+pub before_last : (xs : List Queued) (i : ℕ) (q v : Queued) → slice_get xs i ≡ Some q →
     slice_get (xs ++ v ∷ []) i ≡ Some q
 before_last [] i q v h = absurd (cc h)
 before_last (x ∷ xs) zero q v h = h
 before_last (x ∷ xs) (suc i) q v h = before_last xs i q v h
 
-at_last : (xs : List Queued) (v : Queued) → slice_get (xs ++ v ∷ []) (length xs) ≡ Some v
+pub at_last : (xs : List Queued) (v : Queued) → slice_get (xs ++ v ∷ []) (length xs) ≡ Some v
 at_last [] v = refl
 at_last (x ∷ xs) v = at_last xs v
 
@@ -63,11 +61,7 @@ one_more : (xs : List Queued) (v : Queued) → length (xs ++ v ∷ []) ≡ lengt
 one_more [] v = refl
 one_more (x ∷ xs) v = let more = one_more xs v in omega arith
 
-both : (a b : Bool) → (a && b) ≡ true → (a ≡ true) × (b ≡ true)
-both true b h = (refl, h)
-both false b h = absurd (cc h)
-
-open_is : (q : Option CallNo) → is_open q ≡ true → q ≡ None
+pub open_is : (q : Option CallNo) → is_open q ≡ true → q ≡ None
 open_is None h = refl
 open_is (Some n) h = absurd (cc h)
 
@@ -80,7 +74,7 @@ routes_go_last c call msg = by (closes msg.method c) refl
         × ((route_to call msg c).queue ≡ c.queue))
     by true is =
         let parts : ((msg.method == 0) ≡ true) × (is_open c.close_call ≡ true) =
-        both (msg.method == 0) (is_open c.close_call) is in
+        and_parts (msg.method == 0) (is_open c.close_call) is in
         inr
         (eqb-true msg.method 0 parts.0, open_is c.close_call parts.1, rw is refl, rw is refl)
     by false is =
@@ -153,17 +147,6 @@ stray_calls_are_refused a n msg label is apart none =
         bodies (Some p) i (inr missing) = absurd (cc (i, missing))
 
 -- a begin that met the limit does not connect
-
-connect_in : (o : Open) (s : ℕ) (x : Session) (p : ℕ) (m : ExchangeMode) →
-    AnswersIn o s true x (begin.Connect p) m → ⊥
-connect_in o s x p mode.Atomic h = absurd (cc h)
-connect_in o s x p mode.Serialize h = h
-connect_in o s x p mode.Parallel h = absurd (cc h.1)
-
-connect_says : (o : Open) (s : ℕ) (x : Option Session) (p : ℕ) →
-    AnswersBegin o s true (begin.Connect p) x → ⊥
-connect_says o s None p h = absurd (cc h)
-connect_says o s (Some x) p h = connect_in o s x p x.mode h
 
 pub limits_are_heeded : LimitsAreHeeded
 limits_are_heeded a f t u x s phone p kept is plan at again =

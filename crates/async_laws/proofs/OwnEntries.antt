@@ -1,9 +1,8 @@
 -- The entries that a program makes are those of its fibrils.
-use Rattle.std.proofs.Common.{◌≡◌, ℕ, Bool, true, false, Option, Some, None, Result, Ok, Err, refl}
+use Rattle.std.proofs.Common.{ℕ, Bool, true, false, Option, Some, None, Result, Ok, Err}
 use Rattle.std.proofs.Common.{arith}
 use Rattle.std.specs.Prelude.{⊤, ◌==◌, slice_index, position}
 use Rattle.std.specs.List.{find}
-use Rattle.std.proofs.lemmas.Bool.{eq-eqb}
 use Rattle.ipc_ids.specs.declared.numbers.CallNo.{CallNo}
 use Rattle.ipc_ids.specs.declared.numbers.FibrilNo.{FibrilNo}
 use Rattle.ipc_ids.specs.declared.numbers.ExchangeNo.{ExchangeNo}
@@ -19,6 +18,7 @@ use Rattle.ipc_ids.specs.declared.message.Outcome.{Outcome}
 use Rattle.ipc_ids.specs.declared.message.Outcome.TheVariants as outcome
 use Rattle.ipc_ids.specs.Codes.{eok, elimit}
 use Rattle.ipc_ids.specs.Methods.{connect_me_to}
+use Rattle.ipc_ids.proofs.Common.{is_same}
 use Rattle.registers.specs.Registers.{value_in}
 use Rattle.fibril_core.specs.declared.conn.Taken.{Taken}
 use Rattle.fibril_core.specs.Fibrils.{why_of}
@@ -49,47 +49,44 @@ use Rattle.async_task.specs.Connections.{connect_call, receive_call_by, is_of_co
 use Rattle.async_task.specs.Steps.{do_op, manage, step_in}
 use Rattle.async_laws.specs.Links.{AreOwn, EntriesAreOwn}
 
-same : (n : ℕ) → (n == n) ≡ true
-same n = eq-eqb n n refl
-
 own_call :
     (a : AsyncState) (f : FibrilNo) (t : Context) (k : ℕ) (o : Outcome) (s : Slot) →
     AreOwn a.me.0 (call_slot a f t k o s).entries
-own_call a f t k o s = grind (arith, same a.me.0)
+own_call a f t k o s = grind (arith, is_same a.me.0)
 
 own_send :
     (a : AsyncState) (f : FibrilNo) (t : Context) (k : ℕ) (o : Outcome) (s : Slot)
     (phone : Option ℕ) → AreOwn a.me.0 (send_over a f t k o s phone).entries
-own_send a f t k o s None = (same a.me.0, tt)
+own_send a f t k o s None = (is_same a.me.0, tt)
 own_send a f t k o s (Some phone) = own_call a f t k o s
 
 own_wait : (a : AsyncState) (f : FibrilNo) (t : Context) (k : ℕ) (s : Slot) →
     AreOwn a.me.0 (wait_slot a f t k s).entries
-own_wait a f t k s = grind (arith, same a.me.0)
+own_wait a f t k s = grind (arith, is_same a.me.0)
 
 own_next : (a : AsyncState) (f : FibrilNo) (t : Context) (s : Taken) →
     AreOwn a.me.0 (next_call a f t s).entries
-own_next a f t s = grind (arith, same a.me.0)
+own_next a f t s = grind (arith, is_same a.me.0)
 
 own_open : (a : AsyncState) (f : FibrilNo) (t : Context) (r : Result ⊤ Code) →
     AreOwn a.me.0 (open_outcome a f t r).entries
 own_open a f t (Ok x) = tt
-own_open a f t (Err c) = (same a.me.0, tt)
+own_open a f t (Err c) = (is_same a.me.0, tt)
 
 own_begun :
     (a : AsyncState) (f : FibrilNo) (t : Context) (x s : ℕ) (e : ExchangeNo) (phone : ℕ)
     (m : Option ExchangeMode) → AreOwn a.me.0 (begin_exchange a f t x s e phone m).entries
 own_begun a f t x s e phone None = tt
-own_begun a f t x s e phone (Some m) = (same a.me.0, tt)
+own_begun a f t x s e phone (Some m) = (is_same a.me.0, tt)
 
 own_refused : (a : AsyncState) (f : FibrilNo) (t : Context) (c : Code) (b : Bool) →
     AreOwn a.me.0 (connect_refused_by a f t c b).entries
 own_refused a f t c true = tt
-own_refused a f t c false = (same a.me.0, tt)
+own_refused a f t c false = (is_same a.me.0, tt)
 
 own_connect : (a : AsyncState) (f : FibrilNo) (t : Context) (o : Outcome) →
     AreOwn a.me.0 (connect_outcome a f t o).entries
-own_connect a f t (outcome.Accepted n) = (same a.me.0, (same a.me.0, tt))
+own_connect a f t (outcome.Accepted n) = (is_same a.me.0, (is_same a.me.0, tt))
 own_connect a f t (outcome.Refused c) = own_refused a f t c (c.0 == elimit.0)
 own_connect a f t _ = tt
 
@@ -99,28 +96,28 @@ own_begin :
 own_begin a f t x s o (begin.Begun e phone) =
     own_begun a f t x s e phone (mode_answer (session_at a.pool s))
 own_begin a f t x s o (begin.Connect phone) = own_connect a f t o
-own_begin a f t x s o (begin.HangIdle e phone) = (same a.me.0, tt)
-own_begin a f t x s o begin.WaitMutex = (same a.me.0, tt)
-own_begin a f t x s o begin.WaitPhone = (same a.me.0, tt)
-own_begin a f t x s o (begin.Refused c) = (same a.me.0, tt)
+own_begin a f t x s o (begin.HangIdle e phone) = (is_same a.me.0, tt)
+own_begin a f t x s o begin.WaitMutex = (is_same a.me.0, tt)
+own_begin a f t x s o begin.WaitPhone = (is_same a.me.0, tt)
+own_begin a f t x s o (begin.Refused c) = (is_same a.me.0, tt)
 own_begin a f t x s o begin.NoMemory = tt
 
 own_ended :
     (a : AsyncState) (f : FibrilNo) (t : Context) (x : ℕ) (e : ExchangeNo) (r : Result Ended Code) →
     AreOwn a.me.0 (end_outcome a f t x e r).entries
-own_ended a f t x e (Ok of) = (same a.me.0, tt)
-own_ended a f t x e (Err c) = (same a.me.0, tt)
+own_ended a f t x e (Ok of) = (is_same a.me.0, tt)
+own_ended a f t x e (Err c) = (is_same a.me.0, tt)
 
 own_end : (a : AsyncState) (f : FibrilNo) (t : Context) (x : ℕ) (h : Option ExchangeNo) →
     AreOwn a.me.0 (end_op a f t x h).entries
-own_end a f t x None = (same a.me.0, tt)
+own_end a f t x None = (is_same a.me.0, tt)
 own_end a f t x (Some e) =
     own_ended (with_pool a (end_after a.pool e (held_by f e a.pool.exchanges))) f t x e
     (end_answer (held_by f e a.pool.exchanges))
 
 own_close : (a : AsyncState) (f : FibrilNo) (t : Context) (o : Outcome) (plan : Close) →
     AreOwn a.me.0 (close_outcome a f t o plan).entries
-own_close a f t o plan = grind (arith, same a.me.0)
+own_close a f t o plan = grind (arith, is_same a.me.0)
 
 own_op : (a : AsyncState) (f : FibrilNo) (t : Context) (p : Op) (o : Outcome) →
     AreOwn a.me.0 (do_op a f t p o).entries
@@ -142,7 +139,7 @@ own_op a f t _ o = tt
 own_connected :
     (a : AsyncState) (f : FibrilNo) (t : Context) (x s phone : ℕ) (m : Option ExchangeMode) →
     AreOwn a.me.0 (connect a f t x s phone m).entries
-own_connected a f t x s phone (Some mode.Parallel) = (same a.me.0, tt)
+own_connected a f t x s phone (Some mode.Parallel) = (is_same a.me.0, tt)
 own_connected a f t x s phone (Some mode.Atomic) = tt
 own_connected a f t x s phone (Some mode.Serialize) = tt
 own_connected a f t x s phone None = tt
@@ -173,13 +170,13 @@ own_answer a n r None = tt
 own_answer a n r (Some w) =
     let b : Bool = is_for n (why_of a.order w.fibril) in
     let c : AsyncState = forget_call (wake_if a w.fibril b) n in
-    (same a.me.0, own_give c w.fibril n r b w.slot (context_at c w.fibril))
+    (is_same a.me.0, own_give c w.fibril n r b w.slot (context_at c w.fibril))
 
 own_connect_call :
     (a : AsyncState) (n : CallNo) (msg : Msg) (label : Label) (body : Option ℕ) →
     AreOwn a.me.0 (connect_call a n msg label body).entries
 own_connect_call a n msg label None = tt
-own_connect_call a n msg label (Some body) = (same a.me.0, tt)
+own_connect_call a n msg label (Some body) = (is_same a.me.0, tt)
 
 own_receive : (a : AsyncState) (n : CallNo) (msg : Msg) (label : Label) (b : Bool) →
     AreOwn a.me.0 (receive_call_by a n msg label b).entries
@@ -195,7 +192,7 @@ own_manage a _ = tt
 
 own_turn : (a : AsyncState) (o : Outcome) (s : Turn) → AreOwn a.me.0 (step_in a o s).entries
 own_turn a o (turn.Work n c) = tt
-own_turn a o (turn.Run f t None) = (same a.me.0, tt)
+own_turn a o (turn.Run f t None) = (is_same a.me.0, tt)
 own_turn a o (turn.Run f t (Some p)) = own_op a f t p o
 own_turn a o turn.Receive = own_manage a o
 

@@ -1,10 +1,9 @@
 -- What a fibril is told by `next`.
 use Rattle.std.proofs.Common.{ℕ, zero, suc, ◌+◌, ◌-◌, ◌^◌, ◌≡◌, ◌≢◌, ◌<◌, ◌≤◌, ◌⊎◌, inl, inr, Bool, true, false}
 use Rattle.std.proofs.Common.{length, Option, Some, None, List, [], ◌∷◌, ◌++◌, refl, sym, ◌∙◌, ap, subst, arith}
-use Rattle.std.specs.Prelude.{if◌then◌else◌, ◌&&◌, is_some, nat_lt, slice_get, slice_set}
+use Rattle.std.specs.Prelude.{if◌then◌else◌, ◌&&◌, is_some, slice_get, slice_set}
 use Rattle.std.specs.Prelude.{slice_index}
-use Rattle.std.proofs.lemmas.Bool.{eq-eqb, ne_eqb}
-use Rattle.std.proofs.lemmas.Bool.Decides.{nat_tests}
+use Rattle.std.proofs.lemmas.Bool.{eq-eqb, ne_eqb, lt-ltb}
 use Rattle.ipc_ids.specs.declared.numbers.CallNo.{CallNo}
 use Rattle.ipc_ids.specs.declared.numbers.FibrilNo.{FibrilNo}
 use Rattle.ipc_ids.specs.declared.numbers.Label.{Label}
@@ -23,7 +22,6 @@ use Rattle.fibril_core.specs.declared.conn.Taken.TheVariants as taken
 use Rattle.fibril_core.specs.declared.conn.Routed.TheVariants as routed
 use Rattle.fibril_core.specs.declared.fibrils.Status.TheVariants.{Ready}
 use Rattle.fibril_core.specs.Fibrils.{FibrilOrder, why_at, why_of, fibril_at, make_ready, next_number}
-use Rattle.fibril_core.specs.FibrilLaws.{status_of}
 use Rattle.fibril_core.specs.Conns as conns
 use Rattle.fibril_core.specs.Conns.{conn_of_fibril, conn_of_label, leads_to, is_open, closes, route_to, route_answer}
 use Rattle.fibril_core.specs.Conns.{take_from, take_answer, fibril_of}
@@ -45,7 +43,7 @@ use Rattle.async_laws.specs.NoLostWakes.{IsQuiet, KeepsWakes}
 use Rattle.async_laws.specs.TakenCalls.{KnowsItsCall, StartedOnesKnowTheirCall}
 use Rattle.async_laws.specs.TakenCalls.{IsUntold, TellCall, Takes, closing, no_call, Serves, NextTakesTheFirst}
 use Rattle.async_laws.specs.TakenCalls.{NextTellsTheClosing, WaitsAt, WaitersTakeAtOnce, WaitersHearHangups}
-use Rattle.async_laws.proofs.WakeCalls.{IsPresent}
+use Rattle.async_laws.proofs.WakeCalls.{IsPresent, ready_number}
 use Rattle.async_laws.proofs.WakeFibrils.{present_is}
 use Rattle.async_laws.proofs.WakeSlots.{context_set}
 
@@ -186,9 +184,6 @@ module _ (t : Context) (n : CallNo) (msg : Msg) (label : Label) (many : length t
 
 -- what a fibril keeps
 
-less_is : (i j : ℕ) → i < j → nat_lt i j ≡ true
-less_is i j h = grind (arith, nat_tests)
-
 pub context_apart : (b : AsyncState) (f g : FibrilNo) (u : Context) → (g.0 - 1 ≡ f.0 - 1 → ⊥) →
     context_at (with_context b f u) g ≡ context_at b g
 context_apart b f g u other = by (is_some (context_at b f))
@@ -208,7 +203,7 @@ takes a b f t n msg label own keeps many same = record {
   now = now;
   here = context_set b f t now (ap (λ (ts : List (Option Context)). kept_at ts (f.0 - 1)) same ∙ keeps);
   registers = tells t n msg label many;
-  place = λ h. ap (λ (x : Bool). if x then t.place + 1 else t.place) (less_is t.place (2 ^ 62) h);
+  place = λ h. ap (λ (x : Bool). if x then t.place + 1 else t.place) (lt-ltb t.place (2 ^ 62) h);
   rest = refl;
   others = λ g some other.
       context_apart b f g now (λ e. other (omega (arith, e, some, own)))
@@ -219,10 +214,6 @@ takes a b f t n msg label own keeps many same = record {
     now = at_next (with_received t n msg label)
 
 -- fibrils are numbered from 1
-
-ready_number : (o : FibrilOrder) (n : ℕ) → status_of o n ≡ Some Ready → suc (n - 1) ≡ n
-ready_number o zero h = absurd (cc h)
-ready_number o (suc n) h = omega arith
 
 pub waiting_number : (o : FibrilOrder) (n : ℕ) (w : Why) → why_at (fibril_at o n) ≡ Some w → suc (n - 1) ≡ n
 waiting_number o zero w h = absurd (cc h)

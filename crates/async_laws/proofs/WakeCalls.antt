@@ -47,14 +47,14 @@ pub record IsPresent (a : AsyncState) (f : FibrilNo) (t : Context) : Type 0 wher
   pub current : current a.order ≡ Some f
   pub context : context_at a f ≡ Some t
 
-present_number : (o : FibrilOrder) (n : ℕ) → status_of o n ≡ Some Ready → suc (n - 1) ≡ n
-present_number o zero h = absurd (cc h)
-present_number o (suc n) h = omega arith
+pub ready_number : (o : FibrilOrder) (n : ℕ) → status_of o n ≡ Some Ready → suc (n - 1) ≡ n
+ready_number o zero h = absurd (cc h)
+ready_number o (suc n) h = omega arith
 
 is_number : (a : AsyncState) (f : FibrilNo) (t : Context) → Keeps a → IsPresent a f t →
     suc (f.0 - 1) ≡ f.0
 is_number a f t kept now =
-    present_number a.order f.0 (first_number a.order Ready f kept.order now.current).here
+    ready_number a.order f.0 (first_number a.order Ready f kept.order now.current).here
 
 -- calls
 

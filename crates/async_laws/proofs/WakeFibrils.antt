@@ -51,6 +51,7 @@ use Rattle.async_task.specs.Connections.{start_connection, connect_call, receive
 use Rattle.async_task.specs.Connections.{is_of_connections, end_fibril}
 use Rattle.async_task.specs.Steps.{manage, step_in}
 use Rattle.async_task.proofs.Served.{serves_none}
+use Rattle.async_task.proofs.Filled.{closed_at}
 use Rattle.async_laws.specs.KeptAnswers.{waiting}
 use Rattle.async_laws.specs.KeptFibrils.{has_ended_at}
 use Rattle.async_laws.specs.NoLostWakes.{IsQuiet}
@@ -64,7 +65,7 @@ use Rattle.async_laws.proofs.WakeConns.{start_quiet, finish_others}
 use Rattle.async_laws.proofs.WakeSlots.{Keeps, carry, eased, connected, expects, works, one_fibril}
 use Rattle.async_laws.proofs.WakeSlots.{kept_left, same_slots}
 use Rattle.async_laws.proofs.WakeCalls.{IsPresent}
-use Rattle.async_laws.proofs.WakeSessions.{ends, does}
+use Rattle.async_laws.proofs.WakeSessions.{does}
 use Rattle.async_laws.proofs.WakeAnswers.{answers}
 
 hands : (a : AsyncState) (f : FibrilNo) (s : Taken) (t : Option Context) → Keeps a →
@@ -150,11 +151,6 @@ routes a n msg label kept = by (conn_of_label label a.conns) refl
 
 -- a fibril starts, none of whose slots has sent a call
 
-closed_all : (n k : ℕ) → slot_in (slice_get (replicate n slot.Closed) k) ≡ slot.Closed
-closed_all zero k = refl
-closed_all (suc n) zero = refl
-closed_all (suc n) (suc k) = closed_all n k
-
 pub context_push : (xs : List (Option Context)) (j : ℕ) (v x : Context) →
     kept_at (xs ++ Some v ∷ []) j ≡ Some x → (v ≡ x) ⊎ (kept_at xs j ≡ Some x)
 context_push [] zero v x h = inl (cc h)
@@ -185,7 +181,7 @@ adds_fibril a t kept closed =
         let at : slot_in (slice_get t.slots k) ≡ slot.Sent n =
         subst (λ (y : Context). slot_at y k ≡ slot.Sent n) (sym is) g in
         let none : slot_in (slice_get t.slots k) ≡ slot.Closed =
-        ap (λ (ss : List Slot). slot_in (slice_get ss k)) closed ∙ closed_all 8 k in
+        ap (λ (ss : List Slot). slot_in (slice_get ss k)) closed ∙ closed_at 8 k in
         absurd (cc (at, none))
     by i k n x runs g (inr h) =
         (eased a (spawned a.order) kept (eases_spawned a.order kept.order)).slots i k n x runs h g

@@ -1,5 +1,5 @@
 -- What the sessions and exchanges of a task say of the facts so far, the newest first.
-use Rattle.std.specs.Prelude.{ℕ, ◌≡◌, ◌≤◌, ◌==◌, if◌then◌else◌, Option, Some, None, List, [], ◌∷◌}
+use Rattle.std.specs.Prelude.{ℕ, ◌≡◌, ◌≤◌, Option, Some, None, List, [], ◌∷◌}
 use Rattle.std.specs.Prelude.{⊤}
 use Rattle.ipc_ids.specs.declared.message.ExchangeMode.TheVariants.{Serialize, Parallel}
 use Rattle.ipc_ids.specs.Facts.{Terms, Fact}
@@ -8,12 +8,7 @@ use Rattle.ipc_ids.specs.Exchanges.{ExchangesWereLawful}
 use Rattle.async_sessions.specs.declared.sessions.Exchange.{Exchange}
 use Rattle.async_sessions.specs.declared.sessions.Held.{Held}
 use Rattle.async_sessions.specs.declared.sessions.Held.TheVariants.{By, Idle}
-use Rattle.async_sessions.specs.Sessions.{Open, session_at, mode_answer}
-
--- the exchange with this number
-abbrev pub exchange_of : ℕ → List Exchange → Option Exchange
-exchange_of e [] = None
-exchange_of e (x ∷ xs) = if x.number.0 == e then Some x else exchange_of e xs
+use Rattle.async_sessions.specs.Sessions.{Open, session_at, mode_answer, exchange_of}
 
 -- no two exchanges have one number
 abbrev pub AreApart : List Exchange → Type 0

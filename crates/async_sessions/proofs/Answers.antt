@@ -12,7 +12,7 @@ use Rattle.async_sessions.specs.declared.sessions.Exchange.{Exchange}
 use Rattle.async_sessions.specs.declared.sessions.Held.{Held}
 use Rattle.async_sessions.specs.declared.sessions.Held.TheVariants.{By, Idle}
 use Rattle.async_sessions.specs.declared.sessions.Close.TheVariants as close
-use Rattle.async_sessions.specs.Sessions.{Open, session_at, session_in, exchange_at, same_held}
+use Rattle.async_sessions.specs.Sessions.{Open, session_at, session_in, exchange_at, same_held, exchange_of}
 use Rattle.async_sessions.specs.Sessions.{held_in, held_by, first_idle, any_begun, dropped, ended}
 use Rattle.async_sessions.specs.Sessions.{serial_of, short_of, unless_idle, idle_of, begin_in}
 use Rattle.async_sessions.specs.Sessions.{begin_answer, close_idle, close_answer}
@@ -21,7 +21,7 @@ use Rattle.async_sessions.specs.Sessions.{end_after, with_session}
 use Rattle.async_sessions.specs.SessionLaws.{HasNoIdle, AnswersSerial, AnswersParallel, AnswersIn}
 use Rattle.async_sessions.specs.SessionLaws.{AnswersBegin, ClosesIn, AnswersClose, FindsHeld}
 use Rattle.async_sessions.specs.SessionLaws.{Loses, EndsOne, LosesSession}
-use Rattle.async_sessions.proofs.Lookups.{exchange_of, find_exchange, of-drop, of-change}
+use Rattle.async_sessions.proofs.Lookups.{find_exchange, of-drop, of-change}
 use Rattle.async_sessions.proofs.Lookups.{of-number}
 use Rattle.async_sessions.proofs.Searches.{none_idle, longest_idle, none_begun, one_begun}
 

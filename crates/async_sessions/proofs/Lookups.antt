@@ -7,13 +7,8 @@ use Rattle.std.proofs.lemmas.Bool.{cases_eq, eq-eqb, ne_eqb}
 use Rattle.ipc_ids.specs.declared.numbers.ExchangeNo.{ExchangeNo}
 use Rattle.async_sessions.specs.declared.sessions.Exchange.{Exchange}
 use Rattle.async_sessions.specs.declared.sessions.Held.{Held}
-use Rattle.async_sessions.specs.Sessions.{exchange_at, is_other, changed, changed_one}
+use Rattle.async_sessions.specs.Sessions.{exchange_at, is_other, changed, changed_one, exchange_of}
 use Rattle.async_sessions.specs.SessionLaws.{IsAmong, AreApart}
-
--- the exchange with this number
-abbrev pub exchange_of : ℕ → List Exchange → Option Exchange
-exchange_of e [] = None
-exchange_of e (x ∷ xs) = if x.number.0 == e then Some x else exchange_of e xs
 
 pub find_exchange : (e : ExchangeNo) (xs : List Exchange) → exchange_at e xs ≡ exchange_of e.0 xs
 find_exchange e [] = refl
@@ -45,7 +40,7 @@ pub of-drop : (e : ExchangeNo) (m : ℕ) (xs : List Exchange) → exchange_of m 
 of-drop e m [] = grind (arith, cases_eq e.0 m, eq-eqb, ne_eqb)
 of-drop e m (x ∷ xs) = grind (arith, of-drop e m xs, eq-eqb, ne_eqb, cases_eq e.0 m, cases_eq x.number.0 m, cases_eq x.number.0 e.0)
 
-changed-number : (e : ExchangeNo) (held : Held) (stamp : ℕ) (x : Exchange) → (changed_one e held stamp x).number ≡ x.number
+pub changed-number : (e : ExchangeNo) (held : Held) (stamp : ℕ) (x : Exchange) → (changed_one e held stamp x).number ≡ x.number
 changed-number e held stamp x = grind (arith, cases_eq x.number.0 e.0)
 
 pub of-change : (e : ExchangeNo) (held : Held) (stamp m : ℕ) (xs : List Exchange) → exchange_of m (changed e held stamp xs) ≡ changed_at e held stamp (exchange_of m xs)

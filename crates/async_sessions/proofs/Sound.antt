@@ -12,7 +12,7 @@ use Rattle.async_sessions.specs.declared.sessions.Exchange.{Exchange}
 use Rattle.async_sessions.specs.declared.sessions.Held.{Held}
 use Rattle.async_sessions.specs.declared.sessions.Held.TheVariants.{By, Idle}
 use Rattle.async_sessions.specs.declared.sessions.Close.TheVariants as close
-use Rattle.async_sessions.specs.Sessions.{Open, no_sessions, session_at, mode_answer, exchange_at}
+use Rattle.async_sessions.specs.Sessions.{Open, no_sessions, session_at, mode_answer, exchange_at, exchange_of}
 use Rattle.async_sessions.specs.Sessions.{first_idle, any_begun, held_by, new_exchange, added}
 use Rattle.async_sessions.specs.Sessions.{changed, dropped, ended, begun_again}
 use Rattle.async_sessions.specs.Sessions.{begun_after, begin_in, begin_answer, begin_after}
@@ -20,7 +20,7 @@ use Rattle.ipc_ids.specs.Codes.{ebusy}
 use Rattle.async_sessions.specs.Sessions.{serial_of, short_of, unless_idle, idle_of, with_session}
 use Rattle.async_sessions.specs.Sessions.{make_after, end_after, close_idle, close_answer, close_after}
 use Rattle.async_sessions.specs.SessionLaws.{IsBegun, HasNoneBegun, HasNoIdle, IsSound}
-use Rattle.async_sessions.proofs.Lookups.{exchange_of, find_exchange, IsApart, apart_of, of_apart}
+use Rattle.async_sessions.proofs.Lookups.{find_exchange, IsApart, apart_of, of_apart}
 use Rattle.async_sessions.proofs.Lookups.{changed_at, of-push, of-drop, of-change, of-number, in_at}
 use Rattle.async_sessions.proofs.Lookups.{at_in, apart-push, apart-drop, apart-change}
 use Rattle.async_sessions.proofs.Searches.{first_in, none_idle, none_begun}

@@ -213,6 +213,11 @@ held_in f (Some x) = if same_held x.held (By f) then Some x else None
 abbrev pub exchange_at : ExchangeNo → List Exchange → Option Exchange
 exchange_at e xs = find (λ x. x.number.0 == e.0) xs
 
+-- the exchange with this number, by recursion
+abbrev pub exchange_of : ℕ → List Exchange → Option Exchange
+exchange_of e [] = None
+exchange_of e (x ∷ xs) = if x.number.0 == e then Some x else exchange_of e xs
+
 -- the exchange with this number, if f has begun it
 abbrev pub held_by : FibrilNo → ExchangeNo → List Exchange → Option Exchange
 held_by f e xs = held_in f (exchange_at e xs)

@@ -12,7 +12,7 @@ use Rattle.async_task.specs.Slots.{filled, with_held}
 
 -- what a slot holds
 
-closed_at : (n k : ℕ) → slot_in (slice_get (replicate n slot.Closed) k) ≡ slot.Closed
+pub closed_at : (n k : ℕ) → slot_in (slice_get (replicate n slot.Closed) k) ≡ slot.Closed
 closed_at zero k = refl
 closed_at (suc n) zero = refl
 closed_at (suc n) (suc k) = closed_at n k

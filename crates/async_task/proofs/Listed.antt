@@ -6,22 +6,17 @@ use Rattle.std.specs.Prelude.{slice_get, slice_set}
 use Rattle.std.specs.List.{AllByRecursion, IsDistinct}
 use Rattle.std.specs.Map.{keys_of, values_of, lookup, lookup_key}
 use Rattle.std.specs.Cmp.{nat_eq_equiv}
-use Rattle.std.proofs.lemmas.Bool.{cases_eq}
+use Rattle.std.proofs.lemmas.Bool.{cases_eq, ne_eqb}
 use Rattle.std.proofs.lemmas.Bool.Decides.{nat_tests}
 use Rattle.std.proofs.lemmas.Map.Keys.{IsDistinct-head, IsDistinct-tail}
+use Rattle.ipc_ids.proofs.Common.{is_same}
 use Rattle.indexmap.specs.IndexMap.{IndexMap, IsUnique, with_value_at}
 use Rattle.indexmap.proofs.CallerLemmas.{updates-with_value_at}
 use Rattle.async_task.specs.declared.context.Context.{Context}
 use Rattle.async_task.specs.Kept.{ContextsState, kept_at, with_kept, listed, AreBelow, StandsAt}
 
-same_eq : (n : ℕ) → nat_eq n n ≡ true
-same_eq n = grind (arith, nat_tests)
-
 is_eq : (q n : ℕ) → nat_eq q n ≡ true → q ≡ n
 is_eq q n h = grind (arith, nat_tests)
-
-apart_eq : (q n : ℕ) → (q ≡ n → ⊥) → nat_eq q n ≡ false
-apart_eq q n h = grind (arith, nat_tests)
 
 suc_eq : (q n : ℕ) → nat_eq (suc q) (suc n) ≡ nat_eq q n
 suc_eq q n = grind (arith, nat_tests)
@@ -41,9 +36,9 @@ length_listed (suc n) es =
 push_kept : (ts : List (Option Context)) (o : Option Context) (i : ℕ) →
     kept_at (ts ++ o ∷ []) i ≡ cond (nat_eq (length ts) i) o (kept_at ts i)
 push_kept [] o zero = refl
-push_kept [] o (suc i) = rw (apart_eq 0 (suc i) (λ e. absurd (omega (arith, e)))) refl
+push_kept [] o (suc i) = rw (ne_eqb 0 (suc i) (λ e. absurd (omega (arith, e)))) refl
 push_kept (t ∷ ts) o zero =
-    rw (apart_eq (suc (length ts)) 0 (λ e. absurd (omega (arith, e)))) refl
+    rw (ne_eqb (suc (length ts)) 0 (λ e. absurd (omega (arith, e)))) refl
 push_kept (t ∷ ts) o (suc i) = rw (suc_eq (length ts) i) (push_kept ts o i)
 
 kept_past : (ts : List (Option Context)) (i : ℕ) → length ts ≤ i → kept_at ts i ≡ None
@@ -64,10 +59,10 @@ kept_below (suc n) es i h =
         cond (nat_eq n i) (lookup (nat_eq n) es) (kept_at (listed n es) i) ≡ lookup (nat_eq i) es
     by (inl e) more =
         ap (λ (k : ℕ). cond (nat_eq n k) (lookup (nat_eq n) es) (kept_at (listed n es) k)) (sym e)
-        ∙ ap (λ (b : Bool). cond b (lookup (nat_eq n) es) (kept_at (listed n es) n)) (same_eq n)
+        ∙ ap (λ (b : Bool). cond b (lookup (nat_eq n) es) (kept_at (listed n es) n)) (is_same n)
         ∙ ap (λ (k : ℕ). lookup (nat_eq k) es) e
     by (inr other) more =
-        ap (λ (b : Bool). cond b (lookup (nat_eq n) es) (kept_at (listed n es) i)) (apart_eq n i other)
+        ap (λ (b : Bool). cond b (lookup (nat_eq n) es) (kept_at (listed n es) i)) (ne_eqb n i other)
         ∙ more (omega (arith, h, other))
 
 pub kept_listed : (n : ℕ) (es : List (ℕ × Context)) (i : ℕ) → AreBelow n es →
@@ -105,9 +100,9 @@ pub record Changes (es fs : List (ℕ × Context)) (i : ℕ) (o : Option Context
 set_push : (ts : List (Option Context)) (x : Option Context) (i : ℕ) (o : Option Context) →
     slice_set (ts ++ x ∷ []) i o ≡ slice_set ts i o ++ cond (nat_eq i (length ts)) o x ∷ []
 set_push [] x zero o = refl
-set_push [] x (suc i) o = rw (apart_eq (suc i) 0 (λ e. absurd (omega (arith, e)))) refl
+set_push [] x (suc i) o = rw (ne_eqb (suc i) 0 (λ e. absurd (omega (arith, e)))) refl
 set_push (t ∷ ts) x zero o =
-    rw (apart_eq 0 (suc (length ts)) (λ e. absurd (omega (arith, e)))) refl
+    rw (ne_eqb 0 (suc (length ts)) (λ e. absurd (omega (arith, e)))) refl
 set_push (t ∷ ts) x (suc i) o =
     rw (suc_eq i (length ts)) (ap (λ (us : List (Option Context)). t ∷ us) (set_push ts x i o))
 
@@ -130,7 +125,7 @@ same_below n (suc k) es fs o h b =
     ap (λ (ts : List (Option Context)). ts ++ lookup (nat_eq k) fs ∷ [])
     (same_below n k es fs o h (omega arith))
     ∙ ap (λ (x : Option Context). listed k es ++ x ∷ [])
-    (h.at k ∙ ap (λ (c : Bool). cond c o (lookup (nat_eq k) es)) (apart_eq n k (λ e. absurd (omega (arith, e, b)))))
+    (h.at k ∙ ap (λ (c : Bool). cond c o (lookup (nat_eq k) es)) (ne_eqb n k (λ e. absurd (omega (arith, e, b)))))
 
 pub listed_push : (n : ℕ) (es fs : List (ℕ × Context)) (t : Context) → Changes es fs n (Some t) →
     listed (n + 1) fs ≡ listed n es ++ Some t ∷ []
@@ -140,7 +135,7 @@ listed_push n es fs t h =
     ∙ ap (λ (ts : List (Option Context)). ts ++ lookup (nat_eq n) fs ∷ [])
     (same_below n n es fs (Some t) h (omega arith))
     ∙ ap (λ (x : Option Context). listed n es ++ x ∷ [])
-    (h.at n ∙ ap (λ (c : Bool). cond c (Some t) (lookup (nat_eq n) es)) (same_eq n))
+    (h.at n ∙ ap (λ (c : Bool). cond c (Some t) (lookup (nat_eq n) es)) (is_same n))
   where
     plus_one : (n : ℕ) → n + 1 ≡ suc n
     plus_one n = omega arith
@@ -151,7 +146,7 @@ below_push n es fs t below h = record {
   none = λ i b.
       h.at i
       ∙ ap (λ (c : Bool). cond c (Some t) (lookup (nat_eq i) es))
-      (apart_eq n i (λ e. absurd (omega (arith, e, b))))
+      (ne_eqb n i (λ e. absurd (omega (arith, e, b))))
       ∙ below.none i (omega (arith, b));
 }
 
@@ -161,7 +156,7 @@ below_set n es fs i t u below is h = record {
   none = λ j b.
       h.at j
       ∙ ap (λ (c : Bool). cond c (Some u) (lookup (nat_eq j) es))
-      (apart_eq i j (λ e. absurd (cc (is, below.none i (subst (λ (k : ℕ). n ≤ k) (sym e) b)))))
+      (ne_eqb i j (λ e. absurd (cc (is, below.none i (subst (λ (k : ℕ). n ≤ k) (sym e) b)))))
       ∙ below.none j b;
 }
 
@@ -197,7 +192,7 @@ key_apart x [] p i t all h = absurd (cc h)
 key_apart x (e ∷ es) zero i t all h =
     let same : e ≡ (i, t) = cc h in
     let away : nat_eq x i ≡ false = subst (λ (d : ℕ × Context). nat_eq x d.0 ≡ false) same all.0 in
-    apart_eq i x (λ e. absurd (cc (away, subst (λ (n : ℕ). nat_eq n i ≡ true) e (same_eq i))))
+    ne_eqb i x (λ e. absurd (cc (away, subst (λ (n : ℕ). nat_eq n i ≡ true) e (is_same i))))
 key_apart x (e ∷ es) (suc p) i t all h = key_apart x es p i t all.1 h
 
 found_at : (es : List (ℕ × Context)) (p i : ℕ) (t : Context) → IsDistinct nat_eq (keys_of es) →
@@ -205,7 +200,7 @@ found_at : (es : List (ℕ × Context)) (p i : ℕ) (t : Context) → IsDistinct
 found_at [] p i t apart h = absurd (cc h)
 found_at (e ∷ es) zero i t apart h =
     let same : e ≡ (i, t) = cc h in
-    subst (λ (d : ℕ × Context). lookup (nat_eq i) (d ∷ es) ≡ Some t) (sym same) (rw (same_eq i) refl)
+    subst (λ (d : ℕ × Context). lookup (nat_eq i) (d ∷ es) ≡ Some t) (sym same) (rw (is_same i) refl)
 found_at (e ∷ es) (suc p) i t apart h =
     ap (λ (b : Bool). cond b (Some e.1) (lookup (nat_eq i) es))
     (key_apart e.0 es p i t (IsDistinct-head nat_eq e.0 (keys_of es) apart) h)

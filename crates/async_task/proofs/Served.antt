@@ -1,8 +1,8 @@
 -- The calls on connections keep the fibril of each among those that there are.
-use Rattle.std.proofs.Common.{◌≡◌, ℕ, zero, suc, ◌+◌, ◌≤◌, Bool, true, false, List, [], ◌∷◌, ◌++◌}
+use Rattle.std.proofs.Common.{◌≡◌, ℕ, zero, suc, ◌+◌, ◌≤◌, List, [], ◌∷◌, ◌++◌}
 use Rattle.std.proofs.Common.{length, take, drop, Option, Some, None, refl, ◌∙◌}
 use Rattle.std.proofs.Common.{arith}
-use Rattle.std.specs.Prelude.{if◌then◌else◌, slice_get, slice_set, position}
+use Rattle.std.specs.Prelude.{slice_get, slice_set, position}
 use Rattle.std.specs.List.{find}
 use Rattle.std.proofs.lemmas.Bool.{eq-eqb, ne_eqb, eqb-true}
 use Rattle.ipc_ids.specs.declared.numbers.CallNo.{CallNo}
@@ -11,11 +11,11 @@ use Rattle.ipc_ids.specs.declared.numbers.Label.{Label}
 use Rattle.ipc_ids.specs.declared.message.Msg.{Msg}
 use Rattle.fibril_core.specs.declared.conn.Conn.{Conn}
 use Rattle.fibril_core.specs.Fibrils.{FibrilOrder, next_number}
-use Rattle.fibril_core.specs.Conns.{leads_to, serves, conn_at, conn_of_fibril, lose_label}
+use Rattle.fibril_core.specs.Conns.{leads_to, serves, conn_at, conn_of_fibril}
 use Rattle.fibril_core.specs.Conns.{lose_labels}
 use Rattle.fibril_core.specs.Conns.{new_conn, start, take_first, with_conn, took_first, take_next}
 use Rattle.fibril_core.specs.Conns.{route_to, routed_to, route, without_conn, finish}
-use Rattle.fibril_core.proofs.Connections.{by_fibril}
+use Rattle.fibril_core.proofs.Connections.{by_fibril, lost_fibril}
 use Rattle.async_task.specs.AsyncState.{AreServed}
 
 served_at : (n : ℕ) (cs : List Conn) (i : ℕ) (c : Conn) →
@@ -49,14 +49,6 @@ served_drop n (c ∷ cs) (suc i) h = served_drop n cs i h.1
 pub served_more : (n m : ℕ) (cs : List Conn) → n ≤ m → AreServed n cs → AreServed m cs
 served_more n m [] e h = tt
 served_more n m (c ∷ cs) e h = (grind (arith, h.0, e), served_more n m cs e h.1)
-
-lost_fibril : (label : Label) (c : Conn) → (lose_label label c).fibril ≡ c.fibril
-lost_fibril label c = lost_by (leads_to label c)
-  where
-    lost_by : (b : Bool) →
-        (if b then record c { routes = false; closed = true } else c).fibril ≡ c.fibril
-    lost_by true = refl
-    lost_by false = refl
 
 served_lost : (n : ℕ) (label : Label) (cs : List Conn) →
     AreServed n cs → AreServed n (lose_labels label cs)

@@ -3,16 +3,17 @@
 use Rattle.std.proofs.Common.{ℕ, zero, suc, ◌≡◌, ◌-◌, ◌<◌, ◌⊎◌, inl, inr, Bool, true, false}
 use Rattle.std.proofs.Common.{Option, Some, None, List, [], ◌∷◌, ◌++◌, length, refl, sym, ap, subst, ◌∙◌}
 use Rattle.std.proofs.Common.{arith}
-use Rattle.std.specs.Prelude.{◌&&◌, ◌||◌, if◌then◌else◌, slice_get}
+use Rattle.std.specs.Prelude.{◌||◌, if◌then◌else◌, slice_get}
 use Rattle.std.specs.List.{list_any, filter}
 use Rattle.std.proofs.lemmas.Bool.{cases_eq}
 use Rattle.std.proofs.lemmas.List.Folds.{list_any-append}
+use Rattle.ipc_ids.proofs.Common.{and_second}
 use Rattle.fibril_core.specs.declared.fibrils.Status.{Status}
 use Rattle.fibril_core.specs.declared.fibrils.Status.TheVariants.{Ready, Blocked, Ended}
 use Rattle.fibril_core.specs.declared.fibrils.Fibril.{Fibril}
 use Rattle.fibril_core.specs.Fibrils.{why_of}
 use Rattle.fibril_core.specs.LiveFibrils.{is_live, AreLive}
-use Rattle.fibril_core.proofs.Live.{numbered_at}
+use Rattle.fibril_core.proofs.Live.{numbered_at, before_suc}
 use Rattle.async_task.specs.declared.context.Context.{Context}
 use Rattle.async_task.specs.Kept.{kept_at}
 use Rattle.async_task.specs.AsyncState.{AsyncState}
@@ -105,17 +106,10 @@ some_waits (suc n) m a s less is = by (cases_eq m n) (λ h. some_waits n m a s h
             by_less (inl e) = absurd (h e)
             by_less (inr g) = grind (arith, less, g)
 
-and_left : (a b : Bool) → (a && b) ≡ true → b ≡ true
-and_left true b e = e
-and_left false b e = absurd (cc e)
-
 within : (ts : List (Option Context)) (i : ℕ) (t : Context) → kept_at ts i ≡ Some t → i < length ts
 within [] i t h = absurd (cc h)
 within (u ∷ ts) zero t h = omega arith
 within (u ∷ ts) (suc i) t h = let less = within ts i t h in omega arith
-
-before_suc : (i : ℕ) → suc i - 1 ≡ i
-before_suc i = omega arith
 
 -- one that waits keeps something
 has_context : (a : AsyncState) (s i : ℕ) → waits_for a s (record { 0 = suc i }) ≡ true →
@@ -125,7 +119,7 @@ has_context a s i is = by (kept_at a.contexts i) refl begins
     begins : begins_in a s (kept_at a.contexts i) ≡ true
     begins =
         subst (λ (k : ℕ). begins_in a s (kept_at a.contexts k) ≡ true) (before_suc i)
-        (and_left (is_blocked (why_of a.order (record { 0 = suc i })))
+        (and_second (is_blocked (why_of a.order (record { 0 = suc i })))
         (begins_in a s (kept_at a.contexts (suc i - 1))) is)
 
     by : (q : Option Context) → kept_at a.contexts i ≡ q → begins_in a s q ≡ true →

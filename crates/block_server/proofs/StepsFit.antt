@@ -2,7 +2,7 @@
 use Rattle.std.proofs.Common.{ℕ, ◌≡◌, Bool, true, false, List, [], ◌∷◌, Option, Some, None, length, zero, suc, inl, inr, refl, sym, subst, ap, ◌∙◌, arith}
 use Rattle.std.specs.Prelude.{⊤, ◌⊎◌, ◌==◌, nat_lt, is_some, slice_get, slice_set, get_or, replicate, ◌+◌}
 use Rattle.std.proofs.lemmas.Bool.{eq-eqb, ne_eqb, eqb-true, ltb-true}
-use Rattle.std.proofs.lemmas.Option.{slice_get-get_or}
+use Rattle.std.proofs.lemmas.Option.{slice_get-get_or, same_Some}
 use Rattle.ipc_ids.specs.declared.numbers.Label.{Label}
 use Rattle.ipc_ids.specs.declared.numbers.CallNo.{CallNo}
 use Rattle.ipc_ids.specs.declared.numbers.Code.{Code}
@@ -12,10 +12,11 @@ use Rattle.ipc_ids.specs.declared.message.Request.{Request}
 use Rattle.ipc_ids.specs.declared.message.Request.TheVariants as request
 use Rattle.ipc_ids.specs.declared.message.Outcome.{Outcome}
 use Rattle.ipc_ids.specs.declared.message.Outcome.TheVariants as outcome
-use Rattle.ipc_ids.specs.Program.{fits, is_call_outcome, is_done_or_refused}
+use Rattle.ipc_ids.specs.Program.{fits, is_call_outcome}
 use Rattle.ipc_ids.specs.Codes.{eok, enoent, einval, elimit, ehangup}
 use Rattle.ipc_ids.specs.Methods.{phone_hungup, connect_me_to, share_out}
 use Rattle.ipc_ids.specs.Doings.{Doing, Asks, Told, receipt, asks_for, is_kept, MayBeTold}
+use Rattle.ipc_ids.proofs.Common.{done_no_receipt, is_receipt}
 use Rattle.block_server.specs.declared.received.ReceivedCall.{ReceivedCall}
 use Rattle.block_server.specs.declared.received.Work.{Work}
 use Rattle.block_server.specs.declared.received.Work.TheVariants.{Offer, Drop, Answer, Show, Fetch}
@@ -64,10 +65,6 @@ same_after p q r a b = record {
   blocks = λ c. b.blocks c ∙ a.blocks c;
   lawful = λ l. b.lawful (a.lawful l);
 }
-
-abbrev is_receipt : Outcome → Bool
-is_receipt (outcome.Received n msg label) = true
-is_receipt _ = false
 
 -- an outcome that is no receipt, and not that of a peek
 told_same : (p : List Doing) (o : Outcome) → is_receipt o ≡ false → block.is_peek p ≡ false → SaysTheSame p (Told o ∷ p)
@@ -273,9 +270,7 @@ at_set : (bs : List (List ℕ)) (i j : ℕ) (x y : List ℕ) → slice_get (slic
     → (j ≡ i) × (y ≡ x) ⊎ ((j ≡ i → ⊥) × (slice_get bs j ≡ Some y))
 at_set [] i zero x y h = absurd (cc h)
 at_set [] i (suc j) x y h = absurd (cc h)
-at_set (q ∷ bs) zero zero x y h = inl (refl, sym (some_is x y h)) where
-  some_is : (a b : List ℕ) → Some a ≡ Some b → a ≡ b
-  some_is a b e = cc e
+at_set (q ∷ bs) zero zero x y h = inl (refl, sym (same_Some x y h))
 at_set (q ∷ bs) zero (suc j) x y h = inr (λ e. cc, h)
 at_set (q ∷ bs) (suc i) zero x y h = inr (λ e. cc, h)
 at_set (q ∷ bs) (suc i) (suc j) x y h = elim (at_set bs i j x y h) [
@@ -345,9 +340,6 @@ counted s ws = record s { work = ws; taken = s.taken + 1 }
 
 call_no_receipt : (o : Outcome) → is_call_outcome o ≡ true → is_receipt o ≡ false
 call_no_receipt o h = grind (arith, h)
-
-done_no_receipt : (o : Outcome) → is_done_or_refused o ≡ true → is_receipt o ≡ false
-done_no_receipt o h = grind (arith, h)
 
 by_work : (p : List Doing) (s : BlockState) (o : Outcome) (ws : List Work) → BlocksFit p (doing s ws) → fits (wanted (doing s ws)) o ≡ true → MayBeTold p (wanted (doing s ws)) o
     → BlocksFit (then p (wanted (doing s ws)) o) (after (doing s ws) o)

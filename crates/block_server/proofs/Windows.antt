@@ -2,12 +2,12 @@
 use Rattle.std.proofs.Common.{◌≡◌, ◌⊎◌, inl, inr, ◌+◌, ℕ, zero, suc, ◌==◌, Bool, true, false, List, [], ◌∷◌, length, Option, Some, None, refl, sym, ap, ◌∙◌, subst, arith}
 use Rattle.std.specs.Prelude.{nat_lt, option_map, slice_get, slice_set, position, cond, if◌then◌else◌, replicate}
 use Rattle.std.specs.List.{position_or_len}
-use Rattle.std.proofs.lemmas.Bool.{eq-eqb}
+use Rattle.std.proofs.lemmas.Option.{same_Some}
 use Rattle.ipc_ids.specs.declared.numbers.Label.{Label}
 use Rattle.ipc_ids.specs.declared.message.Outcome.{Outcome}
 use Rattle.ipc_ids.specs.declared.message.Outcome.TheVariants as outcome
-use Rattle.ipc_ids.specs.Labels.{same_label}
 use Rattle.ipc_ids.specs.Methods.{connect_me_to}
+use Rattle.ipc_ids.proofs.Common.{own_label}
 use Rattle.block_server.specs.declared.received.ReceivedCall.{ReceivedCall}
 use Rattle.block_server.specs.declared.received.Work.{Work}
 use Rattle.block_server.specs.declared.received.Work.TheVariants.{Offer, Drop, Answer, Show, Fetch}
@@ -16,18 +16,12 @@ use Rattle.block_server.specs.declared.received.Asked.TheVariants.{Share, Read, 
 use Rattle.block_server.specs.Blocks.{BlockState, argument, has_label, slot_of, free_slot, label_given, is_window, is_offset, share_by, transfer_by, place_in, connect_by, enter_by, handled_by, handled_for, handled_if, asked_by, after_receive, first_work, after_outcome_by, after, started}
 use Rattle.block_server.specs.WindowLaws.{IsSlotOf, SlotsDiffer}
 
-some_is : {A : Type 0} (a b : A) → Some a ≡ Some b → a ≡ b
-some_is a b e = cc e
-
-none_at : {A : Type 0} (i : ℕ) (x : A) → slice_get {X = A} [] i ≡ Some x → ⊥
+pub none_at : {A : Type 0} (i : ℕ) (x : A) → slice_get {X = A} [] i ≡ Some x → ⊥
 none_at zero x at = absurd (cc at)
 none_at (suc i) x at = absurd (cc at)
 
-label_same : (a : Label) → same_label a a ≡ true
-label_same a = grind (arith, eq-eqb)
-
 -- the first place of a list, and the places behind it
-position_step : {A : Type 0} (test : A → Bool) (x : A) (xs : List A) → position test (x ∷ xs) ≡ (if test x then Some 0 else option_map suc (position test xs))
+pub position_step : {A : Type 0} (test : A → Bool) (x : A) (xs : List A) → position test (x ∷ xs) ≡ (if test x then Some 0 else option_map suc (position test xs))
 position_step test x xs = by_test (test x) refl where
   k : ℕ
   k = position_or_len test xs
@@ -49,11 +43,11 @@ none_found test (y ∷ xs) h i x at is = by_test (test y) refl (sym (position_st
   by_test : (b : Bool) → test y ≡ b → (if b then Some 0 else option_map suc (position test xs)) ≡ None → (k : ℕ) → slice_get (y ∷ xs) k ≡ Some x
       → (position test xs ≡ None → (m : ℕ) → slice_get xs m ≡ Some x → ⊥) → ⊥
   by_test true first none k here later = absurd (cc none)
-  by_test false first none zero here later = absurd (cc (first, ap test (some_is y x here), is))
+  by_test false first none zero here later = absurd (cc (first, ap test (same_Some y x here), is))
   by_test false first none (suc k) here later = later (none_later (position test xs) none) k here
 
 no_slot : (slots : List (Option Label)) (label : Label) → slot_of slots label ≡ None → (i : ℕ) → IsSlotOf slots i label → ⊥
-no_slot slots label h i at = none_found (has_label label) slots h i (Some label) at (label_same label)
+no_slot slots label h i at = none_found (has_label label) slots h i (Some label) at (own_label label)
 
 -- no two slots have one label
 
@@ -61,7 +55,7 @@ no_slot slots label h i at = none_found (has_label label) slots h i (Some label)
 at_slot : (slots : List (Option Label)) (slot k : ℕ) (new : Option Label) (label : Label) → IsSlotOf (slice_set slots slot new) k label
     → ((k ≡ slot) × (new ≡ Some label)) ⊎ ((k ≡ slot → ⊥) × IsSlotOf slots k label)
 at_slot [] slot k new label at = absurd (none_at k (Some label) at)
-at_slot (x ∷ slots) zero zero new label at = inl (refl, some_is new (Some label) at)
+at_slot (x ∷ slots) zero zero new label at = inl (refl, same_Some new (Some label) at)
 at_slot (x ∷ slots) zero (suc k) new label at = inr (λ same. cc same, at)
 at_slot (x ∷ slots) (suc slot) zero new label at = inr (λ same. cc same, at)
 at_slot (x ∷ slots) (suc slot) (suc k) new label at = elim (at_slot slots slot k new label at) [
@@ -82,10 +76,10 @@ differ_entered : (slots : List (Option Label)) (slot : ℕ) (new : Label) → ((
 differ_entered slots slot new none d i j label first second = elim (at_slot slots slot i (Some new) label first) [
   | inl e ↦ elim (at_slot slots slot j (Some new) label second) [
     | inl g ↦ e.0 ∙ sym g.0
-    | inr g ↦ absurd (none j (subst (λ (l : Label). IsSlotOf slots j l) (sym (some_is new label e.1)) g.1))
+    | inr g ↦ absurd (none j (subst (λ (l : Label). IsSlotOf slots j l) (sym (same_Some new label e.1)) g.1))
   ]
   | inr e ↦ elim (at_slot slots slot j (Some new) label second) [
-    | inl g ↦ absurd (none i (subst (λ (l : Label). IsSlotOf slots i l) (sym (some_is new label g.1)) e.1))
+    | inl g ↦ absurd (none i (subst (λ (l : Label). IsSlotOf slots i l) (sym (same_Some new label g.1)) e.1))
     | inr g ↦ d i j label e.1 g.1
   ]
 ]

@@ -6,13 +6,11 @@ use Rattle.std.specs.Ordering.{nat_cmp}
 use Rattle.std.specs.Cmp.{nat_cmp_total}
 use Rattle.std.specs.FinMap.{FinMap, get, insert, remove, empty, get-insert, get-remove, get-empty}
 use Rattle.std.proofs.lemmas.Bool.{cases_eq}
+use Rattle.std.proofs.lemmas.Option.{same_Some}
 use Rattle.call_slab.specs.declared.slots.Slot.{Slot}
 use Rattle.call_slab.specs.Slots.{at_key}
 use Rattle.call_slab.specs.Calls.{name_at, Keyed, IsKeyed}
 use Rattle.call_slab.proofs.Live.{tie, apart_tie}
-
-some_same : (x y : ℕ) → Some x ≡ Some y → x ≡ y
-some_same x y e = cc
 
 -- over the names by key and the keys by number alone, before and after
 module _ (S T K L : ℕ → Option ℕ) (last n k : ℕ) (q : Keyed S K last) (names_there : (j : ℕ) → (j ≡ k → ⊥) → T j ≡ S j) (keys_there : (m : ℕ) → (m ≡ n → ⊥) → L m ≡ K m) where
@@ -21,21 +19,21 @@ module _ (S T K L : ℕ → Option ℕ) (last n k : ℕ) (q : Keyed S K last) (n
       record {
         leads = λ m j e.
             ⊎_elim
-            (λ (t : m ≡ n). ap T (sym (some_same k j (sym key_here ∙ ap L (sym t) ∙ e))) ∙ name_here ∙ ap Some (sym t))
+            (λ (t : m ≡ n). ap T (sym (same_Some k j (sym key_here ∙ ap L (sym t) ∙ e))) ∙ name_here ∙ ap Some (sym t))
             (λ (t : m ≡ n → ⊥).
             let had = q.leads m j (sym (keys_there m t) ∙ e) in
             names_there j (λ (s : j ≡ k). absurd (cc (ap S s, had, free))) ∙ had)
             (cases_eq m n);
         known = λ m j e.
             ⊎_elim
-            (λ (t : j ≡ k). ap L (sym (some_same n m (sym name_here ∙ ap T (sym t) ∙ e))) ∙ key_here ∙ ap Some (sym t))
+            (λ (t : j ≡ k). ap L (sym (same_Some n m (sym name_here ∙ ap T (sym t) ∙ e))) ∙ key_here ∙ ap Some (sym t))
             (λ (t : j ≡ k → ⊥).
             let had = sym (names_there j t) ∙ e in
             keys_there m (λ (s : m ≡ n). let below = q.low m j had in absurd (omega arith)) ∙ q.known m j had)
             (cases_eq j k);
         low = λ m j e.
             ⊎_elim
-            (λ (t : j ≡ k). let here = some_same n m (sym name_here ∙ ap T (sym t) ∙ e) in omega arith)
+            (λ (t : j ≡ k). let here = same_Some n m (sym name_here ∙ ap T (sym t) ∙ e) in omega arith)
             (λ (t : j ≡ k → ⊥). let below = q.low m j (sym (names_there j t) ∙ e) in omega arith)
             (cases_eq j k);
       }
@@ -48,14 +46,14 @@ module _ (S T K L : ℕ → Option ℕ) (last n k : ℕ) (q : Keyed S K last) (n
             (λ (t : m ≡ n). absurd (cc (ap L t, e, key_gone)))
             (λ (t : m ≡ n → ⊥).
             let had = q.leads m j (sym (keys_there m t) ∙ e) in
-            names_there j (λ (s : j ≡ k). t (some_same m n (sym had ∙ ap S s ∙ was))) ∙ had)
+            names_there j (λ (s : j ≡ k). t (same_Some m n (sym had ∙ ap S s ∙ was))) ∙ had)
             (cases_eq m n);
         known = λ m j e.
             ⊎_elim
             (λ (t : j ≡ k). absurd (cc (ap T t, e, name_gone)))
             (λ (t : j ≡ k → ⊥).
             let had = sym (names_there j t) ∙ e in
-            keys_there m (λ (s : m ≡ n). t (some_same j k (sym (q.known m j had) ∙ ap K s ∙ q.known n k was))) ∙ q.known m j had)
+            keys_there m (λ (s : m ≡ n). t (same_Some j k (sym (q.known m j had) ∙ ap K s ∙ q.known n k was))) ∙ q.known m j had)
             (cases_eq j k);
         low = λ m j e.
             ⊎_elim

@@ -1,3 +1,3 @@
 mod Keyed
-mod Live
+pub mod Live
 mod Pages

@@ -1,5 +1,5 @@
 -- The slots with a call as a finite map, and the slots that are ready, as slots are written.
-use Rattle.std.proofs.Common.{◌≡◌, ℕ, zero, suc, ◌+◌, ◌<◌, ◌≤◌, Bool, true, false, cond, ◌&&◌, List, [], ◌∷◌, ◌++◌, Option, Some, None, IsSome, refl, sym, ap, ◌∙◌, arith, T, nat_eq, ⊎_elim}
+use Rattle.std.proofs.Common.{◌≡◌, ℕ, zero, suc, ◌+◌, ◌<◌, ◌≤◌, Bool, true, false, cond, List, [], ◌∷◌, ◌++◌, Option, Some, None, IsSome, refl, sym, ap, ◌∙◌, arith, T, nat_eq, ⊎_elim}
 use Rattle.std.specs.Prelude.{slice_index_or, map, count_by, ◌==◌}
 use Rattle.std.proofs.lemmas.List.Sums.{sum_by_push}
 use Rattle.std.specs.Ordering.{nat_cmp, eq_by_cmp, is_eq, is_lt}
@@ -7,9 +7,10 @@ use Rattle.std.specs.Cmp.{nat_cmp_total}
 use Rattle.std.specs.FinMap.{find, is_sorted, same_map, nat_cmp-IsAntisymmetric, get-insert, get-remove, get-from_sorted, get-empty, empty}
 use Rattle.std.specs.FinMap as fin
 use Rattle.std.specs.FinMap.Entries.{below_all}
-use Rattle.std.proofs.lemmas.Bool.{cases_eq}
+use Rattle.std.proofs.lemmas.Bool.{cases_eq, ne_eqb}
 use Rattle.std.proofs.lemmas.Bool.Decides.{nat_tests}
-use Rattle.slab.specs.Slab.{Slab, entries_from, Updates, with_value, ContainsKey}
+use Rattle.ipc_ids.proofs.Common.{and_holds, is_same}
+use Rattle.slab.specs.Slab.{Slab, entries_from, Updates, with_value}
 use Rattle.slab.specs.Slab as slab
 use Rattle.slab.proofs.SlabLemmas.{Updates-with_value}
 use Rattle.call_slab.specs.declared.slots.Slot.{Slot}
@@ -21,7 +22,7 @@ tie q = grind (arith, nat_tests)
 no_tie : (q k : ℕ) → q < k → is_eq (nat_cmp q k) ≡ false
 no_tie q k h = grind (arith, nat_tests)
 
-past_tie : (q k : ℕ) → k < q → is_eq (nat_cmp q k) ≡ false
+pub past_tie : (q k : ℕ) → k < q → is_eq (nat_cmp q k) ≡ false
 past_tie q k h = grind (arith, nat_tests)
 
 pub apart_tie : (q k : ℕ) → (q ≡ k → ⊥) → is_eq (nat_cmp q k) ≡ false
@@ -29,10 +30,6 @@ apart_tie q k h = grind (arith, nat_tests)
 
 lt_cmp : (q k : ℕ) → q < k → is_lt (nat_cmp q k) ≡ true
 lt_cmp q k h = grind (arith, nat_tests)
-
-both : (a b : Bool) → T a → T b → T (a && b)
-both true b p q = q
-both false b p q = p
 
 module _ {X : Type 0} where
   ahead : (q k : ℕ) (xs : List (Option X)) → q < k → T (below_all nat_cmp q (entries_from k xs))
@@ -43,7 +40,7 @@ module _ {X : Type 0} where
   in_order : (k : ℕ) (xs : List (Option X)) → T (is_sorted nat_cmp (entries_from k xs))
   in_order k [] = tt
   in_order k (None ∷ xs) = in_order (k + 1) xs
-  in_order k (Some x ∷ xs) = both _ _ (ahead k (k + 1) xs (omega arith)) (in_order (k + 1) xs)
+  in_order k (Some x ∷ xs) = and_holds _ _ (ahead k (k + 1) xs (omega arith)) (in_order (k + 1) xs)
 
   find_none : (q k : ℕ) (xs : List (Option X)) → q < k → find nat_cmp q (entries_from k xs) ≡ None
   find_none q k [] h = refl
@@ -102,12 +99,6 @@ live_is (Some x) h = by_name (x.name == 0) h where
   by_name true h = absurd (cc h)
   by_name false h = (refl, refl)
 
-eq_same : (q : ℕ) → nat_eq q q ≡ true
-eq_same q = grind (arith, nat_tests)
-
-eq_apart : (q k : ℕ) → (q ≡ k → ⊥) → nat_eq q k ≡ false
-eq_apart q k n = grind (arith, nat_tests)
-
 is_zero : (n : ℕ) → n ≡ 0 → (n == 0) ≡ true
 is_zero n e = rw e refl
 
@@ -150,10 +141,10 @@ pushed : (q k : ℕ) (xs : List ℕ) → count_by (nat_eq q) (xs ++ k ∷ []) �
 pushed q k xs = sum_by_push (λ x. cond (nat_eq q x) 1 0) xs k
 
 pushed_here : (k : ℕ) (xs : List ℕ) → count_by (nat_eq k) (xs ++ k ∷ []) ≡ count_by (nat_eq k) xs + 1
-pushed_here k xs = rw (pushed k k xs, eq_same k) refl
+pushed_here k xs = rw (pushed k k xs, is_same k) refl
 
 pushed_there : (q k : ℕ) (xs : List ℕ) → (q ≡ k → ⊥) → count_by (nat_eq q) (xs ++ k ∷ []) ≡ count_by (nat_eq q) xs
-pushed_there q k xs n = rw (pushed q k xs, eq_apart q k n) (omega arith)
+pushed_there q k xs n = rw (pushed q k xs, ne_eqb q k n) (omega arith)
 
 -- the last of the slots that are ready waits for a call
 pub last_waits : (s : Slab Slot) (xs : List ℕ) (k : ℕ) → AreReady s (xs ++ k ∷ []) → (live (slab.get s k) ≡ None) × IsSome (slab.get s k)

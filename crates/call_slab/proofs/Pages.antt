@@ -6,20 +6,15 @@ use Rattle.std.specs.FinMap.{find, insert, remove, empty, same_map, nat_cmp-IsAn
 use Rattle.std.specs.FinMap as fin
 use Rattle.std.specs.List.{AllByRecursion, IsDistinct}
 use Rattle.std.specs.Map.{keys_of, lookup}
-use Rattle.std.proofs.lemmas.Bool.{cases_eq}
+use Rattle.std.proofs.lemmas.Bool.{cases_eq, ne_eqb}
 use Rattle.std.proofs.lemmas.Bool.Decides.{nat_tests}
 use Rattle.std.proofs.lemmas.Map.Keys.{IsDistinct-head, IsDistinct-tail, IsDistinct-cons}
+use Rattle.ipc_ids.proofs.Common.{is_same}
 use Rattle.call_slab.specs.declared.index.Page.{Page}
 use Rattle.call_slab.specs.Index.{key_in, key_at, no_calls, with_key, keys_below, keys_of_pages, keys_in, IsPaged}
 
-same_eq : (n : ℕ) → nat_eq n n ≡ true
-same_eq n = grind (arith, nat_tests)
-
 is_eq_true : (q n : ℕ) → q ≡ n → nat_eq q n ≡ true
 is_eq_true q n h = grind (arith, nat_tests)
-
-apart_eq : (q n : ℕ) → (q ≡ n → ⊥) → nat_eq q n ≡ false
-apart_eq q n h = grind (arith, nat_tests)
 
 eq_tie : (q k : ℕ) → is_eq (nat_cmp q k) ≡ nat_eq q k
 eq_tie q k = grind (arith, nat_tests)
@@ -58,7 +53,7 @@ lookup_append q (x ∷ xs) ys = ap (cond (nat_eq q x.0) (Some x.1)) (lookup_appe
 
 head_apart : (q n : ℕ) (o : Option ℕ) (es : List (ℕ × ℕ)) → (q ≡ n → ⊥) → lookup (nat_eq q) (with_key n o es) ≡ lookup (nat_eq q) es
 head_apart q n None es h = refl
-head_apart q n (Some k) es h = rw (apart_eq q n h) refl
+head_apart q n (Some k) es h = rw (ne_eqb q n h) refl
 
 head_here : (q n : ℕ) (o : Option ℕ) (es : List (ℕ × ℕ)) → q ≡ n → lookup (nat_eq q) es ≡ None → lookup (nat_eq q) (with_key n o es) ≡ o
 head_here q n None es e h = h
@@ -106,7 +101,7 @@ hits (e ∷ ps) q p l b is d =
     ∙ rw (is_eq_true p e.0 t) refl)
     (λ (t : p ≡ e.0 → ⊥).
     ap (λ o. either o (lookup (nat_eq q) (keys_of_pages ps))) (miss e.1 (8 * e.0) 8 q (λ m lt s. t (omega arith)))
-    ∙ rest ∙ rw (apart_eq p e.0 t) refl)
+    ∙ rest ∙ rw (ne_eqb p e.0 t) refl)
     (cases_eq p e.0)
 
 find_keys : (es : List (ℕ × ℕ)) (q : ℕ) → find nat_cmp q es ≡ lookup (nat_eq q) es
@@ -129,7 +124,7 @@ pub open_lane : (a : ℕ) (page : Page) (es : List (ℕ × Page)) (p l : ℕ) �
 open_lane a page es p l e = rw (is_eq_true p a e) refl
 
 pub other_lane : (a : ℕ) (page : Page) (es : List (ℕ × Page)) (p l : ℕ) → (p ≡ a → ⊥) → lane_of a page es p l ≡ key_at (lookup (nat_eq p) es) l
-other_lane a page es p l h = rw (apart_eq p a h) refl
+other_lane a page es p l h = rw (ne_eqb p a h) refl
 
 -- from old to new the lane of this number is written, and no other
 pub record Writes (old new : ℕ → ℕ → Option ℕ) (n : ℕ) (v : Option ℕ) : Type 0 where
@@ -147,7 +142,7 @@ at_number old new n v w q =
     ap (λ p. new p (q % 8)) (sym s) ∙ w.lanes (q % 8) (λ r. t (same_number q n s r)) ∙ ap (λ p. old p (q % 8)) s)
     (λ (s : n / 8 ≡ q / 8 → ⊥). w.others (q / 8) (q % 8) s)
     (cases_eq (n / 8) (q / 8))
-    ∙ rw (sym (flip q n), apart_eq n q t) refl)
+    ∙ rw (sym (flip q n), ne_eqb n q t) refl)
     (cases_eq n q)
 
 module _ (a b : ℕ) (page page' : Page) (es fs : List (ℕ × Page)) (p : IsPaged a es) (p' : IsPaged b fs) (n : ℕ) where
@@ -169,8 +164,8 @@ module _ (a b : ℕ) (page page' : Page) (es fs : List (ℕ × Page)) (p : IsPag
 pub open_written : (a n : ℕ) (page page' : Page) (es : List (ℕ × Page)) (v : Option ℕ) → n / 8 ≡ a → ((l : ℕ) → key_in page' l ≡ cond (nat_eq (n % 8) l) v (key_in page l)) → Writes (lane_of a page es) (lane_of a page' es) n v
 open_written a n page page' es v e h =
     record {
-      here = open_lane a page' es (n / 8) (n % 8) e ∙ h (n % 8) ∙ rw (same_eq (n % 8)) refl;
-      lanes = λ l t. open_lane a page' es (n / 8) l e ∙ h l ∙ rw (apart_eq (n % 8) l t) refl ∙ sym (open_lane a page es (n / 8) l e);
+      here = open_lane a page' es (n / 8) (n % 8) e ∙ h (n % 8) ∙ rw (is_same (n % 8)) refl;
+      lanes = λ l t. open_lane a page' es (n / 8) l e ∙ h l ∙ rw (ne_eqb (n % 8) l t) refl ∙ sym (open_lane a page es (n / 8) l e);
       others = λ p l t.
           let far = λ (s : p ≡ a). t (omega arith) in
           other_lane a page' es p l far ∙ sym (other_lane a page es p l far);
@@ -183,17 +178,17 @@ pub other_written : (a n : ℕ) (page : Page) (es fs : List (ℕ × Page)) (v : 
 other_written a n page es fs v far here lanes others =
     record {
       here = other_lane a page fs (n / 8) (n % 8) far ∙ here;
-      lanes = λ l t. other_lane a page fs (n / 8) l far ∙ lanes l (apart_eq (n % 8) l t) ∙ sym (other_lane a page es (n / 8) l far);
+      lanes = λ l t. other_lane a page fs (n / 8) l far ∙ lanes l (ne_eqb (n % 8) l t) ∙ sym (other_lane a page es (n / 8) l far);
       others = λ p l t.
           ⊎_elim
           (λ (s : p ≡ a). open_lane a page fs p l s ∙ sym (open_lane a page es p l s))
-          (λ (s : p ≡ a → ⊥). other_lane a page fs p l s ∙ ap (λ o. key_at o l) (others p (apart_eq (n / 8) p t)) ∙ sym (other_lane a page es p l s))
+          (λ (s : p ≡ a → ⊥). other_lane a page fs p l s ∙ ap (λ o. key_at o l) (others p (ne_eqb (n / 8) p t)) ∙ sym (other_lane a page es p l s))
           (cases_eq p a);
     }
 
 -- the open page stays apart where another one changes
 pub paged_still : (a p : ℕ) (es fs : List (ℕ × Page)) → IsPaged a es → (p ≡ a → ⊥) → ((q : ℕ) → nat_eq p q ≡ false → lookup (nat_eq q) fs ≡ lookup (nat_eq q) es) → IsDistinct nat_eq (keys_of fs) → IsPaged a fs
-paged_still a p es fs paged far others unique = record { apart = others a (apart_eq p a far) ∙ paged.apart; unique = unique }
+paged_still a p es fs paged far others unique = record { apart = others a (ne_eqb p a far) ∙ paged.apart; unique = unique }
 
 -- the page of a number is taken from es and opened in place of the page a, which is put in, and then they are fs
 module _ (a n : ℕ) (page taken page' : Page) (es fs : List (ℕ × Page)) (far : n / 8 ≡ a → ⊥)
@@ -201,7 +196,7 @@ module _ (a n : ℕ) (page taken page' : Page) (es fs : List (ℕ × Page)) (far
   pub opened_paged : IsDistinct nat_eq (keys_of fs) → IsPaged (n / 8) fs
   opened_paged unique =
       record {
-        apart = others (n / 8) (apart_eq a (n / 8) (λ e. far (sym e))) ∙ rw (same_eq (n / 8)) refl;
+        apart = others (n / 8) (ne_eqb a (n / 8) (λ e. far (sym e))) ∙ rw (is_same (n / 8)) refl;
         unique = unique;
       }
 
@@ -209,14 +204,14 @@ module _ (a n : ℕ) (page taken page' : Page) (es fs : List (ℕ × Page)) (far
       → ((l : ℕ) → key_in page' l ≡ cond (nat_eq (n % 8) l) v (key_in taken l)) → Writes (lane_of a page es) (lane_of (n / 8) page' fs) n v
   opened_written v had keeps written =
       record {
-        here = open_lane (n / 8) page' fs (n / 8) (n % 8) refl ∙ written (n % 8) ∙ rw (same_eq (n % 8)) refl;
-        lanes = λ l t. open_lane (n / 8) page' fs (n / 8) l refl ∙ written l ∙ ap (λ b. cond b v (key_in taken l)) (apart_eq (n % 8) l t) ∙ had l ∙ sym (other_lane a page es (n / 8) l far);
+        here = open_lane (n / 8) page' fs (n / 8) (n % 8) refl ∙ written (n % 8) ∙ rw (is_same (n % 8)) refl;
+        lanes = λ l t. open_lane (n / 8) page' fs (n / 8) l refl ∙ written l ∙ ap (λ b. cond b v (key_in taken l)) (ne_eqb (n % 8) l t) ∙ had l ∙ sym (other_lane a page es (n / 8) l far);
         others = λ p l t.
             other_lane (n / 8) page' fs p l (λ s. t (sym s))
             ∙ ⊎_elim
             (λ (s : p ≡ a). ap (λ m. key_at (lookup (nat_eq m) fs) l) s ∙ keeps l ∙ sym (open_lane a page es p l s))
             (λ (s : p ≡ a → ⊥).
-            ap (λ o. key_at o l) (others p (apart_eq a p (λ r. s (sym r))) ∙ ap (λ b. cond b None (lookup (nat_eq p) es)) (apart_eq (n / 8) p t))
+            ap (λ o. key_at o l) (others p (ne_eqb a p (λ r. s (sym r))) ∙ ap (λ b. cond b None (lookup (nat_eq p) es)) (ne_eqb (n / 8) p t))
             ∙ sym (other_lane a page es p l s))
             (cases_eq p a);
       }

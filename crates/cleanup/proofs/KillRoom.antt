@@ -3,7 +3,7 @@ use Rattle.std.proofs.Common.{◌≡◌, ℕ, zero, suc, ◌+◌, ◌*◌, ◌-�
 use Rattle.std.specs.Prelude.{◌==◌, ◌&&◌, ◌||◌, if◌then◌else◌}
 use Rattle.std.specs.Option.{option_map_or}
 use Rattle.std.proofs.lemmas.Option.{slice_get_past}
-use Rattle.std.proofs.lemmas.Bool.{cases_eq, cases_lt, eq-eqb, ne_eqb, false≢true}
+use Rattle.std.proofs.lemmas.Bool.{cases_eq, cases_lt, eq-eqb, ne_eqb, false≢true, or_right, and_right}
 use Rattle.std.specs.FinMap.{FinMap, find, get, insert, len, entries, get-entries}
 use Rattle.std.specs.Ordering.{nat_cmp}
 use Rattle.ipc_ids.specs.declared.numbers.TaskNo.{TaskNo}
@@ -14,22 +14,23 @@ use Rattle.ipc_ids.specs.Codes.{ehangup}
 use Rattle.call_slab.specs.declared.call.Call.{Call}
 use Rattle.call_slab.specs.declared.call.Place.{Place}
 use Rattle.call_slab.specs.declared.call.Place.TheVariants.{Incoming, Dispatched, Answers}
+use Rattle.call_slab.proofs.Live.{tie}
 use Rattle.answerbox.specs.Calls.{CallTable, call_at, front, same_place, is_caller, enqueue, put_at, without_call, count_of, calls_at, calls_by}
 use Rattle.answerbox.proofs.Counts.{count-len, count-insert, count-replace, count-without_call}
-use Rattle.answerbox.proofs.Fronts.{front_live, no_front-has_no_calls, ties}
+use Rattle.answerbox.proofs.Fronts.{front_live, no_front-has_no_calls}
 use Rattle.phone_table.specs.Phones.{row_at, state_at}
 use Rattle.switchboard.specs.State.{KernelState, Transition, alive_in, is_alive, phone_at, with_state_at, with_calls, live_calls, each, width}
 use Rattle.switchboard.specs.Counts.{AreNumbered}
 use Rattle.switchboard.specs.Joins.{bare_reply, hangup_call, hang_up, declined_call, settle_for, lives, drop_answer, slam, slam_at}
 use Rattle.switchboard.specs.Kept.{kept_phone, with_kept}
 use Rattle.cleanup.specs.Kill.{task_no, hang_up_at, hang_up_own_phones, slam_other, slam_phones_to, first_at, settle_call, settle_calls_at, drop_answers}
-use Rattle.switchboard.specs.Rooms.{calls_of_hangup, has_phone, tells_two, vanish_entries, settle_entries, settle_moves}
-use Rattle.switchboard.specs.Board.{IsPendingAt, IsCallOf}
+use Rattle.switchboard.specs.Rooms.{calls_of_hangup, has_phone, tells_two, settle_entries, settle_moves}
+use Rattle.switchboard.specs.Board.{IsPendingAt}
 use Rattle.cleanup.specs.KillRoom.{total, own_calls, leading_at, leading, kill_calls, kill_moves, moves_at, entries_at}
-use Rattle.switchboard.proofs.Endings.{length_rows}
 use Rattle.switchboard.proofs.Lookups.{at_insert, row_at_set, fewer_calls}
 use Rattle.switchboard.proofs.Keeping.{each_with, each_without}
 use Rattle.switchboard.proofs.Repeats.{NoneIs, by_test, each_keeps, drain_keeps, drain_empties}
+use Rattle.switchboard.proofs.Soundness.{length_rows}
 use Rattle.cleanup.proofs.Silence.{slams_keep}
 use Rattle.cleanup.proofs.Queues.{IsLive, answered, over_less, put_less, settle_less, over_none}
 use Rattle.cleanup.proofs.KilledPhones.{written_elsewhere}
@@ -241,7 +242,7 @@ count_none test (suc n) k few h = by_list (entries k.calls.records) refl (count_
   by_list : (es : List (ℕ × Call)) → entries k.calls.records ≡ es → ((j : KernelState) → len j.calls.records ≤ n → NoneIs test j → count_of test (entries j.calls.records) ≡ 0) → count_of test (entries k.calls.records) ≡ 0
   by_list [] is fewer = ap (count_of test) is
   by_list (e ∷ es) is fewer =
-      let there : call_at k.calls e.0 ≡ Some e.1 = get-entries k.calls.records e.0 ∙ ap (find nat_cmp e.0) is ∙ rw (ties e.0) refl in
+      let there : call_at k.calls e.0 ≡ Some e.1 = get-entries k.calls.records e.0 ∙ ap (find nat_cmp e.0) is ∙ rw (tie e.0) refl in
       let sum = rw (h e.0 e.1 there) at (count-without_call test k.calls e.0 e.1 there) in
       let less = fewer_calls k.calls e.0 e.1 there in
       let rest = fewer (with_calls k (without_call k.calls e.0)) (omega (arith, few, less)) (over_none test k e.0 h) in
@@ -256,10 +257,6 @@ made_after_hangups t k j is =
     let added = hangups_add (waits_or_made t) t (width k.tasks.phones t.0) 0 k in
     let either = count_either (λ c. same_place c.place (Incoming t)) (λ c. is_caller t c.caller) (entries k.calls.records) in
     rw is (omega (arith, added, either))
-
-none_both : (a b : Bool) → b ≡ false → (a && b) ≡ false
-none_both true b e = e
-none_both false b e = refl
 
 first_of : (a b : Bool) → (a && b) ≡ true → a ≡ true
 first_of true b e = refl
@@ -276,7 +273,7 @@ lives_same k j same (Some u) = ap (λ (alive : List Bool). alive_in alive u.0) s
 -- where a call of a hangup of t fails the test, t has no more such calls after its hangups than wait there
 waiting_pass : (test : Call → Bool) (t : TaskNo) (k j : KernelState) → j ≡ (hang_up_own_phones t k).state → ((c : Call) → c.caller ≡ Some t → kept_phone c ≡ None → test c ≡ false) → count_of (λ c. same_place c.place (Incoming t) && test c) (entries j.calls.records) ≤ calls_at k.calls (Incoming t)
 waiting_pass test t k j is fails =
-    let none = hangups_none (λ c. same_place c.place (Incoming t) && test c) t k (λ c u e from kept. none_both (same_place c.place (Incoming t)) (test c) (fails c from kept)) in
+    let none = hangups_none (λ c. same_place c.place (Incoming t) && test c) t k (λ c u e from kept. and_right (same_place c.place (Incoming t)) (test c) (fails c from kept)) in
     let some = some_at test k (Incoming t) in
     rw is (omega (arith, none, some))
 
@@ -423,13 +420,9 @@ module _ (t : TaskNo) (held told own : ℕ) where
       (calls_at k.calls (Incoming t)) k h (omega arith) in
       let after : KernelState = (settle_calls_at (Incoming t) k).state in
       let empty = count_none (λ c. same_place c.place (Incoming t)) (len after.calls.records) after (omega arith) none in
-      let most = count_weaker (λ c. is_caller t c.caller) (waits_or_made t) (λ c e. either (same_place c.place (Incoming t)) (is_caller t c.caller) e) (entries after.calls.records) in
+      let most = count_weaker (λ c. is_caller t c.caller) (waits_or_made t) (λ c e. or_right (same_place c.place (Incoming t)) (is_caller t c.caller) e) (entries after.calls.records) in
       let less = all.less in
       rw is (omega (arith, less, empty, most))
-    where
-      either : (a b : Bool) → b ≡ true → (a || b) ≡ true
-      either true b e = refl
-      either false b e = e
 
   pub finds_after_drops : (k j : KernelState) → j ≡ (drop_answers t k).state → F k → F j
   finds_after_drops k j is h = subst F (sym is) (drain_keeps (first_at (Answers t)) (drop_answer t) F (λ i c g e. over_finds i c (kept_phone c) (live_front i (Answers t) c g e) g) (calls_at k.calls (Answers t)) k h)

@@ -8,6 +8,7 @@ use Rattle.ipc_ids.specs.declared.numbers.Label.{Label}
 use Rattle.ipc_ids.specs.declared.message.PhoneState.{PhoneState}
 use Rattle.ipc_ids.specs.declared.message.PhoneState.TheVariants.{Free, Connecting, Connected, HungUp, Slammed}
 use Rattle.ipc_ids.specs.Codes.{ehangup}
+use Rattle.ipc_ids.proofs.Common.{is_some, free_waits}
 use Rattle.call_slab.specs.declared.call.Call.{Call}
 use Rattle.call_slab.specs.declared.call.Place.TheVariants.{Incoming, Dispatched, Answers}
 use Rattle.answerbox.specs.Calls.{calls_at, calls_by}
@@ -47,9 +48,6 @@ slammed t Slammed = Slammed
 
 none_is : {A : Type 0} (o : Option A) → IsSome o → o ≡ None → ⊥
 none_is o h e = let g = rw e at h in cc
-
-is_some : {A : Type 0} (o : Option A) (x : A) → o ≡ Some x → IsSome o
-is_some o x e = rw e refl
 
 pub written_elsewhere : (rows : List (List PhoneState)) (a b t p : ℕ) (s : PhoneState) → ((t ≡ a) × (p ≡ b) → ⊥) → state_at (with_state_at rows a b s) t p ≡ state_at rows t p
 written_elsewhere rows a b t p s ne = by_state (state_at rows t p) (state_at (with_state_at rows a b s) t p) refl refl where
@@ -223,9 +221,6 @@ module _ (k : KernelState) (t : TaskNo) (sound : IsSound k) (alive : is_alive k 
 -- a phone is as it was, or waited for a connection and is free
 abbrev IsFreed : Option PhoneState → Option PhoneState → Type 0
 IsFreed before now = (now ≡ before) ⊎ ((before ≡ Some Connecting) × (now ≡ Some Free))
-
-free_waits : (o : Option PhoneState) → o ≡ Some Free → o ≡ Some Connecting → ⊥
-free_waits o a b = cc
 
 kept_freed : (rows : List (List PhoneState)) (kept : Option Label) (t p : ℕ) (o : Option PhoneState) → WaitsIn rows kept → IsFreed o (state_at rows t p) → IsFreed o (state_at (kept_rows rows kept Free) t p)
 kept_freed rows None t p o w h = h

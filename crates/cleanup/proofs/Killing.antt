@@ -1,8 +1,9 @@
 -- A kill keeps a sound state sound, and leaves nothing of the task.
-use Rattle.std.proofs.Common.{◌≡◌, ℕ, zero, suc, ◌+◌, ◌-◌, length, Bool, true, false, inl, inr, Option, None, Some, List, [], ◌∷◌, refl, ap, sym, subst, ◌∙◌, arith, set}
+use Rattle.std.proofs.Common.{◌≡◌, ℕ, zero, suc, ◌+◌, ◌-◌, length, Bool, true, false, inl, inr, Option, None, Some, List, [], refl, ap, sym, subst, ◌∙◌, arith, set}
 use Rattle.std.proofs.Math.ListN.{length-set}
 use Rattle.std.specs.Prelude.{◌==◌}
 use Rattle.std.proofs.lemmas.Bool.{cases_eq, eq-eqb, false≢true}
+use Rattle.std.proofs.lemmas.List.{nil_from_length}
 use Rattle.ipc_ids.specs.declared.numbers.TaskNo.{TaskNo}
 use Rattle.ipc_ids.specs.declared.numbers.Label.{Label}
 use Rattle.ipc_ids.specs.declared.message.Reply.{Reply}
@@ -100,10 +101,7 @@ areas_last k t I keeps h = each_keeps (drop_first_area t) I (λ j i h. by_base j
 
 -- the last part leaves no area of the task
 pub none_left : (t : TaskNo) (n i : ℕ) (k : KernelState) → count_areas k.memory t ≡ n → areas_of (each (drop_first_area t) n i k).state.memory t ≡ []
-none_left t zero i k is = by_areas (areas_of k.memory t) is where
-  by_areas : (areas : List Area) → length areas ≡ 0 → areas ≡ []
-  by_areas [] h = refl
-  by_areas (a ∷ areas) h = absurd (omega (arith, h))
+none_left t zero i k is = nil_from_length (areas_of k.memory t) is
 none_left t (suc n) i k is = by_base (first_area k.memory t) refl (none_left t n (i + 1)) where
   by_base : (o : Option ℕ) → first_area k.memory t ≡ o → ((j : KernelState) → count_areas j.memory t ≡ n → areas_of (each (drop_first_area t) n (i + 1) j).state.memory t ≡ []) → areas_of (each (drop_first_area t) n (i + 1) (lose_first_area t k o).state).state.memory t ≡ []
   by_base None none later = let zero_areas : count_areas k.memory t ≡ 0 = ap (λ (areas : List Area). length areas) (no_first k.memory t none) in absurd (omega (arith, is, zero_areas))

@@ -2,8 +2,9 @@
 use Rattle.std.proofs.Common.{◌≡◌, ℕ, zero, suc, ◌+◌, ◌-◌, ◌<◌, ◌≤◌, Bool, true, false, cond, not, ◌&&◌, ◌⊎◌, inl, inr, Option, None, Some, List, [], ◌∷◌, ◌++◌, replicate, refl, ap, sym, subst, ◌∙◌, arith}
 use Rattle.std.specs.Prelude.{◌==◌, if◌then◌else◌, IsSome, slice_get}
 use Rattle.std.specs.Ordering.{nat_cmp}
-use Rattle.std.proofs.lemmas.Bool.{cases_eq, eqb-true}
+use Rattle.std.proofs.lemmas.Bool.{cases_eq, eqb-true, and_parts}
 use Rattle.std.specs.FinMap.{len-empty, entries}
+use Rattle.std.proofs.lemmas.Option.{same_Some}
 use Rattle.ipc_ids.specs.declared.numbers.TaskNo.{TaskNo}
 use Rattle.ipc_ids.specs.declared.numbers.Label.{Label}
 use Rattle.ipc_ids.specs.declared.message.PhoneState.{PhoneState}
@@ -15,6 +16,7 @@ use Rattle.call_slab.specs.declared.call.Place.{Place}
 use Rattle.call_slab.specs.declared.call.Place.TheVariants.{Answers}
 use Rattle.answerbox.specs.Calls.{is_hangup, CallTable, no_calls, call_at, enqueue, put_at, without_call, with_record, count_of, is_caller, is_active_on, active_calls}
 use Rattle.ipc_ids.specs.Labels.{same_label}
+use Rattle.ipc_ids.proofs.Common.{and_false, is_some}
 use Rattle.answerbox.proofs.Counts.{count-len, count-enqueue, count-without_call, count-with_record, count-put_at}
 use Rattle.phone_table.specs.Phones.{Row, state_at, is_usable, first_usable, first_usable_from}
 use Rattle.switchboard.specs.State.{KernelState, Transition, start, is_alive, phone_at, label_of, with_state_at, with_phone, with_calls, with_task, width, mark_ended}
@@ -51,7 +53,7 @@ active_split q l = split_in (is_active_on l) is_hangup (entries q.records)
 
 -- no phone ever has more than 65
 pub active_within : (k : KernelState) → IsWithinLimits k → (t p : ℕ) → active_calls k.calls (label_at t p) ≤ 65
-active_within k h t p = let both = active_split k.calls (label_at t p) in let a = h.awaited t p in let b = h.hangups t p in omega arith
+active_within k h t p = let and_parts = active_split k.calls (label_at t p) in let a = h.awaited t p in let b = h.hangups t p in omega arith
 
 -- steps that make no call
 
@@ -106,18 +108,14 @@ none_more false b x y h e = let g = rw e at h in omega arith
 abbrev orphan : Call → Call
 orphan c = record c { caller = None }
 
-never : (b : Bool) → (b && false) ≡ false
-never true = refl
-never false = refl
-
 forget_counts : (test : Call → Bool) (q : CallTable) (c : Call) → call_at q c.number.0 ≡ Some c → test (orphan c) ≡ false → count_of test (entries (with_record q (orphan c)).records) ≤ count_of test (entries q.records)
 forget_counts test q c is fails = none_more (test c) (test (orphan c)) _ _ (count-with_record test q c (orphan c) is) fails
 
 forget_no_more : (q : CallTable) (c : Call) → call_at q c.number.0 ≡ Some c → NoMore q (with_record q (orphan c))
 forget_no_more q c is = record {
-  awaited = λ l. forget_counts (λ x. is_active_on l x && not (is_hangup x)) q c is (rw (never (same_label c.from l)) refl);
-  hangups = λ l. forget_counts (λ x. is_active_on l x && is_hangup x) q c is (rw (never (same_label c.from l)) refl);
-  active = λ l. forget_counts (is_active_on l) q c is (never (same_label c.from l));
+  awaited = λ l. forget_counts (λ x. is_active_on l x && not (is_hangup x)) q c is (rw (and_false (same_label c.from l)) refl);
+  hangups = λ l. forget_counts (λ x. is_active_on l x && is_hangup x) q c is (rw (and_false (same_label c.from l)) refl);
+  active = λ l. forget_counts (is_active_on l) q c is (and_false (same_label c.from l));
 }
 
 pub within_over : (k : KernelState) (c : Call) → IsWithinLimits k → IsLive k c → IsWithinLimits (with_calls k (without_call k.calls c.number.0))
@@ -130,9 +128,6 @@ within_forget : (k : KernelState) (c : Call) → IsWithinLimits k → IsLive k c
 within_forget k c h is = subst IsWithinLimits (sym (forget_step k c is)) (within_calls k (with_record k.calls (orphan c)) h (forget_no_more k.calls c is))
 
 -- a phone changes
-
-is_some : {A : Type 0} (o : Option A) (x : A) → o ≡ Some x → IsSome o
-is_some o x e = rw e refl
 
 -- where no call goes out over the phone if it is idle from now on, and where it is hung up if a hangup is active on it
 within_state : (k : KernelState) (t : TaskNo) (p : ℕ) (new : PhoneState) → IsWithinLimits k → IsSome (phone_at k t p) → (IsIdle (Some new) → active_calls k.calls (label_of t p) ≡ 0) → (1 ≤ hangup_calls k.calls (label_of t p) → new ≡ HungUp) → IsWithinLimits (with_phone k t p new)
@@ -155,17 +150,14 @@ within_state k t p new h there unused hung = record {
   at_idle a b (inl i) (inr ne) idle = h.idle a b (subst IsIdle (written_elsewhere k.tasks.phones t.0 p a b new (λ z. ne z.1)) idle)
   at_idle a b (inr ne) j idle = h.idle a b (subst IsIdle (written_elsewhere k.tasks.phones t.0 p a b new (λ z. ne z.0)) idle)
 
-one_state : (x y : PhoneState) → Some x ≡ Some y → x ≡ y
-one_state x y e = cc
-
 -- a phone over which calls may go out from now on, and that stays hung up if it was
 pub within_phone : (k : KernelState) (t : TaskNo) (p : ℕ) (old new : PhoneState) → IsWithinLimits k → phone_at k t p ≡ Some old → (IsIdle (Some new) → ⊥) → (old ≡ HungUp → new ≡ HungUp) → IsWithinLimits (with_phone k t p new)
 within_phone k t p old new h is busy stays =
-    within_state k t p new h (is_some (phone_at k t p) old is) (λ idle. absurd (busy idle)) (λ some. stays (one_state old HungUp (sym is ∙ h.hung_up t.0 p some)))
+    within_state k t p new h (is_some (phone_at k t p) old is) (λ idle. absurd (busy idle)) (λ some. stays (same_Some old HungUp (sym is ∙ h.hung_up t.0 p some)))
 
 -- a phone that no call is active on
 pub within_unused : (k : KernelState) (l : Label) (old new : PhoneState) → IsWithinLimits k → phone_at k l.task l.phone.0 ≡ Some old → active_calls k.calls l ≡ 0 → IsWithinLimits (with_kept k (Some l) new)
-within_unused k l old new h is unused = within_state k l.task l.phone.0 new h (is_some (phone_at k l.task l.phone.0) old is) (λ _. unused) (λ some. absurd (let both = active_split k.calls l in omega arith))
+within_unused k l old new h is unused = within_state k l.task l.phone.0 new h (is_some (phone_at k l.task l.phone.0) old is) (λ _. unused) (λ some. absurd (let and_parts = active_split k.calls l in omega arith))
 
 -- a phone that waits is freed, or connected
 pub within_kept : (k : KernelState) (kept : Option Label) (new : PhoneState) → IsWithinLimits k → WaitsIn k.tasks.phones kept → IsWithinLimits (with_kept k kept new)
@@ -205,15 +197,11 @@ within_drop t k c h kept is = within_over (with_kept k (kept_phone c) Free) c (w
 
 -- a call comes
 
-both : (a b : Bool) → (a && b) ≡ true → (a ≡ true) × (b ≡ true)
-both true b h = (refl, h)
-both false b h = absurd (cc h)
-
 -- a call is active on its own phone alone
 own_label : (a b : ℕ) (c : Call) → is_active_on (label_at a b) c ≡ true → (a ≡ c.from.task.0) × (b ≡ c.from.phone.0)
 own_label a b c h =
-    let same = both (same_label c.from (label_at a b)) (is_caller (label_at a b).task c.caller) h in
-    let parts = both (c.from.task.0 == a) (c.from.phone.0 == b) same.0 in
+    let same = and_parts (same_label c.from (label_at a b)) (is_caller (label_at a b).task c.caller) h in
+    let parts = and_parts (c.from.task.0 == a) (c.from.phone.0 == b) same.0 in
     (sym (eqb-true c.from.task.0 a parts.0), sym (eqb-true c.from.phone.0 b parts.1))
 
 rises : (b : Bool) (x y most : ℕ) → y ≡ cond b 1 0 + x → (b ≡ true → x < most) → x ≤ most → y ≤ most
@@ -239,14 +227,14 @@ module _ (k : KernelState) (c : Call) (h : IsWithinLimits k) (free : call_at k.c
   within_call other few = record {
     awaited = λ a b. rises (is_active_on (label_at a b) c && not (is_hangup c)) (awaited_calls k.calls (label_at a b)) (awaited_calls more (label_at a b)) 64
         (count-enqueue (λ d. is_active_on (label_at a b) d && not (is_hangup d)) k.calls c free)
-        (λ e. let own = own_label a b c (both (is_active_on (label_at a b) c) (not (is_hangup c)) e).0 in let parts = active_split k.calls (label_at a b) in subst (λ i. awaited_calls k.calls (label_at i b) < 64) (sym own.0) (subst (λ i. awaited_calls k.calls (label_at c.from.task.0 i) < 64) (sym own.1) (let whole = active_split k.calls c.from in omega arith)))
+        (λ e. let own = own_label a b c (and_parts (is_active_on (label_at a b) c) (not (is_hangup c)) e).0 in let parts = active_split k.calls (label_at a b) in subst (λ i. awaited_calls k.calls (label_at i b) < 64) (sym own.0) (subst (λ i. awaited_calls k.calls (label_at c.from.task.0 i) < 64) (sym own.1) (let whole = active_split k.calls c.from in omega arith)))
         (h.awaited a b);
     hangups = λ a b. let same = hangups_stay a b in let was = h.hangups a b in omega arith;
     hung_up = λ a b some. h.hung_up a b (let same = hangups_stay a b in omega arith);
     idle = still_idle;
   } where
     hangups_stay : (a b : ℕ) → hangup_calls more (label_at a b) ≡ hangup_calls k.calls (label_at a b)
-    hangups_stay a b = same_count (is_active_on (label_at a b) c && is_hangup c) (hangup_calls k.calls (label_at a b)) (hangup_calls more (label_at a b)) (count-enqueue (λ d. is_active_on (label_at a b) d && is_hangup d) k.calls c free) (rw other (never (is_active_on (label_at a b) c)))
+    hangups_stay a b = same_count (is_active_on (label_at a b) c && is_hangup c) (hangup_calls k.calls (label_at a b)) (hangup_calls more (label_at a b)) (count-enqueue (λ d. is_active_on (label_at a b) d && is_hangup d) k.calls c free) (rw other (and_false (is_active_on (label_at a b) c)))
 
   -- one that tells of a hangup, the first of its phone
   within_hangup : is_hangup c ≡ true → state_at k.tasks.phones c.from.task.0 c.from.phone.0 ≡ Some HungUp → hangup_calls k.calls c.from ≡ 0 → IsWithinLimits (with_calls k more)
@@ -254,13 +242,13 @@ module _ (k : KernelState) (c : Call) (h : IsWithinLimits k) (free : call_at k.c
     awaited = λ a b. let same = awaited_stay a b in let was = h.awaited a b in omega arith;
     hangups = λ a b. rises (is_active_on (label_at a b) c && is_hangup c) (hangup_calls k.calls (label_at a b)) (hangup_calls more (label_at a b)) 1
         (count-enqueue (λ d. is_active_on (label_at a b) d && is_hangup d) k.calls c free)
-        (λ e. let own = own_label a b c (both (is_active_on (label_at a b) c) (is_hangup c) e).0 in subst (λ i. hangup_calls k.calls (label_at i b) < 1) (sym own.0) (subst (λ i. hangup_calls k.calls (label_at c.from.task.0 i) < 1) (sym own.1) (omega arith)))
+        (λ e. let own = own_label a b c (and_parts (is_active_on (label_at a b) c) (is_hangup c) e).0 in subst (λ i. hangup_calls k.calls (label_at i b) < 1) (sym own.0) (subst (λ i. hangup_calls k.calls (label_at c.from.task.0 i) < 1) (sym own.1) (omega arith)))
         (h.hangups a b);
     hung_up = λ a b some. by_mark a b some (is_active_on (label_at a b) c) refl;
     idle = still_idle;
   } where
     awaited_stay : (a b : ℕ) → awaited_calls more (label_at a b) ≡ awaited_calls k.calls (label_at a b)
-    awaited_stay a b = same_count (is_active_on (label_at a b) c && not (is_hangup c)) (awaited_calls k.calls (label_at a b)) (awaited_calls more (label_at a b)) (count-enqueue (λ d. is_active_on (label_at a b) d && not (is_hangup d)) k.calls c free) (rw tells (never (is_active_on (label_at a b) c)))
+    awaited_stay a b = same_count (is_active_on (label_at a b) c && not (is_hangup c)) (awaited_calls k.calls (label_at a b)) (awaited_calls more (label_at a b)) (count-enqueue (λ d. is_active_on (label_at a b) d && not (is_hangup d)) k.calls c free) (rw tells (and_false (is_active_on (label_at a b) c)))
 
     by_mark : (a b : ℕ) → 1 ≤ hangup_calls more (label_at a b) → (x : Bool) → is_active_on (label_at a b) c ≡ x → state_at k.tasks.phones a b ≡ Some HungUp
     by_mark a b some true e = let own = own_label a b c e in rw (own.0, own.1) hung

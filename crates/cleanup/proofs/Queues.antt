@@ -1,9 +1,9 @@
 -- The call parts of a kill: no call waits at the task, is held by it or answers it, and none is its own.
-use Rattle.std.proofs.Common.{◌≡◌, ℕ, suc, ◌+◌, Bool, true, false, ◌⊎◌, inl, inr, Option, None, Some, List, refl, ap, sym, subst, ◌∙◌, arith}
+use Rattle.std.proofs.Common.{◌≡◌, ℕ, suc, Bool, true, false, ◌⊎◌, inl, inr, Option, None, Some, List, refl, ap, sym, subst, ◌∙◌, arith}
 use Rattle.std.specs.Prelude.{◌==◌, if◌then◌else◌}
 use Rattle.std.proofs.lemmas.Bool.{false≢true}
-use Rattle.std.specs.Cmp.{nat_cmp_total}
-use Rattle.std.specs.FinMap.{len, len-insert, get, insert, remove, get-remove, entries}
+use Rattle.std.specs.FinMap.{get, insert, entries}
+use Rattle.std.proofs.lemmas.Option.{same_Some}
 use Rattle.ipc_ids.specs.declared.numbers.TaskNo.{TaskNo}
 use Rattle.ipc_ids.specs.declared.message.Reply.{Reply}
 use Rattle.ipc_ids.specs.declared.numbers.Label.{Label}
@@ -16,7 +16,7 @@ use Rattle.call_slab.specs.declared.call.Place.TheVariants.{Incoming, Dispatched
 use Rattle.answerbox.specs.Calls.{CallTable, call_at, front, calls_of, same_place, is_caller, put_at, without_call, with_record, count_of, calls_at, calls_by}
 use Rattle.answerbox.proofs.Used.{few_record, same_room}
 use Rattle.ipc_ids.specs.Tables.{most_buffered}
-use Rattle.answerbox.proofs.Counts.{insert-remove, ties, count-without_call, count-replace}
+use Rattle.answerbox.proofs.Counts.{count-without_call, count-replace}
 use Rattle.answerbox.proofs.Fronts.{front_live, no_front-has_no_calls}
 use Rattle.answerbox.proofs.Steps.{with_change-record}
 use Rattle.answerbox.proofs.Callers.{calls_of_live, calls_of_none}
@@ -27,7 +27,7 @@ use Rattle.switchboard.specs.Kept.{accepts, kept_phone, lent_phone, kept_rows, w
 use Rattle.switchboard.specs.Joins.{bare_reply, declined_call, vanishing, settle_for, lives, drop_answer, forget_call}
 use Rattle.switchboard.specs.Board.{IsPendingAt}
 use Rattle.cleanup.specs.Kill.{first_at, first_call_of, settle_call, settle_incoming, settle_dispatched, drop_answers, forget_calls_elsewhere}
-use Rattle.switchboard.proofs.Lookups.{at_insert, at_remove, chosen, same_call}
+use Rattle.switchboard.proofs.Lookups.{at_insert, at_remove, chosen}
 use Rattle.switchboard.proofs.Rows.{state_changed_at}
 use Rattle.switchboard.proofs.Keepers.{kept_here, kept_other, kept_of_call, all_same}
 use Rattle.switchboard.proofs.SoundStates.{kept_calls}
@@ -58,7 +58,7 @@ sound_record tasks q n c d s is number stamp bytes sound = record {
 } where
   look : (m : ℕ) (x : Call) → call_at (with_record q d) m ≡ Some x → ((n ≡ m) × (d ≡ x)) ⊎ ((n ≡ m → ⊥) × (call_at q m ≡ Some x))
   look m x has = elim (chosen d.number.0 m (Some d) (call_at q m) (Some x) (sym (at_insert q.records d.number.0 m d) ∙ has)) [
-    | inl e ↦ inl (sym number ∙ e.0, same_call d x e.1)
+    | inl e ↦ inl (sym number ∙ e.0, same_Some d x e.1)
     | inr e ↦ inr (λ z. e.0 (number ∙ z), e.1)
   ]
 
@@ -185,7 +185,7 @@ pub over_none : (test : Call → Bool) (k : KernelState) (m : ℕ) → NoneIs te
 over_none test k m h n c is = elim (chosen m n None (call_at k.calls n) (Some c) (sym (at_remove k.calls.records m n) ∙ is)) [ inl e ↦ absurd (cc e.1) | inr e ↦ h n c e.1 ]
 
 insert_none : (test : Call → Bool) (k : KernelState) (m : ℕ) (d : Call) → NoneIs test k → test d ≡ false → (n : ℕ) (c : Call) → get (insert k.calls.records m d) n ≡ Some c → test c ≡ false
-insert_none test k m d h fails n c is = elim (chosen m n (Some d) (call_at k.calls n) (Some c) (sym (at_insert k.calls.records m n d) ∙ is)) [ inl e ↦ ap test (sym (same_call d c e.1)) ∙ fails | inr e ↦ h n c e.1 ]
+insert_none test k m d h fails n c is = elim (chosen m n (Some d) (call_at k.calls n) (Some c) (sym (at_insert k.calls.records m n d) ∙ is)) [ inl e ↦ ap test (sym (same_Some d c e.1)) ∙ fails | inr e ↦ h n c e.1 ]
 
 settle_none : (test : Call → Bool) (k : KernelState) (c : Call) → NoneIs test k → ((u : TaskNo) → test (answered k c u) ≡ false) → NoneIs test (settle_call k c).state
 settle_none test k c h fails = by_caller c.caller (lives k c.caller) where

@@ -1,22 +1,23 @@
 -- The phone parts of a kill: the phones of the task fall silent, and no phone leads to it any more.
-use Rattle.std.proofs.Common.{◌≡◌, ℕ, ◌+◌, ◌-◌, ◌≤◌, Bool, true, false, ◌⊎◌, inl, inr, Option, None, Some, List, length, refl, ap, sym, subst, ◌∙◌, arith, set}
-use Rattle.std.proofs.Math.ListN.{length-set}
-use Rattle.std.specs.Prelude.{◌==◌, IsSome}
+use Rattle.std.proofs.Common.{◌≡◌, ℕ, ◌+◌, ◌-◌, ◌≤◌, Bool, true, false, ◌⊎◌, inl, inr, Option, None, Some, List, length, refl, ap, sym, subst, ◌∙◌, arith}
+use Rattle.std.specs.Prelude.{◌==◌}
 use Rattle.std.specs.Option.{option_map_or}
-use Rattle.std.proofs.lemmas.Option.{slice_get_past}
+use Rattle.std.proofs.lemmas.Option.{slice_get_past, same_Some}
 use Rattle.std.proofs.lemmas.Bool.{cases_eq, cases_lt, eqb-true, eq-eqb, ne_eqb, false≢true}
 use Rattle.ipc_ids.specs.declared.numbers.TaskNo.{TaskNo}
 use Rattle.ipc_ids.specs.declared.message.PhoneState.{PhoneState}
 use Rattle.ipc_ids.specs.declared.message.PhoneState.TheVariants.{Free, Connecting, Connected, HungUp, Slammed}
+use Rattle.ipc_ids.proofs.Common.{is_some, none_some}
 use Rattle.answerbox.specs.Calls.{enqueue}
 use Rattle.phone_table.specs.Phones.{row_at, state_at}
-use Rattle.switchboard.specs.State.{KernelState, Transition, alive_in, is_alive, phone_at, with_state_at, with_phone, with_calls, width}
+use Rattle.switchboard.specs.State.{KernelState, Transition, alive_in, is_alive, phone_at, with_phone, with_calls, width}
 use Rattle.switchboard.specs.Sound.{IsQuiet, IsSound}
 use Rattle.switchboard.specs.Joins.{hangup_call, hang_up, slam, slam_at}
 use Rattle.cleanup.specs.Kill.{task_no, hang_up_at, hang_up_own_phones, slam_phones_of, slam_other, slam_phones_to}
 use Rattle.switchboard.proofs.Rows.{state_changed_at}
 use Rattle.switchboard.proofs.SoundStates.{no_phone, sound_enqueued, kept_state, kept_hung_up}
 use Rattle.switchboard.proofs.Repeats.{by_test, each_keeps, each_does}
+use Rattle.switchboard.proofs.Soundness.{length_rows}
 
 -- the state, with these marks of who is alive
 abbrev pub with_marks : List Bool → KernelState → KernelState
@@ -25,9 +26,6 @@ with_marks marks k = record { tasks = record { alive = marks; phones = k.tasks.p
 -- while a task ends, the state is sound by the marks from before
 pub record IsEnding (marks : List Bool) (k : KernelState) : Type 0 where
   pub sound : IsSound (with_marks marks k)
-
-is_some : {A : Type 0} (o : Option A) (x : A) → o ≡ Some x → IsSome o
-is_some o x e = rw e refl
 
 other_state : (o : Option PhoneState) (x : PhoneState) → o ≡ Some x → o ≡ Some Connecting → (x ≡ Connecting → ⊥) → ⊥
 other_state o x a b not = let e : Some x ≡ Some Connecting = sym a ∙ b in not (cc e)
@@ -71,14 +69,11 @@ hang_up_stills t k n m g = by_state (phone_at k t n) refl where
     | inr old ↦ elim g [ inl e ↦ absurd (old.0 (refl, e)) | inr still ↦ still x old.1 ]
   ]
 
-  one : (a x : PhoneState) → Some a ≡ Some x → a ≡ x
-  one a x e = cc
-
   by_state : (s : Option PhoneState) → phone_at k t n ≡ s → IsStill t (hang_up k t n s).state m
   by_state None h = same None h (λ x e. absurd (cc e))
-  by_state (Some Free) h = same (Some Free) h (λ x e. subst IsQuiet (one Free x e) tt)
-  by_state (Some Connecting) h = same (Some Connecting) h (λ x e. subst IsQuiet (one Connecting x e) tt)
-  by_state (Some HungUp) h = same (Some HungUp) h (λ x e. subst IsQuiet (one HungUp x e) tt)
+  by_state (Some Free) h = same (Some Free) h (λ x e. subst IsQuiet (same_Some Free x e) tt)
+  by_state (Some Connecting) h = same (Some Connecting) h (λ x e. subst IsQuiet (same_Some Connecting x e) tt)
+  by_state (Some HungUp) h = same (Some HungUp) h (λ x e. subst IsQuiet (same_Some HungUp x e) tt)
   by_state (Some Slammed) h = hung
   by_state (Some (Connected u)) h = hung
 
@@ -88,9 +83,6 @@ past_width rows t q h = by_row (row_at rows t) refl h where
   by_row : (o : Option (List PhoneState)) → row_at rows t ≡ o → option_map_or (λ row. length row) o 0 ≤ q → state_at rows t q ≡ None
   by_row None is l = rw is refl
   by_row (Some row) is l = rw (is, slice_get_past row q l) refl
-
-none_some : {A : Type 0} (o : Option A) (x : A) → o ≡ None → o ≡ Some x → ⊥
-none_some o x a b = cc
 
 -- the phones of task t are quiet
 pub record IsSilent (marks : List Bool) (t : TaskNo) (k : KernelState) : Type 0 where
@@ -105,17 +97,10 @@ own_phones_hung_up marks t k alive h = record {
       (elim (cases_lt q (width k.tasks.phones t.0)) [ inl l ↦ inl (omega arith, omega arith) | inr l ↦ inr (λ x is. absurd (none_some (phone_at k t q) x (past_width k.tasks.phones t.0 q l) is)) ]);
 }
 
--- a change of a phone leaves as many rows
-as_many_rows : (rows : List (List PhoneState)) (a b : ℕ) (s : PhoneState) → length (with_state_at rows a b s) ≡ length rows
-as_many_rows rows a b s = by_row (row_at rows a) where
-  by_row : (o : Option (List PhoneState)) → length (option_map_or (λ row. set rows (a - 1) (set row b s)) o rows) ≡ length rows
-  by_row None = refl
-  by_row (Some row) = length-set rows (a - 1) (set row b s)
-
 -- a phone of a task that is alive, and that leads to another, is slammed
 pub kept_slammed : (k : KernelState) (t : TaskNo) (p : ℕ) (u : TaskNo) → IsSound k → is_alive k t ≡ true → phone_at k t p ≡ Some (Connected u) → IsSound (with_phone k t p Slammed)
 kept_slammed k t p u s alive led = kept_state k t p Slammed s (λ e. other_state (phone_at k t p) (Connected u) led e (λ d. cc d)) (λ e. cc e) (record {
-  paired = as_many_rows k.tasks.phones t.0 p Slammed ∙ s.tasks.paired;
+  paired = length_rows k.tasks.phones t.0 p Slammed ∙ s.tasks.paired;
   leads = λ a b v is. elim (state_changed_at k.tasks.phones t.0 p a b Slammed (Connected v) is) [ inl e ↦ absurd (cc (e.2)) | inr e ↦ s.tasks.leads a b v e.1 ];
   quiet = λ a b state is ended. elim (state_changed_at k.tasks.phones t.0 p a b Slammed state is) [
     | inl e ↦ absurd (false≢true (sym ended ∙ ap (alive_in k.tasks.alive) (e.0) ∙ alive))

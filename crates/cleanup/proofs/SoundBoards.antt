@@ -6,13 +6,14 @@ use Rattle.std.proofs.lemmas.List.{length-replicate}
 use Rattle.std.specs.Prelude.{◌==◌, IsSome, if◌then◌else◌, slice_get, unwrap_or}
 use Rattle.std.specs.Ordering.{nat_cmp}
 use Rattle.std.specs.FinMap.{len, find, is_sorted, entries, entries_sorted, get-entries}
-use Rattle.std.proofs.lemmas.Bool.{cases_eq, eq-eqb, ne_eqb, false≢true}
+use Rattle.std.proofs.lemmas.Bool.{cases_eq, eq-eqb, ne_eqb}
 use Rattle.ipc_ids.specs.declared.numbers.TaskNo.{TaskNo}
 use Rattle.ipc_ids.specs.declared.numbers.Label.{Label}
 use Rattle.ipc_ids.specs.declared.message.PhoneState.{PhoneState}
 use Rattle.call_slab.specs.declared.call.Call.{Call}
+use Rattle.call_slab.proofs.Live.{tie, past_tie}
 use Rattle.answerbox.specs.Calls.{CallTable, call_at, count_of, active_calls, is_active_on}
-use Rattle.answerbox.proofs.Fronts.{first, second, greater, ties, not_tied}
+use Rattle.answerbox.proofs.Fronts.{first, second, greater}
 use Rattle.phone_table.specs.Phones.{AreCounted, row_at, state_at, count_at}
 use Rattle.switchboard.proofs.Lookups.{row_at_set}
 use Rattle.address_space.specs.Memory.{Memory}
@@ -22,8 +23,8 @@ use Rattle.switchboard.specs.Counts.{IsCounted}
 use Rattle.switchboard.specs.Board.{IsSwitched, IsAdded, FewFrom}
 use Rattle.cleanup.specs.Ending.{IsJustEnded, HasFewActive, all_alive}
 use Rattle.cleanup.specs.Kill.{end_parts, kill}
-use Rattle.switchboard.proofs.Endings.{within}
 use Rattle.switchboard.proofs.Soundness.{value_of}
+use Rattle.switchboard.proofs.SoundMemory.{mark_within, positive}
 use Rattle.cleanup.proofs.Marks.{SameMark, Agree, remarked, blind_parts}
 
 -- the marks, where one was set
@@ -52,7 +53,7 @@ alive_all n u some there = rw (ne_eqb u 0 (λ e. omega arith), all_there n (u - 
 -- a count is 0 where no call passes
 none_in : (p : Call → Bool) (es : List (ℕ × Call)) → T (is_sorted nat_cmp es) → ((k : ℕ) (c : Call) → find nat_cmp k es ≡ Some c → p c ≡ false) → count_of p es ≡ 0
 none_in p [] s h = refl
-none_in p (e ∷ es) s h = rw (h e.0 e.1 (rw (ties e.0) refl)) (let rest : count_of p es ≡ 0 = none_in p es (second _ _ s) (λ k c f. h k c (rw (not_tied k e.0 (greater e.0 es k c (first _ _ s) f)) f)) in omega arith)
+none_in p (e ∷ es) s h = rw (h e.0 e.1 (rw (tie e.0) refl)) (let rest : count_of p es ≡ 0 = none_in p es (second _ _ s) (λ k c f. h k c (rw (past_tie k e.0 (greater e.0 es k c (first _ _ s) f)) f)) in omega arith)
 
 none_pass : (p : Call → Bool) (q : CallTable) → ((k : ℕ) (c : Call) → call_at q k ≡ Some c → p c ≡ false) → count_of p (entries q.records) ≡ 0
 none_pass p q h = none_in p (entries q.records) (entries_sorted q.records) (λ k c f. h k c (get-entries q.records k ∙ f))
@@ -90,12 +91,9 @@ module _ (alive : List Bool) (who : TaskNo) (phones : List (List PhoneState)) (c
     | inr ne ↦
         let here : alive_in before u ≡ alive_in alive u = mark_set alive who.0 u true ended.from_one ended.task ∙ rw (ne_eqb u who.0 ne) refl in
         let lived : alive_in alive u ≡ true = sym here ∙ was in
-        let l = within alive u lived in
-        rw (ne_eqb u who.0 ne) (alive_all (length phones) u (positive u lived) (omega (arith, l, paired)) ∙ sym lived)
-  ] where
-    positive : (v : ℕ) → alive_in alive v ≡ true → 1 ≤ v
-    positive zero h = absurd (false≢true h)
-    positive (suc v) h = omega arith
+        let l = mark_within alive u lived in
+        rw (ne_eqb u who.0 ne) (alive_all (length phones) u (positive alive u lived) (omega (arith, l, paired)) ∙ sym lived)
+  ]
 
   agree : Agree alive who (mark_ended whole who)
   agree = record {
@@ -115,7 +113,7 @@ module _ (alive : List Bool) (who : TaskNo) (phones : List (List PhoneState)) (c
   switched counts tasks counted shaped few places = record {
     paired = sym all_long;
     places = omega (arith, all_long, paired, places);
-    leads = λ t p u is. let l = within before u.0 (sound.tasks.leads t p u is) in let same = length-set alive (who.0 - 1) true in omega (arith, all_long, paired, same, l);
+    leads = λ t p u is. let l = mark_within before u.0 (sound.tasks.leads t p u is) in let same = length-set alive (who.0 - 1) true in omega (arith, all_long, paired, same, l);
     has_counts = record {
       numbered = λ n c is. (sound.calls.each n c is).number;
       over_phone = λ n c is. (sound.calls.each n c is).phone;

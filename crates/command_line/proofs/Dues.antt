@@ -4,6 +4,7 @@ use Rattle.std.proofs.lemmas.Bool.{lt-ltb, ltb-true, ltb-false}
 use Rattle.std.proofs.lemmas.List.{take_all, length-take-le}
 use Rattle.std.specs.Io.KnownBytes.{Keeps}
 use Rattle.std.specs.Option.{option_map}
+use Rattle.std.proofs.lemmas.Option.{same_Some}
 use Rattle.ipc_ids.specs.Tables.{most_bytes}
 use Rattle.io_edge.specs.Edge.{Gives, Holds, file_of}
 use Rattle.script_lines.specs.declared.fault.Reason.{Reason}
@@ -64,14 +65,11 @@ cut all =
     let long = nat_lt 1048577 (length all) in
     (ap plan_from_parts (cut_at after_line no_parts all long refl), λ script. ap events_alone (cut_at (after_event script) (no_events script) all long refl))
 
-taken : (x bytes : List ℕ) → Some x ≡ Some bytes → x ≡ bytes
-taken x bytes h = cc
-
 found : (known : Option (List ℕ)) (bytes : List ℕ) → option_map (λ all. take 1048577 all) known ≡ Some bytes
     → (all : List ℕ) × (known ≡ Some all) × SpellTheSame bytes all
 found None bytes h = cc
 found (Some all) bytes h =
-    (all, refl, subst (λ x. SpellTheSame x all) (taken (take 1048577 all) bytes h) (cut all))
+    (all, refl, subst (λ x. SpellTheSame x all) (same_Some (take 1048577 all) bytes h) (cut all))
 
 -- the bytes that a load gave spell what the file spells
 pub held : (files : Files) (name bytes : List ℕ) → Gives files name 1048577 bytes

@@ -1,16 +1,14 @@
 -- What a run comes to, event by event.
 use Rattle.std.proofs.Common.{◌≡◌, ℕ, ◌+◌, ◌++◌, [], ◌∷◌, List, Bool, length, refl, ap, sym, ◌∙◌, arith, length-append}
-use Rattle.std.specs.Prelude.{slice_index_or, count_by}
+use Rattle.std.specs.Prelude.{count_by}
 use Rattle.std.proofs.lemmas.Grind.{common_steps}
 use Rattle.ipc_ids.specs.declared.entry.Entry.{Entry}
 use Rattle.ipc_ids.specs.declared.message.Event.{Event}
 use Rattle.trace_print.specs.Text.{text_of}
-use Rattle.script_lines.specs.Plan.{Plan}
-use Rattle.task_system.specs.Run.{RunState, turn, run_from, run}
-use Rattle.schedule_replay.specs.Generator.{generated_plan, generated_events}
-use Rattle.schedule_replay.proofs.Sending.{text_append}
+use Rattle.trace_print.proofs.Texts.{text_append}
+use Rattle.task_system.specs.Run.{RunState, turn, run_from}
 use Rattle.command_line.specs.declared.summary.Tally.{Tally}
-use Rattle.command_line.specs.Summary.{is_accepted, is_answered, is_vanished, is_delivered, with_entries, tally_of, tally_line, summary_line}
+use Rattle.command_line.specs.Summary.{is_accepted, is_answered, is_vanished, is_delivered, with_entries}
 
 count_append : (test : Entry → Bool) (a b : List Entry) → count_by test (a ++ b) ≡ count_by test a + count_by test b
 count_append test [] b = omega arith

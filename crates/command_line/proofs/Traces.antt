@@ -3,6 +3,7 @@ use Rattle.std.proofs.Common.{◌≡◌, ◌<◌, List, ℕ, Bool, true, false, 
 use Rattle.std.proofs.lemmas.Bool.{ltb-true, ltb-false}
 use Rattle.std.proofs.lemmas.List.{take_all, length-take-le}
 use Rattle.std.specs.Option.{option_map}
+use Rattle.std.proofs.lemmas.Option.{same_Some}
 use Rattle.io_edge.specs.Edge.{Gives, Holds, file_of}
 use Rattle.trace_check.specs.declared.finding.Finding.{Finding}
 use Rattle.trace_check.specs.declared.finding.Finding.TheVariants.{TooLong, Unreadable, Lawful, Breaks}
@@ -40,14 +41,11 @@ cut all true h =
       only = λ i. absurd (omega (arith, long, i.few));
     }
 
-taken : (x bytes : List ℕ) → Some x ≡ Some bytes → x ≡ bytes
-taken x bytes h = cc
-
 found : (known : Option (List ℕ)) (bytes : List ℕ) → option_map (λ all. take 16777217 all) known ≡ Some bytes
     → (all : List ℕ) × (known ≡ Some all) × CheckTheSame bytes all
 found None bytes h = cc
 found (Some all) bytes h =
-    (all, refl, subst (λ x. CheckTheSame x all) (taken (take 16777217 all) bytes h) (cut all (nat_lt 16777217 (length all)) refl))
+    (all, refl, subst (λ x. CheckTheSame x all) (same_Some (take 16777217 all) bytes h) (cut all (nat_lt 16777217 (length all)) refl))
 
 -- the bytes that a load gave are checked as the file is
 held : (files : Files) (trace bytes : List ℕ) → Gives files trace 16777217 bytes

@@ -7,7 +7,7 @@ use Rattle.std.specs.Option.{option_copied}
 use Rattle.std.specs.Ordering.{nat_cmp, ordering_index}
 use Rattle.std.proofs.lemmas.Cmp.{ranked}
 use Rattle.std.proofs.lemmas.Option.{slice_get-get_or, get_or_from_slice_get}
-use Rattle.std.proofs.lemmas.Bool.{cases_lt, eq-eqb, ne_eqb, eqb-true}
+use Rattle.std.proofs.lemmas.Bool.{cases_lt, eq-eqb, ne_eqb, eqb-true, false_from_ne_true}
 use Rattle.std.proofs.lemmas.Bool.Decides.{nat_tests}
 use Rattle.ipc_ids.specs.declared.numbers.CallNo.{CallNo}
 use Rattle.ipc_ids.specs.declared.numbers.FibrilNo.{FibrilNo}
@@ -15,14 +15,15 @@ use Rattle.ipc_ids.specs.declared.numbers.Label.{Label}
 use Rattle.ipc_ids.specs.declared.message.Msg.{Msg}
 use Rattle.ipc_ids.specs.Labels.{same_label}
 use Rattle.ipc_ids.specs.declared.trace.NoMemory.{NoMemory}
+use Rattle.ipc_ids.proofs.Common.{label_is}
 use Rattle.fibril_core.specs.declared.conn.Conn.{Conn}
 use Rattle.fibril_core.specs.declared.conn.Routed.{Routed}
 use Rattle.fibril_core.specs.Conns.{conn_at, serves, leads_to, conn_of_label, conn_of_fibril, fibril_of, lose_label, lose_labels, new_conn, start, with_conn, take_first, took_first, take_next, route_to, routed_to, route}
 use Rattle.fibril_core.specs.ConnIndex.{DoRise, fibril_under, IsIndex, KeepsLabel, ForgetsLabel}
 use Rattle.fibril_core.specs.ConnLaws.{IsOpenOrClosed, IsSound, Changes, Ends, Starts}
 use Rattle.fibril_core.proofs.Places.{which, within}
-use Rattle.fibril_core.proofs.Searches.{find_is, found_place, find_one, none_found, skip, skip_less, removed_at}
-use Rattle.fibril_core.proofs.Connections.{by_label, same_label_is, turned, not_true, Was, was, Lost, newer, lost_fibril, fibril_routed, routes_routed, label_routed, closed_routed, turned_by, label_there, changes_at, ends_at, starts, sound_changed, sound_removed, sound_started}
+use Rattle.fibril_core.proofs.Searches.{find_is, found_place, find_one, none_found, skip, skip_less, removed_at, same_pred}
+use Rattle.fibril_core.proofs.Connections.{by_label, turned, Was, was, Lost, newer, fibril_routed, routes_routed, label_routed, closed_routed, turned_by, label_there, changes_at, ends_at, starts, sound_changed, sound_removed, sound_started, its_fibril}
 
 -- the only one that passes is found, and where none passes none is
 
@@ -115,9 +116,6 @@ below_new cs f i c all last there = by (within cs i c there) (cases_lt i (length
 
 pub rise_started : (cs : List Conn) (f : FibrilNo) (label : Label) → DoRise cs → ((d : Conn) → slice_get cs (length cs - 1) ≡ Some d → d.fibril.0 < f.0) → DoRise (start label f cs)
 rise_started cs f label all last = record { rise = λ i j a b less s t. by i j a b less (newer label f cs i a s) (newer label f cs j b t) } where
-  its_fibril : (j : ℕ) (x : Conn) (l : Lost label cs j x) → l.conn.fibril.0 ≡ x.fibril.0
-  its_fibril j x l = ap (λ (n : FibrilNo). n.0) (sym (lost_fibril label l.conn) ∙ ap (λ (d : Conn). d.fibril) l.is)
-
   by : (i j : ℕ) (a b : Conn) → i < j → ((i ≡ length (lose_labels label cs)) × (new_conn label f ≡ a)) ⊎ Lost label cs i a → ((j ≡ length (lose_labels label cs)) × (new_conn label f ≡ b)) ⊎ Lost label cs j b → a.fibril.0 < b.fibril.0
   by i j a b less (inl g) (inl h) = let first = g.0 in let second = h.0 in absurd (omega arith)
   by i j a b less (inl g) (inr m) =
@@ -126,12 +124,12 @@ rise_started cs f label all last = record { rise = λ i j a b less s t. by i j a
       let same = length_lost label cs in absurd (omega arith)
   by i j a b less (inr l) (inl h) =
       let one = below_new cs f i l.conn all last l.there in
-      let own = its_fibril i a l in
+      let own = its_fibril label cs i a l in
       let new = ap (λ (d : Conn). d.fibril.0) h.1 in omega arith
   by i j a b less (inr l) (inr m) =
       let one = all.rise i j l.conn m.conn less l.there m.there in
-      let first = its_fibril i a l in
-      let second = its_fibril j b m in omega arith
+      let first = its_fibril label cs i a l in
+      let second = its_fibril label cs j b m in omega arith
 
 -- the older connection of a label loses it
 
@@ -143,16 +141,13 @@ lost_one : (label : Label) (cs : List Conn) (i : ℕ) (c : Conn) → ((j : ℕ) 
 lost_one label [] i c one there = absurd (cc there)
 lost_one label (x ∷ cs) zero c one there =
     let same : x ≡ c = cc in
-    rw same (ap (λ (ds : List Conn). lose_label label c ∷ ds) (lost_none label cs (λ j d that. not_true (leads_to label d) (λ h. not_zero j (one (suc j) d that h))))) where
+    rw same (ap (λ (ds : List Conn). lose_label label c ∷ ds) (lost_none label cs (λ j d that. false_from_ne_true (leads_to label d) (λ h. not_zero j (one (suc j) d that h))))) where
       not_zero : (j : ℕ) → suc j ≡ 0 → ⊥
       not_zero j e = omega arith
 lost_one label (x ∷ cs) (suc i) c one there =
-    rw (not_true (leads_to label x) (λ h. not_suc (one 0 x refl h))) (ap (λ (ds : List Conn). x ∷ ds) (lost_one label cs i c (λ j d that h. same_pred j i (one (suc j) d that h)) there)) where
+    rw (false_from_ne_true (leads_to label x) (λ h. not_suc (one 0 x refl h))) (ap (λ (ds : List Conn). x ∷ ds) (lost_one label cs i c (λ j d that h. same_pred j i (one (suc j) d that h)) there)) where
       not_suc : 0 ≡ suc i → ⊥
       not_suc e = omega arith
-
-      same_pred : (j k : ℕ) → suc j ≡ suc k → j ≡ k
-      same_pred j k e = omega arith
 
 pub loses_at : (label : Label) (cs : List Conn) (i : ℕ) (d : Conn) → IsSound cs → Some i ≡ position (leads_to label) cs → slice_set cs i (lose_label label (get_or cs i d)) ≡ lose_labels label cs
 loses_at label cs i d sound is =
@@ -277,9 +272,6 @@ index_removed rising es after cs i c index there forgets = record {
   by label true h = sym (ap fibril_of (ends.by_label label h))
   by label false h = index.labels label ∙ sym (ap fibril_of (ends.other_labels label h))
 
-label_is : (a b : Label) → same_label a b ≡ true → a ≡ b
-label_is a b e = let h = same_label_is a b e in (λ j. record { task = record { 0 = h.0 j }; phone = record { 0 = h.1 j } })
-
 pub index_started : (rising : Bool) (es after : List (Label × FibrilNo)) (cs : List Conn) (label : Label) (f : FibrilNo) → IsSound cs → ((q : Label) → fibril_under q es ≡ fibril_of (conn_of_label q cs)) → conn_of_fibril f cs ≡ None → (rising ≡ true → (l : Label) → DoRise (start l f cs)) → KeepsLabel label f es after → IsIndex rising after (start label f cs)
 index_started rising es after cs label f sound before none rise keeps = record {
   sound = sound_started cs label f sound none;
@@ -291,4 +283,4 @@ index_started rising es after cs label f sound before none rise keeps = record {
 
   by : (q : Label) (b : Bool) → same_label label q ≡ b → (if b then Some f else fibril_under q es) ≡ fibril_of (conn_of_label q (start label f cs))
   by q true e = sym (ap (λ (l : Label). fibril_of (conn_of_label l (start label f cs))) (sym (label_is label q e)) ∙ ap fibril_of all.by_label)
-  by q false e = before q ∙ sym (ap fibril_of (all.other_labels q (not_true (same_label q label) (λ h. let back = turned q label h in cc))))
+  by q false e = before q ∙ sym (ap fibril_of (all.other_labels q (false_from_ne_true (same_label q label) (λ h. let back = turned q label h in cc))))

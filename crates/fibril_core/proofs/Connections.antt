@@ -2,7 +2,7 @@
 use Rattle.std.proofs.Common.{◌≡◌, ◌≢◌, ℕ, zero, suc, ◌+◌, ◌<◌, ◌⊎◌, inl, inr, Bool, true, false, List, [], ◌∷◌, ◌++◌, length, map, Option, Some, None, refl, ap, sym, ◌∙◌, subst, arith}
 use Rattle.std.specs.Prelude.{if◌then◌else◌, slice_get, slice_set, position, ◌==◌}
 use Rattle.std.specs.List.{find, remove}
-use Rattle.std.proofs.lemmas.Bool.{eq-eqb, ne_eqb, eqb-true, and_parts}
+use Rattle.std.proofs.lemmas.Bool.{eq-eqb, ne_eqb, eqb-true, and_parts, false_from_ne_true}
 use Rattle.ipc_ids.specs.declared.numbers.CallNo.{CallNo}
 use Rattle.ipc_ids.specs.declared.numbers.Code.{Code}
 use Rattle.ipc_ids.specs.declared.numbers.FibrilNo.{FibrilNo}
@@ -12,6 +12,7 @@ use Rattle.ipc_ids.specs.Codes.{eok, ehangup}
 use Rattle.fibril_core.specs.declared.conn.Conn.{Conn}
 use Rattle.fibril_core.specs.declared.conn.Queued.{Queued}
 use Rattle.ipc_ids.specs.Labels.{same_label}
+use Rattle.ipc_ids.proofs.Common.{own_label}
 use Rattle.fibril_core.specs.Conns.{no_conns, leads_to, serves, conn_at, conn_of_label, conn_of_fibril, lose_label, lose_labels, new_conn, start, take_first, with_conn, took_first, take_next, closes, route_to, routed_to, route, hung_up, close_answer, owed_by, without_conn, finish}
 use Rattle.fibril_core.specs.ConnLaws.{IsOpenOrClosed, IsSound, Finds, after_loss, Starts, Changes, Ends, OwesInOrder}
 use Rattle.fibril_core.proofs.Places.{set_here, which, which_pushed, within}
@@ -28,9 +29,6 @@ by_label label cs = find_is (leads_to label) cs conn_at (λ ys. refl) (λ ys i. 
 
 pub same_label_is : (a b : Label) → same_label a b ≡ true → (a.task.0 ≡ b.task.0) × (a.phone.0 ≡ b.phone.0)
 same_label_is a b e = let h = and_parts (a.task.0 == b.task.0) (a.phone.0 == b.phone.0) e in (eqb-true a.task.0 b.task.0 h.0, eqb-true a.phone.0 b.phone.0 h.1)
-
-pub own_label : (a : Label) → same_label a a ≡ true
-own_label a = rw (eq-eqb a.task.0 a.task.0 refl, eq-eqb a.phone.0 a.phone.0 refl) refl
 
 -- where one label leads no other does
 same_as : (a b c : Label) → same_label a b ≡ true → same_label a c ≡ same_label b c
@@ -235,16 +233,12 @@ sound_finished cs f sound = sound_by (position (serves f) cs) refl where
   sound_by None e = sound
   sound_by (Some i) e = let place = found_place (serves f) cs i e in sound_removed cs i sound (within cs i place.0 place.1)
 
-pub not_true : (b : Bool) → (b ≡ true → ⊥) → b ≡ false
-not_true true h = absurd (h refl)
-not_true false h = refl
-
 pub ends_at : (cs : List Conn) (i : ℕ) (c : Conn) → IsSound cs → slice_get cs i ≡ Some c → Ends c cs (remove cs i)
 ends_at cs i c sound there =
     let h = within cs i c there in
     record {
-      by_fibril = by_fibril c.fibril (remove cs i) ∙ find_none (serves c.fibril) (remove cs i) (λ j d that. not_true (serves c.fibril d) (λ e. skip_other i j (sound.fibrils (skip i j) i d c (sym (removed_at cs i j h) ∙ that) there (eqb-true d.fibril.0 c.fibril.0 e))));
-      by_label = λ label g. by_label label (remove cs i) ∙ find_none (leads_to label) (remove cs i) (λ j d that. not_true (leads_to label d) (λ e. skip_other i j (sound.labels (skip i j) i d c label (sym (removed_at cs i j h) ∙ that) there e g)));
+      by_fibril = by_fibril c.fibril (remove cs i) ∙ find_none (serves c.fibril) (remove cs i) (λ j d that. false_from_ne_true (serves c.fibril d) (λ e. skip_other i j (sound.fibrils (skip i j) i d c (sym (removed_at cs i j h) ∙ that) there (eqb-true d.fibril.0 c.fibril.0 e))));
+      by_label = λ label g. by_label label (remove cs i) ∙ find_none (leads_to label) (remove cs i) (λ j d that. false_from_ne_true (leads_to label d) (λ e. skip_other i j (sound.labels (skip i j) i d c label (sym (removed_at cs i j h) ∙ that) there e g)));
       other_labels = λ label g. by_label label (remove cs i) ∙ find_removed (leads_to label) cs i c there g ∙ sym (by_label label cs);
       other_fibrils = λ g e. by_fibril g (remove cs i) ∙ find_removed (serves g) cs i c there (serves_no_other g c e) ∙ sym (by_fibril g cs);
     }
@@ -286,7 +280,7 @@ leads_lost : (label other : Label) (c : Conn) → same_label other label ≡ fal
 leads_lost label other c apart = lost_by (leads_to other c) refl where
   lost_by : (b : Bool) → leads_to other c ≡ b → leads_to other (lose_label label c) ≡ b
   lost_by true h = ap (λ (d : Conn). leads_to other d) (unlost label other c apart h) ∙ h
-  lost_by false h = not_true (leads_to other (lose_label label c)) (λ g. let led = lost_led label other c g in cc)
+  lost_by false h = false_from_ne_true (leads_to other (lose_label label c)) (λ g. let led = lost_led label other c g in cc)
 
 find_lost_label : (label other : Label) (cs : List Conn) → same_label other label ≡ false → find (leads_to other) (lose_labels label cs) ≡ find (leads_to other) cs
 find_lost_label label other [] apart = refl
@@ -317,7 +311,7 @@ starts cs label f none =
       other_fibrils = λ g e. by_fibril g (start label f cs) ∙ find_unpushed (serves g) before new (serves_no_other g new e) ∙ find_lost_fibril label g cs ∙ ap (after_loss label) (sym (by_fibril g cs));
     } where
       no_turn : (other : Label) → same_label other label ≡ false → same_label label other ≡ false
-      no_turn other apart = not_true (same_label label other) (λ h. let back = turned label other h in cc)
+      no_turn other apart = false_from_ne_true (same_label label other) (λ h. let back = turned label other h in cc)
 
 -- a connection that stands at a place after others lost their label
 pub record Lost (label : Label) (cs : List Conn) (j : ℕ) (x : Conn) : Type 0 where
@@ -343,23 +337,25 @@ newer label f cs j x e = newer_by (which_pushed (lose_labels label cs) j (new_co
   newer_by (inl h) = inl h
   newer_by (inr h) = inr (lost_at label cs j x h)
 
+pub its_fibril :
+    (label : Label) (cs : List Conn) (j : ℕ) (x : Conn) (l : Lost label cs j x) → l.conn.fibril.0 ≡ x.fibril.0
+its_fibril label cs j x l =
+    ap (λ (n : FibrilNo). n.0) (sym (lost_fibril label l.conn) ∙ ap (λ (d : Conn). d.fibril) l.is)
+
 pub sound_started : (cs : List Conn) (label : Label) (f : FibrilNo) → IsSound cs → conn_of_fibril f cs ≡ None → IsSound (start label f cs)
 sound_started cs label f sound none = record {
   fibrils = λ j k a b s t e. fibrils_by j k a b (newer label f cs j a s) (newer label f cs k b t) e;
   labels = λ j k a b other s t d e. labels_by j k a b other (newer label f cs j a s) (newer label f cs k b t) d e;
   closed = λ j a s. closed_by j a (newer label f cs j a s);
 } where
-  its_fibril : (j : ℕ) (x : Conn) (l : Lost label cs j x) → l.conn.fibril.0 ≡ x.fibril.0
-  its_fibril j x l = ap (λ (n : FibrilNo). n.0) (sym (lost_fibril label l.conn) ∙ ap (λ (d : Conn). d.fibril) l.is)
-
   no_own : (j : ℕ) (x : Conn) → Lost label cs j x → x.fibril.0 ≡ f.0 → ⊥
-  no_own j x l e = let no = none_found (serves f) cs (sym (by_fibril f cs) ∙ none) j l.conn l.there in let is = eq-eqb l.conn.fibril.0 f.0 (its_fibril j x l ∙ e) in cc
+  no_own j x l e = let no = none_found (serves f) cs (sym (by_fibril f cs) ∙ none) j l.conn l.there in let is = eq-eqb l.conn.fibril.0 f.0 (its_fibril label cs j x l ∙ e) in cc
 
   fibrils_by : (j k : ℕ) (a b : Conn) → ((j ≡ length (lose_labels label cs)) × (new_conn label f ≡ a)) ⊎ Lost label cs j a → ((k ≡ length (lose_labels label cs)) × (new_conn label f ≡ b)) ⊎ Lost label cs k b → a.fibril.0 ≡ b.fibril.0 → j ≡ k
   fibrils_by j k a b (inl g) (inl h) e = g.0 ∙ sym h.0
   fibrils_by j k a b (inl g) (inr l) e = absurd (no_own k b l (sym e ∙ ap (λ (d : Conn). d.fibril.0) (sym g.1)))
   fibrils_by j k a b (inr l) (inl h) e = absurd (no_own j a l (e ∙ ap (λ (d : Conn). d.fibril.0) (sym h.1)))
-  fibrils_by j k a b (inr l) (inr m) e = sound.fibrils j k l.conn m.conn l.there m.there (its_fibril j a l ∙ e ∙ sym (its_fibril k b m))
+  fibrils_by j k a b (inr l) (inr m) e = sound.fibrils j k l.conn m.conn l.there m.there (its_fibril label cs j a l ∙ e ∙ sym (its_fibril label cs k b m))
 
   led : (other : Label) (j : ℕ) (x : Conn) (l : Lost label cs j x) → leads_to other x ≡ true → leads_to other (lose_label label l.conn) ≡ true
   led other j x l d = ap (λ (c : Conn). leads_to other c) l.is ∙ d

@@ -1,23 +1,19 @@
 -- The fibril that has had a status longest, told by what stands at each place.
 use Rattle.std.proofs.Common.{◌≡◌, ℕ, zero, suc, ◌≤◌, Bool, true, false, ◌⊎◌, inl, inr, List, [], ◌∷◌, fold, Option, Some, None, refl, ap, sym, subst, arith}
-use Rattle.std.specs.Prelude.{if◌then◌else◌, slice_get, nat_lt, ◌==◌}
+use Rattle.std.specs.Prelude.{if◌then◌else◌, slice_get, nat_lt}
 use Rattle.std.proofs.lemmas.Bool.Decides.{nat_tests}
+use Rattle.std.proofs.lemmas.Bool.{eqb-true}
 use Rattle.ipc_ids.specs.declared.message.Why.{Why}
 use Rattle.ipc_ids.specs.declared.message.Why.TheVariants as why
+use Rattle.ipc_ids.proofs.Common.{is_same}
 use Rattle.fibril_core.specs.declared.fibrils.Status.{Status}
 use Rattle.fibril_core.specs.declared.fibrils.Status.TheVariants.{Ready, Blocked, Ended}
 use Rattle.fibril_core.specs.declared.fibrils.Fibril.{Fibril}
 use Rattle.fibril_core.specs.Fibrils.{same_why, same_status, sooner, first_with}
 
-same_number : (n m : ℕ) → (n == m) ≡ true → n ≡ m
-same_number n m e = grind (arith, nat_tests)
-
-is_same_number : (n : ℕ) → (n == n) ≡ true
-is_same_number n = grind (arith, nat_tests)
-
 pub same_why_is : (v w : Why) → same_why v w ≡ true → v ≡ w
-same_why_is (why.Answer n) (why.Answer m) e = let same : n.0 ≡ m.0 = same_number n.0 m.0 e in ap (λ (k : ℕ). why.Answer (record { 0 = k })) same
-same_why_is (why.Mutex s) (why.Mutex r) e = ap why.Mutex (same_number s r e)
+same_why_is (why.Answer n) (why.Answer m) e = let same : n.0 ≡ m.0 = eqb-true n.0 m.0 e in ap (λ (k : ℕ). why.Answer (record { 0 = k })) same
+same_why_is (why.Mutex s) (why.Mutex r) e = ap why.Mutex (eqb-true s r e)
 same_why_is why.Phone why.Phone e = refl
 same_why_is why.Message why.Message e = refl
 same_why_is (why.Answer n) (why.Mutex r) e = absurd (cc e)
@@ -34,8 +30,8 @@ same_why_is why.Message (why.Mutex r) e = absurd (cc e)
 same_why_is why.Message why.Phone e = absurd (cc e)
 
 pub why_is_same : (w : Why) → same_why w w ≡ true
-why_is_same (why.Answer n) = is_same_number n.0
-why_is_same (why.Mutex s) = is_same_number s
+why_is_same (why.Answer n) = is_same n.0
+why_is_same (why.Mutex s) = is_same s
 why_is_same why.Phone = refl
 why_is_same why.Message = refl
 

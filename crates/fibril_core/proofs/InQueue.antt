@@ -7,6 +7,7 @@ use Rattle.std.proofs.lemmas.Bool.{cases_eq, cases_lt}
 use Rattle.std.proofs.lemmas.List.Edits.{length-remove}
 use Rattle.std.proofs.lemmas.Option.{slice_get_past}
 use Rattle.ipc_ids.specs.declared.numbers.FibrilNo.{FibrilNo}
+use Rattle.ipc_ids.proofs.Common.{not_both}
 use Rattle.fibril_core.specs.declared.fibrils.Status.{Status}
 use Rattle.fibril_core.specs.declared.fibrils.Status.TheVariants.{Ready}
 use Rattle.fibril_core.specs.declared.fibrils.Fibril.{Fibril}
@@ -78,9 +79,6 @@ spawn_alters o = record {
 
   none_before : (m k : ℕ) → m ≡ k → m + 0 ≡ k
   none_before m k e = omega arith
-
-not_both : {b : Bool} → b ≡ true → b ≡ false → ⊥
-not_both h g = cc
 
 -- the queue of those that pass a test, before and after such a call
 module _ (p : Fibril → Bool) where

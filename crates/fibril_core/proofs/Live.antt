@@ -9,7 +9,7 @@ use Rattle.std.proofs.lemmas.Cmp.{ranked}
 use Rattle.std.proofs.lemmas.List.Kept.{IsNonDecreasingBy-filter}
 use Rattle.std.proofs.lemmas.List.Sums.{fold-append}
 use Rattle.std.proofs.lemmas.Option.{slice_get-get_or, get_or_from_slice_get}
-use Rattle.std.proofs.lemmas.Bool.{cases_lt, eq-eqb, ne_eqb}
+use Rattle.std.proofs.lemmas.Bool.{cases_lt, eq-eqb, ne_eqb, lt-ltb}
 use Rattle.std.proofs.lemmas.Bool.Decides.{nat_tests}
 use Rattle.ipc_ids.specs.declared.numbers.FibrilNo.{FibrilNo}
 use Rattle.fibril_core.specs.declared.fibrils.Status.{Status}
@@ -144,10 +144,7 @@ spawn_live live xs y are is number = record {
   those = ap (λ (l : List Fibril). l ++ y ∷ []) are.those ∙ sym (live_push xs y is);
 }
 
-is_less : (i n : ℕ) → i < n → nat_lt i n ≡ true
-is_less i n h = grind (arith, nat_tests)
-
-before_suc : (i : ℕ) → suc i - 1 ≡ i
+pub before_suc : (i : ℕ) → suc i - 1 ≡ i
 before_suc i = omega arith
 
 -- the record stands under its number, where there is a fibril of this number
@@ -156,7 +153,7 @@ put_in xs x = if nat_lt (x.number.0 - 1) (length xs) then slice_set xs (x.number
 
 -- where the fibril stands, one record less its number
 pub put_at : (xs : List Fibril) (i : ℕ) (y : Fibril) → y.number.0 ≡ suc i → i < length xs → put_in xs y ≡ slice_set xs i y
-put_at xs i y number less = rw (number, before_suc i, is_less i (length xs) less) refl
+put_at xs i y number less = rw (number, before_suc i, lt-ltb i (length xs) less) refl
 
 -- a fibril that has not ended stands at a place, and has the number of it
 record Stands (xs : List Fibril) (n : ℕ) : Type 0 where

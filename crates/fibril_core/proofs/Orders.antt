@@ -1,7 +1,7 @@
 -- The calls on fibrils, one change at a time: what they come to, and that the order stays sound.
 use Rattle.std.proofs.Common.{◌≡◌, ◌≢◌, ℕ, zero, suc, ◌+◌, ◌-◌, ◌<◌, ◌≤◌, ◌⊎◌, inl, inr, true, length, Option, Some, None, refl, ap, sym, ◌∙◌, subst, arith}
-use Rattle.std.specs.Prelude.{slice_get, slice_set, nat_lt, IsSome}
-use Rattle.std.proofs.lemmas.Bool.Decides.{nat_tests}
+use Rattle.std.specs.Prelude.{slice_get, slice_set, IsSome}
+use Rattle.std.proofs.lemmas.Bool.{lt-ltb}
 use Rattle.ipc_ids.specs.declared.numbers.FibrilNo.{FibrilNo}
 use Rattle.fibril_core.specs.declared.fibrils.Status.{Status}
 use Rattle.fibril_core.specs.declared.fibrils.Status.TheVariants.{Ready, Ended}
@@ -11,6 +11,7 @@ use Rattle.fibril_core.specs.FibrilLaws.{status_in, status_of, stamp_in, stamp_o
 use Rattle.fibril_core.specs.LiveFibrils.{is_live}
 use Rattle.fibril_core.proofs.Places.{set_here, set_elsewhere, which, which_pushed, within}
 use Rattle.fibril_core.proofs.Firsts.{same_status_is, status_is_same, first_there, first_least, first_none}
+use Rattle.fibril_core.proofs.Live.{before_suc}
 
 -- a fibril with that status is there
 pub record Has (q : Option Fibril) (s : Status) : Type 0 where
@@ -90,15 +91,9 @@ sound_set o i y next sound h number below later own = record {
 no_next : (o : FibrilOrder) → IsSound o → (i j : ℕ) (x : Fibril) → slice_get o.fibrils j ≡ Some x → x.stamp ≡ o.next_stamp → j ≡ i
 no_next o sound i j x there e = let less = sound.stamped j x there in absurd (omega arith)
 
-is_less : (i n : ℕ) → i < n → nat_lt i n ≡ true
-is_less i n h = grind (arith, nat_tests)
-
-before_suc : (i : ℕ) → suc i - 1 ≡ i
-before_suc i = omega arith
-
 -- a fibril that is there has a new status
 pub status_set : (o : FibrilOrder) (i : ℕ) (s : Status) → i < length o.fibrils → with_status o (record { 0 = suc i }) s ≡ record { fibrils = slice_set o.fibrils i (record { number = record { 0 = suc i }; status = s; stamp = o.next_stamp }); next_stamp = o.next_stamp + 1 }
-status_set o i s h = rw (before_suc i, is_less i (length o.fibrils) h) refl
+status_set o i s h = rw (before_suc i, lt-ltb i (length o.fibrils) h) refl
 
 sound_status_at : (o : FibrilOrder) (n : ℕ) (s : Status) (x : Fibril) → IsSound o → fibril_at o n ≡ Some x → IsSound (with_status o (record { 0 = n }) s)
 sound_status_at o zero s x sound there = absurd (cc there)
@@ -190,7 +185,7 @@ sound_ended o sound = sound_by (first_with Ready o.fibrils) refl where
   ended_at x zero e there = absurd (cc there)
   ended_at x (suc i) e there =
       let h = within o.fibrils i x there in
-      rw (before_suc i, is_less i (length o.fibrils) h) (sound_set o i (record { number = record { 0 = suc i }; status = Ended; stamp = 0 }) o.next_stamp sound h (by_suc i) (some_stamp o i x sound there) (omega arith) (λ j y that d c same. absurd (cc c)))
+      rw (before_suc i, lt-ltb i (length o.fibrils) h) (sound_set o i (record { number = record { 0 = suc i }; status = Ended; stamp = 0 }) o.next_stamp sound h (by_suc i) (some_stamp o i x sound there) (omega arith) (λ j y that d c same. absurd (cc c)))
 
   sound_by : (q : Option Fibril) → first_with Ready o.fibrils ≡ q → IsSound (found_over o q)
   sound_by None e = sound

@@ -2,11 +2,12 @@
 use Rattle.std.proofs.Common.{◌≡◌, ℕ, zero, suc, ◌+◌, ◌-◌, ◌<◌, ◌≤◌, ◌≢◌, ◌⊎◌, inl, inr, Bool, true, false, List, [], ◌∷◌, ◌++◌, length, get_or, Option, Some, None, refl, ap, sym, ◌∙◌, subst, arith}
 use Rattle.std.specs.Prelude.{◌&&◌, if◌then◌else◌, map, slice_get, slice_set, nat_lt}
 use Rattle.std.specs.List.{filter, find}
-use Rattle.std.proofs.lemmas.Bool.{cases_eq, eq-eqb, ne_eqb, eqb-true}
+use Rattle.std.proofs.lemmas.Bool.{cases_eq, eq-eqb, ne_eqb, eqb-true, and_right}
 use Rattle.std.proofs.lemmas.Bool.Decides.{nat_tests}
 use Rattle.std.proofs.lemmas.List.{ext_get_or, length-append}
 use Rattle.std.proofs.lemmas.Option.{slice_get-get_or, slice_get_past, get_or_from_slice_get}
 use Rattle.ipc_ids.specs.declared.numbers.FibrilNo.{FibrilNo}
+use Rattle.ipc_ids.proofs.Common.{and_second}
 use Rattle.fibril_core.specs.declared.fibrils.Status.{Status}
 use Rattle.fibril_core.specs.declared.fibrils.Status.TheVariants.{Ready, Blocked, Ended}
 use Rattle.fibril_core.specs.declared.fibrils.Fibril.{Fibril}
@@ -57,10 +58,6 @@ fibril_past n next live (suc i) h = slice_get_past (all_of n live) i (let few = 
 both_true : (a b : Bool) → a ≡ true → b ≡ true → (a && b) ≡ true
 both_true a b h g = rw (h, g) refl
 
-second_false : (a b : Bool) → b ≡ false → (a && b) ≡ false
-second_false true b h = h
-second_false false b h = refl
-
 find_filter : (p q : Fibril → Bool) (xs : List Fibril) → find p (filter q xs) ≡ find (λ x. q x && p x) xs
 find_filter p q [] = refl
 find_filter p q (x ∷ xs) = by (q x) (find_filter p q xs) where
@@ -107,12 +104,8 @@ one_is live xs i x are bare there = is_by (is_live x) refl where
   found : find (has_number (suc i)) live ≡ find (λ y. is_live y && has_number (suc i) y) xs
   found = ap (find (has_number (suc i))) are.those ∙ find_filter (has_number (suc i)) is_live xs
 
-  second : (a b : Bool) → (a && b) ≡ true → b ≡ true
-  second true b h = h
-  second false b h = absurd (cc h)
-
   own : (j : ℕ) (y : Fibril) → slice_get xs j ≡ Some y → (is_live y && has_number (suc i) y) ≡ true → j ≡ i
-  own j y that h = same_place i j y.number.0 (numbered_at 0 xs j y are.numbered that) (eqb-true y.number.0 (suc i) (second (is_live y) (has_number (suc i) y) h))
+  own j y that h = same_place i j y.number.0 (numbered_at 0 xs j y are.numbered that) (eqb-true y.number.0 (suc i) (and_second (is_live y) (has_number (suc i) y) h))
 
   first_false : (a b : Bool) → a ≡ false → (a && b) ≡ false
   first_false a b h = rw h refl
@@ -121,7 +114,7 @@ one_is live xs i x are bare there = is_by (is_live x) refl where
   none_at lives j y that = none_by (cases_eq j i) where
     none_by : (j ≡ i) ⊎ (j ≡ i → ⊥) → (is_live y && has_number (suc i) y) ≡ false
     none_by (inl e) = let same : x ≡ y = cc (sym there ∙ ap (slice_get xs) (sym e) ∙ that) in first_false (is_live y) (has_number (suc i) y) (rw (← same) lives)
-    none_by (inr e) = second_false (is_live y) (has_number (suc i) y) (ne_eqb y.number.0 (suc i) (λ h. e (same_place i j y.number.0 (numbered_at 0 xs j y are.numbered that) h)))
+    none_by (inr e) = and_right (is_live y) (has_number (suc i) y) (ne_eqb y.number.0 (suc i) (λ h. e (same_place i j y.number.0 (numbered_at 0 xs j y are.numbered that) h)))
 
   is_by : (b : Bool) → is_live x ≡ b → found_or_ended (suc i) (find (has_number (suc i)) live) ≡ x
   is_by true lives = ap (found_or_ended (suc i)) (found ∙ find_one (λ y. is_live y && has_number (suc i) y) xs i x own there (both_true (is_live x) (has_number (suc i) x) lives (eq-eqb x.number.0 (suc i) (number ∙ omega arith))))

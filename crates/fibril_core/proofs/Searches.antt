@@ -4,9 +4,7 @@ use Rattle.std.specs.Prelude.{if◌then◌else◌, slice_get, slice_set, positio
 use Rattle.std.specs.List.{find, remove, position_or_len}
 use Rattle.std.specs.Option.{OnSome}
 use Rattle.std.proofs.lemmas.Bool.Decides.{nat_tests}
-
-some_is : (i j : ℕ) → Some i ≡ Some j → i ≡ j
-some_is i j h = cc
+use Rattle.std.proofs.lemmas.Option.{same_Some}
 
 -- the place of an element behind a first one
 abbrev pub shifted : Option ℕ → Option ℕ
@@ -23,6 +21,9 @@ skip (suc i) (suc j) = suc (skip i j)
 pub on_some : {X P : Type 0} (r : Option X) → IsSome r → OnSome r P → P
 on_some None some h = absurd (cc some)
 on_some (Some x) some h = h
+
+pub same_pred : (j k : ℕ) → suc j ≡ suc k → j ≡ k
+same_pred j k e = omega arith
 
 module _ {X : Type 0} where
   pub position_here : (p : X → Bool) (x : X) (xs : List X) → p x ≡ true → position p (x ∷ xs) ≡ Some 0
@@ -45,7 +46,7 @@ module _ {X : Type 0} where
     shift_back (Some j) is h more = let same : suc j ≡ i = cc in let there = more j is in (there.0, subst (λ (k : ℕ). slice_get (x ∷ xs) k ≡ Some there.0) same there.1, there.2)
 
     place_by : (b : Bool) → p x ≡ b → ((j : ℕ) → position p xs ≡ Some j → (y : X) × (slice_get xs j ≡ Some y) × (p y ≡ true)) → (y : X) × (slice_get (x ∷ xs) i ≡ Some y) × (p y ≡ true)
-    place_by true h more = let same : 0 ≡ i = some_is 0 i (sym (position_here p x xs h) ∙ e) in (x, subst (λ (k : ℕ). slice_get (x ∷ xs) k ≡ Some x) same refl, h)
+    place_by true h more = let same : 0 ≡ i = same_Some 0 i (sym (position_here p x xs h) ∙ e) in (x, subst (λ (k : ℕ). slice_get (x ∷ xs) k ≡ Some x) same refl, h)
     place_by false h more = shift_back (position p xs) refl (sym (position_behind p x xs h) ∙ e) more
 
   -- what stands at the place of a search is what is found
@@ -71,9 +72,6 @@ module _ {X : Type 0} where
   find_one p [] i x one there h = absurd (cc there)
   find_one p (y ∷ xs) zero x one there h = let same : y ≡ x = cc in rw (same, h) refl
   find_one p (y ∷ xs) (suc i) x one there h = one_by (p y) refl (find_one p xs i x (λ j z that g. same_pred j i (one (suc j) z that g)) there h) where
-    same_pred : (j k : ℕ) → suc j ≡ suc k → j ≡ k
-    same_pred j k e = omega arith
-
     not_zero : (k : ℕ) → 0 ≡ suc k → ⊥
     not_zero k e = omega arith
 

@@ -1,6 +1,6 @@
 -- What is due, from what the calls of the program say.
 use Rattle.std.proofs.Common.{◌≡◌, ℕ, ◌≤◌, true, List, length, Option, Result, Ok, Err, sym, ap, subst, ◌∙◌, arith}
-use Rattle.std.specs.Prelude.{IfOk, ◌≢◌, codes}
+use Rattle.std.specs.Prelude.{◌≢◌, codes}
 use Rattle.std.specs.Io.KnownBytes.{Appends}
 use Rattle.io_edge.specs.Edge.{AppendsStart}
 use Rattle.ipc_ids.specs.declared.message.Event.{Event}
@@ -24,11 +24,6 @@ use Rattle.hipc_search.specs.Moves.{listed_in, bounds_in, moves_of}
 use Rattle.hipc_search.proofs.Steps.{moves_few}
 
 -- ---- what is written
-
--- what holds of a value that there is, under a wider word
-pub if_ok_on : {A E : Type 0} (P Q : A → Type 0) (r : Result A E) → ((x : A) → P x → Q x) → IfOk r P → IfOk r Q
-if_ok_on P Q (Ok x) f h = f x h
-if_ok_on P Q (Err e) f h = tt
 
 no_want : (s : Status) → IsOfText s → s ≡ statuses.NoMemory → ⊥
 no_want s h e = subst IsOfText e h

@@ -1,6 +1,6 @@
 -- Which names the lines of a schedule make known, and how many tasks there are behind them.
 use Rattle.std.proofs.Common.{◌≡◌, ℕ, zero, suc, ◌+◌, ◌<◌, Bool, true, false, cond, List, [], ◌∷◌, ◌++◌, length, Option, Some, None, Result, Ok, Err, refl, sym, ap, subst, ◌∙◌, length-append}
-use Rattle.std.specs.Prelude.{⊤, replicate, is_some, nat_le, ◌||◌}
+use Rattle.std.specs.Prelude.{replicate, is_some, nat_le, ◌||◌}
 use Rattle.std.specs.List.{list_all}
 use Rattle.std.specs.Option.{ok_or}
 use Rattle.std.proofs.lemmas.Bool.{or_parts, leb-false}
@@ -14,13 +14,15 @@ use Rattle.script_lines.specs.Names.{place_of, is_ns}
 use Rattle.script_lines.specs.Operation.{◌>>=◌, needed}
 use Rattle.script_lines.specs.Text.{is_allowed, words}
 use Rattle.script_lines.specs.Word.{is_name, name_of}
-use Rattle.script_lines.proofs.Faultless.{ok_is, then_ok, chosen_ok, allowed_ok}
+use Rattle.script_lines.proofs.Faultless.{then_ok, chosen_ok, allowed_ok}
+use Rattle.script_lines.proofs.Soundness.{made_is}
 use Rattle.script_reader.specs.declared.schedule.EventVerb.{EventVerb}
 use Rattle.script_reader.specs.declared.schedule.EventVerb.TheVariants as verbs
 use Rattle.script_reader.specs.EventLine.{EventsAndNames, unless, is_taken, spawn_place, with_spawn, spawn_of, with_repeated, after_event_verb, after_event_words, after_event_line}
 use Rattle.script_reader.specs.Reading.{lines_from}
 use Rattle.script_reader.specs.Schedule.{step_of, kill_of, hangup_of, event_verb_of, with_events}
 use Rattle.script_reader.proofs.EventTasks.{IsOn, may_on, steps_on, kill_on, hangup_on}
+use Rattle.script_reader.proofs.KnownTasks.{free_ok}
 use Rattle.search_goals.specs.Writing.{tasks_behind}
 use Rattle.search_goals.proofs.Adding.{tasks_both}
 use Rattle.hipc_search.specs.Known.{is_spawn, made_by}
@@ -53,7 +55,7 @@ module _ (before : EventsAndNames) where
       let event : Event = said.0.0 in
       let times : ℕ = said.0.1 in
       let made = then_ok (with_events before.events event times) _ after said.2 in
-      let is = ok_is _ after made.2 in
+      let is = made_is _ after made.2 in
       let events : after.events ≡ before.events ++ replicate times event =
       ap (λ (m : EventsAndNames). m.events) (sym is) ∙ added before.events event times made.0 made.1 in
       let here : IsOn (length before.names) event = on said.0 said.1 in
@@ -72,10 +74,6 @@ module _ (before : EventsAndNames) where
     pub names : after.names ≡ before.names ++ name ∷ []
     pub tasks : (n : ℕ) → tasks_behind n after.events ≡ tasks_behind n before.events + 1
 
-  free_ok : (b : Bool) (reason : Reason) (x : ⊤) → unless b reason ≡ Ok x → b ≡ false
-  free_ok true reason x e = absurd (cc e)
-  free_ok false reason x e = refl
-
   untaken : (templates : List (List ℕ)) (name : List ℕ) → is_taken templates before.names name ≡ false
       → is_some (place_of before.names name) ≡ false
   unfolding is_taken
@@ -87,7 +85,7 @@ module _ (before : EventsAndNames) where
   unfolding name_of
   same_name word name e = by_test (is_name word) e where
     by_test : (b : Bool) → needed (cond b (Some word) None) ≡ Ok name → word ≡ name
-    by_test true f = ok_is word name f
+    by_test true f = made_is word name f
     by_test false f = absurd cc
 
   spawn_makes : (templates : List (List ℕ)) (template name : List ℕ) (after : EventsAndNames)
@@ -101,7 +99,7 @@ module _ (before : EventsAndNames) where
       let free = then_ok (unless (is_taken templates before.names second.0) NameTaken) _ chosen.0 found.2 in
       let room = then_ok (unless (nat_le most_tasks (length before.names)) TooMany) _ chosen.0 free.2 in
       let made = then_ok (with_events before.events (Spawn chosen.0) 1) _ after chosen.2 in
-      let is = ok_is _ after made.2 in
+      let is = made_is _ after made.2 in
       let same : name ≡ second.0 = same_name name second.0 second.1 in
       let events : after.events ≡ before.events ++ Spawn chosen.0 ∷ [] =
       ap (λ (m : EventsAndNames). m.events) (sym is) ∙ added before.events (Spawn chosen.0) 1 made.0 made.1 in
@@ -145,7 +143,7 @@ module _ (before : EventsAndNames) where
 
     stays_there : after_event_words templates before [] ≡ Ok after → Stays before after
     stays_there e =
-        let same : before ≡ after = ok_is before after e in
+        let same : before ≡ after = made_is before after e in
         record {
           names = ap (λ (m : EventsAndNames). m.names) (sym same);
           tasks = λ (n : ℕ) (all : length before.names ≡ tasks_behind n before.events).

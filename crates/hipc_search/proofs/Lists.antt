@@ -14,7 +14,8 @@ use Rattle.script_lines.specs.declared.fault.Reason.TheVariants.{TooMany}
 use Rattle.script_lines.specs.Operation.{◌>>=◌}
 use Rattle.script_lines.proofs.Lines.{here}
 use Rattle.script_reader.specs.Reading.{lines_from, at_line}
-use Rattle.search_goals.proofs.GoalWords.{none_found, found_at}
+use Rattle.script_reader.proofs.StepLines.{no_end}
+use Rattle.search_goals.proofs.GoalWords.{found_at}
 use Rattle.hipc_search.specs.declared.moves.Listed.{Listed}
 use Rattle.hipc_search.specs.Moves.{event_in, with_listed, is_comma, words_of}
 
@@ -23,7 +24,7 @@ use Rattle.hipc_search.specs.Moves.{event_in, with_listed, is_comma, words_of}
 -- no comma stands in the text: it is one word
 pub last_piece : (text : List ℕ) → position is_comma text ≡ None → words_of text ≡ text ∷ []
 last_piece text e =
-    let whole : length text ≡ position_or_len is_comma text = none_found is_comma text e in
+    let whole : length text ≡ position_or_len is_comma text = no_end is_comma text e in
     slice_split_none is_comma text
     (λ (k : ℕ) (d : ℕ) (l : k < length text). fails_before_first is_comma text k d (omega arith))
 

@@ -4,6 +4,7 @@ use Rattle.std.specs.Prelude.{codes}
 use Rattle.std.specs.Option.{option_map}
 use Rattle.std.proofs.lemmas.Bool.{cases_lt, lt-ltb}
 use Rattle.std.proofs.lemmas.List.{take_all, length-take-le}
+use Rattle.std.proofs.lemmas.Option.{same_Some}
 use Rattle.io_edge.specs.Edge.{Gives, Holds, file_of}
 use Rattle.script_lines.specs.declared.fault.Reason.{Reason}
 use Rattle.script_lines.specs.declared.fault.Reason.TheVariants.{TooLong}
@@ -32,13 +33,10 @@ cut all = elim (cases_lt 1048577 (length all)) [
   | inr less ↦ inl (take_all 1048577 all less)
 ]
 
-taken : (x bytes : List ℕ) → Some x ≡ Some bytes → x ≡ bytes
-taken x bytes h = cc
-
 found : (known : Option (List ℕ)) (bytes : List ℕ) → option_map (λ all. take 1048577 all) known ≡ Some bytes
     → (all : List ℕ) × (known ≡ Some all) × AreEnough bytes all
 found None bytes h = cc
-found (Some all) bytes h = (all, refl, subst (λ (x : List ℕ). AreEnough x all) (taken (take 1048577 all) bytes h) (cut all))
+found (Some all) bytes h = (all, refl, subst (λ (x : List ℕ). AreEnough x all) (same_Some (take 1048577 all) bytes h) (cut all))
 
 held : (files : Files) (name bytes : List ℕ) → Gives files name 1048577 bytes
     → (all : List ℕ) × Holds files name all × AreEnough bytes all

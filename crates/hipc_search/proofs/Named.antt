@@ -10,21 +10,23 @@ use Rattle.script_lines.specs.declared.draft.TaskHead.{TaskHead}
 use Rattle.script_lines.specs.declared.fault.Reason.{Reason}
 use Rattle.script_lines.specs.declared.fault.Reason.TheVariants.{TooLong, NameTaken, TooMany, BadPhone, UnknownName}
 use Rattle.script_lines.specs.declared.plan.Kind.{Kind}
-use Rattle.script_lines.specs.declared.plan.Kind.TheVariants.{Naming, Raw, Async, Block}
 use Rattle.script_lines.specs.declared.plan.TaskPlan.{TaskPlan}
 use Rattle.script_lines.specs.declared.word.OpVerb.{OpVerb}
 use Rattle.script_lines.specs.declared.word.Verb.{Verb}
 use Rattle.script_lines.specs.declared.word.Verb.TheVariants as verbs
 use Rattle.script_lines.specs.Draft.{service, stands_first, with_service, new_task, with_task, with_new, with_wire, present, on_last, body_with_op, task_with_op, takes_bodies, is_full, task_with_body, with_body, with_op}
-use Rattle.script_lines.specs.Line.{kind_of, counted_kind_of, service_kind_of, number_up_to, most_behind, head, plain_task, counted_task, service_task, task_of, template_of, wire_of, alone_at, ns, task, template, body, wire, operation, body_of_last, operation_of_last, after_verb, after_words, after_line}
+use Rattle.script_lines.specs.Line.{kind_of, counted_kind_of, service_kind_of, number_up_to, most_behind, head, plain_task, counted_task, service_task, task_of, template_of, wire_of, ns, task, template, body, wire, operation, body_of_last, operation_of_last, after_verb, after_words, after_line}
 use Rattle.script_lines.specs.Names.{task_names, place_of, is_ns}
 use Rattle.script_lines.specs.Operation.{needed, op_in}
 use Rattle.script_lines.specs.Plan.{Plan}
 use Rattle.script_lines.specs.ScriptParts.{ScriptParts, no_parts, script_of_parts, with_tasks, with_templates, with_wires, part, with_part}
 use Rattle.script_lines.specs.Text.{is_allowed, lines, words}
 use Rattle.script_lines.specs.Word.{verb_of, number, is_name, name_of}
-use Rattle.script_lines.proofs.Faultless.{given, ok_is, then_ok, chosen_ok}
+use Rattle.script_lines.proofs.Faultless.{given, then_ok, chosen_ok}
+use Rattle.script_lines.proofs.Parts.{alone_ok}
+use Rattle.script_lines.proofs.Soundness.{made_is}
 use Rattle.script_reader.specs.Reading.{lines_from, reading, plan_from_parts, script_of}
+use Rattle.script_reader.proofs.Faults.{head_name}
 use Rattle.search_goals.specs.Writing as writing
 use Rattle.hipc_search.proofs.Lists.{line_ok}
 
@@ -44,14 +46,8 @@ pub name_is : (word name : List ℕ) → needed (name_of word) ≡ Ok name → i
 unfolding name_of
 name_is word name e = by_test (is_name word) refl e where
   by_test : (b : Bool) → is_name word ≡ b → needed (cond b (Some word) None) ≡ Ok name → is_name name ≡ true
-  by_test true t e = ap is_name (sym (ok_is word name e)) ∙ t
+  by_test true t e = ap is_name (sym (made_is word name e)) ∙ t
   by_test false t e = absurd cc
-
-head_name : (name : List ℕ) (kind : Kind) (count : ℕ) (other : Option ℕ) → (head name kind count other).name ≡ name
-head_name name Naming count other = refl
-head_name name Raw count other = refl
-head_name name Async count other = refl
-head_name name Block count other = refl
 
 abbrev HasName : TaskHead → Type 0
 HasName h = is_name h.name ≡ true
@@ -59,7 +55,7 @@ HasName h = is_name h.name ≡ true
 made_head : (name : List ℕ) (kind : Kind) (count : ℕ) (other : Option ℕ) (h : TaskHead) → is_name name ≡ true
     → given (head name kind count other) ≡ given h → HasName h
 made_head name kind count other h good e =
-    ap is_name (ap (λ (k : TaskHead). k.name) (sym (ok_is (head name kind count other) h e)) ∙ head_name name kind count other)
+    ap is_name (ap (λ (k : TaskHead). k.name) (sym (made_is (head name kind count other) h e)) ∙ head_name name kind count other)
     ∙ good
 
 plain_named : (name kind : List ℕ) (h : TaskHead) → plain_task name kind ≡ Ok h → HasName h
@@ -111,7 +107,7 @@ new_named others plan new h named good e =
     let first = passed (is_some (place_of others h.name)) NameTaken _ new e in
     let second = passed (is_ns h.name || is_some (place_of (task_names plan.tasks) h.name)) NameTaken _ new first in
     let third = passed (nat_le most_tasks (length plan.tasks)) TooMany _ new second in
-    subst (λ (p : Plan). Named p.tasks) (ok_is _ new third)
+    subst (λ (p : Plan). Named p.tasks) (made_is _ new third)
     (one_more plan.tasks (new_task h) named good)
 
 -- ---- a change of the last task
@@ -124,41 +120,36 @@ last_named : (change : TaskPlan → Result TaskPlan Reason) → KeepsNames chang
 last_named change keeps [] new named e = absurd cc
 last_named change keeps (t ∷ []) new named e =
     let made = then_ok (change t) _ new e in
-    subst Named (ok_is (made.0 ∷ []) new made.2) (ap is_name (keeps t made.0 made.1) ∙ named.0, tt)
+    subst Named (made_is (made.0 ∷ []) new made.2) (ap is_name (keeps t made.0 made.1) ∙ named.0, tt)
 last_named change keeps (t ∷ next ∷ others) new named e =
     let made = then_ok (on_last change (next ∷ others)) _ new e in
-    subst Named (ok_is (t ∷ made.0) new made.2) (named.0, last_named change keeps (next ∷ others) made.0 named.1 made.1)
+    subst Named (made_is (t ∷ made.0) new made.2) (named.0, last_named change keeps (next ∷ others) made.0 named.1 made.1)
 
 op_keeps : (op : Op) → KeepsNames (task_with_op op)
 op_keeps op t u e =
     let made = then_ok (on_last (body_with_op op) t.bodies) _ u e in
-    ap (λ (k : TaskPlan). k.name) (sym (ok_is _ u made.2))
+    ap (λ (k : TaskPlan). k.name) (sym (made_is _ u made.2))
 
 body_keeps : (connection : Bool) → KeepsNames (task_with_body connection)
 unfolding task_with_body
 body_keeps connection t u e =
-    ap (λ (k : TaskPlan). k.name) (sym (ok_is _ u (passed (is_full connection t.bodies) TooMany _ u e)))
+    ap (λ (k : TaskPlan). k.name) (sym (made_is _ u (passed (is_full connection t.bodies) TooMany _ u e)))
 
 with_op_named : (plan new : Plan) (op : Op) → Named plan.tasks → with_op plan op ≡ Ok new → Named new.tasks
 unfolding with_op
 with_op_named plan new op named e =
     let made = then_ok (on_last (task_with_op op) plan.tasks) _ new e in
-    subst (λ (p : Plan). Named p.tasks) (ok_is _ new made.2)
+    subst (λ (p : Plan). Named p.tasks) (made_is _ new made.2)
     (last_named (task_with_op op) (op_keeps op) plan.tasks made.0 named made.1)
 
 with_body_named : (plan new : Plan) (connection : Bool) → Named plan.tasks → with_body plan connection ≡ Ok new → Named new.tasks
 unfolding with_body
 with_body_named plan new connection named e =
     let made = then_ok (on_last (task_with_body connection) plan.tasks) _ new e in
-    subst (λ (p : Plan). Named p.tasks) (ok_is _ new made.2)
+    subst (λ (p : Plan). Named p.tasks) (made_is _ new made.2)
     (last_named (task_with_body connection) (body_keeps connection) plan.tasks made.0 named made.1)
 
 -- ---- a line
-
-alone_ok : (b : Bool) (ws : List (List ℕ)) (r : Result Plan Reason) (new : Plan) → alone_at b ws r ≡ Ok new → r ≡ Ok new
-alone_ok false ws r new e = absurd cc
-alone_ok true [] r new e = e
-alone_ok true (w ∷ ws) r new e = absurd cc
 
 body_named : (plan new : Plan) (connection : Bool) (ws : List (List ℕ)) → Named plan.tasks → body plan connection ws ≡ Ok new
     → Named new.tasks
@@ -180,7 +171,7 @@ wire_named plan new ws named e =
     let from = then_ok (ok_or (place_of (task_names plan.tasks) said.0.0) UnknownName) _ new said.2 in
     let to = then_ok (ok_or (place_of (task_names plan.tasks) said.0.2) UnknownName) _ new from.2 in
     let made = passed _ BadPhone _ new to.2 in
-    subst (λ (p : Plan). Named p.tasks) (ok_is _ new made) named
+    subst (λ (p : Plan). Named p.tasks) (made_is _ new made) named
 
 service_named_ns : IsNamed service
 unfolding is_name
@@ -190,7 +181,7 @@ ns_named : (w : ScriptParts) (new : Plan) (ws : List (List ℕ)) → Named w.tas
 unfolding ns with_service
 ns_named w new ws named e =
     let made = alone_ok (stands_first (script_of_parts w)) ws (Ok (with_service w.tasks)) new e in
-    subst (λ (p : Plan). Named p.tasks) (ok_is (with_service w.tasks) new made) (one_more w.tasks.tasks service named service_named_ns)
+    subst (λ (p : Plan). Named p.tasks) (made_is (with_service w.tasks) new made) (one_more w.tasks.tasks service named service_named_ns)
 
 -- both parts
 record PartsNamed (w : ScriptParts) : Type 0 where
@@ -213,13 +204,13 @@ module _ (w : ScriptParts) (named : PartsNamed w) where
   body_last : (connection : Bool) (ws : List (List ℕ)) (v : ScriptParts) → body_of_last w connection ws ≡ Ok v → PartsNamed v
   body_last connection ws v e =
       let made = then_ok (body (part w) connection ws) _ v e in
-      subst PartsNamed (ok_is (with_part w made.0) v made.2)
+      subst PartsNamed (made_is (with_part w made.0) v made.2)
       (with_part_named w made.0 named (body_named (part w) made.0 connection ws (part_named w named) made.1))
 
   operation_last : (verb : OpVerb) (ws : List (List ℕ)) (v : ScriptParts) → operation_of_last w verb ws ≡ Ok v → PartsNamed v
   operation_last verb ws v e =
       let made = then_ok (operation (part w) verb ws) _ v e in
-      subst PartsNamed (ok_is (with_part w made.0) v made.2)
+      subst PartsNamed (made_is (with_part w made.0) v made.2)
       (with_part_named w made.0 named (operation_named (part w) made.0 verb ws (part_named w named) made.1))
 
   task_line : (ws : List (List ℕ)) (new : Plan) → task (task_names w.templates.tasks) w.tasks ws ≡ Ok new → Named new.tasks
@@ -238,26 +229,26 @@ module _ (w : ScriptParts) (named : PartsNamed w) where
   verb_named None ws v e = absurd cc
   verb_named (Some verbs.Ns) ws v e =
       let made = then_ok (ns w ws) _ v e in
-      subst PartsNamed (ok_is (with_tasks w made.0) v made.2)
+      subst PartsNamed (made_is (with_tasks w made.0) v made.2)
       (record { tasks = ns_named w made.0 ws named.tasks made.1; templates = named.templates })
   verb_named (Some verbs.Task) ws v e =
       let made = then_ok (task (task_names w.templates.tasks) w.tasks ws) _ v e in
-      subst PartsNamed (ok_is (with_tasks w made.0) v made.2)
+      subst PartsNamed (made_is (with_tasks w made.0) v made.2)
       (record { tasks = task_line ws made.0 made.1; templates = named.templates })
   verb_named (Some verbs.Template) ws v e =
       let made = then_ok (template (task_names w.tasks.tasks) w.templates ws) _ v e in
-      subst PartsNamed (ok_is (with_templates w made.0) v made.2)
+      subst PartsNamed (made_is (with_templates w made.0) v made.2)
       (record { tasks = named.tasks; templates = template_line ws made.0 made.1 })
   verb_named (Some verbs.Fibril) ws v e = body_last false ws v e
   verb_named (Some verbs.Connection) ws v e = body_last true ws v e
   verb_named (Some verbs.Wire) ws v e =
       let made = then_ok (wire w.tasks ws) _ v e in
-      subst PartsNamed (ok_is (with_wires w made.0) v made.2)
+      subst PartsNamed (made_is (with_wires w made.0) v made.2)
       (record { tasks = wire_named w.tasks made.0 ws named.tasks made.1; templates = named.templates })
   verb_named (Some (verbs.Op verb)) ws v e = operation_last verb ws v e
 
   words_named : (ws : List (List ℕ)) (v : ScriptParts) → after_words w ws ≡ Ok v → PartsNamed v
-  words_named [] v e = subst PartsNamed (ok_is w v e) named
+  words_named [] v e = subst PartsNamed (made_is w v e) named
   words_named (first ∷ others) v e = verb_named (verb_of first) others v e
 
   line_named : (line : List ℕ) (v : ScriptParts) → after_line w line ≡ Ok v → PartsNamed v

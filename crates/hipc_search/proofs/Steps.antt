@@ -8,16 +8,11 @@ use Rattle.std.proofs.lemmas.List.Elements.{All-from_recursion, All-filter, All-
 use Rattle.std.proofs.lemmas.List.FromFn.{length-range_with_len}
 use Rattle.ipc_ids.specs.declared.message.Event.{Event}
 use Rattle.ipc_ids.specs.declared.message.Event.TheVariants.{Spawn}
+use Rattle.ipc_ids.proofs.Common.{range_more}
 use Rattle.script_reader.specs.Schedule.{MayAllCome}
 use Rattle.script_reader.proofs.EventTasks.{IsOn, all_may}
 use Rattle.schedule_search.specs.declared.problem.MostMade.{MostMade}
 use Rattle.hipc_search.specs.Moves.{is_living, is_killed, step_by, kill_of, for_chosen, living_steps, all_made, most_ever, spawns_in, moves_of}
-
-range_more : (a n : ℕ) → range_with_len a (suc n) ≡ range_with_len a n ++ (a + n) ∷ []
-range_more a zero = ap (λ (m : ℕ). m ∷ []) (let e : a ≡ a + 0 = omega arith in e)
-range_more a (suc n) =
-    let e : a + 1 + n ≡ a + suc n = omega arith in
-    ap (λ (ms : List ℕ). a ∷ ms) (range_more (a + 1) n ∙ ap (λ (m : ℕ). range_with_len (a + 1) n ++ m ∷ []) e)
 
 map_chosen : (event : ℕ → Event) (b : Bool) (t : ℕ) → map event (cond b (t ∷ []) []) ≡ cond b (event t ∷ []) []
 map_chosen event true t = refl

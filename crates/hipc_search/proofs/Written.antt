@@ -5,6 +5,7 @@ use Rattle.std.specs.Char.{is_ascii_digit}
 use Rattle.std.specs.List.{list_all}
 use Rattle.std.proofs.lemmas.Bool.{and_parts, and_from, leb-true}
 use Rattle.std.proofs.lemmas.List.Folds.{list_all-append}
+use Rattle.trace_print.proofs.Digits.{length_20}
 use Rattle.ipc_ids.specs.declared.message.Event.{Event}
 use Rattle.script_lines.specs.Names.{task_names}
 use Rattle.script_lines.specs.Text.{is_allowed}
@@ -13,7 +14,7 @@ use Rattle.search_goals.specs.Lines.{comment_text}
 use Rattle.script_reader.specs.Schedule.{MayAllCome}
 use Rattle.search_goals.specs.Writing.{tasks_behind, Writes}
 use Rattle.search_goals.proofs.Adding.{both_added, writes_both}
-use Rattle.search_goals.proofs.Decimals.{are_digits, length_20}
+use Rattle.search_goals.proofs.Decimals.{are_digits}
 use Rattle.search_goals.proofs.Texts.{comment_adds}
 use Rattle.schedule_search.specs.Search.{Search, first_tasks}
 use Rattle.hipc_search.specs.Moves.{living_steps}

@@ -17,7 +17,7 @@ use Rattle.ipc_ids.specs.Holdings.{newest_first, on_top}
 use Rattle.ipc_ids.specs.Doings.{Doing, Asks, Told, is_own_event, doings_of, doings, is_kept, IsNewTo}
 use Rattle.ipc_ids.specs.KeptCalls.{IsSettled, KeepsCalls, is_within, AreWithin, is_receipt_of, has_receipt, TellsReceipt, served, did}
 use Rattle.ipc_ids.proofs.LawfulLists.{lawful_before}
-use Rattle.ipc_ids.proofs.LawfulAreas.{newest_first-append}
+use Rattle.ipc_ids.proofs.LawfulAreas.{newest_first-append, on_top-append}
 use Rattle.ipc_ids.proofs.Pasts.{past-append, tales-append, onto-append}
 
 abbrev below : List Entry → List Tale → List Tale
@@ -120,10 +120,6 @@ doings_within t (e ∷ es) q h =
 
     one_own : (e : Entry) → is_within e ≡ true → is_own_event t (e ∷ q) ≡ is_own_event t q
     one_own e i = grind arith
-
-on_top-append : (xs ys q : List Entry) → on_top (xs ++ ys) q ≡ on_top ys (on_top xs q)
-on_top-append [] ys q = refl
-on_top-append (x ∷ xs) ys q = on_top-append xs ys (x ∷ q)
 
 -- a request that is served
 pub doings_served : (h es own : List Entry) (t : ℕ) (u : TaskNo) (asked : Request) (o : Outcome) → AreWithin es → AreWithin own

@@ -1,9 +1,9 @@
 -- The area of a task at a base, as areas are made, shared, dropped and written to.
 use Rattle.std.proofs.Common.{◌≡◌, ℕ, zero, suc, ◌+◌, ◌-◌, ◌*◌, ◌<◌, ◌≤◌, Bool, true, false, cond, not, ◌&&◌, List, [], ◌∷◌, ◌++◌, length, Option, Some, None, Ok, Err, refl, sym, ◌∙◌, ap, subst, inl, inr, arith, All}
-use Rattle.std.specs.Prelude.{◌==◌, ◌||◌, if◌then◌else◌, nat_lt, bit_and, remove, slice_get, slice_set, slice_index_or, unwrap_or, option_map, ⊤}
+use Rattle.std.specs.Prelude.{◌==◌, if◌then◌else◌, nat_lt, bit_and, remove, slice_get, slice_set, slice_index_or, unwrap_or, option_map, ⊤}
 use Rattle.std.specs.List.{AllPairs, list_any, position_or_len}
 use Rattle.std.proofs.lemmas.Bool.Decides.{nat_tests}
-use Rattle.std.proofs.lemmas.Bool.{cases_eq, eq-eqb, ne_eqb, eqb-true}
+use Rattle.std.proofs.lemmas.Bool.{cases_eq, eq-eqb, ne_eqb, eqb-true, or_parts}
 use Rattle.std.proofs.lemmas.List.Elements.{All-head, All-tail}
 use Rattle.ipc_ids.specs.declared.numbers.TaskNo.{TaskNo}
 use Rattle.ipc_ids.specs.declared.numbers.StoreNo.{StoreNo}
@@ -16,6 +16,7 @@ use Rattle.address_space.specs.Sound.{IsSound, AreApart, IsOver}
 use Rattle.address_space.proofs.Keeping.{in_holder, within}
 use Rattle.address_space.proofs.Soundness.{lawful_of, over_of}
 use Rattle.address_space.proofs.Rows.{others_keep}
+use Rattle.address_space.proofs.Ending.{own_row}
 
 -- the first of the areas with this base
 abbrev pub with_base : ℕ → List Area → Option Area
@@ -75,15 +76,11 @@ unlike (a ∷ areas) all apart = (
 pub unlike_of : (m : Memory) (t : TaskNo) → IsSound m → AreUnlike (areas_of m t)
 unlike_of m t s = let l = lawful_of m t s in unlike (areas_of m t) l.in_range l.apart
 
-or_false : (a b : Bool) → (a || b) ≡ false → (a ≡ false) × (b ≡ false)
-or_false true b h = absurd (cc h)
-or_false false b h = (refl, h)
-
 -- an area that overlaps none of them has a base of its own
 not_taken : (base pages : ℕ) (areas : List Area) → 1 ≤ pages → All IsWell areas → is_taken base pages areas ≡ false → with_base base areas ≡ None
 not_taken base pages [] some all free = refl
 not_taken base pages (b ∷ areas) some all free =
-    let f = or_false (overlaps base (base + pages * 4096) b) (list_any (overlaps base (base + pages * 4096)) areas) free in
+    let f = or_parts (overlaps base (base + pages * 4096) b) (list_any (overlaps base (base + pages * 4096)) areas) free in
     elim (cases_eq b.base base) [
       | inl e ↦
           let more : 1 ≤ b.pages = (All-head IsWell b areas all).some in
@@ -150,11 +147,6 @@ holder_at at count (x ∷ areas) a u is = by_hold (holds at count Write x) is (h
       ]
 
 -- a task has other areas
-
-own_row : (rows : List (List Area)) (i : ℕ) (row : List Area) → i < length rows → unwrap_or (slice_get (slice_set rows i row) i) [] ≡ row
-own_row [] i row lt = absurd (omega arith)
-own_row (r ∷ rows) zero row lt = refl
-own_row (r ∷ rows) (suc i) row lt = own_row rows i row (omega arith)
 
 row_of : (m : Memory) (t u : TaskNo) (row : List Area) → 1 ≤ t.0 → t.0 - 1 < length m.areas → 1 ≤ u.0 → areas_of (with_areas m t row) u ≡ (if t.0 == u.0 then row else areas_of m u)
 row_of m t u row some added more = elim (cases_eq t.0 u.0) [

@@ -106,11 +106,6 @@ flipped : (a b : Bool) → a ≡ not b → b ≡ not a
 flipped a true h = ap not (sym h)
 flipped a false h = ap not (sym h)
 
--- either way of a test
-pub by_test : {A : Type 0} (P : A → Type 0) (b : Bool) (x y : A) → (b ≡ true → P x) → (b ≡ false → P y) → P (if b then x else y)
-by_test P true x y here there = here refl
-by_test P false x y here there = there refl
-
 module _ (e : Event) (p : List Tale) (k : KernelState) (inside : InEvent e p k) where
   -- one note, which leaves the call with record c
   pub noted : (n : ℕ) (w : Note) (l : Life) (q : CallTable) (c : Option Call) → life n p ≡ l → Allowed p n w l → ((u : ℕ) → StandsAt u (after w l) → is_ended k.tasks.alive u ≡ true → e ≡ Kill u) → IsRound (On n w ∷ p) → suc (number_after n w (last_number p)) ≡ q.next_number → ((m : ℕ) → call_at q m ≡ (if n == m then c else call_at k.calls m)) → Agrees k.tasks.alive (after w l) (origin_after w (origin n p)) (forgotten_after w (is_forgotten n p)) n c → InEvent e (On n w ∷ p) (with_calls k q)

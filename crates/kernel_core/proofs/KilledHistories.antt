@@ -33,12 +33,13 @@ use Rattle.kernel_core.proofs.HonestEvents.{kill_is_honest}
 use Rattle.kernel_core.proofs.Marks.{known_append, effects_known, alive_known}
 use Rattle.cleanup.proofs.Killing.{sound_kill, kill_marks, after_hangups, after_slams, after_incoming, after_dispatched, kill_leaves_nothing, HasNothingOf}
 use Rattle.switchboard.proofs.MarkChanges.{get_set_same, get_set_other, alive_at, apart, ended_here, alive_elsewhere}
+use Rattle.switchboard.proofs.Repeats.{by_test}
 use Rattle.cleanup.proofs.Limits.{within_kill}
 use Rattle.kernel_core.proofs.ServedLimits.{within_event}
 use Rattle.kernel_core.specs.Kernel.{kill_event}
 use Rattle.kernel_core.proofs.AreaKills.{areas_kill}
 use Rattle.kernel_core.specs.History.{is_ended, life_at, IsGone, PastFits, HistoryFits, killed_entries}
-use Rattle.kernel_core.proofs.InEvent.{same_task, and_then, and_then-append, IsTask, CallerFits, IsHome, Agrees, InEvent, by_test, noted, memory_told, is_told, front_at, phone_told, settled, dropped}
+use Rattle.kernel_core.proofs.InEvent.{same_task, and_then, and_then-append, IsTask, CallerFits, IsHome, Agrees, InEvent, noted, memory_told, is_told, front_at, phone_told, settled, dropped}
 use Rattle.kernel_core.proofs.ServedHistories.{hang_up_told, alive_is, core_of, leads_to_alive, fits_of, fits_later}
 
 -- who has ended, where the mark of task t is taken away
@@ -158,7 +159,7 @@ forgotten_at t from p n (place.Incoming s) now e home i d a = (now ∙ ap (λ x.
 forgotten_at t from p n (place.Dispatched s) now e home i d a = (now ∙ ap (λ x. Some (Kill x)) e, λ same. false≢true (sym d ∙ eq-eqb s.0 t.0 (same ∙ sym e)))
 forgotten_at t from p n (place.Answers s) now e home i d a = absurd (false≢true (sym a ∙ eq-eqb s.0 t.0 (home ∙ sym e)))
 
-caller_is : (t : TaskNo) (o : Option TaskNo) → is_caller t o ≡ true → o ≡ Some t
+pub caller_is : (t : TaskNo) (o : Option TaskNo) → is_caller t o ≡ true → o ≡ Some t
 caller_is t None h = absurd (cc h)
 caller_is t (Some u) h = ap Some (same_task u t (eqb-true u.0 t.0 h))
 

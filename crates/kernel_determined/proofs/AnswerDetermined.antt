@@ -19,7 +19,6 @@ use Rattle.address_space.specs.Sound as spaces
 use Rattle.switchboard.specs.State.{KernelState, phone_at, is_alive}
 use Rattle.switchboard.specs.Sound.{IsPlaced, IsSound}
 use Rattle.switchboard.specs.Serving.{Served}
-use Rattle.switchboard.proofs.Lookups.{same_call}
 use Rattle.kernel_laws.specs.DataLaws.{code_after, first, second, third, AreFirst, IsFull, IsLawfulTaking}
 use Rattle.kernel_laws.specs.HeldCalls.{IsHeld}
 use Rattle.kernel_laws.specs.MemoryRequests.{made, written}
@@ -37,7 +36,7 @@ use Rattle.kernel_determined.proofs.ChecksDetermined.{bytes_read_same}
 use Rattle.kernel_determined.proofs.SettleDetermined.{moves_same, ended_same, settled_same}
 use Rattle.kernel_determined.proofs.ForwardDetermined.{parts_same}
 use Rattle.kernel_determined.proofs.ShareDetermined.{share_is_determined}
-use Rattle.std.proofs.lemmas.Option.{slice_get_past, none-some}
+use Rattle.std.proofs.lemmas.Option.{slice_get_past, none-some, same_Some}
 
 -- ---- bytes
 
@@ -210,5 +209,5 @@ module _ (t : TaskNo) (n : ℕ) (reply : Reply) (k : KernelState) (a b : Served)
   answer_is_determined (inl x) (inr y) = absurd (x.unheld y.call y.held)
   answer_is_determined (inr x) (inl y) = absurd (y.unheld x.call x.held)
   answer_is_determined (inr x) (inr y) =
-      let one : x.call ≡ y.call = same_call x.call y.call (sym x.held.0 ∙ y.held.0) in
+      let one : x.call ≡ y.call = same_Some x.call y.call (sym x.held.0 ∙ y.held.0) in
       answering_same y.call y.held (subst (λ (c : Call). Answering c a) one x.answers) y.answers

@@ -4,6 +4,7 @@ use Rattle.std.specs.Prelude.{if◌then◌else◌, IsSome, Result, Ok, Err, take
 use Rattle.std.specs.Option.{option_to_list}
 use Rattle.std.proofs.lemmas.Bool.{false≢true}
 use Rattle.std.proofs.lemmas.Bool.Decides.{nat_tests}
+use Rattle.std.proofs.lemmas.Option.{same_Some}
 use Rattle.ipc_ids.specs.declared.numbers.Code.{Code}
 use Rattle.ipc_ids.specs.declared.numbers.Label.{Label}
 use Rattle.ipc_ids.specs.declared.numbers.StoreNo.{StoreNo}
@@ -34,7 +35,6 @@ use Rattle.switchboard.specs.Serving.{Served, Handed, telling, refusal, as_it_is
 use Rattle.switchboard.specs.Joins.{lives, answer_to, code_of, accepted_me_to, vanishing, settle}
 use Rattle.switchboard.specs.Data.{code_told, bytes_told, accepted_read}
 use Rattle.switchboard.specs.Sharing.{shared_note}
-use Rattle.switchboard.proofs.Lookups.{same_call}
 use Rattle.switchboard.proofs.Soundness.{value_of}
 use Rattle.kernel_core.specs.Answering.{accept_for, answer_call, answer_held, held_call}
 use Rattle.kernel_core.specs.Moments.{on_accept_of}
@@ -360,7 +360,7 @@ module _ (k : KernelState) (t : TaskNo) (n : ℕ) (reply : Reply) (sound : IsSou
     answers = answering k sound t n reply c is (same_place-true c.place (Dispatched t) e);
   })
   by_held c is false e =
-      unheld (λ d h. false≢true (sym e ∙ ap (is_held t) (same_call c d (sym is ∙ h.0)) ∙ stands_true (Dispatched t) d.place h.1))
+      unheld (λ d h. false≢true (sym e ∙ ap (is_held t) (same_Some c d (sym is ∙ h.0)) ∙ stands_true (Dispatched t) d.place h.1))
 
   by_call : (o : Option Call) → call_at k.calls n ≡ o → Comes (answer_held k t reply (held_call t o))
   by_call None is = unheld (λ c h. let g : None ≡ Some c = sym is ∙ h.0 in cc)

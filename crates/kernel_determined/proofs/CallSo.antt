@@ -29,8 +29,8 @@ use Rattle.switchboard.specs.Sound.{IsSound}
 use Rattle.switchboard.specs.Kept.{first_usable_of, kept_note}
 use Rattle.switchboard.specs.Joins.{new_call, acceptance, answer_at_once, bare_reply}
 use Rattle.switchboard.specs.Serving.{Served, refusal, as_it_is}
-use Rattle.switchboard.proofs.Endings.{length_rows}
 use Rattle.switchboard.proofs.Repeats.{by_test}
+use Rattle.switchboard.proofs.Soundness.{length_rows}
 use Rattle.kernel_core.specs.Moments.{keeping_to_send, carrying, bringing, asking, cut_call, before_send_of}
 use Rattle.kernel_core.specs.Calling.{is_callable, sent_to, call_through, call_tested, call_over}
 use Rattle.kernel_core.specs.Kernel.{and_event, serve}

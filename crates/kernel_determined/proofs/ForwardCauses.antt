@@ -3,6 +3,7 @@ use Rattle.std.proofs.Common.{◌≡◌, ℕ, Bool, true, false, Option, None, S
 use Rattle.std.specs.Prelude.{if◌then◌else◌}
 use Rattle.std.specs.Option.{option_map_or}
 use Rattle.std.proofs.lemmas.Bool.{false≢true}
+use Rattle.std.proofs.lemmas.Option.{same_Some}
 use Rattle.ipc_ids.specs.declared.numbers.Code.{Code}
 use Rattle.ipc_ids.specs.declared.numbers.TaskNo.{TaskNo}
 use Rattle.ipc_ids.specs.declared.message.Msg.{Msg}
@@ -19,7 +20,7 @@ use Rattle.forwarding.specs.Routes.{callee_of, receiver_of, as_forwarded}
 use Rattle.switchboard.specs.State.{KernelState, is_alive, phone_at}
 use Rattle.switchboard.specs.Serving.{Served, refusal}
 use Rattle.switchboard.specs.Joins.{lives, settle_for, declined_call}
-use Rattle.switchboard.proofs.Lookups.{put_here, same_call}
+use Rattle.switchboard.proofs.Lookups.{put_here}
 use Rattle.kernel_core.specs.Forward.{failed_forward, forward_told, forward}
 use Rattle.kernel_laws.specs.CallCodes.{own_reply}
 use Rattle.kernel_laws.specs.HeldCalls.{IsHeld, MayPass}
@@ -39,7 +40,7 @@ module _ (k : KernelState) (t : TaskNo) (n p : ℕ) (mode : Mode) (change : Opti
         (d : Call) × (call_at calls c.number.0 ≡ Some d) × (d.place ≡ Answers u) × (d.reply ≡ own_reply eforward)
 
     same_live : (d : Call) → call_at k.calls n ≡ Some d → c ≡ d
-    same_live d is = same_call c d (sym live ∙ is)
+    same_live d is = same_Some c d (sym live ∙ is)
 
     answered : (o : Option TaskNo) (b : Bool) → lives k o ≡ b → (u : TaskNo) → o ≡ Some u → is_alive k u ≡ true
         → IsAnsweredBy u (settle_for k c (own_reply eforward) None o b).state.calls

@@ -1,6 +1,7 @@
 -- A forward is determined by what is said of it.
 use Rattle.std.proofs.Common.{◌≡◌, ℕ, ◌⊎◌, inl, inr, ◌∷◌, Option, None, Some, refl, sym, ap, subst, ◌∙◌}
 use Rattle.std.proofs.lemmas.Bool.{cases_eq, cases_lt}
+use Rattle.std.proofs.lemmas.Option.{same_Some}
 use Rattle.ipc_ids.specs.declared.numbers.Code.{Code}
 use Rattle.ipc_ids.specs.declared.numbers.Label.{Label}
 use Rattle.ipc_ids.specs.declared.numbers.TaskNo.{TaskNo}
@@ -14,7 +15,6 @@ use Rattle.ipc_ids.specs.Methods.{connect_to_me, connect_me_to, first_user_metho
 use Rattle.call_slab.specs.declared.call.Call.{Call}
 use Rattle.switchboard.specs.State.{KernelState, phone_at, label_of}
 use Rattle.switchboard.specs.Serving.{Served}
-use Rattle.switchboard.proofs.Lookups.{same_call}
 use Rattle.kernel_laws.specs.CallCodes.{own_reply}
 use Rattle.kernel_laws.specs.HeldCalls.{IsHeld, MayPass}
 use Rattle.kernel_laws.specs.Routes.{Leads, label_by}
@@ -75,7 +75,7 @@ module _ (t : TaskNo) (n p : ℕ) (mode : Mode) (change : Option Msg) (k : Kerne
       })
 
   one_held : (c d : Call) → IsHeld t k n c → IsHeld t k n d → c ≡ d
-  one_held c d x y = same_call c d (sym x.0 ∙ y.0)
+  one_held c d x y = same_Some c d (sym x.0 ∙ y.0)
 
   one_lead : (u v : TaskNo) → Leads k t p u → Leads k t p v → u ≡ v
   one_lead u v x y = let e : Some (Connected u) ≡ Some (Connected v) = sym x ∙ y in cc

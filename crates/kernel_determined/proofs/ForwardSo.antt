@@ -29,7 +29,6 @@ use Rattle.switchboard.specs.Kept.{lent_phone, kept_note, unless_freed}
 use Rattle.switchboard.specs.Board.{IsPendingAt}
 use Rattle.switchboard.specs.Joins.{bare_reply, passage, passed_call}
 use Rattle.switchboard.specs.Serving.{Served, telling, refusal}
-use Rattle.switchboard.proofs.Lookups.{same_call}
 use Rattle.kernel_core.specs.Forward.{failed_forward, forward_told}
 use Rattle.kernel_core.specs.Kernel.{and_event, serve}
 use Rattle.kernel_laws.specs.HeldCalls.{IsHeld, MayPass}
@@ -183,7 +182,7 @@ module _ (k : KernelState) (sound : IsSound k) (t : TaskNo) (n p : ℕ) (mode : 
       fails = fails k sound t n c is (same_place-true c.place (Dispatched t) e) eperm;
     }))
     by_tests false may e f = unheld (λ d h. false≢true
-        (sym e ∙ ap (is_held t) (same_call c d (sym is ∙ h.0)) ∙ stands_true (Dispatched t) d.place h.1))
+        (sym e ∙ ap (is_held t) (same_Some c d (sym is ∙ h.0)) ∙ stands_true (Dispatched t) d.place h.1))
 
   by_call : (o : Option Call) → call_at k.calls n ≡ o
       → Comes (forward_told k t p mode change o

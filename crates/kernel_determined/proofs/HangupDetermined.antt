@@ -12,6 +12,7 @@ use Rattle.ipc_ids.specs.declared.message.Outcome.{Outcome}
 use Rattle.ipc_ids.specs.declared.message.Outcome.TheVariants as outcome
 use Rattle.ipc_ids.specs.declared.entry.Entry.{Entry}
 use Rattle.ipc_ids.specs.Codes.{enoent, einval}
+use Rattle.ipc_ids.proofs.Common.{is_some}
 use Rattle.call_slab.specs.declared.call.Call.{Call}
 use Rattle.call_slab.specs.declared.call.Place.{Place}
 use Rattle.call_slab.specs.declared.call.Place.TheVariants.{Incoming}
@@ -21,11 +22,10 @@ use Rattle.switchboard.specs.State.{KernelState, phone_at, with_state_at, Tasks,
 use Rattle.switchboard.specs.Serving.{Served, refusal, telling}
 use Rattle.switchboard.specs.Joins.{hangup_call, hang_up}
 use Rattle.switchboard.proofs.Keepers.{state_here}
-use Rattle.switchboard.proofs.Endings.{length_rows}
 use Rattle.switchboard.proofs.Lookups.{put_here, put_other}
+use Rattle.switchboard.proofs.Soundness.{length_rows}
 use Rattle.kernel_core.specs.HangingUp.{hangup_over}
 use Rattle.kernel_core.specs.Kernel.{serve, and_event}
-use Rattle.kernel_laws.proofs.KillRoutes.{is_there}
 use Rattle.kernel_determined.specs.Frames.{IsOneEvent, PhonesStay, PhoneComesTo, CallsStay, OneCallMore, IsMade, IsStep, IsQuietEvent, NothingHappens, IsRefusal}
 use Rattle.kernel_determined.specs.HangupLaw.{IsNothing, farewell, TellsOfHangup, TellsNobody, IsHangup}
 use Rattle.kernel_determined.proofs.Same.{rows_same, table_same, state_same, served_same, one_changed}
@@ -184,7 +184,7 @@ module _ (k : KernelState) (t : TaskNo) (p : ℕ) (after : KernelState)
   hung_up : (s : PhoneState) → phone_at k t p ≡ Some s → PhoneComesTo t p HungUp k after
   hung_up s is = record {
     this = ap (λ rows. state_at rows t.0 p) phones
-        ∙ state_here k.tasks.phones t.0 p HungUp (is_there (phone_at k t p) s is);
+        ∙ state_here k.tasks.phones t.0 p HungUp (is_some (phone_at k t p) s is);
     others = λ u q ne. ap (λ rows. state_at rows u.0 q) phones
         ∙ written_elsewhere k.tasks.phones t.0 p u.0 q HungUp ne;
   }

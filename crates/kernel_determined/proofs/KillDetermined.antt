@@ -1,5 +1,6 @@
 -- A kill is determined by what is said of it.
 use Rattle.std.proofs.Common.{◌≡◌, ℕ, ◌+◌, ◌<◌, ◌≤◌, ◌⊎◌, inl, inr, List, [], ◌∷◌, None, Some, sym, ap, subst, ◌∙◌, arith}
+use Rattle.std.proofs.lemmas.Option.{same_Some}
 use Rattle.ipc_ids.specs.declared.numbers.TaskNo.{TaskNo}
 use Rattle.ipc_ids.specs.declared.message.PhoneState.TheVariants.{Connected, Slammed}
 use Rattle.ipc_ids.specs.declared.entry.Entry.{Entry}
@@ -12,7 +13,6 @@ use Rattle.address_space.specs.Memory.{Step, drop_area}
 use Rattle.address_space.specs.Sound as spaces
 use Rattle.address_space.proofs.Soundness.{sound_drop}
 use Rattle.switchboard.specs.State.{Tasks, KernelState, Transition, phone_at, is_alive}
-use Rattle.switchboard.proofs.Lookups.{same_call}
 use Rattle.kernel_laws.specs.CallCodes.{own_reply}
 use Rattle.kernel_laws.specs.Routes.{Leads, Stands}
 use Rattle.kernel_determined.specs.HangupLaw.{TellsOfHangup, TellsNobody}
@@ -81,7 +81,7 @@ slams_turn t = record {
 settle_turn : IsDetermined SettlesCall HasSoundAreas
 settle_turn = record {
   same = λ k n a b es fs i x y.
-      let one : x.call ≡ y.call = same_call x.call y.call (sym x.live ∙ y.live) in
+      let one : x.call ≡ y.call = same_Some x.call y.call (sym x.live ∙ y.live) in
       let settled = subst (λ (c : Call). IsSettled n c (own_reply ehangup) None k a es) one x.settled in
       step_same k a b es fs x.step y.step (settled_same n y.call k a b es fs (own_reply ehangup) None settled
       y.settled);
@@ -97,7 +97,7 @@ drop_turn t = record {
 forget_turn : IsDetermined ForgetsCall HasSoundAreas
 forget_turn = record {
   same = λ k i a b m n h x y.
-      let one : x.call ≡ y.call = same_call x.call y.call (sym x.live ∙ y.live) in
+      let one : x.call ≡ y.call = same_Some x.call y.call (sym x.live ∙ y.live) in
       step_same k a b m n x.step y.step (record {
         phones = stay_same k a b x.phones y.phones;
         calls = now_same k.calls a.calls b.calls i _ _ x.calls y.calls

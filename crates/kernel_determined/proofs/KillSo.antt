@@ -10,6 +10,7 @@ use Rattle.ipc_ids.specs.declared.message.PhoneState.{PhoneState}
 use Rattle.ipc_ids.specs.declared.message.PhoneState.TheVariants.{Free, Connected, HungUp, Slammed}
 use Rattle.ipc_ids.specs.declared.entry.Entry.TheVariants as entry
 use Rattle.ipc_ids.specs.Codes.{ehangup}
+use Rattle.ipc_ids.proofs.Common.{is_some}
 use Rattle.call_slab.specs.declared.call.Call.{Call}
 use Rattle.call_slab.specs.declared.call.Place.{Place}
 use Rattle.call_slab.specs.declared.call.Place.TheVariants.{Incoming, Dispatched, Answers}
@@ -29,22 +30,21 @@ use Rattle.switchboard.specs.Kept.{kept_phone, lent_phone}
 use Rattle.switchboard.specs.Joins.{bare_reply, lives, settle_for, hang_up, drop_answer, forget_call, slam, slam_at}
 use Rattle.switchboard.specs.Areas.{lose_area, lose_first_area}
 use Rattle.cleanup.specs.Kill.{task_no, hang_up_at, hang_up_own_phones, slam_phones_of, slam_other, slam_phones_to, first_at, settle_call, settle_calls_at, settle_incoming, settle_dispatched, drop_answers, first_call_of, forget_calls_elsewhere, drop_first_area, drop_areas, end_phones_and_calls, kill}
-use Rattle.switchboard.proofs.Endings.{length_rows}
 use Rattle.switchboard.proofs.Keepers.{state_here}
 use Rattle.cleanup.proofs.KilledPhones.{written_elsewhere}
 use Rattle.cleanup.proofs.Killing.{after_hangups, after_slams, after_incoming, after_dispatched, after_answers, after_calls, calls_steady}
-use Rattle.switchboard.proofs.Lookups.{same_call, put_here, put_other, gone_here, gone_other}
+use Rattle.switchboard.proofs.Lookups.{put_here, put_other, gone_here, gone_other}
 use Rattle.switchboard.proofs.MarkChanges.{ended_here, alive_elsewhere}
 use Rattle.cleanup.proofs.Queues.{IsLive, stands_at, is_call_of, front_at, answered, IsUncalled, IsIdle, IsUnanswered, incoming_alone, dispatched_uncalled, drop_idle, forget_step, forget_unanswered, call_from, over_less, put_less, settle_less}
 use Rattle.switchboard.proofs.Repeats as repeats
 use Rattle.cleanup.proofs.Silence.{with_marks, IsEnding, past_width, IsAlone}
 use Rattle.switchboard.proofs.SoundJoins.{incoming_pending, held_pending}
 use Rattle.switchboard.proofs.SoundMemory.{from_one}
+use Rattle.switchboard.proofs.Soundness.{length_rows}
 use Rattle.kernel_core.specs.Kernel.{kill_event}
 use Rattle.kernel_core.proofs.InEvent.{same_place-true, same_task}
 use Rattle.kernel_laws.specs.MemoryLaws.{Has, HasAt, Drops}
 use Rattle.kernel_laws.specs.Routes.{Leads, Stands}
-use Rattle.kernel_laws.proofs.KillRoutes.{is_there}
 use Rattle.kernel_laws.proofs.LawfulAreas.{drop_is_lawful, one_base}
 use Rattle.kernel_determined.specs.Frames.{IsStep, CameBefore}
 use Rattle.kernel_determined.specs.SettleLaw.{DropsAnswer}
@@ -57,7 +57,8 @@ use Rattle.kernel_determined.proofs.DropDetermined.{drop_is_whole, one_place}
 use Rattle.kernel_determined.proofs.LeastSo.{least_number, least_area}
 use Rattle.kernel_determined.proofs.KillDetermined.{kill_is_determined}
 use Rattle.kernel_laws.proofs.Places.{stands_true}
-use Rattle.std.proofs.lemmas.Option.{none-some, slice_get_past}
+use Rattle.std.proofs.lemmas.Option.{none-some, slice_get_past, same_Some}
+use Rattle.std.proofs.lemmas.List.{nil_from_length}
 use Rattle.kernel_laws.proofs.KilledCalls.{leaves_other}
 use Rattle.kernel_laws.proofs.KillParts.{alone_then, uncalled_then, idle_then, unanswered_then}
 
@@ -132,7 +133,7 @@ module _ (t : TaskNo) where
       turn = record {
         step = record { alive = refl; tasks = length_rows k.tasks.phones u.0 p Slammed; memory = refl; counted = refl };
         phone = record {
-          this = state_here k.tasks.phones u.0 p Slammed (is_there (phone_at k u p) (Connected v) is);
+          this = state_here k.tasks.phones u.0 p Slammed (is_some (phone_at k u p) (Connected v) is);
           others = λ w q ne. written_elsewhere k.tasks.phones u.0 p w.0 q Slammed ne;
         };
         calls = record { each = λ n. refl; numbers = refl; arrivals = refl };
@@ -299,7 +300,7 @@ module _ (marks : List Bool) (place : Place) (pending : (c : Call) → stands_at
     by_caller (Some u) false is here = none-some d (sym (gone_here k.calls c.number.0 c.number.0 refl) ∙ is)
     by_caller (Some u) true is here =
         let now = put_here k.calls c.number.0 c.number.0 (answered k c u) refl in
-        let same : answered k c u ≡ d = same_call (answered k c u) d (sym now ∙ is) in
+        let same : answered k c u ≡ d = same_Some (answered k c u) d (sym now ∙ is) in
         let there : Answers u ≡ place = ap (λ (x : Call). x.place) same ∙ here in
         false≢true (sym (moved u) ∙ stands_true place (Answers u) there)
 
@@ -391,7 +392,7 @@ module _ (marks : List Bool) (t : TaskNo) where
 
     not_own : (m : ℕ) → IsOwn t (forget_call k c).state m → m ≡ c.number.0 → ⊥
     not_own m s e =
-        let same : alone c ≡ s.0 = same_call (alone c) s.0
+        let same : alone c ≡ s.0 = same_Some (alone c) s.0
         (sym now ∙ ap (call_at (forget_call k c).state.calls) (sym e) ∙ s.1) in
         let none : None ≡ Some t = ap (λ (x : Call). x.caller) same ∙ s.2 in
         cc
@@ -528,10 +529,7 @@ module _ (t : TaskNo) (some : 1 ≤ t.0) where
   all_lost : (most i : ℕ) (k : KernelState) → spaces.IsSound k.memory → count_areas k.memory t ≡ most
       → Lost k (each (drop_first_area t) most i k)
   all_lost zero i k sound many = no_turns (HasBase t k) ◌<◌ (LosesArea t) k
-      (no_areas k (empty (areas_of k.memory t) many)) where
-        empty : (areas : List Area) → length areas ≡ 0 → areas ≡ []
-        empty [] h = refl
-        empty (a ∷ areas) h = absurd (omega (arith, h))
+      (no_areas k (nil_from_length (areas_of k.memory t) many))
   all_lost (suc most) i k sound many = by_first (first_area k.memory t) refl (all_lost most (i + 1)) where
     by_first : (o : Option ℕ) → first_area k.memory t ≡ o
         → ((j : KernelState) → spaces.IsSound j.memory → count_areas j.memory t ≡ most

@@ -7,8 +7,9 @@ use Rattle.std.specs.FinMap.Entries.{below_all}
 use Rattle.std.proofs.lemmas.Bool.Decides.{nat_tests}
 use Rattle.ipc_ids.specs.declared.numbers.TaskNo.{TaskNo}
 use Rattle.call_slab.specs.declared.call.Call.{Call}
+use Rattle.call_slab.proofs.Live.{tie, past_tie}
 use Rattle.answerbox.specs.Calls.{CallTable, call_at, is_caller, first_from, calls_of}
-use Rattle.answerbox.proofs.Fronts.{first, second, greater, ties, not_tied, key_same}
+use Rattle.answerbox.proofs.Fronts.{first, second, greater, key_same}
 use Rattle.address_space.specs.Areas.{Area, lower}
 use Rattle.address_space.specs.Memory.{Memory, areas_of, first_area}
 
@@ -26,7 +27,7 @@ module _ (t : TaskNo) where
       → IsLeast t (λ k. find nat_cmp k es) c → IsLeast t (λ k. find nat_cmp k (e ∷ es)) c
   behind e es c b other h = record {
     number = h.number;
-    is = rw (not_tied h.number e.0 (greater e.0 es h.number c b h.is)) h.is;
+    is = rw (past_tie h.number e.0 (greater e.0 es h.number c b h.is)) h.is;
     least = λ k d is made. at_head k d (is_eq (nat_cmp k e.0)) refl is made (h.least k d);
   } where
     at_head : (k : ℕ) (d : Call) (q : Bool) → is_eq (nat_cmp k e.0) ≡ q → cond q (Some e.1) (find nat_cmp k es) ≡ Some d
@@ -40,7 +41,7 @@ module _ (t : TaskNo) where
       → IsLeast t (λ k. find nat_cmp k (e ∷ es)) e.1
   at_first e es b = record {
     number = e.0;
-    is = rw (ties e.0) refl;
+    is = rw (tie e.0) refl;
     least = λ k d is made. at_head k d (is_eq (nat_cmp k e.0)) refl is;
   } where
     at_head : (k : ℕ) (d : Call) (q : Bool) → is_eq (nat_cmp k e.0) ≡ q

@@ -1,5 +1,6 @@
 -- A machine that does all that is said of the requests is the kernel; and machines that the laws so far allow.
 use Rattle.std.proofs.Common.{◌≡◌, ℕ, List, Option, Some, refl, sym, ap, ◌∙◌}
+use Rattle.std.proofs.lemmas.Option.{same_Some}
 use Rattle.ipc_ids.specs.declared.numbers.TaskNo.{TaskNo}
 use Rattle.ipc_ids.specs.declared.message.Request.{Request}
 use Rattle.ipc_ids.specs.declared.message.Request.TheVariants as request
@@ -7,8 +8,7 @@ use Rattle.call_slab.specs.declared.call.Call.{Call}
 use Rattle.address_space.specs.Memory.{Memory}
 use Rattle.switchboard.specs.State.{KernelState, Transition, phone_at, with_memory, with_phone}
 use Rattle.switchboard.proofs.Keepers.{state_here}
-use Rattle.switchboard.proofs.Lookups.{same_call, put_here}
-use Rattle.kernel_laws.proofs.KillRoutes.{is_there}
+use Rattle.switchboard.proofs.Lookups.{put_here}
 use Rattle.answerbox.specs.Calls.{call_at}
 use Rattle.ipc_ids.specs.declared.message.PhoneState.{PhoneState}
 use Rattle.ipc_ids.specs.declared.entry.Entry.{Entry}
@@ -29,6 +29,7 @@ use Rattle.kernel_determined.proofs.AnswerSo.{answer_is_so, answer_is_served}
 use Rattle.kernel_determined.proofs.KillSo.{kill_is_so, kill_is_killed}
 use Rattle.switchboard.proofs.SoundMemory.{from_one}
 use Rattle.ipc_ids.specs.declared.message.Outcome.TheVariants as outcome
+use Rattle.ipc_ids.proofs.Common.{is_some}
 
 served_as : (k : KernelState) (t : TaskNo) (asked : Request) (done : Served) → MayAct k t
     → IsServed k t asked done → done ≡ serve k t asked
@@ -98,14 +99,14 @@ phone_changed : (k : KernelState) (u : TaskNo) (q : ℕ) (old s : PhoneState) �
     → k ≡ with_phone k u q s → old ≡ s
 phone_changed k u q old s is same =
     let now : phone_at (with_phone k u q s) u q ≡ Some s =
-    state_here k.tasks.phones u.0 q s (is_there (phone_at k u q) old is) in
+    state_here k.tasks.phones u.0 q s (is_some (phone_at k u q) old is) in
     let e : Some old ≡ Some s = sym is ∙ ap (λ (j : KernelState). phone_at j u q) same ∙ now in
     cc
 
 call_changed : (k : KernelState) (n : ℕ) (c d : Call) → call_at k.calls n ≡ Some c → k ≡ other_call k n d → c ≡ d
 call_changed k n c d is same =
     let now : call_at (other_call k n d).calls n ≡ Some d = put_here k.calls n n d refl in
-    same_call c d (sym is ∙ ap (λ (j : KernelState). call_at j.calls n) same ∙ now)
+    same_Some c d (sym is ∙ ap (λ (j : KernelState). call_at j.calls n) same ∙ now)
 
 module _ (k : KernelState) (t : TaskNo) (asked : Request) (done : Served) (may : MayAct k t)
     (is : IsServed k t asked done) where

@@ -1,18 +1,18 @@
 -- Things in an order are determined by which they are, and what is done in turn by what each turn does.
 use Rattle.std.proofs.Common.{◌≡◌, ℕ, ◌<◌, ◌⊎◌, inl, inr, List, [], ◌∷◌, ◌++◌, refl, sym, ap, subst, ◌∙◌, arith}
+use Rattle.std.proofs.lemmas.Option.{same_Some}
 use Rattle.ipc_ids.specs.declared.entry.Entry.{Entry}
 use Rattle.call_slab.specs.declared.call.Call.{Call}
 use Rattle.answerbox.specs.Calls.{CallTable}
 use Rattle.switchboard.specs.State.{KernelState}
-use Rattle.switchboard.proofs.Lookups.{same_call}
 use Rattle.kernel_determined.specs.Frames.{CameBefore}
 use Rattle.kernel_determined.specs.Turns.{IsAmong, ComesBeforeEach, AreInOrder, InTurn, EachInTurn, Then}
 
 -- no two calls came before each other
 pub came_apart : (q : CallTable) (m n : ℕ) → CameBefore q m n → CameBefore q n m → ⊥
 came_apart q m n x y =
-    let c : x.0 ≡ y.1 = same_call x.0 y.1 (sym x.2 ∙ y.3) in
-    let d : x.1 ≡ y.0 = same_call x.1 y.0 (sym x.3 ∙ y.2) in
+    let c : x.0 ≡ y.1 = same_Some x.0 y.1 (sym x.2 ∙ y.3) in
+    let d : x.1 ≡ y.0 = same_Some x.1 y.0 (sym x.3 ∙ y.2) in
     let less : x.0.stamp < x.1.stamp = x.4 in
     let more : y.0.stamp < y.1.stamp = y.4 in
     let e : x.0.stamp ≡ y.1.stamp = ap (λ (z : Call). z.stamp) c in

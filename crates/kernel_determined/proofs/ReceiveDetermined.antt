@@ -16,7 +16,6 @@ use Rattle.address_space.specs.Memory.{Memory, Step}
 use Rattle.switchboard.specs.State.{KernelState, phone_at, label_of}
 use Rattle.switchboard.specs.Sound.{IsSound}
 use Rattle.switchboard.specs.Serving.{Served}
-use Rattle.switchboard.proofs.Lookups.{same_call}
 use Rattle.kernel_laws.specs.DataLaws.{code_after, first}
 use Rattle.kernel_laws.specs.MemoryRequests.{written}
 use Rattle.kernel_laws.specs.ReceiveLaws.{IsFirst, HasNone}
@@ -28,7 +27,7 @@ use Rattle.kernel_determined.proofs.OneOrder.{came_apart, IsDetermined, each_sam
 use Rattle.kernel_determined.proofs.SettleDetermined.{drop_same}
 use Rattle.kernel_determined.proofs.WriteDetermined.{write_is_determined}
 use Rattle.kernel_determined.proofs.HangupDetermined.{phones_same, stay_same, come_same, nothing_same}
-use Rattle.std.proofs.lemmas.Option.{slice_get_past, none-some}
+use Rattle.std.proofs.lemmas.Option.{slice_get_past, none-some, same_Some}
 use Rattle.kernel_laws.specs.UsablePhones.{IsUsable}
 
 -- ---- what is dropped
@@ -187,7 +186,7 @@ first_same q IsSo c d apart x y =
     let le = x.least d.number.0 d y.live y.so in
     let ge = y.least c.number.0 c x.live x.so in
     let n : c.number.0 ≡ d.number.0 = apart c.number.0 d.number.0 c d x.live y.live (omega (arith, le, ge)) in
-    same_call c d (sym x.live ∙ ap (call_at q) n ∙ y.live)
+    same_Some c d (sym x.live ∙ ap (call_at q) n ∙ y.live)
 
 module _ (t : TaskNo) (k : KernelState) (apart : CameApart k.calls) (a b : Served) where
   answer_same : TakesAnswer t k a → TakesAnswer t k b → a ≡ b

@@ -11,11 +11,11 @@ use Rattle.answerbox.proofs.Fronts.{front_live, front-is_front, no_front-has_no_
 use Rattle.switchboard.specs.State.{KernelState}
 use Rattle.switchboard.specs.Sound.{IsSound}
 use Rattle.switchboard.specs.Joins.{drop_answer}
-use Rattle.switchboard.proofs.Lookups.{same_call, gone_here, gone_other}
+use Rattle.switchboard.proofs.Lookups.{gone_here, gone_other}
 use Rattle.cleanup.proofs.Queues.{sound_drop, stands_at, over_less}
 use Rattle.kernel_core.specs.Receiving.{unawaited, next_unawaited, drop_unawaited}
 use Rattle.kernel_laws.specs.ReceiveLaws.{IsAwaited}
-use Rattle.kernel_laws.proofs.ReceiveLaws.{unawaited_is, IsNext, next_is, is_hangup, no_hangup}
+use Rattle.kernel_laws.proofs.ReceiveLaws.{IsNext, next_is, is_hangup, no_hangup}
 use Rattle.kernel_determined.specs.Frames.{CameBefore}
 use Rattle.kernel_determined.specs.SettleLaw.{DropsAnswer}
 use Rattle.kernel_determined.specs.ReceiveLaw.{IsDropped, DropsHangups}
@@ -24,7 +24,8 @@ use Rattle.kernel_determined.proofs.SettleSo.{drops}
 use Rattle.switchboard.proofs.Repeats.{drain_keeps}
 use Rattle.kernel_laws.proofs.Places.{stands_true}
 use Rattle.kernel_core.proofs.InEvent.{same_place-true}
-use Rattle.std.proofs.lemmas.Option.{none-some}
+use Rattle.kernel_core.proofs.ByRequest.{unawaited_is}
+use Rattle.std.proofs.lemmas.Option.{none-some, same_Some}
 
 -- ---- what is dropped
 
@@ -81,7 +82,7 @@ module _ (t : TaskNo) where
 
     not_it : (n : ℕ) (d : Call) → call_at j.calls n ≡ Some d → IsAwaited t d → n ≡ x.number.0 → ⊥
     not_it n d live a e =
-        let same : x ≡ d = same_call x d (sym it.live ∙ ap (call_at j.calls) (sym e) ∙ live) in
+        let same : x ≡ d = same_Some x d (sym it.live ∙ ap (call_at j.calls) (sym e) ∙ live) in
         a.wanted (ap (λ (c : Call). c.request.method) (sym same) ∙ hangup)
 
     it_is_dropped : IsDropped t j.calls x.number.0

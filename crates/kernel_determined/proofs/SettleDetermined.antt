@@ -1,6 +1,7 @@
 -- What becomes of a call that comes to its end is determined by what is said of it.
 use Rattle.std.proofs.Common.{◌≡◌, ℕ, ◌⊎◌, inl, inr, List, ◌∷◌, Option, None, Some, refl, sym, ap, subst, ◌∙◌}
 use Rattle.std.proofs.lemmas.Bool.{cases_eq}
+use Rattle.std.proofs.lemmas.Option.{same_Some}
 use Rattle.ipc_ids.specs.declared.numbers.Code.{Code}
 use Rattle.ipc_ids.specs.declared.numbers.Label.{Label}
 use Rattle.ipc_ids.specs.declared.numbers.TaskNo.{TaskNo}
@@ -15,7 +16,6 @@ use Rattle.call_slab.specs.declared.call.Place.{Place}
 use Rattle.call_slab.specs.declared.call.Place.TheVariants.{Answers}
 use Rattle.answerbox.specs.Calls.{CallTable}
 use Rattle.switchboard.specs.State.{KernelState, phone_at}
-use Rattle.switchboard.proofs.Lookups.{same_call}
 use Rattle.kernel_laws.specs.Connecting.{IsUnconnected}
 use Rattle.kernel_determined.specs.Frames.{MayCome, Moves, IsOver, IsNow}
 use Rattle.kernel_determined.specs.SettleLaw.{IsGivenBack, IsKeptFor, IsAnswered, IsEnded, IsSettled, IsKeptAtAnswer, DropsAnswer}
@@ -124,7 +124,7 @@ kept_answer_same c f g x y = elim (kept_or_none c) [
 drop_alike : (t : TaskNo) (i : ℕ) (k a b : KernelState) (m n : List Entry) (x : DropsAnswer t k i a m)
     (y : DropsAnswer t k i b n) → AreAlike a b m n
 drop_alike t i k a b m n x y =
-    let one : x.call ≡ y.call = same_call x.call y.call (sym x.live ∙ y.live) in
+    let one : x.call ≡ y.call = same_Some x.call y.call (sym x.live ∙ y.live) in
     let kept = kept_answer_same y.call x.kept y.kept (subst (λ (c : Call). IsKeptAtAnswer c x.kept) one x.keeps)
     y.keeps in
     let phones = may_come_same y.kept Free k a b x.note y.note (subst (λ o. MayCome o Free k a x.note) kept x.phones)

@@ -13,6 +13,7 @@ use Rattle.ipc_ids.specs.declared.entry.Entry.TheVariants as entry
 use Rattle.ipc_ids.specs.declared.methods.MethodKind.{MethodKind}
 use Rattle.ipc_ids.specs.declared.methods.MethodKind.TheVariants.{ConnectToMe, ConnectMeTo}
 use Rattle.ipc_ids.specs.Methods.{kind_of, connect_to_me, connect_me_to}
+use Rattle.ipc_ids.proofs.Common.{is_some}
 use Rattle.call_slab.specs.declared.call.Call.{Call}
 use Rattle.call_slab.specs.declared.call.Place.{Place}
 use Rattle.call_slab.specs.declared.call.Place.TheVariants.{Incoming, Dispatched, Answers}
@@ -25,16 +26,15 @@ use Rattle.switchboard.specs.Kept.{keeper_of, kept_of, lent_of, held_phone, kept
 use Rattle.switchboard.specs.Serving.{telling}
 use Rattle.switchboard.specs.Joins.{lives, settle, settle_for, vanishing, declined_call, drop_answer}
 use Rattle.kernel_core.specs.Kernel.{and_event}
-use Rattle.switchboard.proofs.Endings.{length_rows}
 use Rattle.switchboard.proofs.Keepers.{state_here}
 use Rattle.cleanup.proofs.KilledPhones.{written_elsewhere}
 use Rattle.switchboard.proofs.Lookups.{put_here, put_other, gone_here, gone_other}
 use Rattle.cleanup.proofs.Silence.{IsEnding}
 use Rattle.switchboard.proofs.Usable.{kept_waits}
+use Rattle.switchboard.proofs.Soundness.{length_rows}
+use Rattle.switchboard.proofs.SoundJoins.{own_phone}
 use Rattle.kernel_laws.specs.Connecting.{IsUnconnected}
-use Rattle.kernel_laws.proofs.KillRoutes.{is_there}
 use Rattle.kernel_laws.proofs.AnswerWords.{accepts_eok}
-use Rattle.kernel_laws.proofs.UsablePhones.{own_phone}
 use Rattle.kernel_laws.proofs.Methods.{method_of}
 use Rattle.kernel_determined.specs.Frames.{MayCome, Moves, IsOver, IsQuietEvent}
 use Rattle.kernel_determined.specs.SettleLaw.{IsGivenBack, IsKeptFor, IsWanted, IsAnswered, IsEnded, IsSettled, DropsAnswer}
@@ -59,8 +59,8 @@ may_come k (Some l) s after rows there = (
 )
 
 pub usable_there : (k : KernelState) (t : TaskNo) (p : ℕ) → IsUsable k k.calls t p → IsSome (phone_at k t p)
-usable_there k t p (inl free) = is_there (phone_at k t p) Free free
-usable_there k t p (inr hung) = is_there (phone_at k t p) HungUp hung.0
+usable_there k t p (inl free) = is_some (phone_at k t p) Free free
+usable_there k t p (inr hung) = is_some (phone_at k t p) HungUp hung.0
 
 pub as_many : (rows : List (List PhoneState)) (o : Option Label) (s : PhoneState)
     → length (kept_rows rows o s) ≡ length rows
@@ -309,8 +309,8 @@ module _ (marks : List Bool) (t : TaskNo) (k : KernelState) (ending : IsEnding m
     }))
   none_kept none kind e = kept_at t c at kind e
 
-  is_some : (l : Label) → kept_phone c ≡ Some l → IsSome (state_at k.tasks.phones l.task.0 l.phone.0)
-  is_some l e = is_there (state_at k.tasks.phones l.task.0 l.phone.0) Connecting
+  kept_is_there : (l : Label) → kept_phone c ≡ Some l → IsSome (state_at k.tasks.phones l.task.0 l.phone.0)
+  kept_is_there l e = is_some (state_at k.tasks.phones l.task.0 l.phone.0) Connecting
       (subst (WaitsIn k.tasks.phones) e (kept_waits k.tasks.phones k.calls c.number.0 c ending.sound.kept live))
 
   pub drops : DropsAnswer t k c.number.0 (drop_answer t k c).state (drop_answer t k c).entries
@@ -321,7 +321,7 @@ module _ (marks : List Bool) (t : TaskNo) (k : KernelState) (ending : IsEnding m
     kept = kept_phone c;
     keeps = record { waits = waits; others = λ none. none_kept none (kind_of c.request.method) refl };
     note = option_to_list (kept_note (kept_phone c) Free);
-    phones = may_come k (kept_phone c) Free _ refl is_some;
+    phones = may_come k (kept_phone c) Free _ refl kept_is_there;
     calls = is_over k.calls _ c.number.0 c.number.0 refl refl;
     entries = refl;
   }

@@ -1,15 +1,14 @@
 -- A spawn does what is said of it, and is determined by it.
 use Rattle.std.proofs.Common.{◌≡◌, ℕ, zero, suc, ◌+◌, ◌≤◌, Bool, true, false, ◌⊎◌, inl, inr, List, [], ◌∷◌, ◌++◌, length, Option, None, Some, refl, sym, ap, ◌∙◌, arith}
-use Rattle.std.specs.Prelude.{if◌then◌else◌}
 use Rattle.std.proofs.lemmas.Bool.{cases_lt}
 use Rattle.std.proofs.lemmas.Grind.{common_steps}
 use Rattle.ipc_ids.specs.declared.numbers.TaskNo.{TaskNo}
 use Rattle.switchboard.specs.State.{KernelState, Transition, is_alive, phone_at, with_task}
 use Rattle.switchboard.specs.Sound.{IsSound}
+use Rattle.switchboard.proofs.Soundness.{length_rows}
 use Rattle.ipc_ids.specs.declared.message.PhoneState.TheVariants.{Connected}
-use Rattle.switchboard.proofs.Endings.{length_rows}
 use Rattle.kernel_core.specs.Kernel.{named, spawning, spawn_event}
-use Rattle.kernel_laws.proofs.SpawnLaws.{spawn_makes_task}
+use Rattle.kernel_laws.proofs.SpawnLaws.{spawn_makes_task, named_leads, named_none}
 use Rattle.kernel_laws.specs.SpawnLaws.{new_number}
 use Rattle.kernel_determined.specs.SpawnLaw.{IsSpawn}
 use Rattle.kernel_determined.proofs.Same.{rows_same, state_same, each_task, marks_same, areas_same, memory_same, transition_same}
@@ -75,17 +74,6 @@ module _ (limit : ℕ) (some : 1 ≤ limit) (names : Option TaskNo) (k : KernelS
 two_more : {A : Type 0} (xs : List A) (x : A) → length (xs ++ x ∷ []) ≡ length xs + 1
 two_more xs x = grind (arith, common_steps)
 
-named_is : (k : KernelState) (names : Option TaskNo) (u : TaskNo) → names ≡ Some u → is_alive k u ≡ true
-    → named k names ≡ Some u
-named_is k None u e lives = absurd (cc e)
-named_is k (Some w) u e lives = let same : w ≡ u = cc e in
-    ap (λ (x : TaskNo). if is_alive k x then Some x else None) same ∙ rw lives refl
-
-named_none : (k : KernelState) (names : Option TaskNo) → ((u : TaskNo) → names ≡ Some u → is_alive k u ≡ false)
-    → named k names ≡ None
-named_none k None none = refl
-named_none k (Some w) none = let dead = none w refl in rw dead refl
-
 module _ (k : KernelState) (limit : ℕ) (names : Option TaskNo) where
   -- what every spawn has, whether phone 0 leads to a task or not
   record HasOneMore (done : Transition) : Type 0 where
@@ -120,7 +108,7 @@ module _ (k : KernelState) (limit : ℕ) (names : Option TaskNo) where
         spaces = more.spaces;
         stores = more.stores;
         events = events (named k names);
-        told_leads = λ u e lives. ap (λ o. (spawning k (new_number k) limit o).entries) (named_is k names u e lives);
+        told_leads = λ u e lives. ap (λ o. (spawning k (new_number k) limit o).entries) (named_leads k names u e lives);
         told_alone = λ none. ap (λ o. (spawning k (new_number k) limit o).entries) (named_none k names none);
       } where
         events : (o : Option TaskNo) → (spawning k (new_number k) limit o).state.events + 1 ≡ k.events + 1

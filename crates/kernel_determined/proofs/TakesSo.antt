@@ -22,6 +22,7 @@ use Rattle.ipc_ids.specs.declared.entry.Entry.{Entry}
 use Rattle.ipc_ids.specs.declared.entry.Entry.TheVariants as entry
 use Rattle.ipc_ids.specs.Codes.{eok}
 use Rattle.ipc_ids.specs.Methods.{kind_of, connect_to_me, connect_me_to}
+use Rattle.ipc_ids.proofs.Common.{own_key}
 use Rattle.call_slab.specs.declared.call.Call.{Call}
 use Rattle.call_slab.specs.declared.call.Place.{Place}
 use Rattle.call_slab.specs.declared.call.Place.TheVariants.{Incoming, Answers}
@@ -42,6 +43,7 @@ use Rattle.switchboard.proofs.Keepers.{state_here}
 use Rattle.cleanup.proofs.KilledPhones.{written_elsewhere}
 use Rattle.switchboard.proofs.Lookups.{put_here, put_other, gone_here, gone_other}
 use Rattle.switchboard.proofs.Repeats.{by_test}
+use Rattle.switchboard.proofs.SoundJoins.{own_phone}
 use Rattle.kernel_core.specs.Moments.{with_phone_named, reply_of, brings_bytes, on_delivery, keeping_to_receive, on_receive_of, on_receive}
 use Rattle.kernel_core.specs.Receiving.{drop_unawaited, receive_first, receive_now}
 use Rattle.kernel_core.specs.Kernel.{and_event, serve}
@@ -49,7 +51,7 @@ use Rattle.kernel_laws.specs.DataLaws.{code_after, first, IsBrought}
 use Rattle.kernel_laws.specs.ReceiveLaws.{IsFirst, HasNone}
 use Rattle.kernel_laws.proofs.AnswerWords.{is_brought, brings, same_told, accepts_eok}
 use Rattle.kernel_laws.proofs.Methods.{method_of}
-use Rattle.kernel_laws.proofs.UsablePhones.{own_phone, own, usable_one, least_one, none_is}
+use Rattle.kernel_laws.proofs.UsablePhones.{own, usable_one, least_one, none_is}
 use Rattle.kernel_laws.proofs.LawfulWrites.{write_is_lawful}
 use Rattle.kernel_laws.proofs.MemoryRequests.{written_is}
 use Rattle.kernel_determined.specs.Frames.{PhonesStay, HasFifth}
@@ -62,7 +64,6 @@ use Rattle.kernel_core.proofs.InEvent.{same_place-true}
 use Rattle.kernel_core.proofs.KindsOfCalls.{same_code}
 use Rattle.std.proofs.lemmas.Option.{none-some, slice_get-get_or}
 use Rattle.std.proofs.lemmas.List.{get_or-set_same}
-use Rattle.answerbox.proofs.Counts.{ties}
 use Rattle.answerbox.proofs.Chain.{other_key}
 use Rattle.kernel_determined.proofs.SettleSo.{as_many, kept_at, usable_there}
 use Rattle.kernel_determined.proofs.HangupDetermined.{nothing_is_so}
@@ -87,7 +88,7 @@ has_fifth n xs = record { many = length-set xs 4 n; fifth = set_here xs 4 n; oth
 
 module _ (stores : FinMap nat_cmp (List ℕ)) (n : ℕ) (bytes : List ℕ) where
   put_there : get (insert stores n bytes) n ≡ Some bytes
-  put_there = get-insert nat_cmp_total stores n bytes n ∙ rw (ties n) refl
+  put_there = get-insert nat_cmp_total stores n bytes n ∙ rw (own_key n) refl
 
   pub put_elsewhere : (q : ℕ) → (q ≡ n → ⊥) → get (insert stores n bytes) q ≡ get stores q
   put_elsewhere q ne = get-insert nat_cmp_total stores n bytes q ∙ rw (other_key q n ne) refl

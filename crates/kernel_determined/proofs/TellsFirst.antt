@@ -18,13 +18,12 @@ use Rattle.answerbox.specs.Calls.{call_at}
 use Rattle.switchboard.specs.State.{KernelState}
 use Rattle.switchboard.specs.Sound.{IsSound}
 use Rattle.switchboard.specs.Serving.{Served}
-use Rattle.switchboard.proofs.Lookups.{same_call}
 use Rattle.kernel_laws.specs.ReceiveLaws.{IsAwaited, IsFirst, HasNone}
 use Rattle.kernel_determined.specs.Frames.{PhonesStay, MayCome}
 use Rattle.kernel_determined.specs.SettleLaw.{DropsAnswer}
 use Rattle.kernel_determined.specs.Turns.{IsAmong, InTurn}
 use Rattle.kernel_determined.specs.ReceiveLaw.{IsDropped, DropsHangups, IsDelivery, IsReception, IsAnswerAt, IsWaitingAt, TakesAnswer, TakesCall, Takes, with_entries, IsReceive, TellsTheFirst}
-use Rattle.std.proofs.lemmas.Option.{none-some}
+use Rattle.std.proofs.lemmas.Option.{none-some, same_Some}
 
 -- what the turn of each such thing keeps, all turns keep
 turns_hold : {A : Type 0} (Turn : KernelState → A → KernelState → List Entry → Type 0) (I : KernelState → Type 0)
@@ -53,7 +52,7 @@ module _ (t : TaskNo) (k : KernelState) where
   drop_leaves : (j : KernelState) (n : ℕ) (a : KernelState) (m : List Entry) → IsLeft k j → IsDropped t k.calls n
       → DropsAnswer t j n a m → IsLeft k a
   drop_leaves j n a m h d x =
-      let same : x.call ≡ d.call = same_call x.call d.call (sym (h.calls n x.call x.live) ∙ d.live) in
+      let same : x.call ≡ d.call = same_Some x.call d.call (sym (h.calls n x.call x.live) ∙ d.live) in
       let asks : x.call.request.method ≡ phone_hungup =
       ap (λ (c : Call). c.request.method) same ∙ d.answer.hangup in
       let none : x.kept ≡ None = x.keeps.others (λ l u. no_connection (sym u.asks ∙ asks)) in
@@ -120,12 +119,12 @@ module _ (t : TaskNo) (k : KernelState) (sound : IsSound k) (done : Served) (x :
 
   awaited_left : (n : ℕ) (c : Call) → call_at k.calls n ≡ Some c → IsAwaited t c → call_at j.calls n ≡ Some c
   awaited_left n c is a = still_there t k j x.dropped x.drops n c is
-      (λ d. a.wanted (ap (λ (y : Call). y.request.method) (same_call c d.call (sym is ∙ d.live)) ∙ d.answer.hangup))
+      (λ d. a.wanted (ap (λ (y : Call). y.request.method) (same_Some c d.call (sym is ∙ d.live)) ∙ d.answer.hangup))
 
   waiting_left : (n : ℕ) (c : Call) → call_at k.calls n ≡ Some c → IsWaitingAt t c → call_at j.calls n ≡ Some c
   waiting_left n c is at = still_there t k j x.dropped x.drops n c is
       (λ d. two_places t c.place at
-      (ap (λ (y : Call). y.place) (same_call c d.call (sym is ∙ d.live)) ∙ d.answer.place))
+      (ap (λ (y : Call). y.place) (same_Some c d.call (sym is ∙ d.live)) ∙ d.answer.place))
 
   -- the answer of a hangup that is left did not come before all awaited ones
   not_early : (n : ℕ) (d : Call) → call_at j.calls n ≡ Some d → IsAnswerAt t d → d.request.method ≡ phone_hungup
@@ -144,7 +143,7 @@ module _ (t : TaskNo) (k : KernelState) (sound : IsSound k) (done : Served) (x :
       → c.stamp ≤ d.stamp → d.stamp ≤ c.stamp → c ≡ d
   one_call c d a b le ge =
       let n = sound.calls.stamps_differ c.number.0 d.number.0 c d a b (omega (arith, le, ge)) in
-      same_call c d (sym a ∙ ap (call_at k.calls) n ∙ b)
+      same_Some c d (sym a ∙ ap (call_at k.calls) n ∙ b)
 
   answer_told : (c : Call) → IsFirst k.calls (IsAwaited t) c
       → (reply : Reply) × (done.outcome ≡ outcome.Answered c.number reply)

@@ -1,16 +1,18 @@
 -- The active calls of a phone are those that the definitions count.
-use Rattle.std.proofs.Common.{◌≡◌, ℕ, zero, suc, ◌+◌, ◌≤◌, T, Bool, true, false, cond, ◌&&◌, List, [], ◌∷◌, length, Option, None, Some, refl, ap, sym, subst, ◌∙◌, arith}
-use Rattle.std.specs.Prelude.{◌==◌, if◌then◌else◌, slice_get, remove}
+use Rattle.std.proofs.Common.{◌≡◌, ℕ, zero, suc, ◌+◌, ◌≤◌, T, Bool, true, false, cond, ◌&&◌, List, [], ◌∷◌, length, Some, refl, ap, sym, subst, ◌∙◌, arith}
+use Rattle.std.specs.Prelude.{if◌then◌else◌, slice_get, remove}
 use Rattle.std.specs.Ordering.{nat_cmp, is_eq}
 use Rattle.std.specs.FinMap.{find, is_sorted, entries, entries_sorted, get-entries}
-use Rattle.std.proofs.lemmas.Bool.{eq-eqb, eqb-true, and_parts}
+use Rattle.std.proofs.lemmas.Bool.{eq-eqb, and_parts}
+use Rattle.kernel_core.proofs.KilledHistories.{caller_is}
 use Rattle.ipc_ids.specs.declared.numbers.Label.{Label}
 use Rattle.ipc_ids.specs.declared.numbers.TaskNo.{TaskNo}
 use Rattle.ipc_ids.specs.Labels.{same_label}
+use Rattle.ipc_ids.proofs.Common.{own_label, label_is}
 use Rattle.call_slab.specs.declared.call.Call.{Call}
+use Rattle.call_slab.proofs.Live.{past_tie, tie}
 use Rattle.answerbox.specs.Calls.{CallTable, is_caller, is_active_on, count_of, active_calls}
-use Rattle.answerbox.proofs.Fronts.{first, second, greater, key_same, not_tied}
-use Rattle.answerbox.proofs.Fronts as fronts
+use Rattle.answerbox.proofs.Fronts.{first, second, greater, key_same}
 use Rattle.switchboard.specs.State.{label_of}
 use Rattle.kernel_laws.specs.ActiveCalls.{IsOneOf, AreTheActive, HasActive}
 
@@ -61,7 +63,7 @@ module _ (test : Call → Bool) where
   Passes es n = (c : Call) × (find nat_cmp n es ≡ Some c) × (test c ≡ true)
 
   behind : (e : ℕ × Call) (es : List (ℕ × Call)) (n : ℕ) → T (is_sorted nat_cmp (e ∷ es)) → Passes es n → Passes (e ∷ es) n
-  behind e es n s r = (r.0, rw (not_tied n e.0 (greater e.0 es n r.0 (first _ _ s) r.1)) r.1, r.2)
+  behind e es n s r = (r.0, rw (past_tie n e.0 (greater e.0 es n r.0 (first _ _ s) r.1)) r.1, r.2)
 
   listed : (es : List (ℕ × Call)) → T (is_sorted nat_cmp es) → (i n : ℕ) → slice_get (numbers es) i ≡ Some n → Passes es n
   listed [] s i n h = absurd (cc h)
@@ -69,7 +71,7 @@ module _ (test : Call → Bool) where
     by : (b : Bool) → test e.1 ≡ b → (i : ℕ) → slice_get (if b then e.0 ∷ numbers es else numbers es) i ≡ Some n → ((j : ℕ) → slice_get (numbers es) j ≡ Some n → Passes (e ∷ es) n) → Passes (e ∷ es) n
     by true is zero g more =
         let same : e.0 ≡ n = cc g in
-        subst (λ (m : ℕ). Passes (e ∷ es) m) same (e.1, rw (fronts.ties e.0) refl, is)
+        subst (λ (m : ℕ). Passes (e ∷ es) m) same (e.1, rw (tie e.0) refl, is)
     by true is (suc j) g more = more j g
     by false is j g more = more j g
 
@@ -112,19 +114,6 @@ module _ (test : Call → Bool) where
     by false i j g h more = more i j g h
 
 -- ---- the active calls
-
-label_is : (l m : Label) → same_label l m ≡ true → l ≡ m
-label_is l m h =
-    let two = and_parts (l.task.0 == m.task.0) (l.phone.0 == m.phone.0) h in
-    ap (λ (i : ℕ). let x : Label = record { task = record { 0 = i }; phone = l.phone } in x) (eqb-true l.task.0 m.task.0 two.0)
-    ∙ ap (λ (i : ℕ). let x : Label = record { task = m.task; phone = record { 0 = i } } in x) (eqb-true l.phone.0 m.phone.0 two.1)
-
-own_label : (l : Label) → same_label l l ≡ true
-own_label l = rw (eq-eqb l.task.0 l.task.0 refl, eq-eqb l.phone.0 l.phone.0 refl) refl
-
-caller_is : (t : TaskNo) (o : Option TaskNo) → is_caller t o ≡ true → o ≡ Some t
-caller_is t None h = absurd (cc h)
-caller_is t (Some u) h = ap (λ (i : ℕ). let x : TaskNo = record { 0 = i } in Some x) (eqb-true u.0 t.0 h)
 
 pub active_is : (t : TaskNo) (p : ℕ) (c : Call) → is_active_on (label_of t p) c ≡ true → (c.from ≡ label_of t p) × (c.caller ≡ Some t)
 active_is t p c h =

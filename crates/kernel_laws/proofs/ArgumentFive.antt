@@ -23,12 +23,13 @@ use Rattle.answerbox.specs.Calls.{CallTable, enqueue, put_at, without_call, with
 use Rattle.forwarding.specs.Forwarding.{changed_msg, msg_after, label_after}
 use Rattle.data_hooks.specs.DataMoments.{count_of, cut_args}
 use Rattle.switchboard.specs.State.{KernelState, Transition, start}
-use Rattle.switchboard.specs.Kept.{lent_phone, unless_freed, first_usable_of}
+use Rattle.switchboard.specs.Kept.{lent_phone, first_usable_of}
 use Rattle.switchboard.specs.Data.{accepted_read}
 use Rattle.switchboard.specs.Serving.{Served}
 use Rattle.switchboard.specs.Joins.{bare_reply, new_call, reception, answer_to, declined_call, passed_call, passage, hangup_call}
 use Rattle.switchboard.proofs.Repeats.{by_test}
 use Rattle.switchboard.proofs.Usable.{usable_is}
+use Rattle.switchboard.proofs.SoundJoins.{unfreed}
 use Rattle.kernel_core.specs.Moments.{number_of, on_receive_of, on_accept_of, cut_call}
 use Rattle.kernel_core.specs.Kernel.{serve, kill_event, spawn_event, spawning, next_task, named}
 use Rattle.kernel_core.proofs.ByRequest as join
@@ -53,10 +54,6 @@ queue_unheld u t e = cc
 
 answers_unheld : (u t : TaskNo) → Answers u ≡ Dispatched t → ⊥
 answers_unheld u t e = cc
-
-unless_is : (freed o : Option Label) (l : Label) → unless_freed freed o ≡ Some l → o ≡ Some l
-unless_is None o l h = h
-unless_is (Some m) o l h = absurd (cc h)
 
 -- an answered call
 answered : (c d : Call) (u : TaskNo) (stamp : ℕ) → d.msg ≡ c.msg → d.request ≡ c.request
@@ -161,7 +158,7 @@ module _ (k : KernelState) (t : TaskNo) (h : TellPhones k.calls) where
         tell_put k.calls h d (Answers u) (answered c d u k.calls.next_stamp msg request reserved g)
 
     declining : (reply : Reply) (u : TaskNo) → TellPhones (put_at k.calls (declined_call c reply) (Answers u))
-    declining reply u = replied_as (declined_call c reply) u refl refl (unless_is (lent_phone c) c.reserved)
+    declining reply u = replied_as (declined_call c reply) u refl refl (unfreed (lent_phone c) c.reserved)
 
     accepted_as :
         (reply : Reply) (u : TaskNo) (kind : MethodKind)
@@ -185,14 +182,14 @@ module _ (k : KernelState) (t : TaskNo) (h : TellPhones k.calls) where
     passed p n mode None to five = tell_put k.calls h (passed_call c.msg (label_after t p mode c) c) (Incoming to)
         (away (record (passed_call c.msg (label_after t p mode c) c) { place = Incoming to; stamp = k.calls.next_stamp })
         (Incoming to) refl (queue_unheld to) g.five
-        (λ l asks kept. g.me_to l asks (unless_is (lent_phone c) c.reserved l kept)))
+        (λ l asks kept. g.me_to l asks (unfreed (lent_phone c) c.reserved l kept)))
     passed p n mode (Some change) to five =
         let msg : Msg = changed_msg (kind_of c.request.method) change c.msg in
         tell_put k.calls h (passed_call msg (label_after t p mode c) c) (Incoming to)
         (away (record (passed_call msg (label_after t p mode c) c) { place = Incoming to; stamp = k.calls.next_stamp })
         (Incoming to) refl (queue_unheld to) (still_five change five (kind_of c.request.method)) (λ l asks kept.
         ap (λ (x : MethodKind). slice_index (changed_msg x change c.msg).args 4) (ap kind_of asks)
-        ∙ same_fifth change five ∙ g.me_to l asks (unless_is (lent_phone c) c.reserved l kept)))
+        ∙ same_fifth change five ∙ g.me_to l asks (unfreed (lent_phone c) c.reserved l kept)))
 
   -- a hangup, of a request or of a kill
   hung_up : (p : ℕ) (u : TaskNo) → TellPhones (enqueue k.calls (hangup_call k t p u))

@@ -21,6 +21,7 @@ use Rattle.ipc_ids.specs.declared.methods.MethodKind.{MethodKind}
 use Rattle.ipc_ids.specs.declared.methods.MethodKind.TheVariants.{ConnectToMe, ConnectMeTo, DataWrite, DataRead, ShareOut, ShareIn}
 use Rattle.ipc_ids.specs.Codes.{eforward}
 use Rattle.ipc_ids.specs.Methods.{first_user_method}
+use Rattle.ipc_ids.proofs.Common.{same_end}
 use Rattle.call_slab.specs.declared.call.Call.{Call}
 use Rattle.call_slab.specs.declared.call.Place.{Place}
 use Rattle.call_slab.specs.declared.call.Place.TheVariants.{Incoming, Dispatched, Answers}
@@ -67,9 +68,6 @@ same_queue t u e = cc
 pub one_target : (k : KernelState) (t : TaskNo) (p : ℕ) (s : PhoneState) (u : TaskNo) → phone_at k t p ≡ Some s
     → Leads k t p u → s ≡ Connected u
 one_target k t p s u is leads = let same : Some s ≡ Some (Connected u) = sym is ∙ leads in cc
-
-pub one_task : (v u : TaskNo) → Connected v ≡ Connected u → v ≡ u
-one_task v u e = cc
 
 -- entries that tell of no call that goes to a task
 
@@ -194,7 +192,7 @@ module _ (k : KernelState) (sound : IsSound k) (t : TaskNo) where
             asks = refl;
           }));
           told = ((leads, (d, here, refl, refl)), kept_there k q kept Connecting);
-          waits = λ v user there. (d, here, ap Incoming (one_task u v (one_target k t p (Connected u) v leads there)));
+          waits = λ v user there. (d, here, ap Incoming (same_end u v (one_target k t p (Connected u) v leads there)));
         }
 
   -- after a step with these entries no call has come to a queue among these, and the entries tell of none

@@ -21,7 +21,6 @@ use Rattle.switchboard.specs.Sound.{IsSound}
 use Rattle.switchboard.specs.Data.{accepted_read}
 use Rattle.switchboard.specs.Joins.{bare_reply, new_call, reception, answer_to, declined_call, passed_call, forget_call, hangup_call}
 use Rattle.switchboard.specs.Serving.{Handed, Served}
-use Rattle.switchboard.proofs.Lookups.{same_call}
 use Rattle.kernel_core.specs.Moments.{on_receive_of, on_accept_of, cut_call}
 use Rattle.kernel_core.specs.Kernel.{serve, kill_event}
 use Rattle.kernel_core.proofs.InEvent.{same_place-true}
@@ -31,6 +30,7 @@ use Rattle.kernel_laws.specs.Carrying.{Forwards, IsCarried, AreCarried}
 use Rattle.kernel_laws.proofs.Methods.{user_kind}
 use Rattle.kernel_laws.proofs.Tables.{came_in, came_by, gone_by}
 use Rattle.std.proofs.lemmas.Bool.{false≢true}
+use Rattle.std.proofs.lemmas.Option.{same_Some}
 
 -- ---- one record after another
 
@@ -66,7 +66,7 @@ module _ (k : KernelState) (sound : IsSound k) (May : ℕ → Type 0) where
     kept : AreCarried May k.calls q
 
   at_first : IsCarrying k.calls
-  at_first = record { named = λ n c is. (sound.calls.each n c is).number; later = omega arith; kept = λ n c d is at. subst (IsCarried (May n) c) (same_call c d (sym is ∙ at)) (same_record (May n) c) }
+  at_first = record { named = λ n c is. (sound.calls.each n c is).number; later = omega arith; kept = λ n c d is at. subst (IsCarried (May n) c) (same_Some c d (sym is ∙ at)) (same_record (May n) c) }
 
   put : (q : CallTable) (c d : Call) (stamp : ℕ) → call_at q d.number.0 ≡ Some c → IsCarried (May d.number.0) c d → IsCarrying q → IsCarrying (record { records = insert q.records d.number.0 d; next_number = q.next_number; next_stamp = stamp })
   put q c d stamp is change a = record {

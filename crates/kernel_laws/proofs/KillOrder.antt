@@ -3,6 +3,7 @@ use Rattle.std.proofs.Common.{◌≡◌, ℕ, ◌+◌, Bool, true, false, ◌⊎
 use Rattle.std.specs.Prelude.{◌==◌}
 use Rattle.std.proofs.lemmas.Bool.{cases_eq, eq-eqb, false≢true}
 use Rattle.std.specs.Option.{option_to_list}
+use Rattle.std.proofs.lemmas.Option.{same_Some}
 use Rattle.ipc_ids.specs.declared.numbers.TaskNo.{TaskNo}
 use Rattle.ipc_ids.specs.declared.numbers.Label.{Label}
 use Rattle.ipc_ids.specs.declared.message.PhoneState.{PhoneState}
@@ -19,7 +20,6 @@ use Rattle.switchboard.specs.Kept.{kept_phone, lent_phone, kept_note}
 use Rattle.switchboard.specs.Joins.{bare_reply, settle_for, lives, hang_up, slam, slam_at}
 use Rattle.cleanup.specs.Kill.{task_no, hang_up_at, hang_up_own_phones, slam_phones_of, slam_other, slam_phones_to, first_at, settle_call, settle_incoming, settle_dispatched, drop_answers, forget_calls_elsewhere, drop_areas, kill}
 use Rattle.kernel_laws.specs.KillLaws.{Ends, HasEnd, EndsBefore, EndsWaitingFirst}
-use Rattle.switchboard.proofs.Lookups.{same_call}
 use Rattle.switchboard.proofs.Repeats.{by_test}
 use Rattle.switchboard.proofs.Histories.{told_after, none_after, both_after, each_tells, drain_tells}
 use Rattle.cleanup.proofs.Silence.{IsAlone}
@@ -153,7 +153,7 @@ module _
 
     other : x.number.0 ≡ n → ⊥
     other e =
-        let same : x ≡ d = same_call x d (sym live.0 ∙ ap (call_at j.calls) e ∙ h.second) in
+        let same : x ≡ d = same_Some x d (sym live.0 ∙ ap (call_at j.calls) e ∙ h.second) in
         false≢true (sym (ap (λ (y : Place). same_place y (Incoming t)) by_t) ∙ ap (λ (y : Call). same_place y.place (Incoming t)) (sym same) ∙ live.1)
 
   abbrev told_waiting : List Entry

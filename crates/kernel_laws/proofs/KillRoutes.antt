@@ -1,6 +1,6 @@
 -- In a kill no phone comes to lead anywhere, and no call comes to a queue but those that tell of its phones.
 use Rattle.std.proofs.Common.{◌≡◌, ℕ, ◌≤◌, ◌⊎◌, inl, inr, Option, None, Some, refl, ap, sym, subst, ◌∙◌, arith}
-use Rattle.std.specs.Prelude.{true, IsSome}
+use Rattle.std.specs.Prelude.{true}
 use Rattle.std.specs.Option.{option_map_or}
 use Rattle.ipc_ids.specs.declared.numbers.Label.{Label}
 use Rattle.ipc_ids.specs.declared.numbers.TaskNo.{TaskNo}
@@ -38,9 +38,6 @@ hung_up_nowhere u e = cc
 
 slammed_nowhere : IsNowhere Slammed
 slammed_nowhere u e = cc
-
-pub is_there : (o : Option PhoneState) (s : PhoneState) → o ≡ Some s → IsSome o
-is_there o s is = rw is refl
 
 -- the task of two places that are one
 pub one_task : (p q : Place) → same_place p q ≡ true → task_of p ≡ task_of q

@@ -8,6 +8,7 @@ use Rattle.std.specs.FinMap.{FinMap, get, get-remove}
 use Rattle.std.specs.FinMap as map
 use Rattle.std.proofs.lemmas.Bool.{cases_eq, eqb-true, false≢true, or_left, or_right, or_cases, or_parts, both_ways}
 use Rattle.ipc_ids.specs.declared.numbers.TaskNo.{TaskNo}
+use Rattle.ipc_ids.proofs.Common.{own_key}
 use Rattle.address_space.specs.Areas.{Area, stands_over, place_of}
 use Rattle.address_space.specs.Memory.{Memory, areas_of, with_areas, is_used, release, drop_place, drop_at, drop_area}
 use Rattle.address_space.proofs.Rows.{others_keep, others_at_drop}
@@ -16,7 +17,6 @@ use Rattle.cleanup.specs.Kill.{kill}
 use Rattle.switchboard.proofs.SoundMemory.{from_one}
 use Rattle.cleanup.proofs.Killing.{areas_last, areas_end, calls_steady, after_calls}
 use Rattle.kernel_laws.specs.KillLaws.{HasAreaOver, ClosesAreas}
-use Rattle.answerbox.proofs.Counts.{ties}
 use Rattle.answerbox.proofs.Chain.{other_key}
 
 -- one of many passes a test
@@ -53,7 +53,7 @@ module _ (q : Area → Bool) where
 -- a store where one is removed
 
 pub removed : (stores : FinMap nat_cmp (List ℕ)) (s n : ℕ) → s ≡ n → get (map.remove stores s) n ≡ None
-removed stores s n e = rw (← e) (rw (get-remove nat_cmp_total stores s s, ties s) refl)
+removed stores s n e = rw (← e) (rw (get-remove nat_cmp_total stores s s, own_key s) refl)
 
 pub not_removed : (stores : FinMap nat_cmp (List ℕ)) (s n : ℕ) → (n ≡ s → ⊥)
     → get (map.remove stores s) n ≡ get stores n

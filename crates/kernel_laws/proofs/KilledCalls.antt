@@ -14,7 +14,7 @@ use Rattle.switchboard.specs.State.{Tasks, KernelState, Transition, alive_in, is
 use Rattle.switchboard.specs.Sound.{IsPlaced, IsCaller, IsSound}
 use Rattle.switchboard.specs.Joins.{bare_reply, declined_call, settle_for, lives, drop_answer, forget_call, hangup_call, hang_up, slam}
 use Rattle.cleanup.specs.Kill.{hang_up_at, first_at, first_call_of, settle_call, kill}
-use Rattle.switchboard.proofs.Lookups.{same_call, put_here, put_other, gone_here, gone_other}
+use Rattle.switchboard.proofs.Lookups.{put_here, put_other, gone_here, gone_other}
 use Rattle.switchboard.proofs.Repeats.{by_test, each_keeps, drain_keeps}
 use Rattle.cleanup.proofs.Silence.{IsAlone, slams_keep}
 use Rattle.cleanup.proofs.Queues.{IsLive, IsUncalled, IsIdle, IsUnanswered, stands_at, is_call_of, front_at, call_from, forget_step, forget_unanswered, incoming_alone, dispatched_uncalled, drop_idle}
@@ -118,12 +118,12 @@ module _ (k : KernelState) (t : TaskNo) (sound : IsSound k) (alive : is_alive k 
   settle_comes j d s live w h = elim (cases_eq d.number.0 n) [ inl e ↦ here e (ap (call_at j.calls) (sym e) ∙ live) h | inr ne ↦ subst (Becomes t c) (sym (leaves_other n j d d.caller (lives j d.caller) ne)) h ] where
     here : d.number.0 ≡ n → call_at j.calls n ≡ Some d → Comes j → Comes (settle_call j d).state
     here e there (inl was) =
-        let same : d ≡ c = same_call d c (sym there ∙ was) in
+        let same : d ≡ c = same_Some d c (sym there ∙ was) in
         subst (λ (x : Call). Comes (settle_call j x).state) (sym same) (settle_it j s (ap (λ (x : Call). x.number.0) (sym same) ∙ e) (subst (IsWith t) same w) c.caller (lives j c.caller) refl refl)
-    here e there (inr (inl a)) = absurd (not_with t a.caller (subst (IsWith t) (same_call d (answered_call c a.caller a.stamp) (sym there ∙ a.answer)) w))
+    here e there (inr (inl a)) = absurd (not_with t a.caller (subst (IsWith t) (same_Some d (answered_call c a.caller a.stamp) (sym there ∙ a.answer)) w))
     here e there (inr (inr (inl o))) = absurd (none-some d (sym o.over ∙ there))
     here e there (inr (inr (inr o))) =
-        let same : d ≡ orphan c = same_call d (orphan c) (sym there ∙ o.orphan) in
+        let same : d ≡ orphan c = same_Some d (orphan c) (sym there ∙ o.orphan) in
         let at_task : IsWith t (orphan c) = subst (IsWith t) same w in
         subst (λ (x : Call). Comes (settle_call j x).state) (sym same)
         (inr (inr (inl (record { at_task = inl at_task; alone = λ u f. its_caller t u c.caller o.made f; over = gone_here j.calls c.number.0 n (ap (λ (x : Call). x.number.0) (sym same) ∙ e) }))))
@@ -133,16 +133,16 @@ module _ (k : KernelState) (t : TaskNo) (sound : IsSound k) (alive : is_alive k 
   drop_comes j d live w h = elim (cases_eq d.number.0 n) [ inl e ↦ here e (ap (call_at j.calls) (sym e) ∙ live) h | inr ne ↦ subst (Becomes t c) (sym (gone_other j.calls d.number.0 n ne)) h ] where
     here : d.number.0 ≡ n → call_at j.calls n ≡ Some d → Comes j → Comes (drop_answer t j d).state
     here e there (inl was) =
-        let same : d ≡ c = same_call d c (sym there ∙ was) in
+        let same : d ≡ c = same_Some d c (sym there ∙ was) in
         let at_task : stands_at (Answers t) c ≡ true = subst (λ (x : Call). stands_at (Answers t) x ≡ true) same w in
         inr (inr (inl (record { at_task = inr at_task; alone = at_answers t k.tasks c.caller c.place (sound.calls.each n c is).place at_task; over = gone_here j.calls d.number.0 n e })))
     here e there (inr (inl a)) =
-        let same : d ≡ answered_call c a.caller a.stamp = same_call d (answered_call c a.caller a.stamp) (sym there ∙ a.answer) in
+        let same : d ≡ answered_call c a.caller a.stamp = same_Some d (answered_call c a.caller a.stamp) (sym there ∙ a.answer) in
         let at_task : (a.caller.0 == t.0) ≡ true = subst (λ (x : Call). stands_at (Answers t) x ≡ true) same w in
         absurd (a.other (eqb-true a.caller.0 t.0 at_task))
     here e there (inr (inr (inl o))) = absurd (none-some d (sym o.over ∙ there))
     here e there (inr (inr (inr o))) =
-        let same : d ≡ orphan c = same_call d (orphan c) (sym there ∙ o.orphan) in
+        let same : d ≡ orphan c = same_Some d (orphan c) (sym there ∙ o.orphan) in
         let at_task : stands_at (Answers t) c ≡ true = subst (λ (x : Call). stands_at (Answers t) x ≡ true) same w in
         inr (inr (inl (record { at_task = inr at_task; alone = λ u f. its_caller t u c.caller o.made f; over = gone_here j.calls d.number.0 n e })))
 
@@ -151,14 +151,14 @@ module _ (k : KernelState) (t : TaskNo) (sound : IsSound k) (alive : is_alive k 
   forget_comes j d live made h = subst Comes (sym (forget_step j d live)) (elim (cases_eq d.number.0 n) [ inl e ↦ here e (ap (call_at j.calls) (sym e) ∙ live) h | inr ne ↦ subst (Becomes t c) (sym (put_other j.calls d.number.0 n (orphan d) ne)) h ]) where
     here : d.number.0 ≡ n → call_at j.calls n ≡ Some d → Comes j → Comes (with_calls j (with_record j.calls (orphan d)))
     here e there (inl was) =
-        let same : d ≡ c = same_call d c (sym there ∙ was) in
+        let same : d ≡ c = same_Some d c (sym there ∙ was) in
         inr (inr (inr (record { made = subst (λ (x : Call). is_call_of t x ≡ true) same made; orphan = put_here j.calls d.number.0 n (orphan d) e ∙ ap (λ (x : Call). Some (orphan x)) same })))
     here e there (inr (inl a)) =
-        let same : d ≡ answered_call c a.caller a.stamp = same_call d (answered_call c a.caller a.stamp) (sym there ∙ a.answer) in
+        let same : d ≡ answered_call c a.caller a.stamp = same_Some d (answered_call c a.caller a.stamp) (sym there ∙ a.answer) in
         absurd (a.other (its_caller t a.caller c.caller (subst (λ (x : Call). is_call_of t x ≡ true) same made) a.is))
     here e there (inr (inr (inl o))) = absurd (none-some d (sym o.over ∙ there))
     here e there (inr (inr (inr o))) =
-        let same : d ≡ orphan c = same_call d (orphan c) (sym there ∙ o.orphan) in
+        let same : d ≡ orphan c = same_Some d (orphan c) (sym there ∙ o.orphan) in
         absurd (false≢true (subst (λ (x : Call). is_call_of t x ≡ true) same made))
 
   -- the phone parts leave it

@@ -9,6 +9,7 @@ use Rattle.std.proofs.lemmas.Bool.Decides.{nat_tests}
 use Rattle.std.proofs.lemmas.Grind.{common_steps}
 use Rattle.std.proofs.lemmas.Option.{slice_get_within}
 use Rattle.ipc_ids.specs.declared.numbers.TaskNo.{TaskNo}
+use Rattle.ipc_ids.proofs.Common.{own_key}
 use Rattle.address_space.specs.declared.area.Right.TheVariants.{Write}
 use Rattle.address_space.specs.Areas.{Area, holder}
 use Rattle.address_space.specs.Stores.{HasBytes, written_over, write_at}
@@ -18,7 +19,6 @@ use Rattle.kernel_laws.specs.MemoryLaws.{IsWritable, byte_in, byte_at, Writes, I
 use Rattle.kernel_laws.proofs.OneArea.{one_span, found_writable, none_writable}
 use Rattle.kernel_laws.proofs.LawfulReads.{room_of}
 use Rattle.kernel_laws.proofs.Lists.{get_take, get_drop}
-use Rattle.answerbox.proofs.Counts.{ties}
 use Rattle.answerbox.proofs.Chain.{other_key}
 
 -- ---- bytes of a list that others were written over
@@ -54,7 +54,7 @@ behind xs new k n room far =
 -- ---- bytes of a store
 
 pub byte_put : (stores : FinMap nat_cmp (List ℕ)) (n i : ℕ) (bytes : List ℕ) → byte_in (get (insert stores n bytes) n) i ≡ slice_get bytes i
-byte_put stores n i bytes = rw (get-insert nat_cmp_total stores n bytes n, ties n) refl
+byte_put stores n i bytes = rw (get-insert nat_cmp_total stores n bytes n, own_key n) refl
 
 pub byte_elsewhere : (stores : FinMap nat_cmp (List ℕ)) (n q i : ℕ) (bytes : List ℕ) → (q ≡ n → ⊥) → byte_in (get (insert stores n bytes) q) i ≡ byte_in (get stores q) i
 byte_elsewhere stores n q i bytes other = rw (get-insert nat_cmp_total stores n bytes q, other_key q n other) refl

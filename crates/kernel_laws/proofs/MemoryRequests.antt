@@ -8,8 +8,7 @@ use Rattle.address_space.specs.Memory.{IsAdded}
 use Rattle.switchboard.specs.State.{KernelState, is_alive}
 use Rattle.switchboard.specs.Sound.{IsSound}
 use Rattle.switchboard.specs.Areas.{done_or_refused, bytes_or_refused, made_note, gone_note, wrote_note}
-use Rattle.switchboard.proofs.Endings.{within}
-use Rattle.switchboard.proofs.SoundMemory.{from_one}
+use Rattle.switchboard.proofs.SoundMemory.{from_one, mark_within}
 use Rattle.kernel_laws.specs.MemoryRequests.{Tells, TellsBytes, made, gone, written}
 
 pub tells : {A : Type 0} (told : Result A Code) → Tells told (done_or_refused told)
@@ -35,6 +34,6 @@ written_is t at count (Err code) = refl
 
 pub added : (k : KernelState) (t : TaskNo) → IsSound k → is_alive k t ≡ true → IsAdded k.memory t
 added k t sound alive =
-    let few = within k.tasks.alive t.0 alive in
+    let few = mark_within k.tasks.alive t.0 alive in
     let same = sound.memory.paired in
     record { from_one = from_one k.tasks.alive t alive; in_range = omega (arith, few, same) }

@@ -12,6 +12,7 @@ use Rattle.ipc_ids.specs.declared.message.Request.TheVariants as request
 use Rattle.ipc_ids.specs.declared.methods.MethodKind.{MethodKind}
 use Rattle.ipc_ids.specs.declared.methods.MethodKind.TheVariants.{ConnectToMe, ConnectMeTo}
 use Rattle.ipc_ids.specs.Methods.{kind_of}
+use Rattle.ipc_ids.proofs.Common.{is_some, same_end}
 use Rattle.call_slab.specs.declared.call.Call.{Call}
 use Rattle.call_slab.specs.declared.call.Place.TheVariants.{Dispatched}
 use Rattle.answerbox.specs.Calls.{call_at, active_calls}
@@ -36,8 +37,7 @@ use Rattle.kernel_core.proofs.ByRequest as join
 use Rattle.kernel_core.proofs.ByRequest.{own}
 use Rattle.kernel_laws.specs.Routes.{Leads, IsConnected, LeadWhereConnected}
 use Rattle.kernel_laws.proofs.Methods.{method_of}
-use Rattle.kernel_laws.proofs.CallRoutes.{one_task}
-use Rattle.kernel_laws.proofs.KillRoutes.{IsNowhere, free_nowhere, is_there}
+use Rattle.kernel_laws.proofs.KillRoutes.{IsNowhere, free_nowhere}
 
 -- rows of phones after one of them was written
 
@@ -136,7 +136,7 @@ module _ (k : KernelState) (sound : IsSound k) (t : TaskNo) where
           let led = sym (ap (λ rows. state_at rows v.0 p) same) ∙ leads in
           elim (kept_came k.tasks.phones (kept_phone c) (Connected w) v.0 p (Connected u) led) [
             | inl e ↦ inl e
-            | inr e ↦ inr (subst (λ (x : TaskNo). IsConnected t n reply k v p x) (one_task w u e.1) (two v p e.0))
+            | inr e ↦ inr (subst (λ (x : TaskNo). IsConnected t n reply k v p x) (same_end w u e.1) (two v p e.0))
           ];
       went =
           λ v p u leads. inl
@@ -223,10 +223,10 @@ module _ (k : KernelState) (sound : IsSound k) (t : TaskNo) where
   joined asked s (join.passed n p mode change c u _ at _ _) = by_alike asked _ (returned n c at.live)
   joined asked s (join.hung_up p u is led) =
       subst (λ (a : Request). LeadWhereConnected t a k (hang_up k t p (Some (Connected u))).state) (sym is)
-      (hung p _ refl (is_there (phone_at k t p) (Connected u) led))
+      (hung p _ refl (is_some (phone_at k t p) (Connected u) led))
   joined asked s (join.hung_up_slammed p is led) =
       subst (λ (a : Request). LeadWhereConnected t a k (hang_up k t p (Some Slammed)).state) (sym is)
-      (hung p _ refl (is_there (phone_at k t p) Slammed led))
+      (hung p _ refl (is_some (phone_at k t p) Slammed led))
   joined asked s _ = by_alike asked _ (alike k)
 
 -- after the drops of a receive

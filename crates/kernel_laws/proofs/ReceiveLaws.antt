@@ -1,6 +1,5 @@
 -- Where answers and calls stand, and which answer is dropped next.
 use Rattle.std.proofs.Common.{◌≡◌, ℕ, zero, suc, ◌≤◌, Bool, true, false, Option, None, Some, refl, ap, sym, ◌∙◌, arith}
-use Rattle.std.specs.Prelude.{if◌then◌else◌}
 use Rattle.std.specs.Option.{option_map_or}
 use Rattle.std.proofs.lemmas.Bool.{eqb-true, eq-eqb, false≢true}
 use Rattle.std.specs.FinMap.{entries}
@@ -12,8 +11,8 @@ use Rattle.answerbox.specs.Calls.{call_at, same_place, front, count_of}
 use Rattle.answerbox.proofs.Fronts.{front_live}
 use Rattle.switchboard.specs.State.{KernelState, Transition, nothing, then_do, drain}
 use Rattle.switchboard.specs.Sound.{IsSound}
-use Rattle.switchboard.proofs.Lookups.{same_call}
-use Rattle.kernel_core.specs.Receiving.{unawaited, next_unawaited}
+use Rattle.kernel_core.specs.Receiving.{next_unawaited}
+use Rattle.kernel_core.proofs.ByRequest.{unawaited_is}
 
 -- the steps of a repetition come to an end: where each takes one call out of those that pass a test, and there are no
 -- more of them than steps, there is no next one
@@ -31,13 +30,6 @@ module _ (next : KernelState → Option Call) (step : KernelState → Call → T
     by_next n k h few (Some c) is later = later (step k c).state (keeps k c h is) (let l = less k c h is in omega arith)
 
 -- tests
-
-pub unawaited_is : (o : Option Call) (c : Call) → unawaited o ≡ Some c → (o ≡ Some c) × (c.discard ≡ true)
-unawaited_is None c e = absurd (cc e)
-unawaited_is (Some d) c e = by_mark d.discard refl e where
-  by_mark : (b : Bool) → d.discard ≡ b → (if b then Some d else None) ≡ Some c → (Some d ≡ Some c) × (c.discard ≡ true)
-  by_mark true mark g = let same : d ≡ c = same_call d c g in (g, ap (λ (x : Call). x.discard) (sym same) ∙ mark)
-  by_mark false mark g = absurd (cc g)
 
 module _ (k : KernelState) (t : TaskNo) (sound : IsSound k) where
   -- the mark on an answer, and its method

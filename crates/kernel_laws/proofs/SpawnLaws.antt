@@ -1,29 +1,24 @@
 -- A spawn keeps its law.
-use Rattle.std.proofs.Common.{◌≡◌, ℕ, zero, suc, ◌+◌, ◌-◌, ◌≤◌, Bool, true, false, inl, inr, List, [], ◌∷◌, ◌++◌, length, replicate, Option, None, Some, refl, ap, ◌∙◌, arith}
+use Rattle.std.proofs.Common.{◌≡◌, ℕ, ◌+◌, ◌-◌, ◌≤◌, Bool, true, false, inl, inr, List, [], ◌∷◌, ◌++◌, length, replicate, Option, None, Some, refl, ap, ◌∙◌, arith}
 use Rattle.std.specs.Prelude.{slice_get, option_and_then, unwrap_or}
 use Rattle.std.proofs.lemmas.Bool.{cases_eq, eq-eqb, ne_eqb}
 use Rattle.ipc_ids.specs.declared.numbers.TaskNo.{TaskNo}
 use Rattle.ipc_ids.specs.declared.message.PhoneState.{PhoneState}
 use Rattle.ipc_ids.specs.declared.message.PhoneState.TheVariants.{Free, Connected}
+use Rattle.ipc_ids.proofs.Common.{is_some, get_other}
 use Rattle.phone_table.specs.Phones.{row_at, state_at}
-use Rattle.address_space.specs.Areas.{Area}
 use Rattle.switchboard.specs.State.{KernelState, alive_in, is_alive, with_event}
 use Rattle.switchboard.specs.Sound.{IsSound}
 use Rattle.cleanup.proofs.KilledPhones.{written_elsewhere}
 use Rattle.switchboard.proofs.Soundness.{get_last}
 use Rattle.kernel_core.specs.Kernel.{next_task, named, spawning, spawn_event}
+use Rattle.kernel_core.proofs.WholeHistories.{rows_stay}
+use Rattle.kernel_core.proofs.SpawnedHistories.{new_is_alive}
 use Rattle.kernel_laws.specs.SpawnLaws.{MakesTask}
 use Rattle.switchboard.proofs.Keepers.{state_here}
 use Rattle.kernel_laws.proofs.Lists.{get_copy, past_copies}
-use Rattle.kernel_laws.proofs.KillRoutes.{is_there}
 
 -- one item more at the end of a list
-
-get_other : {A : Type 0} (xs : List A) (y : A) (i : ℕ) → (i ≡ length xs → ⊥) → slice_get (xs ++ y ∷ []) i ≡ slice_get xs i
-get_other [] y zero other = absurd (other refl)
-get_other [] y (suc i) other = refl
-get_other (x ∷ xs) y zero other = refl
-get_other (x ∷ xs) y (suc i) other = get_other xs y i (λ e. other (omega arith))
 
 row_last : {A : Type 0} (rows : List A) (row : A) → row_at (rows ++ row ∷ []) (length rows + 1) ≡ Some row
 row_last rows row = rw (ne_eqb (length rows + 1) 0 (λ z. omega arith), get_last rows row (length rows + 1 - 1) (omega arith)) refl
@@ -39,15 +34,6 @@ alive_other alive t other = elim (cases_eq t 0) [
   | inl e ↦ rw (eq-eqb t 0 e) refl
   | inr nt ↦ rw (ne_eqb t 0 nt) (ap (λ (o : Option Bool). unwrap_or o false) (get_other alive true (t - 1) (λ e. other (omega arith))))
 ]
-
-alive_last : (alive : List Bool) → alive_in (alive ++ true ∷ []) (length alive + 1) ≡ true
-alive_last alive = rw (ne_eqb (length alive + 1) 0 (λ z. omega arith), get_last alive true (length alive + 1 - 1) (omega arith)) refl
-
-areas_last : (rows : List (List Area)) (i : ℕ) → unwrap_or (slice_get (rows ++ [] ∷ []) i) [] ≡ unwrap_or (slice_get rows i) []
-areas_last [] zero = refl
-areas_last [] (suc i) = refl
-areas_last (row ∷ rows) zero = refl
-areas_last (row ∷ rows) (suc i) = areas_last rows i
 
 -- the rows of phones after a spawn
 module _ (rows : List (List PhoneState)) (limit n : ℕ) (paired : length rows ≡ n) where
@@ -69,7 +55,7 @@ module _ (k : KernelState) (limit : ℕ) (names : Option TaskNo) (some : 1 ≤ l
 
   made_by : (o : Option TaskNo) → ((u : TaskNo) → names ≡ Some u → is_alive k u ≡ true → o ≡ Some u) → (((u : TaskNo) → names ≡ Some u → is_alive k u ≡ false) → o ≡ None) → MakesTask limit names k (with_event (spawning k (next_task k) limit o).state)
   made_by None leads alone = record {
-    made = alive_last k.tasks.alive;
+    made = new_is_alive k.tasks.alive;
     others = λ u other. alive_other k.tasks.alive u.0 other;
     leads = λ u is alive. absurd (let none = leads u is alive in cc);
     alone = λ none. new 0 ∙ get_copy limit 0 Free (omega arith);
@@ -77,26 +63,26 @@ module _ (k : KernelState) (limit : ℕ) (names : Option TaskNo) (some : 1 ≤ l
     limited = λ p out. new p ∙ past_copies limit p Free out;
     phones = λ u p other. old u.0 p other;
     calls = refl;
-    areas = λ u. areas_last k.memory.areas (u.0 - 1);
+    areas = λ u. rows_stay k.memory.areas (u.0 - 1);
     stores = refl;
   }
   made_by (Some v) leads alone = record {
-    made = alive_last k.tasks.alive;
+    made = new_is_alive k.tasks.alive;
     others = λ u other. alive_other k.tasks.alive u.0 other;
-    leads = λ u is alive. state_here rows (length k.tasks.alive + 1) 0 (Connected v) (is_there (state_at rows (length k.tasks.alive + 1) 0) Free (new 0 ∙ get_copy limit 0 Free (omega arith))) ∙ (let same = leads u is alive in cc);
+    leads = λ u is alive. state_here rows (length k.tasks.alive + 1) 0 (Connected v) (is_some (state_at rows (length k.tasks.alive + 1) 0) Free (new 0 ∙ get_copy limit 0 Free (omega arith))) ∙ (let same = leads u is alive in cc);
     alone = λ none. absurd (let is = alone none in cc);
     free = λ p from few. written_elsewhere rows (length k.tasks.alive + 1) 0 (length k.tasks.alive + 1) p (Connected v) (λ e. let first = e.1 in omega (arith, first, from)) ∙ new p ∙ get_copy limit p Free few;
     limited = λ p out. written_elsewhere rows (length k.tasks.alive + 1) 0 (length k.tasks.alive + 1) p (Connected v) (λ e. let first = e.1 in omega (arith, first, out)) ∙ new p ∙ past_copies limit p Free out;
     phones = λ u p other. written_elsewhere rows (length k.tasks.alive + 1) 0 u.0 p (Connected v) (λ e. other e.0) ∙ old u.0 p other;
     calls = refl;
-    areas = λ u. areas_last k.memory.areas (u.0 - 1);
+    areas = λ u. rows_stay k.memory.areas (u.0 - 1);
     stores = refl;
   }
 
-named_leads : (k : KernelState) (names : Option TaskNo) (u : TaskNo) → names ≡ Some u → is_alive k u ≡ true → named k names ≡ Some u
+pub named_leads : (k : KernelState) (names : Option TaskNo) (u : TaskNo) → names ≡ Some u → is_alive k u ≡ true → named k names ≡ Some u
 named_leads k names u is alive = rw (is, alive) refl
 
-named_none : (k : KernelState) (names : Option TaskNo) → ((u : TaskNo) → names ≡ Some u → is_alive k u ≡ false) → named k names ≡ None
+pub named_none : (k : KernelState) (names : Option TaskNo) → ((u : TaskNo) → names ≡ Some u → is_alive k u ≡ false) → named k names ≡ None
 named_none k None ended = refl
 named_none k (Some u) ended = rw (ended u refl) refl
 

@@ -1,11 +1,11 @@
 -- What a table of calls has where a record came into it, and where one left it.
 use Rattle.std.proofs.Common.{◌≡◌, ℕ, ◌⊎◌, inl, inr, None, Some, sym, ◌∙◌, ◌<◌, ◌≤◌, Option, refl, arith}
 use Rattle.std.specs.FinMap.{get, insert}
-use Rattle.std.proofs.lemmas.Option.{none-some}
+use Rattle.std.proofs.lemmas.Option.{none-some, same_Some}
 use Rattle.call_slab.specs.declared.call.Call.{Call}
 use Rattle.call_slab.specs.declared.call.Place.{Place}
 use Rattle.answerbox.specs.Calls.{CallTable, call_at, enqueue, put_at, without_call, with_record, without_caller}
-use Rattle.switchboard.proofs.Lookups.{at_insert, at_remove, chosen, same_call}
+use Rattle.switchboard.proofs.Lookups.{at_insert, at_remove, chosen}
 use Rattle.std.specs.Option.{option_map_or}
 use Rattle.switchboard.specs.State.{KernelState}
 use Rattle.switchboard.specs.Sound.{IsSound}
@@ -14,7 +14,7 @@ use Rattle.switchboard.specs.Sound.{IsSound}
 pub came_in : (q : CallTable) (m n : ℕ) (d c : Call) → get (insert q.records m d) n ≡ Some c
     → ((m ≡ n) × (d ≡ c)) ⊎ ((m ≡ n → ⊥) × (call_at q n ≡ Some c))
 came_in q m n d c at = elim (chosen m n (Some d) (call_at q n) (Some c) (sym (at_insert q.records m n d) ∙ at)) [
-  | inl h ↦ inl (h.0, same_call d c h.1)
+  | inl h ↦ inl (h.0, same_Some d c h.1)
   | inr h ↦ inr h
 ]
 

@@ -2,6 +2,7 @@
 use Rattle.std.proofs.Common.{◌≡◌, ℕ, ◌<◌, ◌≤◌, true, ◌⊎◌, inl, inr, Option, None, Some, refl, ap, sym, subst, ◌∙◌, arith}
 use Rattle.std.specs.Option.{option_map_or}
 use Rattle.std.proofs.lemmas.Bool.{cases_eq}
+use Rattle.std.proofs.lemmas.Option.{same_Some}
 use Rattle.ipc_ids.specs.declared.numbers.Label.{Label}
 use Rattle.ipc_ids.specs.declared.numbers.TaskNo.{TaskNo}
 use Rattle.ipc_ids.specs.declared.message.PhoneState.{PhoneState}
@@ -18,7 +19,7 @@ use Rattle.switchboard.specs.Kept.{kept_phone, lent_phone, kept_rows}
 use Rattle.switchboard.specs.Joins.{bare_reply, forget_call, hang_up, hangup_call, declined_call}
 use Rattle.switchboard.specs.Areas.{lose_area}
 use Rattle.cleanup.specs.Kill.{kill}
-use Rattle.switchboard.proofs.Lookups.{same_call, put_here, put_other, gone_other}
+use Rattle.switchboard.proofs.Lookups.{put_here, put_other, gone_other}
 use Rattle.switchboard.proofs.Rows.{state_changed_at}
 use Rattle.kernel_laws.specs.KillLaws.{TellsOfHangup, HasCome, TellsWhereItLed}
 use Rattle.kernel_laws.specs.Routes.{Leads}
@@ -155,7 +156,7 @@ module _ (k : KernelState) (sound : IsSound k) (t : TaskNo) where
   }) where
     other : (n : ℕ) (d : Call) (u : TaskNo) → call_at j.calls n ≡ Some d → d.place ≡ Incoming u → c.number.0 ≡ n → u.0 ≡ t.0
     other n d u there at e =
-        let one : c ≡ d = same_call c d (sym is ∙ ap (call_at j.calls) (sym (h.numbered m c is) ∙ e) ∙ there) in
+        let one : c ≡ d = same_Some c d (sym is ∙ ap (call_at j.calls) (sym (h.numbered m c is) ∙ e) ∙ there) in
         at_one c.place t u (ap (λ (x : Call). x.place) one ∙ at) here
 
   -- a call at t goes to the answers of its caller
@@ -174,7 +175,7 @@ module _ (k : KernelState) (sound : IsSound k) (t : TaskNo) where
 
     other : (n : ℕ) (e : Call) (u : TaskNo) → call_at j.calls n ≡ Some e → e.place ≡ Incoming u → d.number.0 ≡ n → u.0 ≡ t.0
     other n e u there at f =
-        let one : c ≡ e = same_call c e (sym is ∙ ap (call_at j.calls) (sym number ∙ f) ∙ there) in
+        let one : c ≡ e = same_Some c e (sym is ∙ ap (call_at j.calls) (sym number ∙ f) ∙ there) in
         at_one c.place t u (ap (λ (x : Call). x.place) one ∙ at) here
 
   -- a call loses its caller
@@ -203,7 +204,7 @@ module _ (k : KernelState) (sound : IsSound k) (t : TaskNo) where
     kept : (n : ℕ) (d : Call) (u : TaskNo) → call_at j.calls n ≡ Some d → d.place ≡ Incoming u → (o : Option Call) → call_at j.calls c.number.0 ≡ o → (e : Call) × (call_at (option_map_or (λ (x : Call). with_record j.calls (record x { caller = None })) o j.calls) n ≡ Some e) × (e.place ≡ Incoming u) × (e.label ≡ d.label) × (e.request ≡ d.request)
     kept n d u there at None is = (d, there, at, refl, refl)
     kept n d u there at (Some x) is = elim (cases_eq x.number.0 n) [
-      | inl e ↦ (let one : x ≡ d = same_call x d (sym is ∙ ap (call_at j.calls) (sym (h.numbered c.number.0 x is) ∙ e) ∙ there) in
+      | inl e ↦ (let one : x ≡ d = same_Some x d (sym is ∙ ap (call_at j.calls) (sym (h.numbered c.number.0 x is) ∙ e) ∙ there) in
           (record x { caller = None }, put_here j.calls x.number.0 n _ e, ap (λ (y : Call). y.place) one ∙ at, ap (λ (y : Call). y.label) one, ap (λ (y : Call). y.request) one))
       | inr ne ↦ (d, put_other j.calls x.number.0 n _ ne ∙ there, at, refl, refl)
     ]

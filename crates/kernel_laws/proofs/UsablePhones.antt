@@ -10,7 +10,7 @@ use Rattle.answerbox.specs.Calls.{CallTable, call_at, is_active_on, active_calls
 use Rattle.answerbox.proofs.Counts.{count-none, none_counts}
 use Rattle.phone_table.specs.Phones.{is_usable}
 use Rattle.switchboard.specs.State.{KernelState, phone_at, label_of}
-use Rattle.switchboard.specs.Kept.{phone_of, first_usable_of}
+use Rattle.switchboard.specs.Kept.{first_usable_of}
 use Rattle.switchboard.proofs.Keepers.{same_phone}
 use Rattle.switchboard.proofs.Usable.{usable_is}
 use Rattle.kernel_laws.specs.UsablePhones.{HasNoActive, IsUsable}
@@ -57,7 +57,3 @@ module _ (k : KernelState) (t : TaskNo) where
     -- and none before it
     pub least_one : (p : ℕ) → p < l.phone.0 → IsUsable k k.calls t p → ⊥
     least_one p less h = let s = tested p h in unusable k t p s.0 (Some l) e less s.1 s.2
-
--- a phone of a task is one that it may keep
-pub own_phone : (t : TaskNo) (l : Label) → l.task ≡ t → phone_of t (Some l) ≡ Some l
-own_phone t l e = rw (eq-eqb l.task.0 t.0 (ap (λ (x : TaskNo). x.0) e)) refl

@@ -1,7 +1,7 @@
 -- What is kept of areas, as a call is accepted; and what it tells of writes.
-use Rattle.std.proofs.Common.{ℕ, suc, ◌≡◌, ◌==◌, ◌<◌, ◌≤◌, ◌+◌, ◌*◌, ◌⊎◌, ◌↔◌, Bool, true, false, Option, Some, None, List, [], ◌∷◌, ◌++◌, length, refl, sym, ap, subst, ◌∙◌, inl, inr, arith, eq-eqb, ne_eqb}
+use Rattle.std.proofs.Common.{ℕ, suc, ◌≡◌, ◌==◌, ◌≤◌, ◌+◌, ◌*◌, ◌↔◌, Bool, true, false, Option, Some, None, List, [], ◌∷◌, ◌++◌, length, refl, sym, ap, subst, ◌∙◌, inl, inr, arith, eq-eqb, ne_eqb}
 use Rattle.std.specs.Prelude.{if◌then◌else◌, option_map, IsTrue}
-use Rattle.std.proofs.lemmas.Bool.{cases_eq}
+use Rattle.std.proofs.lemmas.Bool.{cases_eq, eqb-true}
 use Rattle.std.proofs.lemmas.Grind.{common_steps}
 use Rattle.ipc_ids.specs.declared.numbers.TaskNo.{TaskNo}
 use Rattle.ipc_ids.specs.declared.numbers.CallNo.{CallNo}
@@ -25,14 +25,12 @@ use Rattle.law_check.specs.Stores.{pair_cmp, reaches, IsAround}
 use Rattle.law_check.specs.Held.{area_at, over_store, AreByStore}
 use Rattle.law_check.proofs.AtMostOnce.{above}
 use Rattle.law_check.proofs.Kept.{kept_push, kept_push_other, length_push}
+use Rattle.law_check.proofs.Blocks.{le_or_lt}
 
 -- only a call that was accepted is delivered
 begun_is_known : (p : List Tale) (n : ℕ) → WasAllowed p → (life n p ≡ Nowhere → ⊥) → n ≤ last_number p
 begun_is_known p n l there =
     elim (le_or_lt n (last_number p)) [ inl known ↦ known | inr new ↦ absurd (there (above p l n new)) ]
-  where
-    le_or_lt : (a b : ℕ) → (a ≤ b) ⊎ (b < a)
-    le_or_lt a b = grind arith
 
 has_begun : (p : List Tale) (n t : ℕ) (x : Life) → Allowed p n (Delivered t) x → x ≡ Nowhere → ⊥
 has_begun p n t x a e = grind arith
@@ -107,14 +105,11 @@ no_area a e = cc
 same_store : (b a : Area) → Some b ≡ Some a → b.store ≡ a.store
 same_store b a e = cc
 
-same_number : (m n : ℕ) → (m == n) ≡ true → m ≡ n
-same_number m n e = grind (arith, common_steps)
-
 found_is_held : (store : ℕ) (o : Option Area) (a : Area) → over_store store o ≡ Some a → (o ≡ Some a) × (a.store ≡ store)
 found_is_held store None a h = absurd (no_area a h)
 found_is_held store (Some b) a h = by (b.store == store) refl h where
   by : (x : Bool) → (b.store == store) ≡ x → (if x then Some b else None) ≡ Some a → (Some b ≡ Some a) × (a.store ≡ store)
-  by true s e = (e, sym (same_store b a e) ∙ same_number b.store store s)
+  by true s e = (e, sym (same_store b a e) ∙ eqb-true b.store store s)
   by false s e = absurd (no_area a e)
 
 held_is_found : (store : ℕ) (a : Area) → a.store ≡ store → over_store store (Some a) ≡ Some a

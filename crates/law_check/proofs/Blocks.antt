@@ -1,17 +1,20 @@
 -- Blocks that hold the areas of a task over a store.
 use Rattle.std.proofs.Common.{ℕ, zero, suc, ◌≡◌, ◌<◌, ◌≤◌, ◌+◌, ◌^◌, ◌==◌, ◌⊎◌, Option, Some, None, Bool, true, false, List, [], ◌∷◌, ◌++◌, length, refl, sym, ap, subst, ◌∙◌, inl, inr, arith, eq-eqb}
-use Rattle.std.specs.Prelude.{Result, Ok, Err, OnOk, OnErr, is_ok, is_err, if◌then◌else◌, ◌&&◌, ◌||◌, max, nat_lt, slice_set, slice_index_or}
+use Rattle.std.specs.Prelude.{Result, Ok, Err, OnOk, OnErr, is_ok, is_err, if◌then◌else◌, ◌&&◌, ◌||◌, max, slice_set, slice_index_or}
 use Rattle.std.specs.BTreeMap.{BTreeMap, Updates, get, is_at}
 use Rattle.std.specs.BTreeMap.Range.{range_contains}
 use Rattle.std.specs.declared.ops.Bound.TheVariants.{Included}
 use Rattle.std.specs.Map.{lookup}
 use Rattle.std.specs.List.{filter, list_any}
 use Rattle.std.proofs.lemmas.Grind.{common_steps}
+use Rattle.std.proofs.lemmas.Bool.{or_right, eqb-true, lt-ltb, le-ltb}
+use Rattle.std.proofs.lemmas.Option.{same_Some}
+use Rattle.ipc_ids.proofs.Common.{not_both}
 use Rattle.law_check.specs.declared.held.Area.{Area}
 use Rattle.law_check.specs.declared.stores.Block.{Block}
 use Rattle.law_check.specs.declared.stores.Blocks.{Blocks}
-use Rattle.law_check.specs.Stores.{ByStore, pair_cmp, triple_cmp, placed_in, reach, reaches, holds, Bounds, IsTight, IsAround, IsBounded, AreBounded, Changes}
-use Rattle.law_check.proofs.Pairs.{exceeds, seen_in, in_range, reaches_from, same_pair}
+use Rattle.law_check.specs.Stores.{ByStore, pair_cmp, triple_cmp, placed_in, reach, reaches, holds, Bounds, IsTight, IsBounded, AreBounded, Changes}
+use Rattle.law_check.proofs.Pairs.{exceeds, seen_in, in_range, reaches_from, same_pair, same_numbers}
 
 max_is : (a b : ℕ) → (max a b ≡ a) ⊎ (max a b ≡ b)
 max_is a b = grind arith
@@ -26,14 +29,12 @@ tight_more areas t s last most base a there low tight = elim (max_is most (reach
 ]
 
 pub not_beyond : (k most : ℕ) (e : (ℕ × ℕ × ℕ) × Area) → max most (reach e.0.2 e.1) ≤ k → exceeds k e ≡ false
-not_beyond k most e h = none k (reach e.0.2 e.1) (omega (arith, h)) where
-  none : (k r : ℕ) → r ≤ k → nat_lt k r ≡ false
-  none k r h = grind (arith, common_steps)
+not_beyond k most e h = le-ltb k (reach e.0.2 e.1) (omega (arith, h))
 
 pub at_most : (most r k : ℕ) → max most r ≤ k → most ≤ k
 at_most most r k h = omega (arith, h)
 
-le_or_lt : (a b : ℕ) → (a ≤ b) ⊎ (b < a)
+pub le_or_lt : (a b : ℕ) → (a ≤ b) ⊎ (b < a)
 le_or_lt a b = grind arith
 
 -- where none of those that are looked through reaches further, none does
@@ -44,14 +45,9 @@ pub bounds_of :
 bounds_of areas t s first last most none = λ base a there low high. elim (le_or_lt (reach base a) most) [
   | inl within ↦ within
   | inr beyond ↦
-      absurd (not_both _ (seen_in (exceeds most) (λ e. range_contains triple_cmp (Included (t, s, first)) (Included (t, s, last)) e.0)
-      areas.entries t s base a there (in_range t s base first last low high) (is_lt most (reach base a) beyond)) none)
-] where
-  not_both : (b : Bool) → b ≡ true → b ≡ false → ⊥
-  not_both b h k = cc
-
-  is_lt : (a b : ℕ) → a < b → nat_lt a b ≡ true
-  is_lt a b h = grind (arith, common_steps)
+      absurd (not_both (seen_in (exceeds most) (λ e. range_contains triple_cmp (Included (t, s, first)) (Included (t, s, last)) e.0)
+      areas.entries t s base a there (in_range t s base first last low high) (lt-ltb most (reach base a) beyond)) none)
+]
 
 pub none_between : (areas : ByStore) (t s first last : ℕ) → last < first → Bounds areas t s first last 0
 none_between areas t s first last h = λ base a there low high. absurd (not_between base low high) where
@@ -121,10 +117,6 @@ pub not_before : (at count base : ℕ) (a : Area) (block : Block) → at < block
 not_before at count base a block low wanted held =
     omega (arith, low, (reaches_from base a at count wanted).0, (holds_means base a block held).0)
 
-or_right : (x y : Bool) → y ≡ true → (x || y) ≡ true
-or_right true y h = refl
-or_right false y h = h
-
 -- a block in place of another
 pub any_set :
     (f : Block → Bool) (xs : List Block) (i : ℕ) (d y : Block) → (f (slice_index_or xs i d) ≡ true → f y ≡ true) →
@@ -146,9 +138,6 @@ get_put :
     get pair_cmp n (u, r) ≡ (if (t == u) && (s == r) then w else get pair_cmp m (u, r))
 get_put m n t s w h u r = h.0 (u, r) ∙ ap (λ (x : Bool). if x then w else get pair_cmp m (u, r)) (same_pair t s u r)
 
-both_same : (t u s r : ℕ) → ((t == u) && (s == r)) ≡ true → (t ≡ u) × (s ≡ r)
-both_same t u s r h = grind (arith, common_steps)
-
 pub bounded_put :
     (old new : ByStore) (m n : BTreeMap (ℕ × ℕ) Blocks) (t s : ℕ) (w : Option Blocks) → Updates pair_cmp m n (t, s) w →
     ((b : Blocks) → w ≡ Some b → IsBounded new t s b.list.items) →
@@ -157,7 +146,7 @@ pub bounded_put :
 bounded_put old new m n t s w put here other was = λ u r b found. by u r b ((t == u) && (s == r)) refl (sym (get_put m n t s w put u r) ∙ found) where
   by : (u r : ℕ) (b : Blocks) (x : Bool) → ((t == u) && (s == r)) ≡ x → (if x then w else get pair_cmp m (u, r)) ≡ Some b → IsBounded new u r b.list.items
   by u r b true e h =
-      let k = both_same t u s r e in
+      let k = same_numbers t u s r e in
       subst (λ (v : ℕ). IsBounded new v r b.list.items) k.0 (subst (λ (v : ℕ). IsBounded new t v b.list.items) k.1 (here b h))
   by u r b false e h = λ base a small there. was u r b h base a small (sym (other u r base e) ∙ there)
 
@@ -183,16 +172,10 @@ with_one old new t s base a list block changes was own = λ c x small there. by 
   here : (c : ℕ) → placed_in new t s c ≡ (if base == c then Some a else placed_in old t s c)
   here c = changes t s c ∙ rw (eq-eqb t t refl, eq-eqb s s refl) refl
 
-  some_same : (x y : Area) → Some x ≡ Some y → x ≡ y
-  some_same x y h = cc
-
-  eq_of : (b c : ℕ) → (b == c) ≡ true → b ≡ c
-  eq_of b c h = grind (arith, common_steps)
-
   by : (c : ℕ) (x : Area) → c < 2 ^ 64 → (y : Bool) → (base == c) ≡ y → (if y then Some a else placed_in old t s c) ≡ Some x →
       list_any (holds c x) (list ++ block ∷ []) ≡ true
   by c x small true e h =
-      any_right (holds c x) list block (subst (λ (n : ℕ). holds n x block ≡ true) (eq_of base c e) (subst (λ (z : Area). holds base z block ≡ true) (some_same a x h) own))
+      any_right (holds c x) list block (subst (λ (n : ℕ). holds n x block ≡ true) (eqb-true base c e) (subst (λ (z : Area). holds base z block ≡ true) (same_Some a x h) own))
   by c x small false e h = any_left (holds c x) list block (was c x small h)
 
 -- the blocks of a task over a store were taken out

@@ -1,6 +1,6 @@
 -- What is known of calls, as a call comes to another place and as one is accepted.
 use Rattle.std.proofs.Common.{ℕ, suc, ◌≡◌, ◌-◌, Bool, true, false, Option, Some, None, List, [], ◌∷◌, length, refl, sym, ap, subst, ◌∙◌, inl, inr, arith, eq-eqb, ne_eqb, add-one}
-use Rattle.std.specs.Prelude.{◌+◌, ◌==◌, ◌&&◌, nat_lt, if◌then◌else◌, Result, Ok, Err, OnOk}
+use Rattle.std.specs.Prelude.{◌+◌, ◌==◌, ◌&&◌, nat_lt, if◌then◌else◌}
 use Rattle.std.proofs.lemmas.Bool.{cases_eq, eqb-true}
 use Rattle.ipc_ids.specs.Tales.{Event, Kill, Note, Way, Accepted, Forgotten, Tale, Head, On, Other}
 use Rattle.ipc_ids.specs.Life.{Life, Nowhere, Allowed, IsOf, event, life, after, is_kill_of, is_killed, last_number, number_after, task_of}
@@ -189,10 +189,3 @@ pub was_next :
     (p : List Tale) (n u phone method : ℕ) (to : Way) (l : Life) → Allowed p n (Accepted u phone method to) l →
     (n ≡ suc (last_number p)) × IsOf u (event p)
 was_next p n u phone method to l a = grind arith
-
-pub then_on_ok : {A E : Type 0} {P Q : Type 0} (r : Result A E) → OnOk r P → (P → Q) → OnOk r Q
-then_on_ok (Ok x) h f = f h
-then_on_ok (Err e) h f = tt
-
-pub not_both : {b : Bool} → b ≡ true → b ≡ false → ⊥
-not_both h k = cc

@@ -9,11 +9,13 @@ use Rattle.ipc_ids.specs.Life.{Life, Nowhere, Incoming, Answers, Over, caller_of
 use Rattle.ipc_ids.specs.Lawful.{IsHead, StandsAt}
 use Rattle.ipc_ids.specs.Laws.{AllAllowed, LivesAreLawful, ends, HasNoHead, BeginsAnEvent, IsHeldBy, end_in_kill, IsLawfulKill, KillEndsHeldCalls}
 use Rattle.ipc_ids.proofs.Pasts.{onto-append, tales-append, past-append}
+use Rattle.ipc_ids.proofs.LawfulLists.{ends-append, event_goes_on, same_are_killed, no_head-parts}
 use Rattle.law_check.specs.Kills.{heads, kill_of, earlier_kill_of, Ends, EndsWell, MayPlace, KillsFrom, IsLate, KillsFoundLate}
 use Rattle.law_check.specs.Allowed.{WasAllowed}
 use Rattle.law_check.proofs.AtMostOnce.{HasEnd, above}
-use Rattle.law_check.proofs.KillParts.{allowed_parts, no_ends, dropped_is_over, was_held, was_answer, held_calls, waiting_answers, event_goes_on, number_goes_on, earlier_stays, kill_stays, earlier_without_head}
-use Rattle.law_check.proofs.Late.{earlier_first, kills_of_late, late_of_kills}
+use Rattle.law_check.proofs.KillParts.{allowed_parts, no_ends, dropped_is_over, was_held, was_answer, held_calls, waiting_answers, number_goes_on, earlier_stays, kill_stays, earlier_without_head}
+use Rattle.law_check.proofs.Late.{earlier_first, kills_of_late, late_of_kills, ends_of, somewhere}
+use Rattle.law_check.proofs.Blocks.{le_or_lt}
 
 -- the entry that kills t
 kill_entry : (x : Entry) (t : ℕ) → tale x ≡ Head (Kill t) → (u : TaskNo) × (x ≡ entry.Kill u) × (u.0 ≡ t)
@@ -269,25 +271,10 @@ killed_earlier t n w (Other ∷ one) two p b h = absurd b
 kills_now : (t : ℕ) (q : List Tale) → 0 < kill_of t (Head (Kill t) ∷ q)
 kills_now t q = rw (eq-eqb t t refl) (omega arith)
 
-no_head-parts : (xs ys : List Tale) → HasNoHead (xs ++ ys) → HasNoHead xs × HasNoHead ys
-no_head-parts [] ys h = (tt, h)
-no_head-parts (e ∷ xs) ys h = grind (arith, no_head-parts xs ys)
-
-ends-append : (n : ℕ) (xs ys : List Tale) → ends n (xs ++ ys) ≡ ends n xs ++ ends n ys
-ends-append n [] ys = refl
-ends-append n (e ∷ xs) ys = grind (arith, append_assoc, ends-append n xs ys)
-
-same_are_killed : (es p : List Tale) (t : ℕ) → HasNoHead es → is_killed t (onto es p) ≡ is_killed t p
-same_are_killed [] p t h = refl
-same_are_killed (x ∷ es) p t h = grind (arith, same_are_killed es (x ∷ p) t)
-
 no_ends_before : (es p : List Tale) (n : ℕ) → WasAllowed p → (rest : List Tale) → AllAllowed p (es ++ rest) → life n (onto es p) ≡ Nowhere → ends n es ≡ []
 no_ends_before es p n l rest a there = no_ends es rest p n a (λ e. nowhere_ends (life n (onto es p)) there e) where
   nowhere_ends : (l : Life) → l ≡ Nowhere → HasEnd l → ⊥
   nowhere_ends l h e = grind arith
-
-ends_of : (t : ℕ) (p : List Tale) → event p ≡ Some (Kill t) → EndsWell p → Ends (Some (Kill t)) p
-ends_of t p now ends = subst (λ (e : Option Event). Ends e p) now ends
 
 -- an acceptance comes first of all that happens to a call
 accepted_first :
@@ -295,22 +282,12 @@ accepted_first :
     l ≡ Nowhere
 accepted_first p n u phone method way l a = grind arith
 
-accepted_by :
-    (p : List Tale) (n u phone method t : ℕ) (way : Way) (l : Life) → event p ≡ Some (Kill t) →
-    Allowed p n (Accepted u phone method way) l → u ≡ t
-accepted_by p n u phone method t way l now a = grind arith
-
 known_number : (n t : ℕ) (q : List Tale) → WasAllowed q → life n q ≡ Answers t → n ≤ last_number q
 known_number n t q l there =
     elim (le_or_lt n (last_number q)) [
       | inl before ↦ before
-      | inr new ↦ absurd (nowhere t (life n q) there (above q l n new))
-    ] where
-      le_or_lt : (a b : ℕ) → (a ≤ b) ⊎ (b < a)
-      le_or_lt a b = grind arith
-
-      nowhere : (t : ℕ) (l : Life) → l ≡ Answers t → l ≡ Nowhere → ⊥
-      nowhere t l h k = cc
+      | inr new ↦ absurd (somewhere t (life n q) there (above q l n new))
+    ]
 
 module _
     (t : ℕ) (q es later : List Tale) (l : WasAllowed (Head (Kill t) ∷ q))

@@ -1,9 +1,9 @@
 -- What is kept to tell whether kills are lawful, as entries come.
 use Rattle.std.proofs.Common.{ℕ, suc, ◌≡◌, ◌<◌, ◌≤◌, ◌+◌, ◌-◌, ◌==◌, ◌⊎◌, ◌↔◌, Bool, true, false, List, [], ◌∷◌, ◌++◌, length, slice_set, refl, sym, ap, subst, ◌∙◌, inl, inr, arith, eq-eqb, ne_eqb}
 use Rattle.std.specs.Prelude.{if◌then◌else◌, nat_lt, not, unwrap_or, ◌&&◌}
-use Rattle.std.proofs.lemmas.Bool.{cases_eq}
+use Rattle.std.proofs.lemmas.Bool.{cases_eq, false_from_ne_true}
 use Rattle.ipc_ids.specs.Tales.{Note, Way, Accepted, Forgotten, Tale, Head, On, Other}
-use Rattle.ipc_ids.specs.Life.{Life, Nowhere, Incoming, Dispatched, Answers, Allowed, life, event, last_number, number_after}
+use Rattle.ipc_ids.specs.Life.{Life, Nowhere, Incoming, Dispatched, Answers, Allowed, life, last_number, number_after}
 use Rattle.ipc_ids.specs.Lawful.{StandsAt}
 use Rattle.ipc_ids.specs.Laws.{IsAllowed, IsHeldBy}
 use Rattle.law_check.specs.declared.lives.KnownCall.{KnownCall}
@@ -209,14 +209,10 @@ pub none_late :
 none_late p s k knows ended = (
   λ h n t due. not_late_gives (life n p) (since n p) k (rw (knows.lives.lives n, knows.since_when n) (h n)) t
       (subst (λ (m : ℕ). Due (life n p) (since n p) t m) (ends_so t) due),
-  λ none n. not_true (is_late (life_at s.lives.calls.items n) (number_at s.since.items n) k)
+  λ none n. false_from_ne_true (is_late (life_at s.lives.calls.items n) (number_at s.since.items n) k)
       (λ late. let d = late_gives (life n p) (since n p) k (rw (knows.lives.lives n, knows.since_when n) late) in
       none n d.0 (subst (λ (m : ℕ). Due (life n p) (since n p) d.0 m) (sym (ends_so d.0)) d.1)),
 )
   where
     ends_so : (t : ℕ) → kill_of t p ≡ k t
     ends_so t = knows.lives.last_kill t ∙ sym (ended t)
-
-    not_true : (b : Bool) → (b ≡ true → ⊥) → b ≡ false
-    not_true true h = absurd (h refl)
-    not_true false h = refl

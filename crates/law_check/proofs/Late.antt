@@ -8,6 +8,7 @@ use Rattle.law_check.specs.Kills.{heads, kill_of, earlier_kill_of, earlier_numbe
 use Rattle.ipc_ids.proofs.Pasts.{event_is_killed}
 use Rattle.law_check.specs.Allowed.{WasAllowed}
 use Rattle.law_check.proofs.AtMostOnce.{above}
+use Rattle.law_check.proofs.Blocks.{le_or_lt}
 
 -- the numbers of kills
 kill_is_past : (t : ℕ) (p : List Tale) → kill_of t p ≤ heads p
@@ -127,8 +128,11 @@ begun (On n w) (e ∷ p) l = begun e p l.0
 begun Other [] l = absurd l.1
 begun Other (e ∷ p) l = begun e p l.0
 
-ends_of : (t : ℕ) (p : List Tale) → event p ≡ Some (Kill t) → EndsWell p → Ends (Some (Kill t)) p
+pub ends_of : (t : ℕ) (p : List Tale) → event p ≡ Some (Kill t) → EndsWell p → Ends (Some (Kill t)) p
 ends_of t p now ends = subst (λ (e : Option Event). Ends e p) now ends
+
+pub somewhere : (t : ℕ) (l : Life) → l ≡ Answers t → l ≡ Nowhere → ⊥
+somewhere t l h k = cc
 
 answer_not_due :
     (p : List Tale) (n t : ℕ) → WasAllowed p → event p ≡ Some (Kill t) → Ends (Some (Kill t)) p → life n p ≡ Answers t →
@@ -137,12 +141,7 @@ answer_not_due p n t l now ends there h =
     elim (le_or_lt n (earlier_number p)) [
       | inl before ↦ ends.1 n before there
       | inr new ↦ absurd (omega (arith, h, kill_now t p now, came_now n p l new (λ nowhere. somewhere t (life n p) there nowhere)))
-    ] where
-      le_or_lt : (a b : ℕ) → (a ≤ b) ⊎ (b < a)
-      le_or_lt a b = grind arith
-
-      somewhere : (t : ℕ) (l : Life) → l ≡ Answers t → l ≡ Nowhere → ⊥
-      somewhere t l h k = grind arith
+    ]
 
 -- where nothing was late before, nothing is at the end of an event that ends well
 none_is_late : (p : List Tale) → WasAllowed p → ((n t : ℕ) → IsLate p n t → ⊥) → EndsWell p → NoneIsLate p

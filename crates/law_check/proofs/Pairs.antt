@@ -10,6 +10,8 @@ use Rattle.std.specs.BTreeMap.{BTreeMap, Updates, get, is_at}
 use Rattle.std.specs.Map.{lookup}
 use Rattle.std.specs.List.{filter, list_any}
 use Rattle.std.proofs.lemmas.Grind.{common_steps}
+use Rattle.std.proofs.lemmas.Bool.{or_right}
+use Rattle.std.proofs.lemmas.Option.{same_Some}
 use Rattle.law_check.specs.declared.held.Area.{Area}
 use Rattle.law_check.specs.Stores.{ByStore, pair_cmp, triple_cmp, placed_in, reach, reaches, Changes}
 use Rattle.law_check.specs.Held.{over_store}
@@ -40,7 +42,7 @@ pub triple_put : (m n : ByStore) (t s b : ℕ) (w : Option Area) → Updates tri
 triple_put m n t s b w h u r c = h.0 (u, r, c) ∙ ap (λ (x : Bool). if x then w else placed_in m u r c) (same_triple t s b u r c)
 
 -- one area that is no longer found by its store
-same_numbers : (t u b c : ℕ) → ((t == u) && (b == c)) ≡ true → (t ≡ u) × (b ≡ c)
+pub same_numbers : (t u b c : ℕ) → ((t == u) && (b == c)) ≡ true → (t ≡ u) × (b ≡ c)
 same_numbers t u b c h = grind (arith, common_steps)
 
 at_key : (f : ℕ → ℕ → Option Area) (t u b c : ℕ) → ((t == u) && (b == c)) ≡ true → f u c ≡ f t b
@@ -119,11 +121,6 @@ taken_by_store k m t b old new taken now was u s c =
     ∙ sym (over_if s ((t == u) && (b == c)) None (old u c))
     ∙ ap (over_store s) (sym (now u c))
 
--- what is found lies in the range, and is seen there
-or_right : (x y : Bool) → y ≡ true → (x || y) ≡ true
-or_right true y h = refl
-or_right false y h = h
-
 any_more : (b : Bool) (f : (ℕ × ℕ × ℕ) × Area → Bool) (e : (ℕ × ℕ × ℕ) × Area) (xs : List ((ℕ × ℕ × ℕ) × Area)) → list_any f xs ≡ true → list_any f (cond b (e ∷ xs) xs) ≡ true
 any_more true f e xs h = or_right (f e) (list_any f xs) h
 any_more false f e xs h = h
@@ -143,11 +140,8 @@ seen_step :
     keep ((u, r, c), a) ≡ true → f ((u, r, c), a) ≡ true → list_any f (filter keep (e ∷ es)) ≡ true
 seen_step f keep e es u r c a rest true h same found kept good =
     let k = same refl in
-    let first : ((u, r, c), a) ≡ e = same_entry u r c a e k.0 k.1 k.2 (sym (some_same e.1 a found)) in
+    let first : ((u, r, c), a) ≡ e = same_entry u r c a e k.0 k.1 k.2 (sym (same_Some e.1 a found)) in
     any_here f e (filter keep es) (keep e) (subst (λ (x : (ℕ × ℕ × ℕ) × Area). keep x ≡ true) first kept) (subst (λ (x : (ℕ × ℕ × ℕ) × Area). f x ≡ true) first good)
-  where
-    some_same : (x y : Area) → Some x ≡ Some y → x ≡ y
-    some_same x y h = cc
 seen_step f keep e es u r c a rest false h same found kept good = any_more (keep e) f e (filter keep es) (rest found)
 
 triple_is : (a b c d e f : ℕ) → (((a == b) && (c == d)) && (e == f)) ≡ true → (a ≡ b) × (c ≡ d) × (e ≡ f)

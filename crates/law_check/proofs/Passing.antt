@@ -5,16 +5,16 @@ use Rattle.ipc_ids.specs.declared.entry.Entry.{Entry}
 use Rattle.ipc_ids.specs.declared.entry.Entry.TheVariants as entry
 use Rattle.ipc_ids.specs.Tales.{Tale, Head, On, Other, tale, tales}
 use Rattle.ipc_ids.specs.Life.{last_number}
-use Rattle.ipc_ids.specs.Lawful.{Follows, IsRound}
+use Rattle.ipc_ids.specs.Lawful.{Follows}
 use Rattle.ipc_ids.specs.Laws.{IsAllowed, LivesAreLawful, KillEndsHeldCalls}
+use Rattle.ipc_ids.proofs.Common.{suc_over}
 use Rattle.law_check.specs.declared.kills.Kills.{Kills}
 use Rattle.law_check.specs.Allowed.{WasAllowed}
 use Rattle.law_check.specs.Lives.{Knows, life_at, kill_at}
 use Rattle.law_check.specs.Kills.{KillsFoundLate}
 use Rattle.law_check.specs.KillState.{KnowsKills, TakesKill, number_at, is_late}
-use Rattle.law_check.specs.AreaSteps.{MayCome}
 use Rattle.law_check.specs.Verdict.{accepted}
-use Rattle.law_check.specs.Passing.{in_order, LivesLeft, KillsLeft, NoKillsLeft, AreasLeft, NoAreasLeft, KillsStand}
+use Rattle.law_check.specs.Passing.{in_order, LivesLeft, KillsLeft, AreasLeft, KillsStand}
 use Rattle.law_check.proofs.KillSteps.{none_late}
 use Rattle.law_check.proofs.KillLaw.{late_kills_are_law}
 use Rattle.law_check.proofs.AreaSteps.{areas_are_law}
@@ -99,9 +99,7 @@ accepted_in_order [] es = none (accepted es) where
   none n = omega arith
 accepted_in_order (e ∷ p) es = accepted_in_order p (e ∷ es) ∙ moved e p es where
   moved : (e : Entry) (p es : List Entry) → accepted p + accepted (e ∷ es) ≡ accepted (e ∷ p) + accepted es
-  moved (entry.Accepted n from method to) p es = later (accepted p) (accepted es) where
-    later : (m n : ℕ) → m + suc n ≡ suc m + n
-    later m n = omega arith
+  moved (entry.Accepted n from method to) p es = suc_over (accepted p) (accepted es)
   moved _ p es = refl
 
 last_is_accepted : (p : List Entry) → WasAllowed (tales p) → last_number (tales p) ≡ accepted p

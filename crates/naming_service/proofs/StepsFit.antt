@@ -12,10 +12,11 @@ use Rattle.ipc_ids.specs.declared.message.Request.{Request}
 use Rattle.ipc_ids.specs.declared.message.Request.TheVariants as request
 use Rattle.ipc_ids.specs.declared.message.Outcome.{Outcome}
 use Rattle.ipc_ids.specs.declared.message.Outcome.TheVariants as outcome
-use Rattle.ipc_ids.specs.Program.{fits, is_done_or_refused}
+use Rattle.ipc_ids.specs.Program.{fits}
 use Rattle.ipc_ids.specs.Codes.{eok, enoent, eexist, elimit}
 use Rattle.ipc_ids.specs.Methods.{phone_hungup, connect_to_me, connect_me_to}
 use Rattle.ipc_ids.specs.Doings.{Doing, Asks, Told, Came, is_kept, MayBeTold}
+use Rattle.ipc_ids.proofs.Common.{done_no_receipt, is_receipt}
 use Rattle.task_ends.specs.declared.introduced.End.{End}
 use Rattle.task_ends.specs.declared.introduced.Introduced.{Introduced}
 use Rattle.task_ends.specs.declared.introduced.Wait.{Wait as Waiter}
@@ -34,13 +35,6 @@ use Rattle.naming_service.specs.NamingHistory.{IsWaiting, IsToDo, IsPresent, one
 
 abbrev once_told : List Doing → Request → Outcome → List Doing
 once_told p asked o = Told o ∷ (Asks asked ∷ p)
-
-abbrev is_receipt : Outcome → Bool
-is_receipt (outcome.Received n msg label) = true
-is_receipt _ = false
-
-done_no_receipt : (o : Outcome) → is_done_or_refused o ≡ true → is_receipt o ≡ false
-done_no_receipt o h = grind (arith, h)
 
 -- the doings q say of calls and tasks what p says
 record SaysTheSame (p q : List Doing) : Type 0 where

@@ -1,37 +1,18 @@
 -- The laws of block servers, over the definitions.
-use Rattle.std.proofs.Common.{◌≡◌, ◌+◌, ◌/◌, ◌%◌, ◌<◌, ℕ, zero, suc, ◌==◌, Bool, true, false, List, [], ◌∷◌, length, Option, Some, None, refl, ap, ◌∙◌, arith, sym}
-use Rattle.std.specs.Prelude.{◌&&◌, not, nat_lt, is_none, option_map, slice_get, slice_set, position, cond, if◌then◌else◌}
-use Rattle.std.specs.List.{position_or_len}
+use Rattle.std.proofs.Common.{◌≡◌, ◌/◌, ◌%◌, ◌<◌, ℕ, zero, suc, ◌==◌, Bool, true, false, List, [], ◌∷◌, length, Option, Some, None, refl, ap, ◌∙◌, arith}
+use Rattle.std.specs.Prelude.{◌&&◌, not, nat_lt, is_none, slice_get, slice_set, position}
 use Rattle.std.proofs.Math.Nat.{div-add-mod}
 use Rattle.std.proofs.lemmas.Bool.{eq-eqb, eqb-true, and_parts, not-true, false_from_ne_true, lt-ltb, le-ltb}
-use Rattle.std.proofs.lemmas.Option.{get_or_from_slice_get, none-some, same_Some, slice_get_past, slice_get_within}
+use Rattle.std.proofs.lemmas.Option.{get_or_from_slice_get, same_Some, slice_get_within}
 use Rattle.ipc_ids.specs.declared.numbers.Label.{Label}
 use Rattle.ipc_ids.specs.Labels.{same_label}
+use Rattle.ipc_ids.proofs.Common.{set_other, own_label}
 use Rattle.block_server.specs.Blocks.{BlockState, has_label, slot_of, free_slot, is_offset}
+use Rattle.block_server.proofs.Windows.{position_step, none_at}
 use Rattle.program_examples.specs.BlockLaws.{Has, HasNone, IsAtRest, IsPlace, RefusesTransfers, ReadsGoToTheOwnWindow, WritesComeFromTheOwnWindow, PlacesAreWithin, SharesAreTaken, IsClient, IsFirstFree, HasNoFree, ClientsConnect, TransfersAreAnswered, OwedWorkStays}
-use Rattle.fibril_core.proofs.Connections.{own_label}
 use Rattle.task_ends.proofs.LawfulEnds.{label_is}
 
 -- ---- searches
-
-pub none_at : {A : Type 0} (i : ℕ) (x : A) → slice_get {X = A} [] i ≡ Some x → ⊥
-none_at i x at = none-some x (sym (slice_get_past [] i (omega arith)) ∙ at)
-
--- the first place of a list, and the places behind it
-position_step : {A : Type 0} (test : A → Bool) (x : A) (xs : List A)
-    → position test (x ∷ xs) ≡ (if test x then Some 0 else option_map suc (position test xs))
-position_step test x xs = by_test (test x) refl where
-  k : ℕ
-  k = position_or_len test xs
-
-  by_place : (b : Bool) → nat_lt k (length xs) ≡ b
-      → cond (nat_lt (1 + k) (length (x ∷ xs))) (Some (1 + k)) None ≡ option_map suc
-      (cond (nat_lt k (length xs)) (Some k) None)
-  by_place b is = grind (arith, is)
-
-  by_test : (b : Bool) → test x ≡ b → position test (x ∷ xs) ≡ (if b then Some 0 else option_map suc (position test xs))
-  by_test true is = grind (arith, is)
-  by_test false is = rw is (by_place (nat_lt k (length xs)) refl)
 
 -- where what stands at a place passes the test, and nothing at an earlier place does, that is the place
 first_at : {A : Type 0} (test : A → Bool) (xs : List A) (i : ℕ) (x : A) → slice_get xs i ≡ Some x → test x ≡ true
@@ -199,12 +180,6 @@ set_here [] i x y at = absurd (none_at i x at)
 set_here (z ∷ zs) zero x y at = refl
 set_here (z ∷ zs) (suc i) x y at = set_here zs i x y at
 
-set_there : {A : Type 0} (xs : List A) (i j : ℕ) (y : A) → (j ≡ i → ⊥) → slice_get (slice_set xs i y) j ≡ slice_get xs j
-set_there [] i j y apart = refl
-set_there (z ∷ zs) zero zero y apart = absurd (apart refl)
-set_there (z ∷ zs) (suc i) (suc j) y apart = set_there zs i j y (λ same. apart (ap suc same))
-set_there (z ∷ zs) _ _ y apart = refl
-
 pub connects : ClientsConnect
 connects = record {
   again = λ s now c client k is has. rw (c.made, c.rest.idle, given client c.fifth is, known s k client c.rest has)
@@ -217,7 +192,7 @@ connects = record {
       (record {
         has = set_here s.slots k None (Some gave) free.free
             ∙ ap (λ (l : Label). Some (Some l)) (given client c.fifth is);
-        others = λ j apart. set_there s.slots k j (Some gave) apart;
+        others = λ j apart. set_other s.slots k j (Some gave) apart;
         blocks = refl;
       });
   welcomed = λ s now c client k is none free.

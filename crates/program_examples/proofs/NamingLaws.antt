@@ -4,13 +4,13 @@ use Rattle.std.specs.Prelude.{not, is_some, slice_get, if◌then◌else◌}
 use Rattle.std.proofs.lemmas.Bool.{eq-eqb, ne_eqb, eqb-true, and_parts, not-true, false_from_ne_true}
 use Rattle.ipc_ids.specs.declared.numbers.Label.{Label}
 use Rattle.ipc_ids.specs.Labels.{same_label}
+use Rattle.ipc_ids.proofs.Common.{own_label}
 use Rattle.task_ends.specs.declared.introduced.Introduced.{Introduced}
 use Rattle.task_ends.specs.Ends.{is_open, entry_of, open_entry, leaving, leave}
 use Rattle.naming_service.specs.Naming.{NamingState, phone_of}
 use Rattle.program_examples.specs.NamingLaws.{Stands, IsAtRest, TasksIntroduceThemselvesOnce, TasksLeaveTheirValue, WaitsAreForTheKnown, CallsWaitForServices, OwedWorkStays}
-use Rattle.program_examples.proofs.BlockLaws.{none_at}
 use Rattle.std.proofs.lemmas.Option.{same_Some}
-use Rattle.fibril_core.proofs.Connections.{own_label}
+use Rattle.block_server.proofs.Windows.{none_at}
 use Rattle.task_ends.proofs.LawfulEnds.{label_is}
 
 -- ---- entries

@@ -17,7 +17,7 @@ use Rattle.block_server.specs.Blocks.{BlockState}
 use Rattle.state_words.specs.Words.{number_words, list_words, option_words}
 use Rattle.state_words.specs.CallWords.{label_words}
 use Rattle.state_words.proofs.Splits.{Splits, read_splits, number_splits, both, and_split, each_split, some_split, as_split}
-use Rattle.state_words.proofs.CallSplits.{label_splits, msg_splits, bool_splits}
+use Rattle.state_words.proofs.CallSplits.{label_splits, msg_splits, bool_splits, numbers_splits}
 use Rattle.program_words.specs.ProgramWords.{raw_words, entry_words, received_words, work_words, introduced_words, wait_words, ends_words, naming_words, block_work_words, block_words}
 use Rattle.program_words.specs.Apart.{IsSameRaw, IsSameNaming, IsSameBlock}
 
@@ -112,9 +112,6 @@ block_work_splits : Splits block_work_words
 block_work_splits = read_splits block_work_words read_block_work block_work_read
 
 -- ---- programs
-
-numbers_splits : Splits (list_words number_words)
-numbers_splits = each_split number_splits
 
 raw_parts : Splits (both number_words (list_words number_words))
 raw_parts = and_split number_splits numbers_splits

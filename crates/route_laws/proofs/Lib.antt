@@ -2,4 +2,4 @@ pub mod PhoneSteps
 pub mod PhoneRequests
 pub mod PhoneKills
 pub mod PhoneEvents
-mod PhoneExamples
+pub mod PhoneExamples

@@ -12,6 +12,7 @@ use Rattle.ipc_ids.specs.Tales.{tales, onto}
 use Rattle.ipc_ids.specs.Life.{is_killed}
 use Rattle.ipc_ids.specs.Holdings.{on_top, newest_first}
 use Rattle.ipc_ids.proofs.LawfulAreas.{on_top-append, newest_first-append}
+use Rattle.ipc_ids.proofs.Common.{is_some}
 use Rattle.phone_table.specs.Phones.{state_at}
 use Rattle.switchboard.specs.State.{KernelState, alive_in, is_alive, label_of, with_task}
 use Rattle.switchboard.specs.Serving.{Served}
@@ -22,13 +23,13 @@ use Rattle.kernel_core.proofs.SpawnedHistories.{new_free}
 use Rattle.route_laws.specs.Leads.{Beginning, target, leads}
 use Rattle.route_laws.specs.PhoneLaw.{AreCutOff, AllRouted, CallsGoWherePhonesLead, WereRouted}
 use Rattle.route_laws.specs.PhoneHistory.{PhonesFit, RoutesFit}
-use Rattle.route_laws.proofs.PhoneSteps.{is_some, target_told, ArePlain, IsHeadEntry, outcome_told, plains_told, head_told, phone_told}
+use Rattle.route_laws.proofs.PhoneSteps.{target_told, ArePlain, IsHeadEntry, outcome_told, plains_told, head_told, phone_told, none_leads}
 use Rattle.route_laws.proofs.PhoneRequests.{After, served, served_tells}
 use Rattle.route_laws.proofs.PhoneKills.{kill_kept}
 
 -- between two events no phone leads to a task that was killed, nor from one
 
-not_ended : (alive : List Bool) (t : ℕ) → alive_in alive t ≡ true → is_ended alive t ≡ false
+pub not_ended : (alive : List Bool) (t : ℕ) → alive_in alive t ≡ true → is_ended alive t ≡ false
 not_ended alive t h = by_number (t == 0) h where
   by_mark : (o : Option Bool) → unwrap_or o false ≡ true → option_map_or not o false ≡ false
   by_mark None g = refl
@@ -47,7 +48,7 @@ leads_on HungUp u h = absurd (cc h)
 leads_on Slammed u h = absurd (cc h)
 
 -- the tales of entries, both the newest first
-tales_are : (es p : List Entry) → onto (tales es) (tales p) ≡ tales (on_top es p)
+pub tales_are : (es p : List Entry) → onto (tales es) (tales p) ≡ tales (on_top es p)
 tales_are [] p = refl
 tales_are (e ∷ es) p = tales_are es (e ∷ p)
 
@@ -57,15 +58,12 @@ killed_told h k fits t = ap (is_killed t) (sym (tales_are h [])) ∙ fits.told.e
 module _ (b : Beginning) (h : List Entry) (k : KernelState) (fits : HistoryFits h k) (routes : RoutesFit b h k) where
   cut_off : AreCutOff b (newest_first h)
   cut_off t p u led = by_state (state_at k.tasks.phones t p) refl where
-    none_leads : (o : Option TaskNo) → o ≡ None → o ≡ Some u → ⊥
-    none_leads o x y = cc
-
     alive_of : (x : Bool) → alive_in k.tasks.alive t ≡ x → state_at k.tasks.phones t p ≡ Some (Connected u) → alive_in k.tasks.alive t ≡ true
     alive_of true mark is = mark
     alive_of false mark is = absurd (fits.sound.tasks.quiet t p (Connected u) is mark)
 
     by_state : (o : Option PhoneState) → state_at k.tasks.phones t p ≡ o → (is_killed t (tales (newest_first h)) ≡ false) × (is_killed u.0 (tales (newest_first h)) ≡ false)
-    by_state None is = absurd (none_leads (leads b.wires t p (newest_first h)) (ap target (routes.phones t p ∙ ap (λ (o : Option PhoneState). unwrap_or o Free) is)) led)
+    by_state None is = absurd (none_leads u (leads b.wires t p (newest_first h)) (ap target (routes.phones t p ∙ ap (λ (o : Option PhoneState). unwrap_or o Free) is)) led)
     by_state (Some s) is =
         let here : state_at k.tasks.phones t p ≡ Some (Connected u) = is ∙ ap (λ (x : PhoneState). Some x) (leads_on s u (sym (target_told b.wires (newest_first h) k.tasks.phones routes.phones t p s is) ∙ led)) in
         (killed_told h k fits t ∙ not_ended k.tasks.alive t (alive_of (alive_in k.tasks.alive t) refl here), killed_told h k fits u.0 ∙ not_ended k.tasks.alive u.0 (fits.sound.tasks.leads t p u here))
@@ -133,11 +131,8 @@ module _ (b : Beginning) (h : List Entry) (k : KernelState) (limit : ℕ) (some 
       let free : state_at rows t.0 0 ≡ Some Free = new_free k (with_task k limit) limit t refl refl fits.sound.tasks.paired some in
       phone_told b rows k.calls q (label_of t 0) (Connected u) (is_some (state_at rows t.0 0) Free free) (refl, refl, names u refl)
       (λ v led. absurd (none_leads v (leads b.wires t.0 0 q) (target_told b.wires q rows begun.phones t.0 0 Free free) led)) begun
-    where
-      none_leads : (v : TaskNo) (o : Option TaskNo) → o ≡ None → o ≡ Some v → ⊥
-      none_leads v o x y = cc
 
-named_is : (k : KernelState) (names : Option TaskNo) (u : TaskNo) → named k names ≡ Some u → names ≡ Some u
+pub named_is : (k : KernelState) (names : Option TaskNo) (u : TaskNo) → named k names ≡ Some u → names ≡ Some u
 named_is k None u is = absurd (cc is)
 named_is k (Some v) u is = by_mark (is_alive k v) is where
   by_mark : (x : Bool) → (if x then Some v else None) ≡ Some u → Some v ≡ Some u

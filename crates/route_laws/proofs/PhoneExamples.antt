@@ -1,8 +1,9 @@
--- The law of phones at work on short lists: one that keeps it, and one for each way to break it. Phone 0 of the client
+-- The law of phones at work on short lists: same_Some that keeps it, and same_Some for each way to break it. Phone 0 of the client
 -- leads to the server.
 use Rattle.std.proofs.Common.{ℕ, ◌≡◌, Bool, true, false, ◌++◌, Option, None, Some, List, [], ◌∷◌, refl, ap, sym, ◌∙◌, inl, inr}
 use Rattle.std.specs.Prelude.{◌==◌, if◌then◌else◌}
 use Rattle.std.proofs.lemmas.Bool.{eq-eqb, false≢true}
+use Rattle.std.proofs.lemmas.Option.{same_Some}
 use Rattle.ipc_ids.specs.declared.numbers.TaskNo.{TaskNo}
 use Rattle.ipc_ids.specs.declared.numbers.CallNo.{CallNo}
 use Rattle.ipc_ids.specs.declared.numbers.Label.{Label}
@@ -114,10 +115,7 @@ phone_1_leads_there = refl
 phone_0_is_slammed : phone_in began.wires 1 0 (newest_first whole) ≡ Slammed
 phone_0_is_slammed = refl
 
--- a phone that is told to lead to one task
-
-one : (v w : TaskNo) → Some v ≡ Some w → v ≡ w
-one v w e = cc
+-- a phone that is told to lead to same_Some task
 
 abbrev number_of : Option TaskNo → ℕ
 number_of None = 0
@@ -182,8 +180,8 @@ connected were =
 ended : WereRouted began before_end → WereRouted began (on_top ends before_end)
 ended were =
     let head = head_routed began before_end (entry.Kill server) tt (λ t p u led. (refl, refl)) in (
-      ((((were, head), record { goes = refl; passed = tt; seen = tt; came = tt; went = tt; cut = tt }), record { goes = tt; passed = tt; seen = tt; came = tt; went = λ u led. refl; cut = tt }), record { goes = tt; passed = tt; seen = tt; came = tt; went = λ u led. one server u led; cut = tt }),
-      record { goes = tt; passed = tt; seen = tt; came = tt; went = λ u led. one server u led; cut = tt },
+      ((((were, head), record { goes = refl; passed = tt; seen = tt; came = tt; went = tt; cut = tt }), record { goes = tt; passed = tt; seen = tt; came = tt; went = λ u led. refl; cut = tt }), record { goes = tt; passed = tt; seen = tt; came = tt; went = λ u led. same_Some server u led; cut = tt }),
+      record { goes = tt; passed = tt; seen = tt; came = tt; went = λ u led. same_Some server u led; cut = tt },
     )
 
 whole_keeps_the_law : CallsGoWherePhonesLead began whole
@@ -194,7 +192,7 @@ whole_keeps_the_law =
 
 -- lists that break it
 
-apart : (m n : ℕ) → m ≡ n → (m == n) ≡ false → ⊥
+pub apart : (m n : ℕ) → m ≡ n → (m == n) ≡ false → ⊥
 apart m n e ne = false≢true (sym ne ∙ eq-eqb m n e)
 
 -- a call goes back to its caller
@@ -205,7 +203,7 @@ call_goes_back l = apart 2 1 (ap number_of l.1.0.goes) refl
 call_over_a_free_phone : CallsGoWherePhonesLead began (calls 1 1 server) → ⊥
 call_over_a_free_phone l = apart 0 2 (ap number_of l.1.0.goes) refl
 
--- a call is passed on to its caller; with Route its label is still that of the caller; with Plain it is a new one
+-- a call is passed on to its caller; with Route its label is still that of the caller; with Plain it is a new same_Some
 passed_back : CallsGoWherePhonesLead began (passes_on Route client (phone server 0)) → ⊥
 passed_back l = apart 3 1 (ap number_of l.1.0.passed.2) refl
 

@@ -2,6 +2,7 @@
 use Rattle.std.proofs.Common.{◌≡◌, ℕ, ◌+◌, Bool, true, List, ◌∷◌, length, Option, None, Some, refl, sym, subst, ◌∙◌}
 use Rattle.std.specs.Prelude.{◌==◌}
 use Rattle.std.proofs.lemmas.Bool.{eqb-true}
+use Rattle.std.proofs.lemmas.Option.{same_Some}
 use Rattle.ipc_ids.specs.declared.numbers.TaskNo.{TaskNo}
 use Rattle.ipc_ids.specs.declared.message.PhoneState.{PhoneState}
 use Rattle.ipc_ids.specs.declared.message.PhoneState.TheVariants.{Free, Connecting, Connected, HungUp, Slammed}
@@ -10,6 +11,7 @@ use Rattle.ipc_ids.specs.declared.entry.Entry.TheVariants as entry
 use Rattle.ipc_ids.specs.Codes.{ehangup}
 use Rattle.ipc_ids.specs.Holdings.{on_top, present}
 use Rattle.ipc_ids.proofs.LawfulAreas.{on_top-append}
+use Rattle.ipc_ids.proofs.Common.{is_some}
 use Rattle.call_slab.specs.declared.call.Call.{Call}
 use Rattle.call_slab.specs.declared.call.Place.TheVariants.{Incoming, Dispatched, Answers}
 use Rattle.answerbox.specs.Calls.{calls_at, calls_by, with_record}
@@ -29,7 +31,7 @@ use Rattle.kernel_core.proofs.InEvent.{same_task}
 use Rattle.route_laws.specs.Leads.{Beginning, leads}
 use Rattle.route_laws.specs.PhoneLaw.{HangsUp, Kills}
 use Rattle.route_laws.specs.PhoneHistory.{PhonesFit}
-use Rattle.route_laws.proofs.PhoneSteps.{is_some, target_told, plain_told, phone_told, calls_follow, record_keeps, over_told}
+use Rattle.route_laws.proofs.PhoneSteps.{target_told, plain_told, phone_told, calls_follow, record_keeps, over_told}
 use Rattle.route_laws.proofs.PhoneRequests.{AfterStep, hung_up, settled}
 
 -- the entries fit, in a kill of task t
@@ -72,12 +74,9 @@ slam_kept b t u n q k (Some (Connected v)) is h =
     })
     (λ _. h)
   where
-    one : (v w : TaskNo) → Some v ≡ Some w → v ≡ w
-    one v w e = cc
-
     ceases : v.0 ≡ t.0 → (w : TaskNo) → leads b.wires u.0 n q ≡ Some w → Kills w (present q)
     ceases e w led =
-        let same : v ≡ w = one v w (sym (target_told b.wires q k.tasks.phones h.fits.phones u.0 n (Connected v) is) ∙ led) in
+        let same : v ≡ w = same_Some v w (sym (target_told b.wires q k.tasks.phones h.fits.phones u.0 n (Connected v) is) ∙ led) in
         subst (Kills w) (sym h.now) (sym (same_task v t e) ∙ same)
 
 slams_of_kept : (b : Beginning) (t u : TaskNo) (q : List Entry) (k : KernelState) → IsKilling b t q k → IsKilling b t (on_top (slam_phones_of t u k).entries q) (slam_phones_of t u k).state

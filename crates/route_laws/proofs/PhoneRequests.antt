@@ -24,6 +24,7 @@ use Rattle.ipc_ids.specs.Codes.{eok, eforward}
 use Rattle.ipc_ids.specs.Methods.{kind_of}
 use Rattle.ipc_ids.specs.Holdings.{on_top, present, making}
 use Rattle.ipc_ids.proofs.LawfulAreas.{on_top-append}
+use Rattle.ipc_ids.proofs.Common.{is_some}
 use Rattle.call_slab.specs.declared.call.Call.{Call}
 use Rattle.call_slab.specs.declared.call.Place.TheVariants.{Incoming, Dispatched, Answers}
 use Rattle.answerbox.specs.Calls.{CallTable, call_at, enqueue, put_at, without_call}
@@ -54,7 +55,7 @@ use Rattle.route_laws.specs.Leads.{Beginning, phone_in}
 use Rattle.route_laws.specs.PhoneLaw.{label_of_call, label_by, PassesOn, ConnectsTwo, Connects, ComesToLead, HangsUp}
 use Rattle.route_laws.specs.PhoneLaw as law
 use Rattle.route_laws.specs.PhoneHistory.{PhonesFit}
-use Rattle.route_laws.proofs.PhoneSteps.{is_some, state_told, target_told, AreIdle, waits_idle, usable_idle, IsPlain, ArePlain, TellsLabelOf, plain_told, plains_told, phone_told, idle_told, accepted_told, passed_told, calls_follow, gone_keeps, over_told, put_told}
+use Rattle.route_laws.proofs.PhoneSteps.{state_told, target_told, AreIdle, waits_idle, usable_idle, IsPlain, ArePlain, TellsLabelOf, plain_told, plains_told, phone_told, idle_told, accepted_told, passed_told, calls_follow, gone_keeps, over_told, put_told}
 
 -- after these entries more, in that state
 abbrev pub After : Beginning → List Entry → List Entry → KernelState → Type 0

@@ -1,8 +1,9 @@
 -- What each kind of entry, and each change of a phone or a call, keeps of what the entries tell of them.
-use Rattle.std.proofs.Common.{◌≡◌, ℕ, Bool, true, false, ◌⊎◌, inl, inr, List, [], ◌∷◌, Option, None, Some, refl, ap, sym, ◌∙◌}
-use Rattle.std.specs.Prelude.{⊤, ◌==◌, ◌&&◌, if◌then◌else◌, IsSome, unwrap_or}
+use Rattle.std.proofs.Common.{◌≡◌, ℕ, true, false, ◌⊎◌, inl, inr, List, [], ◌∷◌, Option, None, Some, refl, ap, sym, ◌∙◌}
+use Rattle.std.specs.Prelude.{⊤, ◌==◌, if◌then◌else◌, IsSome, unwrap_or}
 use Rattle.std.specs.Option.{option_to_list}
 use Rattle.std.proofs.lemmas.Bool.{cases_eq, eq-eqb, ne_eqb, false≢true}
+use Rattle.std.proofs.lemmas.Option.{same_Some}
 use Rattle.ipc_ids.specs.declared.numbers.TaskNo.{TaskNo}
 use Rattle.ipc_ids.specs.declared.numbers.CallNo.{CallNo}
 use Rattle.ipc_ids.specs.declared.numbers.Label.{Label}
@@ -13,13 +14,14 @@ use Rattle.ipc_ids.specs.declared.message.Outcome.TheVariants as outcome
 use Rattle.ipc_ids.specs.declared.entry.Entry.{Entry}
 use Rattle.ipc_ids.specs.declared.entry.Entry.TheVariants as entry
 use Rattle.ipc_ids.specs.Holdings.{on_top}
+use Rattle.ipc_ids.proofs.Common.{and_false, is_some}
 use Rattle.call_slab.specs.declared.call.Call.{Call}
 use Rattle.call_slab.specs.declared.call.Place.{Place}
 use Rattle.answerbox.specs.Calls.{CallTable, call_at, enqueue, put_at, without_call, with_record, active_calls}
 use Rattle.phone_table.specs.Phones.{state_at, is_usable}
 use Rattle.switchboard.specs.State.{KernelState, with_state_at}
 use Rattle.switchboard.specs.Kept.{AreKept, WaitsIn, kept_phone, kept_rows, kept_note, first_usable_of}
-use Rattle.switchboard.proofs.Lookups.{at_insert, at_remove, chosen, same_call}
+use Rattle.switchboard.proofs.Lookups.{at_insert, at_remove, chosen}
 use Rattle.switchboard.proofs.Keepers.{state_here}
 use Rattle.cleanup.proofs.KilledPhones.{written_elsewhere}
 use Rattle.switchboard.proofs.Usable.{IsUsable, usable_is, kept_waits}
@@ -30,10 +32,6 @@ use Rattle.route_laws.specs.PhoneHistory.{TellPhones, PhonesFit}
 
 -- the phone of an entry, and another
 
-and_false : (b : Bool) → (b && false) ≡ false
-and_false true = refl
-and_false false = refl
-
 here : (l : Label) (t p : ℕ) → l.task.0 ≡ t → l.phone.0 ≡ p → is_phone t p l ≡ true
 here l t p a b = rw (eq-eqb l.task.0 t a, eq-eqb l.phone.0 p b) refl
 
@@ -43,9 +41,6 @@ elsewhere l t p ne = elim (cases_eq l.task.0 t) [
   | inr na ↦ rw (ne_eqb l.task.0 t na) refl
 ]
 
-pub is_some : {A : Type 0} (o : Option A) (x : A) → o ≡ Some x → IsSome o
-is_some o x e = rw e refl
-
 -- what is told of a phone
 
 pub state_told : (wires : List Lead) (q : List Entry) (rows : List (List PhoneState)) → TellPhones wires q rows → (t p : ℕ) (s : PhoneState) → state_at rows t p ≡ Some s → phone_in wires t p q ≡ s
@@ -54,7 +49,7 @@ state_told wires q rows tells t p s is = tells t p ∙ ap (λ (o : Option PhoneS
 pub target_told : (wires : List Lead) (q : List Entry) (rows : List (List PhoneState)) → TellPhones wires q rows → (t p : ℕ) (s : PhoneState) → state_at rows t p ≡ Some s → leads wires t p q ≡ target s
 target_told wires q rows tells t p s is = ap target (state_told wires q rows tells t p s is)
 
-none_leads : (u : TaskNo) (o : Option TaskNo) → o ≡ None → o ≡ Some u → ⊥
+pub none_leads : (u : TaskNo) (o : Option TaskNo) → o ≡ None → o ≡ Some u → ⊥
 none_leads u o a b = cc
 
 -- a phone is written: it is in this state from then on, and each other in the one before
@@ -116,14 +111,14 @@ pub put_keeps : (q : CallTable) (c d : Call) (at : Place) → IsLiveIn q c → d
 put_keeps q c d at live number label n x is =
     let e : Call = record d { place = at; stamp = q.next_stamp } in
     elim (chosen d.number.0 n (Some e) (call_at q n) (Some x) (sym (at_insert q.records d.number.0 n e) ∙ is)) [
-      | inl h ↦ (c, ap (call_at q) (sym (ap (λ (y : CallNo). y.0) (sym number) ∙ h.0)) ∙ live, ap (λ (y : Call). y.label) (sym (same_call e x h.1)) ∙ label)
+      | inl h ↦ (c, ap (call_at q) (sym (ap (λ (y : CallNo). y.0) (sym number) ∙ h.0)) ∙ live, ap (λ (y : Call). y.label) (sym (same_Some e x h.1)) ∙ label)
       | inr h ↦ (x, h.1, refl)
     ]
 
 pub record_keeps : (q : CallTable) (c d : Call) → IsLiveIn q c → d.number ≡ c.number → d.label ≡ c.label → KeepLabels q (with_record q d)
 record_keeps q c d live number label n x is =
     elim (chosen d.number.0 n (Some d) (call_at q n) (Some x) (sym (at_insert q.records d.number.0 n d) ∙ is)) [
-      | inl h ↦ (c, ap (call_at q) (sym (ap (λ (y : CallNo). y.0) (sym number) ∙ h.0)) ∙ live, ap (λ (y : Call). y.label) (sym (same_call d x h.1)) ∙ label)
+      | inl h ↦ (c, ap (call_at q) (sym (ap (λ (y : CallNo). y.0) (sym number) ∙ h.0)) ∙ live, ap (λ (y : Call). y.label) (sym (same_Some d x h.1)) ∙ label)
       | inr h ↦ (x, h.1, refl)
     ]
 
@@ -239,7 +234,7 @@ module _ (b : Beginning) (rows : List (List PhoneState)) where
           lawful = (fits.lawful, record { goes = goes; passed = tt; seen = tt; came = tt; went = tt; cut = tt });
           phones = fits.phones;
           labels = λ n x is. elim (chosen d.number.0 n (Some e) (call_at calls n) (Some x) (sym (at_insert calls.records d.number.0 n e) ∙ is)) [
-            | inl h ↦ rw (eq-eqb d.number.0 n h.0) (ap (λ (l : Label). Some l) (sym label ∙ ap (λ (y : Call). y.label) (same_call e x h.1)))
+            | inl h ↦ rw (eq-eqb d.number.0 n h.0) (ap (λ (l : Label). Some l) (sym label ∙ ap (λ (y : Call). y.label) (same_Some e x h.1)))
             | inr h ↦ rw (ne_eqb d.number.0 n h.0) (fits.labels n x h.1)
           ];
         }
@@ -252,7 +247,7 @@ module _ (b : Beginning) (rows : List (List PhoneState)) where
           lawful = (fits.lawful, record { goes = tt; passed = goes; seen = tt; came = tt; went = tt; cut = tt });
           phones = fits.phones;
           labels = λ n x is. elim (chosen d.number.0 n (Some e) (call_at calls n) (Some x) (sym (at_insert calls.records d.number.0 n e) ∙ is)) [
-            | inl h ↦ rw (eq-eqb d.number.0 n h.0) (ap (λ (l : Label). Some l) (ap (λ (y : Call). y.label) (same_call e x h.1)))
+            | inl h ↦ rw (eq-eqb d.number.0 n h.0) (ap (λ (l : Label). Some l) (ap (λ (y : Call). y.label) (same_Some e x h.1)))
             | inr h ↦ rw (ne_eqb d.number.0 n h.0) (fits.labels n x h.1)
           ];
         }

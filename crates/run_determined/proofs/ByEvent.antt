@@ -1,5 +1,5 @@
 -- What an event of a run comes to, case by case; and what each event keeps, all events keep.
-use Rattle.std.proofs.Common.{◌≡◌, ℕ, ◌-◌, Bool, true, false, List, [], ◌∷◌, ◌++◌, length, Option, None, Some, refl, sym, subst, ◌∙◌, append_assoc}
+use Rattle.std.proofs.Common.{◌≡◌, ℕ, ◌-◌, Bool, true, false, List, [], ◌∷◌, ◌++◌, length, Option, None, Some, refl, sym, subst, append_assoc}
 use Rattle.std.specs.Prelude.{if◌then◌else◌, slice_get, All}
 use Rattle.std.proofs.lemmas.List.{append-nil}
 use Rattle.std.proofs.lemmas.Option.{get_or_from_slice_get, slice_get_within}
@@ -11,7 +11,7 @@ use Rattle.ipc_ids.specs.declared.entry.Entry.{Entry}
 use Rattle.script_lines.specs.declared.plan.TaskPlan.{TaskPlan}
 use Rattle.script_lines.specs.Plan.{Plan}
 use Rattle.script_lines.specs.Sound.{IsSound}
-use Rattle.script_reader.specs.Schedule.{MayAllCome, tasks_after}
+use Rattle.script_reader.specs.Schedule.{MayAllCome}
 use Rattle.switchboard.specs.State.{is_alive}
 use Rattle.kernel_core.specs.Kernel.{serve, kill_event}
 use Rattle.task_system.specs.declared.any.AnyProgram.{AnyProgram}
@@ -20,7 +20,7 @@ use Rattle.task_system.specs.Run.{RunState, RunTransition, start, run, run_from,
 use Rattle.task_system.specs.Run as runs
 use Rattle.route_laws.specs.Leads.{Beginning}
 use Rattle.run_laws.specs.RunHistory.{beginning, RunFits}
-use Rattle.run_laws.proofs.RunHistories.{turn_fits, start_told, turn_templates, later_may, may_from}
+use Rattle.run_laws.proofs.RunHistories.{turn_fits, start_told, later_may, may_from, may_first}
 
 -- ---- one event
 
@@ -74,11 +74,6 @@ pub states_keep : (K : RunState → Type 0) → ((now : RunState) (e : Event) �
 states_keep K keep now [] it = it
 states_keep K keep now (e ∷ events) it = states_keep K keep (turn now e).state events (keep now e it)
 
--- the templates stay
-pub templates_stay : (now : RunState) (events : List Event) → (state_after now events).templates ≡ now.templates
-templates_stay first events =
-    states_keep (λ now. now.templates ≡ first.templates) (λ now e same. turn_templates now e ∙ same) first events refl
-
 -- what each event keeps of what is told so far and of the state, where they fit each other, all events keep
 module _ (b : Beginning) (K : List Entry → RunState → Type 0)
     (keep : (h : List Entry) (now : RunState) (e : Event) → RunFits b h now
@@ -106,11 +101,6 @@ run_keeps plan events sound may K keep first =
     (may_from plan events (start plan) refl may) first
 
 -- ---- a first part of a schedule
-
-may_first : (tasks templates : ℕ) (done later : List Event) → MayAllCome tasks templates (done ++ later)
-    → MayAllCome tasks templates done
-may_first tasks templates [] later may = tt
-may_first tasks templates (e ∷ done) later may = (may.0, may_first (tasks_after tasks e) templates done later may.1)
 
 -- what a schedule may ask, so may a first part of it
 pub may_part : (plan : Plan) (events done later : List Event) → events ≡ done ++ later

@@ -17,6 +17,7 @@ use Rattle.ipc_ids.specs.declared.entry.Entry.{Entry}
 use Rattle.ipc_ids.specs.declared.entry.Entry.TheVariants as entry
 use Rattle.ipc_ids.specs.Codes.{eok}
 use Rattle.ipc_ids.specs.Holdings.{on_top, present}
+use Rattle.ipc_ids.proofs.Common.{is_some}
 use Rattle.call_slab.specs.declared.call.Call.{Call}
 use Rattle.call_slab.specs.declared.call.Place.{Place}
 use Rattle.call_slab.specs.declared.call.Place.TheVariants.{Incoming, Answers}
@@ -33,7 +34,7 @@ use Rattle.switchboard.proofs.KeptCalls.{declined_keeps, passed_keeps}
 use Rattle.cleanup.proofs.Queues.{IsLive}
 use Rattle.route_laws.specs.Leads.{Beginning, phone_in}
 use Rattle.route_laws.specs.PhoneLaw.{HangsUp}
-use Rattle.route_laws.proofs.PhoneSteps.{is_some, state_told}
+use Rattle.route_laws.proofs.PhoneSteps.{state_told}
 use Rattle.run_determined.specs.PhoneCauses.{asked_for, lent_for, IsCause, IsWay, DropsUnawaited}
 use Rattle.run_determined.proofs.CauseSteps.{IsKeptAs, kind_by, IsPlain, caused, still_kept, same_told, CausesFit, WholeFit, whole_next, whole_code, plain_told, phone_told, less_told, gone_keeps, put_kept, new_kept, kept_before, freed_told}
 

@@ -1,8 +1,7 @@
 -- Each event of the kernel keeps the causes.
-use Rattle.std.proofs.Common.{◌≡◌, ℕ, ◌≤◌, true, false, not, List, [], ◌∷◌, ◌++◌, Option, None, Some, Result, Ok, Err, refl, ap, sym, subst, ◌∙◌}
+use Rattle.std.proofs.Common.{◌≡◌, ℕ, ◌≤◌, true, false, not, List, [], ◌∷◌, ◌++◌, Option, None, Some, Result, Ok, Err, refl, sym, subst, ◌∙◌}
 use Rattle.std.specs.Prelude.{◌==◌, if◌then◌else◌}
 use Rattle.std.proofs.lemmas.Bool.{eq-eqb}
-use Rattle.std.proofs.lemmas.Option.{cond_some}
 use Rattle.ipc_ids.specs.declared.numbers.Code.{Code}
 use Rattle.ipc_ids.specs.declared.message.Msg.{Msg}
 use Rattle.ipc_ids.specs.Methods.{kind_of}
@@ -19,7 +18,7 @@ use Rattle.ipc_ids.specs.declared.message.Outcome.{Outcome}
 use Rattle.ipc_ids.specs.declared.message.Outcome.TheVariants as outcome
 use Rattle.ipc_ids.specs.declared.entry.Entry.{Entry}
 use Rattle.ipc_ids.specs.declared.entry.Entry.TheVariants as entry
-use Rattle.ipc_ids.specs.Tales.{tales, onto, past}
+use Rattle.ipc_ids.specs.Tales.{past}
 use Rattle.ipc_ids.specs.Life.{life}
 use Rattle.ipc_ids.specs.Holdings.{on_top, newest_first, present, Making, making}
 use Rattle.ipc_ids.proofs.LawfulAreas.{on_top-append, newest_first-append}
@@ -27,6 +26,7 @@ use Rattle.answerbox.specs.Calls.{CallTable}
 use Rattle.switchboard.specs.State.{KernelState, phone_at, label_of, is_alive, with_task}
 use Rattle.switchboard.specs.Serving.{Served}
 use Rattle.ipc_ids.specs.Effects.{is_effect, AreEffects}
+use Rattle.ipc_ids.proofs.Common.{is_some}
 use Rattle.kernel_core.specs.HangingUp.{hangup_over}
 use Rattle.kernel_core.specs.Request.{serve_request}
 use Rattle.kernel_core.specs.Kernel.{serve, kill_event, next_task, named, spawning, spawn_event}
@@ -34,8 +34,8 @@ use Rattle.kernel_core.specs.History.{life_at, TellsOf, IsTold, HistoryFits, ser
 use Rattle.kernel_core.proofs.HonestEvents.{serve_is_honest}
 use Rattle.kernel_core.proofs.SpawnedHistories.{new_free}
 use Rattle.route_laws.specs.Leads.{Beginning}
-use Rattle.route_laws.proofs.PhoneSteps.{is_some, state_told}
-use Rattle.route_laws.proofs.PhoneEvents.{free_more}
+use Rattle.route_laws.proofs.PhoneSteps.{state_told}
+use Rattle.route_laws.proofs.PhoneEvents.{free_more, named_is, tales_are}
 use Rattle.route_laws.proofs.PhoneRequests.{AreMadeSo}
 use Rattle.run_determined.specs.PhoneCauses.{IsCause, HasHungUp, IsDoneAsTold, IsJustMade, TellsItsCall, HadCause, AllHaveCause, PhonesChangeForCause, IsWhole}
 use Rattle.run_determined.proofs.CauseSteps.{WholeFit, same_told, whole_next, caused, ArePlain, plain_told, plains_told, phone_told}
@@ -45,11 +45,6 @@ use Rattle.run_determined.proofs.CauseKills.{kill_kept}
 -- what holds between two events: the changes so far had their causes, and the state is as the entries tell
 abbrev pub CausesKept : Beginning → List Entry → KernelState → Type 0
 CausesKept b h k = WholeFit b (newest_first h) k.tasks.phones k.calls
-
--- the tales of entries, both the newest first
-pub tales_are : (es p : List Entry) → onto (tales es) (tales p) ≡ tales (on_top es p)
-tales_are [] p = refl
-tales_are (e ∷ es) p = tales_are es (e ∷ p)
 
 placed_so : (h : List Entry) (k : KernelState) → HistoryFits h k → ArePlacedSo (newest_first h) k.calls
 placed_so h k fits n c is =
@@ -224,10 +219,6 @@ module _ (b : Beginning) (h : List Entry) (k : KernelState) (limit : ℕ) (some 
       (subst (λ (s : PhoneState). IsCause b.names (label_of t 0) q s (Connected u))
       (sym (state_told b.wires q rows begun.fit.phones t.0 0 Free free)) (refl, refl, names u refl))
       tt begun.fit
-
-named_is : (k : KernelState) (names : Option TaskNo) (u : TaskNo) → named k names ≡ Some u → names ≡ Some u
-named_is k None u is = absurd (cc is)
-named_is k (Some v) u is = ap Some (cond_some (is_alive k v) v u is).1
 
 pub causes_spawn : (b : Beginning) (h : List Entry) (k : KernelState) (limit : ℕ) → 1 ≤ limit → HistoryFits h k
     → CausesKept b h k → CausesKept b (h ++ (spawn_event k limit b.names).entries) (spawn_event k limit b.names).state

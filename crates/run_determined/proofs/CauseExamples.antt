@@ -1,8 +1,7 @@
 -- The law of causes at work on short lists: one that keeps it, and the lists of wrong machines, each of which breaks
 -- it. Phone 0 of the client leads to the server.
-use Rattle.std.proofs.Common.{ℕ, zero, suc, ◌≡◌, ◌<◌, false, arith, ◌++◌, Option, None, Some, List, [], ◌∷◌, refl, ap, sym, ◌∙◌, inl, inr}
-use Rattle.std.specs.Prelude.{◌==◌, slice_index}
-use Rattle.std.proofs.lemmas.Bool.{eq-eqb, false≢true}
+use Rattle.std.proofs.Common.{ℕ, zero, suc, ◌≡◌, ◌<◌, arith, ◌++◌, Option, None, Some, List, [], ◌∷◌, refl, ap, sym, ◌∙◌, inl, inr}
+use Rattle.std.specs.Prelude.{slice_index}
 use Rattle.ipc_ids.specs.declared.numbers.TaskNo.{TaskNo}
 use Rattle.ipc_ids.specs.declared.numbers.CallNo.{CallNo}
 use Rattle.ipc_ids.specs.declared.numbers.Code.{Code}
@@ -23,9 +22,9 @@ use Rattle.call_slab.specs.declared.call.Call.{Call}
 use Rattle.call_slab.specs.declared.call.Place.TheVariants as place
 use Rattle.answerbox.specs.Calls.{CallTable, call_at}
 use Rattle.route_laws.specs.Leads.{Beginning, phone_in}
+use Rattle.route_laws.proofs.PhoneExamples.{apart}
 use Rattle.run_determined.specs.PhoneCauses.{AllHaveCause, PhonesChangeForCause, ChangesForCause, IsHungUpAtOnce, IsDoneAsTold, GoesItsWay, GoesBackWithCode, TellsItsCall, DropsUnawaited, HasItsCause, IsConnectedFor}
 use Rattle.run_determined.specs.ToldPhones.{TellKeptPhones}
-use Rattle.run_determined.proofs.TurnExamples.{apart}
 use Rattle.run_determined.proofs.CauseSteps.{caused}
 use Rattle.std.proofs.lemmas.Option.{none-some}
 

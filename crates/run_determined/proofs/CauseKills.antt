@@ -12,6 +12,7 @@ use Rattle.ipc_ids.specs.declared.entry.Entry.TheVariants as entry
 use Rattle.ipc_ids.specs.Codes.{ehangup}
 use Rattle.ipc_ids.specs.Holdings.{on_top, present}
 use Rattle.ipc_ids.proofs.LawfulAreas.{on_top-append}
+use Rattle.ipc_ids.proofs.Common.{is_some}
 use Rattle.call_slab.specs.declared.call.Call.{Call}
 use Rattle.call_slab.specs.declared.call.Place.TheVariants.{Incoming, Dispatched, Answers}
 use Rattle.answerbox.specs.Calls.{calls_at, calls_by, with_record}
@@ -32,7 +33,7 @@ use Rattle.kernel_core.proofs.InEvent.{same_task, same_place-true}
 use Rattle.kernel_laws.proofs.KillParts.{alone_then, uncalled_then, idle_then, unanswered_then}
 use Rattle.route_laws.specs.Leads.{Beginning, phone_in}
 use Rattle.route_laws.specs.PhoneLaw.{HangsUp, Kills}
-use Rattle.route_laws.proofs.PhoneSteps.{is_some, state_told}
+use Rattle.route_laws.proofs.PhoneSteps.{state_told}
 use Rattle.run_determined.specs.PhoneCauses.{IsCause}
 use Rattle.run_determined.proofs.CauseSteps.{whole_next, plain_told, phone_told, less_told, record_keeps}
 use Rattle.run_determined.proofs.CauseCalls.{AfterStep, Fit, hung_up, hung_up_slammed, vanished, declined_told, dropped}

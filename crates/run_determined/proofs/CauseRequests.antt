@@ -26,6 +26,7 @@ use Rattle.ipc_ids.specs.Life.{life}
 use Rattle.ipc_ids.specs.declared.numbers.CallNo.{CallNo}
 use Rattle.ipc_ids.specs.Holdings.{on_top, present, making}
 use Rattle.ipc_ids.proofs.LawfulAreas.{on_top-append}
+use Rattle.ipc_ids.proofs.Common.{is_some}
 use Rattle.call_slab.specs.declared.call.Call.{Call}
 use Rattle.call_slab.specs.declared.call.Place.{Place}
 use Rattle.call_slab.specs.declared.call.Place.TheVariants.{Incoming, Dispatched, Answers}
@@ -62,7 +63,7 @@ use Rattle.kernel_core.proofs.ByRequest.{own}
 use Rattle.kernel_laws.proofs.Tables.{gone_by}
 use Rattle.route_laws.specs.Leads.{Beginning, phone_in}
 use Rattle.route_laws.specs.PhoneHistory.{TellPhones}
-use Rattle.route_laws.proofs.PhoneSteps.{is_some, state_told, written}
+use Rattle.route_laws.proofs.PhoneSteps.{state_told, written}
 use Rattle.route_laws.proofs.PhoneRequests.{AreMadeSo}
 use Rattle.route_laws.specs.PhoneLaw.{HangsUp}
 use Rattle.run_determined.specs.PhoneCauses.{asked_for, lent_for, IsMadeWith, IsConnectedFor, AnswersFor, IsConnected, IsKept, IsCause, IsHungUpAtOnce, MayFail, IsWay, IsTestedCode, IsCodeBack, HadCause}

@@ -24,13 +24,14 @@ use Rattle.task_system.specs.declared.any.AnyProgram.TheVariants as any
 use Rattle.task_system.specs.Any.{wanted, entries}
 use Rattle.task_system.specs.Run.{RunState, RunTransition, start, run, state_after, turn}
 use Rattle.route_laws.specs.Leads.{Beginning}
+use Rattle.route_laws.proofs.PhoneEvents.{tales_are}
 use Rattle.run_laws.specs.RunHistory.{beginning, RunFits}
 use Rattle.run_laws.proofs.RunHistories.{start_told, run_told}
 use Rattle.run_determined.specs.PhoneCauses.{PhonesChangeForCause}
 use Rattle.run_determined.proofs.ByEvent as happens
 use Rattle.run_determined.proofs.ByEvent.{Happens, what_happens, run_keeps, all_at}
 use Rattle.run_determined.proofs.CauseSteps.{IsPlain, ArePlain}
-use Rattle.run_determined.proofs.CauseEvents.{CausesKept, tales_are, causes_serve, causes_kill, causes_gone, causes_plain, causes_spawn, kept_are_caused}
+use Rattle.run_determined.proofs.CauseEvents.{CausesKept, causes_serve, causes_kill, causes_gone, causes_plain, causes_spawn, kept_are_caused}
 use Rattle.run_determined.proofs.LiveCalls.{AreLawful}
 
 -- a program's own entries tell of its fibrils

@@ -14,6 +14,7 @@ use Rattle.ipc_ids.specs.declared.entry.Entry.{Entry}
 use Rattle.ipc_ids.specs.declared.entry.Entry.TheVariants as entry
 use Rattle.ipc_ids.specs.Methods.{kind_of}
 use Rattle.ipc_ids.specs.Holdings.{on_top}
+use Rattle.ipc_ids.proofs.Common.{is_some}
 use Rattle.call_slab.specs.declared.call.Call.{Call}
 use Rattle.call_slab.specs.declared.call.Place.{Place}
 use Rattle.answerbox.specs.Calls.{CallTable, call_at, enqueue, put_at, without_call, with_record}
@@ -24,7 +25,7 @@ use Rattle.switchboard.specs.Kept.{IsLoosePhone, IsLoose, MayKeep, kept_phone, k
 use Rattle.kernel_laws.proofs.Tables.{came_in, gone_by}
 use Rattle.route_laws.specs.Leads.{Beginning, phone_in}
 use Rattle.route_laws.specs.PhoneHistory.{TellPhones}
-use Rattle.route_laws.proofs.PhoneSteps.{IsLiveIn, is_some, state_told, written}
+use Rattle.route_laws.proofs.PhoneSteps.{IsLiveIn, state_told, written}
 use Rattle.run_determined.specs.PhoneCauses.{asked_for, lent_for, IsCause, IsLowest, ChangesForCause, IsHungUpAtOnce, IsDoneAsTold, GoesItsWay, TellsBack, GoesBackWithCode, TellsItsCall, DropsUnawaited, HasItsCause, IsWhole, HadCause}
 
 -- ---- what the entries tell of the phones that calls keep

@@ -1,7 +1,6 @@
 -- In the run of a sound script a fibril that waits for an answer waits for a call that is still to be answered.
-use Rattle.std.proofs.Common.{◌≡◌, ℕ, zero, suc, ◌-◌, Bool, true, false, inl, inr, List, [], ◌∷◌, ◌++◌, length, Option, None, Some, refl, ap, sym, subst, ◌∙◌, append_assoc, arith}
-use Rattle.std.specs.Prelude.{◌==◌, not, if◌then◌else◌, slice_get, unwrap_or}
-use Rattle.std.specs.Option.{option_map_or}
+use Rattle.std.proofs.Common.{◌≡◌, ℕ, suc, ◌-◌, true, false, inl, inr, List, [], ◌∷◌, ◌++◌, length, Option, None, Some, refl, ap, sym, subst, ◌∙◌, append_assoc}
+use Rattle.std.specs.Prelude.{not, slice_get}
 use Rattle.std.proofs.lemmas.Bool.{false≢true}
 use Rattle.std.proofs.lemmas.List.{append-nil}
 use Rattle.ipc_ids.specs.declared.numbers.TaskNo.{TaskNo}
@@ -26,7 +25,7 @@ use Rattle.answerbox.specs.Calls.{call_at}
 use Rattle.switchboard.specs.State.{alive_in, is_alive}
 use Rattle.switchboard.specs.Serving.{Served}
 use Rattle.kernel_core.specs.Kernel.{serve, kill_event, next_task, named, spawning}
-use Rattle.kernel_core.specs.History.{life_at, IsGone, TellsOf, is_ended, served_entries}
+use Rattle.kernel_core.specs.History.{life_at, IsGone, TellsOf, served_entries}
 use Rattle.kernel_core.proofs.HonestEvents.{serve_is_honest, kill_is_honest}
 use Rattle.async_task.specs.Program.{AsyncTask}
 use Rattle.async_task.specs.Steps.{step}
@@ -37,13 +36,14 @@ use Rattle.task_system.specs.declared.any.AnyProgram.TheVariants as any
 use Rattle.task_system.specs.Any.{wanted, entries}
 use Rattle.task_system.specs.Run.{RunState, RunTransition, start, run, state_after, turn, step_served}
 use Rattle.route_laws.specs.Leads.{Beginning}
+use Rattle.route_laws.proofs.PhoneEvents.{not_ended, tales_are}
 use Rattle.run_laws.specs.RunHistory.{beginning, ProgramFits, RunFits}
+use Rattle.run_laws.proofs.RunHistories.{number_of}
 use Rattle.run_determined.specs.PhoneCauses.{HadCause}
 use Rattle.run_determined.specs.LiveWaits.{IsStillToBeAnswered, WaitsForLiveCalls, WaitsAreForLiveCalls}
 use Rattle.run_determined.proofs.AsyncSteps.{AreSentAs, step_sends}
 use Rattle.run_determined.proofs.ByEvent as happens
 use Rattle.run_determined.proofs.ByEvent.{Happens, what_happens, may_part}
-use Rattle.run_determined.proofs.CauseEvents.{tales_are}
 use Rattle.run_determined.proofs.CauseRuns.{IsCaused, lives_told, caused_run_keeps}
 use Rattle.run_determined.proofs.LiveCalls.{AreLawful, IsOnItsWay, IsMadeBy, own_call}
 use Rattle.run_determined.proofs.LiveEvents.{KeepsSends, start_sends, step_kept, quiet_kept}
@@ -58,10 +58,6 @@ program_owns : (h : List Entry) (u : ℕ) (p : AnyProgram) (o : Outcome) → Pro
 program_owns h u (any.Async p) o fits =
     subst (λ (n : ℕ). AreOwn n (step p.state o).entries) fits.0.me (own_entries p.state o)
 program_owns h u _ o fits = tt
-
-number_of : (alive : List Bool) (t : ℕ) → alive_in alive t ≡ true → suc (t - 1) ≡ t
-number_of alive zero h = absurd (cc h)
-number_of alive (suc t) h = omega arith
 
 -- ---- each event
 
@@ -133,18 +129,6 @@ on_its_way_is : (t : ℕ) (l : Life) → ((caller : ℕ) → l ≡ Back caller �
 on_its_way_is t (Back u) not h = absurd (not u refl)
 on_its_way_is t _ not h = h
 
-alive_not_ended : (alive : List Bool) (t : ℕ) → alive_in alive t ≡ true → is_ended alive t ≡ false
-alive_not_ended alive t h = by_number (t == 0) h where
-  by_mark : (o : Option Bool) → unwrap_or o false ≡ true → option_map_or not o false ≡ false
-  by_mark None g = refl
-  by_mark (Some true) g = refl
-  by_mark (Some false) g = absurd (cc g)
-
-  by_number : (b : Bool) → (if b then false else unwrap_or (slice_get alive (t - 1)) false) ≡ true
-      → (if b then false else option_map_or not (slice_get alive (t - 1)) false) ≡ false
-  by_number true g = refl
-  by_number false g = by_mark (slice_get alive (t - 1)) g
-
 waits_live : (b : Beginning) (h : List Entry) (now : RunState) → IsCaused b h now → AllKeepSends h now → (i : ℕ)
     (p : AsyncTask) → slice_get now.programs i ≡ Some (any.Async p) → alive_in now.kernel.tasks.alive (suc i) ≡ true
     → WaitsForLiveCalls (suc i) (past h) p.state
@@ -157,7 +141,7 @@ waits_live b h now it sends i p at alive f n blocked =
     let past_is : past h ≡ tales q = tales_are h [] in
     let lives : is_killed t (tales q) ≡ false =
     ap (is_killed t) (sym past_is) ∙ it.told.kernel.told.ended t
-    ∙ alive_not_ended now.kernel.tasks.alive t alive in
+    ∙ not_ended now.kernel.tasks.alive t alive in
     let made : IsMadeBy t n.0 (making n.0 q) =
     (sends t).sends n.0 d (fits.fits.answers.was_sent n.0 d awaited.1) in
     elim (own_call b t n.0 q (lives_told b h now it) it.causes.fit.had lives made) [

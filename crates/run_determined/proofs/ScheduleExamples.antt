@@ -1,9 +1,9 @@
 -- Wrong machines at the lines of a schedule, on two small states: each breaks the law. In one state there is no task,
 -- and there are two templates, of which the second is another in kind, in operations or in its limit; in the other
 -- there is one task with two phones, both of which are slammed.
-use Rattle.std.proofs.Common.{ℕ, ◌≡◌, true, false, Option, None, Some, List, [], ◌∷◌, refl, ap, sym, ◌∙◌, arith}
-use Rattle.std.specs.Prelude.{◌==◌, slice_get}
-use Rattle.std.proofs.lemmas.Bool.{eq-eqb, false≢true}
+use Rattle.std.proofs.Common.{ℕ, ◌≡◌, true, false, Option, None, Some, List, [], ◌∷◌, refl, ap, ◌∙◌, arith}
+use Rattle.std.specs.Prelude.{slice_get}
+use Rattle.route_laws.proofs.PhoneExamples.{apart}
 use Rattle.ipc_ids.specs.declared.numbers.TaskNo.{TaskNo}
 use Rattle.ipc_ids.specs.declared.message.Request.TheVariants as request
 use Rattle.ipc_ids.specs.declared.message.Outcome.TheVariants as outcome
@@ -28,7 +28,6 @@ use Rattle.task_system.specs.Run.{program_of, RunState, RunTransition, step_serv
 use Rattle.ipc_ids.specs.declared.message.Event.TheVariants.{Spawn}
 use Rattle.run_determined.specs.TaskPrograms.{plans_after, RunThePlans}
 use Rattle.run_determined.specs.ScheduleLines.{IsNewProgram, IsMadeFrom, IsHangupLine, IsStepLine}
-use Rattle.run_determined.proofs.TurnExamples.{apart}
 
 -- ---- templates
 

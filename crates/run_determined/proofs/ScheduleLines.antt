@@ -1,8 +1,8 @@
 -- The lines of a schedule do what they name.
-use Rattle.std.proofs.Common.{◌≡◌, ℕ, zero, suc, ◌-◌, ◌<◌, ◌≤◌, Bool, true, false, inl, inr, List, [], ◌∷◌, ◌++◌, length, Option, None, Some, refl, ap, sym, subst, ◌∙◌, arith}
+use Rattle.std.proofs.Common.{◌≡◌, ℕ, zero, suc, ◌-◌, ◌≤◌, Bool, true, false, List, [], ◌∷◌, ◌++◌, length, Option, None, Some, refl, ap, sym, subst, ◌∙◌}
 use Rattle.std.specs.Prelude.{if◌then◌else◌, slice_get, All, map}
 use Rattle.std.specs.Option.{option_map}
-use Rattle.std.proofs.lemmas.Option.{slice_get_cases, slice_get-map}
+use Rattle.std.proofs.lemmas.Option.{slice_get-map}
 use Rattle.ipc_ids.specs.declared.numbers.TaskNo.{TaskNo}
 use Rattle.ipc_ids.specs.declared.message.Request.TheVariants as request
 use Rattle.ipc_ids.specs.declared.message.Event.{Event}
@@ -27,9 +27,10 @@ use Rattle.async_task.specs.Steps.{bare_task, start_in, start_at, start_bodies}
 use Rattle.task_system.specs.declared.any.AnyProgram.{AnyProgram}
 use Rattle.task_system.specs.Any.{wanted}
 use Rattle.task_system.specs.Run.{RunState, RunTransition, start, run, state_after, turn, step_by, step_served, killed, spawn_by, spawned, request_served, gone, program_by, ops_of, service_of}
+use Rattle.task_system.proofs.OpenWires.{item}
 use Rattle.run_laws.specs.RunHistory.{beginning, RunFits}
-use Rattle.run_laws.proofs.RunHistories.{part_told}
-use Rattle.run_determined.proofs.ByEvent.{templates_stay, all_at}
+use Rattle.run_laws.proofs.RunHistories.{part_told, templates_stay}
+use Rattle.run_determined.proofs.ByEvent.{all_at}
 use Rattle.run_determined.specs.ScheduleLines.{IsGone, AreFirstOps, IsNewProgram, IsMadeFrom, SpawnsMakeTheirTemplate, IsHungUpFor, IsHangupLine, HangupLinesHangUpTheirPhone, IsServedFor, IsStepLine, StepsServeTheirTask, IsKilledFor, IsKillLine, KillLinesKillTheirTask}
 
 -- ---- an event of a schedule may come where it does
@@ -38,13 +39,6 @@ may_there : (tasks templates : ℕ) (done later : List Event) (e : Event)
     → MayAllCome tasks templates (done ++ e ∷ later) → (n : ℕ) × MayCome n templates e
 may_there tasks templates [] later e may = (tasks, may.0)
 may_there tasks templates (d ∷ done) later e may = may_there (tasks_after tasks d) templates done later e may.1
-
-there : (templates : List TaskPlan) (place : ℕ) → place < length templates
-    → (template : TaskPlan) × (slice_get templates place ≡ Some template)
-there templates place lt = elim (slice_get_cases templates place).1 [
-  | inl h ↦ (h.0, h.2)
-  | inr h ↦ absurd (let past = h.0 in omega (arith, lt, past))
-]
 
 -- ---- a program before its first step
 
@@ -121,7 +115,7 @@ module _ (plan : Plan) (events : List Event) (sound : IsSound plan)
       let fits : RunFits (beginning plan) (run plan done) now = told done (Spawn place ∷ later) is in
       let it = may_there (length plan.tasks) (length plan.templates) done later (Spawn place)
       (may_split done (Spawn place ∷ later) is) in
-      let found = there plan.templates place it.1.0 in
+      let found = item plan.templates place it.1.0 in
       let at : slice_get now.templates place ≡ Some found.0 =
       ap (λ (ts : List TaskPlan). slice_get ts place) (templates_stay (start plan) done) ∙ found.1 in (
         found.0,

@@ -1,7 +1,6 @@
 -- The law of turns at work on short lists, of a script with one task: one that keeps it, and lists of wrong machines.
-use Rattle.std.proofs.Common.{ℕ, suc, ◌≡◌, ◌≤◌, false, ◌++◌, List, [], ◌∷◌, refl, sym, ◌∙◌, subst, arith}
-use Rattle.std.specs.Prelude.{◌==◌}
-use Rattle.std.proofs.lemmas.Bool.{eq-eqb, false≢true}
+use Rattle.std.proofs.Common.{ℕ, suc, ◌≡◌, ◌≤◌, ◌++◌, List, [], ◌∷◌, refl, subst, arith}
+use Rattle.route_laws.proofs.PhoneExamples.{apart}
 use Rattle.ipc_ids.specs.declared.numbers.TaskNo.{TaskNo}
 use Rattle.ipc_ids.specs.declared.numbers.Label.{Label}
 use Rattle.ipc_ids.specs.declared.message.PhoneState.TheVariants.{Connected}
@@ -54,10 +53,6 @@ a_phone_before l = too_many 1 2 (omega arith) (l.1.1.0 2 refl)
 a_call_before : TasksComeInTurn 1
     (entry.Head (task 1) request.Receive ∷ entry.Delivered (record { 0 = 1 }) (task 2) ∷ spawns 2) → ⊥
 a_call_before l = too_many 1 2 (omega arith) (l.1.0 2 refl)
-
--- numbers apart
-pub apart : (m n : ℕ) → m ≡ n → (m == n) ≡ false → ⊥
-apart m n e ne = false≢true (sym ne ∙ eq-eqb m n e)
 
 -- a number is skipped, or given twice
 a_number_skipped : TasksComeInTurn 1 (spawns 3) → ⊥

@@ -8,6 +8,7 @@ use Rattle.ipc_ids.specs.declared.message.Request.{Request}
 use Rattle.ipc_ids.specs.declared.entry.Entry.{Entry}
 use Rattle.ipc_ids.specs.declared.entry.Entry.TheVariants as entry
 use Rattle.ipc_ids.specs.Holdings.{Making, making}
+use Rattle.ipc_ids.proofs.Common.{is_some}
 use Rattle.phone_table.specs.Phones.{state_at}
 use Rattle.switchboard.specs.State.{KernelState, with_task}
 use Rattle.switchboard.specs.State as kernel
@@ -19,7 +20,7 @@ use Rattle.script_lines.specs.Plan.{Plan}
 use Rattle.script_lines.specs.Sound.{IsSound}
 use Rattle.route_laws.specs.Leads.{Lead, Beginning, is_phone, wired}
 use Rattle.route_laws.specs.PhoneHistory.{RoutesFit}
-use Rattle.route_laws.proofs.PhoneSteps.{IsPlain, ArePlain, is_some, written}
+use Rattle.route_laws.proofs.PhoneSteps.{IsPlain, ArePlain, written}
 use Rattle.route_laws.proofs.PhoneEvents.{phones_plain, free_more}
 use Rattle.task_system.specs.Run.{with_tasks, with_service, start}
 use Rattle.run_laws.specs.RunHistory.{lead_of, beginning}

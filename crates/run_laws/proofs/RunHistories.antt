@@ -3,7 +3,7 @@ use Rattle.std.proofs.Common.{◌≡◌, ◌⊎◌, inl, inr, ℕ, zero, suc, Bo
 use Rattle.std.specs.Prelude.{if◌then◌else◌, slice_get, slice_set, All, ◌-◌, ◌+◌, ◌==◌}
 use Rattle.std.proofs.lemmas.Bool.{ne_eqb, eqb-true}
 use Rattle.std.proofs.lemmas.List.{append-nil, length-set}
-use Rattle.std.proofs.lemmas.Option.{get_or_from_slice_get, slice_get_within}
+use Rattle.std.proofs.lemmas.Option.{get_or_from_slice_get, slice_get_within, same_Some}
 use Rattle.ipc_ids.specs.declared.numbers.TaskNo.{TaskNo}
 use Rattle.ipc_ids.specs.declared.message.Request.{Request}
 use Rattle.ipc_ids.specs.declared.message.Request.TheVariants as ask
@@ -37,6 +37,7 @@ use Rattle.kernel_core.proofs.Marks.{serve_marks, alive_known}
 use Rattle.kernel_core.proofs.SpawnedHistories.{spawn_fits}
 use Rattle.cleanup.proofs.Killing.{kill_marks}
 use Rattle.kernel_core.proofs.WholeHistories.{start_fits, task_fits, wire_fits, gone_fits}
+use Rattle.kernel_core.proofs.InEvent.{same_task}
 use Rattle.async_task.specs.Program.{AsyncTask}
 use Rattle.async_task.specs.Steps.{step}
 use Rattle.async_laws.specs.Links as links
@@ -120,11 +121,6 @@ own_told h k t asked served p o known told =
 
 -- The programs, kind by kind.
 
-task_is : (t u : TaskNo) → t.0 ≡ u.0 → t ≡ u
-task_is t u same = ap (λ (n : ℕ). number n) same where
-  number : ℕ → TaskNo
-  number n = record { 0 = n }
-
 -- what a program tells of itself is of the fibrils of its own task
 apart_own : (h : List Entry) (u : TaskNo) (q : AnyProgram) (o : Outcome) → ProgramFits h u.0 q → links.AreOwn u.0 (entries q o)
 apart_own h u (any.Raw q) o fits = tt
@@ -193,7 +189,7 @@ own_fits h k t (any.Async p) told fits now =
     subst
     (λ (u : TaskNo). IsHistoryOf h u.0 p.state → HistoryFits (h ++ step_entries k u (any.Async p)) (served_by k u (any.Async p)).state
     → IsHistoryOf (h ++ step_entries k u (any.Async p)) u.0 (step p.state (served_by k u (any.Async p)).outcome).state)
-    (task_is p.state.me t fits.0.me)
+    (same_task p.state.me t fits.0.me)
     (λ kept after_it. own_async h k p told kept after_it)
     fits now
 
@@ -290,7 +286,7 @@ first_fits t task kind.Block = start_quiet t
 first_fits t task kind.Async = new_fits [] (record { 0 = t }) task.bodies tt tt
 
 -- a task that is alive has a number from 1 on
-number_of : (alive : List Bool) (t : ℕ) → alive_in alive t ≡ true → suc (t - 1) ≡ t
+pub number_of : (alive : List Bool) (t : ℕ) → alive_in alive t ≡ true → suc (t - 1) ≡ t
 number_of alive zero h = absurd (cc h)
 number_of alive (suc t) h = omega arith
 
@@ -298,9 +294,7 @@ at_set : (ps : List AnyProgram) (i j : ℕ) (x p : AnyProgram) → slice_get (sl
     → (j ≡ i) × (p ≡ x) ⊎ ((j ≡ i → ⊥) × (slice_get ps j ≡ Some p))
 at_set [] i zero x p h = absurd (cc h)
 at_set [] i (suc j) x p h = absurd (cc h)
-at_set (q ∷ ps) zero zero x p h = inl (refl, sym (some_is x p h)) where
-  some_is : (a b : AnyProgram) → Some a ≡ Some b → a ≡ b
-  some_is a b e = cc e
+at_set (q ∷ ps) zero zero x p h = inl (refl, sym (same_Some x p h))
 at_set (q ∷ ps) zero (suc j) x p h = inr (λ e. cc, h)
 at_set (q ∷ ps) (suc i) zero x p h = inr (λ e. cc, h)
 at_set (q ∷ ps) (suc i) (suc j) x p h = elim (at_set ps i j x p h) [
@@ -320,9 +314,7 @@ one_changed new ps i x others changed j p at = elim (at_set ps i j x p at) [
 -- one program more
 at_last : (ps : List AnyProgram) (x : AnyProgram) (j : ℕ) (p : AnyProgram) → slice_get (ps ++ x ∷ []) j ≡ Some p
     → (slice_get ps j ≡ Some p) ⊎ ((j ≡ length ps) × (p ≡ x))
-at_last [] x zero p h = inr (refl, sym (some_is x p h)) where
-  some_is : (a b : AnyProgram) → Some a ≡ Some b → a ≡ b
-  some_is a b e = cc e
+at_last [] x zero p h = inr (refl, sym (same_Some x p h))
 at_last [] x (suc j) p h = absurd (cc h)
 at_last (q ∷ ps) x zero p h = inl h
 at_last (q ∷ ps) x (suc j) p h = elim (at_last ps x j p h) [ inl e ↦ inl e | inr e ↦ inr (omega (arith, e.0), e.1) ]
@@ -501,12 +493,9 @@ kept_by b h before now new e same is may told =
 first_programs : (t : ℕ) (tasks : List TaskPlan) (i : ℕ) (p : AnyProgram) → slice_get (programs_from (suc t) tasks) i ≡ Some p → ProgramFits [] (suc (t + i)) p
 first_programs t [] i p at = absurd (cc at)
 first_programs t (task ∷ tasks) zero p at =
-    subst (λ (q : AnyProgram). ProgramFits [] (suc (t + 0)) q) (some_is (program_of (suc t) task) p at)
+    subst (λ (q : AnyProgram). ProgramFits [] (suc (t + 0)) q) (same_Some (program_of (suc t) task) p at)
     (subst (λ (n : ℕ). ProgramFits [] n (program_of (suc t) task)) (suc_is t) (first_fits (suc t) task task.kind))
   where
-    some_is : (a b : AnyProgram) → Some a ≡ Some b → a ≡ b
-    some_is a b e = cc e
-
     suc_is : (n : ℕ) → suc n ≡ suc (n + 0)
     suc_is n = omega arith
 first_programs t (task ∷ tasks) (suc i) p at =
@@ -539,12 +528,9 @@ start_counted plan =
 first_services : (t : ℕ) (tasks : List TaskPlan) (i : ℕ) (p : AnyProgram) → slice_get (programs_from (suc t) tasks) i ≡ Some p → ServiceFits [] (suc (t + i)) p
 first_services t [] i p at = absurd (cc at)
 first_services t (task ∷ tasks) zero p at =
-    subst (λ (q : AnyProgram). ServiceFits [] (suc (t + 0)) q) (some_is (program_of (suc t) task) p at)
+    subst (λ (q : AnyProgram). ServiceFits [] (suc (t + 0)) q) (same_Some (program_of (suc t) task) p at)
     (subst (λ (n : ℕ). ServiceFits [] n (program_of (suc t) task)) (suc_is t) (first_serves (suc t) task task.kind))
   where
-    some_is : (a b : AnyProgram) → Some a ≡ Some b → a ≡ b
-    some_is a b e = cc e
-
     suc_is : (n : ℕ) → suc n ≡ suc (n + 0)
     suc_is n = omega arith
 first_services t (task ∷ tasks) (suc i) p at =
@@ -649,7 +635,7 @@ state_told b h now told (e ∷ events) may =
     (state_told b (h ++ next.entries) next.state (turn_fits b h now told e may.0) events (later_may now e events may))
 
 -- what a schedule may ask, so may a first part of it
-may_first : (tasks templates : ℕ) (done rest : List Event) → MayAllCome tasks templates (done ++ rest) → MayAllCome tasks templates done
+pub may_first : (tasks templates : ℕ) (done rest : List Event) → MayAllCome tasks templates (done ++ rest) → MayAllCome tasks templates done
 may_first tasks templates [] rest may = tt
 may_first tasks templates (e ∷ done) rest may = (may.0, may_first (tasks_after tasks e) templates done rest may.1)
 
@@ -690,3 +676,8 @@ facts_are_lawful b h now told (suc i) = by_place (slice_get now.programs i) refl
   by_place : (o : Option AnyProgram) → slice_get now.programs i ≡ o → FactsAreLawful h (suc i)
   by_place None at = nobody_lawful b h now told (suc i) (λ known. let most : suc i ≤ length now.kernel.tasks.alive = known.1 in let none = get_none now.programs i at in omega (arith, most, none, told.paired))
   by_place (Some p) at = program_lawful h (suc i) p (told.programs i p at)
+
+-- what tasks are made from stays
+pub templates_stay : (now : RunState) (events : List Event) → (state_after now events).templates ≡ now.templates
+templates_stay now [] = refl
+templates_stay now (e ∷ events) = templates_stay (turn now e).state events ∙ turn_templates now e

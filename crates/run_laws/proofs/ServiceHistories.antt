@@ -1,7 +1,7 @@
 -- Each event keeps it that what a service did fits its state, and that calls are kept.
 use Rattle.std.proofs.Common.{◌≡◌, ℕ, Bool, true, false, List, [], ◌∷◌, ◌++◌, refl, sym, ap, ◌∙◌, subst, append_assoc}
 use Rattle.std.specs.Prelude.{◌==◌, not}
-use Rattle.std.proofs.lemmas.Bool.{eq-eqb, ne_eqb}
+use Rattle.std.proofs.lemmas.Bool.{eq-eqb, ne_eqb, not-true}
 use Rattle.ipc_ids.specs.declared.numbers.TaskNo.{TaskNo}
 use Rattle.ipc_ids.specs.declared.message.Request.{Request}
 use Rattle.ipc_ids.specs.declared.message.Request.TheVariants as ask
@@ -171,20 +171,16 @@ made_keeps_calls h es k u t effects told keeps = spawned_keeps h es t u told.tol
 pub made_serves : (h es : List Entry) (u : TaskNo) (t : ℕ) (p : AnyProgram) → AreEffects es → ServiceFits h t p → ServiceFits (h ++ (entry.Spawn u ∷ es)) t p
 made_serves h es u t p effects fit = same_serves h (entry.Spawn u ∷ es) t p (doings_spawned h es t u (effects_within es effects)) fit
 
-other : (b : Bool) → not b ≡ true → b ≡ false
-other true is = absurd (cc is)
-other false is = refl
-
 -- a task of which nothing is told did nothing
 strange_keeps : (t : ℕ) (e : Entry) (q : List Entry) → is_strange t e ≡ true → doings_of t q ≡ [] → is_own_event t q ≡ false
     → (doings_of t (e ∷ q) ≡ []) × (is_own_event t (e ∷ q) ≡ false)
 strange_keeps t (entry.Head u asked) q strange none apart = by_task (u.0 == t) refl strange where
   by_task : (b : Bool) → (u.0 == t) ≡ b → not b ≡ true → (doings_of t (entry.Head u asked ∷ q) ≡ []) × (is_own_event t (entry.Head u asked ∷ q) ≡ false)
-  by_task true is other = absurd (cc other)
-  by_task false is other = (rw is none, is)
-strange_keeps t (entry.Kill u) q strange none apart = (none, other (u.0 == t) strange)
-strange_keeps t (entry.Gone u) q strange none apart = (none, other (u.0 == t) strange)
-strange_keeps t (entry.Spawn u) q strange none apart = (none, other (u.0 == t) strange)
+  by_task true is not-true = absurd (cc not-true)
+  by_task false is not-true = (rw is none, is)
+strange_keeps t (entry.Kill u) q strange none apart = (none, not-true (u.0 == t) strange)
+strange_keeps t (entry.Gone u) q strange none apart = (none, not-true (u.0 == t) strange)
+strange_keeps t (entry.Spawn u) q strange none apart = (none, not-true (u.0 == t) strange)
 strange_keeps t (entry.Outcome o) q strange none apart = (rw apart none, apart)
 strange_keeps t _ q strange none apart = (none, apart)
 

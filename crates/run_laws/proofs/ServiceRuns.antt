@@ -2,6 +2,7 @@
 -- the blocks of each block server.
 use Rattle.std.proofs.Common.{◌≡◌, ℕ, zero, suc, ◌+◌, ◌-◌, Bool, true, false, List, [], ◌∷◌, ◌++◌, Option, None, Some, map, refl, sym, ap, ◌∙◌}
 use Rattle.std.specs.Prelude.{slice_get, slice_set, if◌then◌else◌}
+use Rattle.std.proofs.lemmas.Option.{same_Some}
 use Rattle.ipc_ids.specs.declared.numbers.TaskNo.{TaskNo}
 use Rattle.ipc_ids.specs.declared.message.Outcome.{Outcome}
 use Rattle.ipc_ids.specs.declared.message.Request.TheVariants as ask
@@ -31,9 +32,7 @@ use Rattle.run_laws.specs.RunHistory.{beginning, RunFits}
 module _ (test : AnyProgram → Bool) (stays : (p : AnyProgram) (o : Outcome) → test (after p o) ≡ test p) where
   set_same : (ps : List AnyProgram) (i : ℕ) (p x : AnyProgram) → slice_get ps i ≡ Some p → test x ≡ test p → map test (slice_set ps i x) ≡ map test ps
   set_same [] i p x at same = refl
-  set_same (q ∷ ps) zero p x at same = ap (λ (b : Bool). b ∷ map test ps) (same ∙ ap test (some_is p q (sym at))) where
-    some_is : (a b : AnyProgram) → Some a ≡ Some b → a ≡ b
-    some_is a b e = cc e
+  set_same (q ∷ ps) zero p x at same = ap (λ (b : Bool). b ∷ map test ps) (same ∙ ap test (same_Some p q (sym at)))
   set_same (q ∷ ps) (suc i) p x at same = ap (λ (bs : List Bool). test q ∷ bs) (set_same ps i p x at same)
 
   stepped : (now : RunState) (t : TaskNo) (o : Option AnyProgram) → ((p : AnyProgram) → o ≡ Some p → slice_get now.programs (t.0 - 1) ≡ Some p) → map test (step_by now t o).state.programs ≡ map test now.programs
@@ -84,9 +83,7 @@ module _ (test : AnyProgram → Bool) (stays : (p : AnyProgram) (o : Outcome) �
     none : (i : ℕ) → slice_get {X = Bool} [] i ≡ Some true → ⊥
     none zero h = absurd (cc h)
     none (suc i) h = absurd (cc h)
-  passes (q ∷ ps) zero h = (q, refl, some_is (test q) true h) where
-    some_is : (a b : Bool) → Some a ≡ Some b → a ≡ b
-    some_is a b e = cc e
+  passes (q ∷ ps) zero h = (q, refl, same_Some (test q) true h)
   passes (q ∷ ps) (suc i) h = passes ps i h
 
   -- a program that passes the test at the start has one that passes it in its place at the end

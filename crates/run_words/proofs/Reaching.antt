@@ -13,7 +13,7 @@ use Rattle.switchboard.specs.Sound.{IsSound}
 use Rattle.task_system.specs.Run.{RunState, program_of, start, turn, state_after, MayHappen, MayAllHappen}
 use Rattle.turn_counts.specs.Constants.{Constant, constant, constants, made_from, made_by_all, with_made}
 use Rattle.turn_counts.proofs.KeptConstants.{events_keep}
-use Rattle.run_laws.proofs.RunHistories.{run_told, may_from, turn_count, turn_templates, later_may, start_counted}
+use Rattle.run_laws.proofs.RunHistories.{run_told, may_from, turn_count, turn_templates, later_may, start_counted, templates_stay}
 use Rattle.run_words.specs.Reached.{spawn_of, spawns_of, IsReached}
 
 abbrev tasks_of : RunState → ℕ
@@ -116,7 +116,7 @@ goes_on plan spawned now e r may =
 
 -- ---- how many tasks there are, and which templates
 
-one_counted : (n : ℕ) (e : Event) → tasks_after n e ≡ n + length (spawn_of e)
+pub one_counted : (n : ℕ) (e : Event) → tasks_after n e ≡ n + length (spawn_of e)
 one_counted n (Step t) = omega arith
 one_counted n (Kill t) = omega arith
 one_counted n (Hangup t phone) = omega arith
@@ -140,9 +140,5 @@ reached_tasks plan spawned now r =
     ∙ ap (λ (z : ℕ). z + length (spawns_of r.events)) (start_counted plan)
     ∙ ap (λ (z : List ℕ). length plan.tasks + length z) r.spawns
 
-templates_after : (now : RunState) (events : List Event) → (state_after now events).templates ≡ now.templates
-templates_after now [] = refl
-templates_after now (e ∷ events) = templates_after (turn now e).state events ∙ turn_templates now e
-
 pub reached_templates : (plan : Plan) (spawned : List ℕ) (now : RunState) → IsReached plan spawned now → now.templates ≡ plan.templates
-reached_templates plan spawned now r = ap (λ (z : RunState). z.templates) r.state ∙ templates_after (start plan) r.events
+reached_templates plan spawned now r = ap (λ (z : RunState). z.templates) r.state ∙ templates_stay (start plan) r.events

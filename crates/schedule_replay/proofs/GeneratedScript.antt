@@ -3,7 +3,7 @@ use Rattle.std.proofs.Common.{◌≡◌, ◌≢◌, ℕ, zero, suc, ◌+◌, ◌
 use Rattle.script_lines.specs.declared.plan.TaskPlan.{TaskPlan}
 use Rattle.std.specs.Prelude.{All, AllPairs, Bool, if◌then◌else◌, ◌==◌}
 use Rattle.std.specs.Fmt.{decimal, digits}
-use Rattle.std.specs.List.{flat_map, list_all, range_with_len}
+use Rattle.std.specs.List.{flat_map, list_all}
 use Rattle.std.proofs.lemmas.Fmt.{decimal_digit, decimal_injective, decimal_step}
 use Rattle.std.proofs.lemmas.List.{flat_map_more}
 use Rattle.std.proofs.lemmas.List.Elements.{All-append, All-cons, All-from_recursion, All-nil}
@@ -14,6 +14,7 @@ use Rattle.ipc_ids.specs.declared.message.Event.TheVariants.{Step, Kill}
 use Rattle.ipc_ids.specs.declared.numbers.TaskNo.{TaskNo}
 use Rattle.ipc_ids.specs.declared.op.Op.{Op}
 use Rattle.ipc_ids.specs.declared.op.Value.TheVariants.{Number}
+use Rattle.ipc_ids.proofs.Common.{range_more}
 use Rattle.script_lines.specs.declared.plan.Kind.TheVariants.{Naming}
 use Rattle.script_lines.specs.declared.plan.Wire.{Wire}
 use Rattle.script_lines.specs.Names.{ns_name}
@@ -41,12 +42,6 @@ all_pairs_made R f n each i j d lt few =
 
 pub made_more : {X : Type 0} (f : ℕ → X) (n : ℕ) → map f (below (n + 1)) ≡ map f (below n) ++ f n ∷ []
 made_more f n = map-range_with_len_more f 0 n n (omega arith)
-
-range_more : (a n : ℕ) → range_with_len a (suc n) ≡ range_with_len a n ++ (a + n) ∷ []
-range_more a zero = ap (λ m. m ∷ []) (omega arith)
-range_more a (suc n) =
-    let e : a + 1 + n ≡ a + suc n = omega arith in
-    ap (λ ms. a ∷ ms) (range_more (a + 1) n ∙ ap (λ m. range_with_len (a + 1) n ++ m ∷ []) e)
 
 pub pieces_more : {X : Type 0} (f : ℕ → List X) (n : ℕ) → flat_map f (below (n + 1)) ≡ flat_map f (below n) ++ f n
 pieces_more f n =

@@ -1,11 +1,12 @@
 -- Bytes that are sent in steps.
-use Rattle.std.proofs.Common.{◌≡◌, ◌<◌, ◌+◌, ◌++◌, [], ◌∷◌, List, ℕ, refl, ap, sym, ◌∙◌, subst, append_assoc, take, drop, length, min, arith, Option, Some, None, Result, Ok, Err, OnErr, get_or, append-nil}
+use Rattle.std.proofs.Common.{◌≡◌, ◌<◌, ◌+◌, ◌++◌, [], ◌∷◌, List, ℕ, ap, sym, ◌∙◌, subst, append_assoc, take, drop, length, min, arith, Option, Some, None, Result, Ok, Err, OnErr, get_or, append-nil}
 use Rattle.std.proofs.Math.Seq.{take-append-add}
 use Rattle.std.proofs.lemmas.List.{take-append-le, take_all, take_min, take_more, take-append-drop}
 use Rattle.std.specs.Io.KnownBytes.{Appends}
 use Rattle.io_edge.specs.Edge.{AppendsStart}
 use Rattle.ipc_ids.specs.declared.entry.Entry.{Entry}
 use Rattle.trace_print.specs.Text.{text_of_entry, text_of}
+use Rattle.trace_print.proofs.Texts.{text_append}
 use Rattle.schedule_replay.specs.Streaming.{Sent}
 
 -- nothing written
@@ -53,10 +54,6 @@ pub starts_wider : (s n : Option (List ℕ)) (a c : List ℕ) → AppendsStart s
 starts_wider s n a c h =
     let same : take h.0 a ≡ take (min h.0 (length a)) (a ++ c) = sym (take-append-le (min h.0 (length a)) a c (omega arith) ∙ take_min h.0 a) in
     (min h.0 (length a), subst (λ (v : List ℕ). Appends s n v) same h.1)
-
-pub text_append : (a b : List Entry) → text_of (a ++ b) ≡ text_of a ++ text_of b
-text_append [] b = refl
-text_append (e ∷ a) b = ap (λ t. text_of_entry e ++ t) (text_append a b) ∙ sym (append_assoc (text_of_entry e) (text_of a) (text_of b))
 
 -- the text of one more entry
 pub more_text : (es : List Entry) (i : ℕ) (d : Entry) → i < length es → text_of (take (i + 1) es) ≡ text_of (take i es) ++ text_of_entry (get_or es i d)

@@ -6,10 +6,11 @@ use Rattle.io_edge.specs.Edge.{AppendsStart}
 use Rattle.ipc_ids.specs.declared.entry.Entry.{Entry}
 use Rattle.ipc_ids.specs.declared.message.Event.{Event}
 use Rattle.trace_print.specs.Text.{text_of}
+use Rattle.trace_print.proofs.Texts.{text_append}
 use Rattle.script_lines.specs.Plan.{Plan}
 use Rattle.task_system.specs.Run.{RunState, start, turn, run, run_from, state_after}
 use Rattle.schedule_replay.specs.Streaming.{Sent, IsAheadBy, KeepsUp, but_last}
-use Rattle.schedule_replay.proofs.Sending.{appends_none, appends_on, sent_on, sent_more, sent_starts, starts_wider, text_append}
+use Rattle.schedule_replay.proofs.Sending.{appends_none, appends_on, sent_on, sent_more, sent_starts, starts_wider}
 
 -- these events were taken, and their text is with the sink or in the buffer
 pub record IsUnderWay (plan : Plan) (all left : List Event) (now : RunState) (old sent : Option (List ℕ)) (buffer : List ℕ) : Type 0 where
@@ -18,11 +19,11 @@ pub record IsUnderWay (plan : Plan) (all left : List Event) (now : RunState) (ol
   pub state : now ≡ state_after (start plan) taken
   pub told : Sent old sent buffer (text_of (run plan taken))
 
-run_append : (now : RunState) (a b : List Event) → run_from now (a ++ b) ≡ run_from now a ++ run_from (state_after now a) b
+pub run_append : (now : RunState) (a b : List Event) → run_from now (a ++ b) ≡ run_from now a ++ run_from (state_after now a) b
 run_append now [] b = refl
 run_append now (e ∷ a) b = ap (λ v. (turn now e).entries ++ v) (run_append (turn now e).state a b) ∙ sym (append_assoc ((turn now e).entries) (run_from (turn now e).state a) (run_from (state_after (turn now e).state a) b))
 
-after_append : (now : RunState) (a b : List Event) → state_after now (a ++ b) ≡ state_after (state_after now a) b
+pub after_append : (now : RunState) (a b : List Event) → state_after now (a ++ b) ≡ state_after (state_after now a) b
 after_append now [] b = refl
 after_append now (e ∷ a) b = after_append (turn now e).state a b
 

@@ -1,9 +1,10 @@
 -- Moves to states of one code: a move more leads to such again, and to what is looked for from both or from neither.
-use Rattle.std.proofs.Common.{ℕ, ◌≡◌, ◌⊎◌, inl, inr, ◌+◌, Bool, true, false, ◌&&◌, nat_le, nat_eq, Option, None, Some, List, [], ◌∷◌, ◌++◌, length, refl, sym, ◌∙◌, ap, subst, arith}
+use Rattle.std.proofs.Common.{ℕ, ◌≡◌, ◌⊎◌, inl, inr, ◌+◌, Bool, true, false, ◌&&◌, nat_le, nat_eq, Option, None, Some, List, [], ◌∷◌, ◌++◌, length, refl, sym, ◌∙◌, ap, subst}
 use Rattle.std.specs.Prelude.{if◌then◌else◌}
 use Rattle.std.specs.Cmp.Lexicographic.{pointwise}
 use Rattle.std.specs.List.{list_all, range_with_len}
 use Rattle.std.proofs.lemmas.Bool.{both_ways}
+use Rattle.schedule_replay.proofs.UnderWay.{after_append}
 use Rattle.ipc_ids.specs.declared.entry.Entry.{Entry}
 use Rattle.ipc_ids.specs.declared.numbers.TaskNo.{TaskNo}
 use Rattle.ipc_ids.specs.declared.message.Event.{Event}
@@ -24,7 +25,7 @@ use Rattle.schedule_search.specs.Left.{is_met, Left, left_here, left_behind, IsO
 use Rattle.schedule_search.specs.Code.{counted, words_behind, goals_left, code_behind, rest_words, Fits}
 use Rattle.schedule_search.proofs.Words.{WordsTell, words_tell}
 use Rattle.schedule_search.proofs.Tries.{kills_more, stays_untried, spawns_alike, tries_alike}
-use Rattle.schedule_search.proofs.Behind.{after_both, moves_are_of, spawned_by, reached, reached_alike}
+use Rattle.schedule_search.proofs.Behind.{moves_are_of, spawned_by, reached, reached_alike}
 use Rattle.schedule_search.proofs.Fronts.{same_front}
 use Rattle.schedule_search.proofs.Steps.{lost_alike}
 use Rattle.schedule_search.proofs.Turns.{nothing_left, all_met, left_more, same_left}
@@ -145,7 +146,7 @@ module _ (s : Search) (sound : IsSound s) where
   tell es = words_tell s.plan (spawned_by s es) sound.script
 
   more : (es : List Event) (x : Event) → state_behind s (es ++ x ∷ []) ≡ (turn (state_behind s es) x).state
-  more es x = after_both (first_state s) es (x ∷ [])
+  more es x = after_append (first_state s) es (x ∷ [])
 
   -- one event more behind two lists of events
   module _ (es fs : List Event) (x : Event) (alike : AreOneCode s es fs) where

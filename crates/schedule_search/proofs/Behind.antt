@@ -2,6 +2,7 @@
 use Rattle.std.proofs.Common.{ℕ, ◌≡◌, ◌<◌, ◌+◌, true, List, [], ◌∷◌, ◌++◌, length, length-append, refl, sym, subst, arith, Some, slice_get}
 use Rattle.std.proofs.lemmas.Grind.{flat_map-append}
 use Rattle.std.proofs.lemmas.Option.{slice_get-get_or}
+use Rattle.schedule_replay.proofs.UnderWay.{after_append}
 use Rattle.ipc_ids.specs.declared.message.Event.{Event}
 use Rattle.ipc_ids.specs.declared.message.Event.TheVariants.{Spawn}
 use Rattle.script_reader.specs.Schedule.{MayAllCome}
@@ -13,10 +14,6 @@ use Rattle.schedule_search.specs.Search.{Search, IsSound, AreOf, first_tasks, ma
 use Rattle.schedule_search.proofs.Tries.{all_come, come_both, tried_parts}
 
 -- ---- one event more
-
-pub after_both : (now : RunState) (es fs : List Event) → state_after now (es ++ fs) ≡ state_after (state_after now es) fs
-after_both now [] fs = refl
-after_both now (e ∷ es) fs = after_both (turn now e).state es fs
 
 -- ---- the events of moves
 
@@ -72,7 +69,7 @@ module _ (s : Search) (sound : IsSound s) where
         events = s.from ++ es;
         may = may_all es tried;
         spawns = all_spawns es;
-        state = sym (after_both (start s.plan) s.from es);
+        state = sym (after_append (start s.plan) s.from es);
       }
 
   -- by all events

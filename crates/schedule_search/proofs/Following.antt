@@ -1,13 +1,14 @@
 -- One event of several more, as goals are followed behind them.
-use Rattle.std.proofs.Common.{ℕ, ◌≡◌, ◌≤◌, ◌<◌, ◌+◌, true, List, [], ◌∷◌, ◌++◌, length, length-append, take, drop, get_or, refl, sym, ◌∙◌, ap, subst, arith}
+use Rattle.std.proofs.Common.{ℕ, ◌≡◌, ◌≤◌, ◌<◌, ◌+◌, List, [], ◌∷◌, ◌++◌, length, length-append, take, drop, get_or, refl, sym, ◌∙◌, ap, subst, arith}
 use Rattle.std.proofs.lemmas.List.{take_more, take_all, take-append-drop}
+use Rattle.schedule_replay.proofs.UnderWay.{after_append}
 use Rattle.ipc_ids.specs.declared.entry.Entry.{Entry}
 use Rattle.ipc_ids.specs.declared.message.Event.{Event}
 use Rattle.task_system.specs.Run.{RunState, turn, MayHappen, MayAllHappen}
 use Rattle.schedule_search.specs.Search.{Search, AreOf, may_try, first_state, state_behind}
 use Rattle.schedule_search.specs.Left.{Left, left_here, left_behind}
 use Rattle.schedule_search.specs.Problem.{CanDo}
-use Rattle.schedule_search.proofs.Behind.{after_both, may_behind, moves_may}
+use Rattle.schedule_search.proofs.Behind.{may_behind, moves_may}
 use Rattle.schedule_search.proofs.Doing.{may_first}
 use Rattle.schedule_search.proofs.Tries.{front_tried}
 use Rattle.schedule_search.proofs.Turns.{left_more}
@@ -49,7 +50,7 @@ module _ (s : Search) (es : List Event) (i : ℕ) (d : Event) (within : i < leng
   state_on now next here to =
       to
       ∙ ap (λ (z : RunState). (turn z e).state) here
-      ∙ sym (after_both (first_state s) (take i es) (e ∷ []))
+      ∙ sym (after_append (first_state s) (take i es) (e ∷ []))
       ∙ ap (state_behind s) (sym (take_more es i d within))
 
   pub left_on : (now next : RunState) (told : List Entry) (left more : Left) → now ≡ state_behind s (take i es)

@@ -1,7 +1,7 @@
 -- What a survey of lists of moves lists, in events.
 use Rattle.std.proofs.Common.{ℕ, zero, suc, ◌≡◌, ◌<◌, ◌≤◌, Bool, true, false, ◌&&◌, List, [], ◌∷◌, length, map, None, Some, slice_get, refl, sym, ◌∙◌, ap, subst, arith}
 use Rattle.std.specs.Prelude.{IsSome, is_some, if◌then◌else◌}
-use Rattle.std.proofs.lemmas.Bool.{false≢true}
+use Rattle.std.proofs.lemmas.Bool.{false≢true, and_parts}
 use Rattle.std.proofs.lemmas.Option.{none-some, same_Some}
 use Rattle.ipc_ids.specs.declared.message.Event.{Event}
 use Rattle.search_core.specs.Moves.{AreMoves, IsBefore}
@@ -14,7 +14,6 @@ use Rattle.schedule_search.proofs.Words.{words_tell}
 use Rattle.schedule_search.proofs.Behind.{moves_are_of, events_counted, spawned_by, reached, reached_alike}
 use Rattle.schedule_search.proofs.Alike.{AreToldAlike, behind_alike, rest_alike}
 use Rattle.schedule_search.proofs.Paths.{Numbered, numbered}
-use Rattle.schedule_search.proofs.Resting.{both_true}
 
 -- ---- elements of a list that was made from another
 
@@ -60,7 +59,7 @@ module _ (s : Search) (es : List Event) where
       let both : (may_try s es && is_at_rest (state_behind s es)) ≡ true =
       has_words (may_try s es && is_at_rest (state_behind s es)) (words_behind s es) h in
       let parts : (may_try s es ≡ true) × (is_at_rest (state_behind s es) ≡ true) =
-      both_true (may_try s es) (is_at_rest (state_behind s es)) both in
+      and_parts (may_try s es) (is_at_rest (state_behind s es)) both in
       record { tried = parts.0; rests = parts.1; words = words_of_rest parts.0 parts.1 }
 
 -- of so many moves are so many events, and the other way round

@@ -1,7 +1,7 @@
 -- A state is at rest where no step of a task changes anything but counts.
-use Rattle.std.proofs.Common.{ℕ, zero, suc, ◌≡◌, ◌⊎◌, inl, inr, ◌≤◌, ◌<◌, ◌+◌, Bool, true, false, ◌&&◌, List, [], ◌++◌, length, refl, ◌∙◌, ap, subst, arith}
+use Rattle.std.proofs.Common.{ℕ, zero, suc, ◌≡◌, ◌⊎◌, inl, inr, ◌≤◌, ◌<◌, ◌+◌, Bool, true, ◌&&◌, List, [], ◌++◌, length, refl, ◌∙◌, ap, subst, arith}
 use Rattle.std.specs.List.{list_all, range_with_len}
-use Rattle.std.proofs.lemmas.Bool.{cases_lt}
+use Rattle.std.proofs.lemmas.Bool.{cases_lt, and_parts}
 use Rattle.std.proofs.lemmas.List.{append-nil}
 use Rattle.std.proofs.lemmas.Slice.Eq.{bytes_eq-Decides}
 use Rattle.ipc_ids.specs.declared.message.Event.TheVariants.{Step}
@@ -16,15 +16,11 @@ use Rattle.run_words.proofs.RunSplits.{alike_words}
 use Rattle.run_words.proofs.GoingOn.{told_apart}
 use Rattle.schedule_search.specs.Meeting.{changes_nothing, is_at_rest}
 
-pub both_true : (a b : Bool) → (a && b) ≡ true → (a ≡ true) × (b ≡ true)
-both_true true b e = (refl, e)
-both_true false b e = absurd (cc e)
-
 -- what holds of all numbers of a range holds of each, and the other way round
 each_of : (f : ℕ → Bool) (a n t : ℕ) → list_all f (range_with_len a n) ≡ true → a ≤ t → t < a + n → f t ≡ true
 each_of f a zero t e l m = absurd (omega arith)
 each_of f a (suc n) t e l m =
-    let parts : (f a ≡ true) × (list_all f (range_with_len (a + 1) n) ≡ true) = both_true (f a) (list_all f (range_with_len (a + 1) n)) e in
+    let parts : (f a ≡ true) × (list_all f (range_with_len (a + 1) n) ≡ true) = and_parts (f a) (list_all f (range_with_len (a + 1) n)) e in
     by_place parts.0 (λ (h : a < t). each_of f (a + 1) n t parts.1 (omega arith) (omega arith)) (cases_lt a t)
   where
     by_place : f a ≡ true → (a < t → f t ≡ true) → (a < t) ⊎ (t ≤ a) → f t ≡ true

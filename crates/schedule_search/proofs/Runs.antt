@@ -1,6 +1,7 @@
 -- The entries of a run, one event after the other.
-use Rattle.std.proofs.Common.{ℕ, ◌≡◌, ◌≤◌, ◌<◌, ◌+◌, List, [], ◌∷◌, ◌++◌, length, drop, get_or, refl, sym, ◌∙◌, ap, append_assoc, append-nil}
+use Rattle.std.proofs.Common.{ℕ, ◌≡◌, ◌≤◌, ◌<◌, ◌+◌, List, [], ◌∷◌, ◌++◌, length, drop, get_or, sym, ◌∙◌, ap, append_assoc, append-nil}
 use Rattle.std.proofs.lemmas.List.{drop_more, drop_all}
+use Rattle.schedule_replay.proofs.UnderWay.{run_append}
 use Rattle.ipc_ids.specs.declared.entry.Entry.{Entry}
 use Rattle.ipc_ids.specs.declared.message.Event.{Event}
 use Rattle.script_lines.specs.Plan.{Plan}
@@ -24,12 +25,6 @@ pub tells_there : (events : List Event) (i : ℕ) → length events ≤ i → (n
 tells_there events i over now told whole h =
     sym (append-nil told) ∙ ap (λ (es : List Event). told ++ run_from now es) (sym (drop_all i events over)) ∙ h
 
-run_both : (now : RunState) (es fs : List Event) → run_from now (es ++ fs) ≡ run_from now es ++ run_from (state_after now es) fs
-run_both now [] fs = refl
-run_both now (e ∷ es) fs =
-    ap (λ (z : List Entry). (turn now e).entries ++ z) (run_both (turn now e).state es fs)
-    ∙ sym (append_assoc (turn now e).entries (run_from (turn now e).state es) (run_from (state_after (turn now e).state es) fs))
-
 -- what two parts of a schedule tell, one behind the other
 pub told_whole : (plan : Plan) (from es : List Event) (none first whole : List Entry) (begun behind : RunState) → none ≡ []
     → begun ≡ start plan → first ≡ none ++ run_from begun from → behind ≡ state_after begun from
@@ -39,5 +34,5 @@ told_whole plan from es none first whole begun behind empty begins told there mo
     ∙ ap (λ (z : RunState). first ++ run_from z es) there
     ∙ ap (λ (z : List Entry). z ++ run_from (state_after begun from) es)
     (told ∙ ap (λ (z : List Entry). z ++ run_from begun from) empty)
-    ∙ sym (run_both begun from es)
+    ∙ sym (run_append begun from es)
     ∙ ap (λ (z : RunState). run_from z (from ++ es)) begins

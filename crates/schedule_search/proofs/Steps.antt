@@ -4,6 +4,7 @@ use Rattle.std.specs.Prelude.{None}
 use Rattle.std.proofs.lemmas.Bool.{both_ways, true_from_ne_false}
 use Rattle.std.proofs.lemmas.List.{append-nil}
 use Rattle.std.proofs.lemmas.Nat.{mod_below}
+use Rattle.schedule_replay.proofs.UnderWay.{after_append}
 use Rattle.ipc_ids.specs.declared.message.Event.{Event}
 use Rattle.ipc_ids.specs.declared.message.Event.TheVariants.{Step, Kill, Hangup, Spawn}
 use Rattle.answerbox.specs.Calls.{CallTable, call_at}
@@ -20,7 +21,6 @@ use Rattle.schedule_search.specs.Meeting.{is_at_rest}
 use Rattle.schedule_search.specs.Lost.{AreSteps, IsLost, HasLostCall}
 use Rattle.schedule_search.specs.Ahead.{steps_of, ahead, IsClosed}
 use Rattle.schedule_search.proofs.Words.{WordsTell}
-use Rattle.schedule_search.proofs.Behind.{after_both}
 use Rattle.schedule_search.proofs.Paths.{oldest_is, taken_more}
 use Rattle.schedule_search.proofs.Resting.{words_stay}
 
@@ -113,7 +113,7 @@ led_on base now next t led is to =
       are_steps = steps_both (tasks_of base) led.steps (Step (record { 0 = t }) ∷ []) led.are_steps ((tt, is), tt);
       state = to
           ∙ ap (λ (z : RunState). (turn z (Step (record { 0 = t }))).state) led.state
-          ∙ sym (after_both base led.steps (Step (record { 0 = t }) ∷ []));
+          ∙ sym (after_append base led.steps (Step (record { 0 = t }) ∷ []));
     }
 
 -- by a step of one of so many tasks, whichever a number chooses
@@ -231,9 +231,9 @@ module _ (plan : Plan) (spawned : List ℕ) (tell : WordsTell plan spawned) wher
         → run_words (ahead base p) ≡ run_words (ahead base q)
         → run_words (ahead base (m ∷ p)) ≡ run_words (ahead base (m ∷ q))
     words_go_on p q m h k e =
-        ap run_words (after_both base (steps_of p) (Step (record { 0 = m + 1 }) ∷ []))
+        ap run_words (after_append base (steps_of p) (Step (record { 0 = m + 1 }) ∷ []))
         ∙ tell.words (ahead base p) (ahead base q) (Step (record { 0 = m + 1 })) (ahead_reached p h.1) (ahead_reached q k.1) e
-        ∙ sym (ap run_words (after_both base (steps_of q) (Step (record { 0 = m + 1 }) ∷ [])))
+        ∙ sym (ap run_words (after_append base (steps_of q) (Step (record { 0 = m + 1 }) ∷ [])))
 
     pub closed_alike : (n : ℕ) (p q : List ℕ) (m : ℕ) → AreMoves tasks (m ∷ p) → AreMoves tasks (m ∷ q)
         → run_words (ahead base p) ≡ run_words (ahead base q) → IsClosed base n (m ∷ p) → IsClosed base n (m ∷ q)

@@ -2,7 +2,7 @@
 use Rattle.std.proofs.Common.{ℕ, zero, suc, ◌≡◌, ◌<◌, ◌+◌, Bool, true, false, ◌&&◌, Option, None, Some, List, refl, sym, ◌∙◌, ap, arith}
 use Rattle.std.specs.Prelude.{◌||◌, not}
 use Rattle.std.specs.List.{list_any, range_with_len}
-use Rattle.std.proofs.lemmas.Bool.{false≢true}
+use Rattle.std.proofs.lemmas.Bool.{false≢true, and_parts}
 use Rattle.ipc_ids.specs.declared.numbers.TaskNo.{TaskNo}
 use Rattle.ipc_ids.specs.declared.entry.Entry.{Entry}
 use Rattle.call_slab.specs.declared.call.Call.{Call}
@@ -15,7 +15,6 @@ use Rattle.search_goals.specs.GoalText.{LosesCall, IsStuck}
 use Rattle.schedule_search.specs.OpenCalls.{is_waiting, is_asked, is_open, has_open_call}
 use Rattle.schedule_search.specs.Meeting.{is_at_rest, IsMet}
 use Rattle.schedule_search.proofs.Words.{words_tell}
-use Rattle.schedule_search.proofs.Resting.{both_true}
 use Rattle.schedule_search.proofs.Steps.{open_at_rest}
 
 -- a test holds of one number of a range
@@ -49,9 +48,9 @@ open_of_any : (asked : Option TaskNo) (call : Option Call) → is_open asked cal
 open_of_any asked None e = e
 open_of_any asked (Some c) e =
     let live : (not c.discard ≡ true) × ((is_waiting c.place && is_asked asked c.caller) ≡ true) =
-    both_true (not c.discard) (is_waiting c.place && is_asked asked c.caller) e in
+    and_parts (not c.discard) (is_waiting c.place && is_asked asked c.caller) e in
     let waits : (is_waiting c.place ≡ true) × (is_asked asked c.caller ≡ true) =
-    both_true (is_waiting c.place) (is_asked asked c.caller) live.1 in
+    and_parts (is_waiting c.place) (is_asked asked c.caller) live.1 in
     ap (λ (b : Bool). b && (is_waiting c.place && is_asked None c.caller)) live.0
     ∙ ap (λ (b : Bool). b && is_asked None c.caller) waits.0
     ∙ asked_of_any asked c.caller waits.1
@@ -60,7 +59,7 @@ pub stuck_has_lost : (plan : Plan) (spawned : List ℕ) (now : RunState) (told :
     → IsSound plan → IsReached plan spawned now → IsMet (IsStuck task) now told → IsMet LosesCall now told
 stuck_has_lost plan spawned now told task sound r stuck =
     let parts : (has_open_call task now.kernel.calls ≡ true) × (is_at_rest now ≡ true) =
-    both_true (has_open_call task now.kernel.calls) (is_at_rest now) stuck in
+    and_parts (has_open_call task now.kernel.calls) (is_at_rest now) stuck in
     let one : OneOf (λ (n : ℕ). is_open task (call_at now.kernel.calls n)) 0 now.kernel.calls.next_number =
     one_of (λ (n : ℕ). is_open task (call_at now.kernel.calls n)) 0 now.kernel.calls.next_number parts.0 in
     let l : one.number < 0 + now.kernel.calls.next_number = one.below in (

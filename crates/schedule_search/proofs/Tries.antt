@@ -10,22 +10,17 @@ use Rattle.ipc_ids.specs.declared.message.Event.{Event}
 use Rattle.ipc_ids.specs.declared.message.Event.TheVariants.{Step, Kill, Hangup, Spawn}
 use Rattle.script_reader.specs.Schedule.{MayCome, MayAllCome, tasks_after}
 use Rattle.run_words.specs.Reached.{spawn_of, spawns_of}
+use Rattle.run_words.proofs.Reaching.{one_counted}
 use Rattle.search_goals.specs.Writing.{tasks_behind}
 use Rattle.schedule_search.specs.declared.problem.MostMade.{MostMade}
 use Rattle.schedule_search.specs.Search.{Search, kills_in, is_within, made_in, are_few, may_come, may_all_come, first_tasks, may_try}
 
 -- ---- how many tasks there are
 
-after_one : (n : ℕ) (e : Event) → tasks_after n e ≡ n + length (spawn_of e)
-after_one n (Step task) = omega arith
-after_one n (Kill task) = omega arith
-after_one n (Hangup task phone) = omega arith
-after_one n (Spawn place) = omega arith
-
 pub tasks_are : (n : ℕ) (es : List Event) → tasks_behind n es ≡ n + length (spawns_of es)
 tasks_are n [] = omega arith
 tasks_are n (e ∷ es) =
-    let one : tasks_after n e ≡ n + length (spawn_of e) = after_one n e in
+    let one : tasks_after n e ≡ n + length (spawn_of e) = one_counted n e in
     let later : tasks_behind (tasks_after n e) es ≡ tasks_after n e + length (spawns_of es) = tasks_are (tasks_after n e) es in
     let both : length (spawn_of e ++ spawns_of es) ≡ length (spawn_of e) + length (spawns_of es) =
     length-append (spawn_of e) (spawns_of es) in

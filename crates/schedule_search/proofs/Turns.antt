@@ -1,16 +1,16 @@
 -- Goals that are met in turn are so where each is taken as met as soon as it is: waiting wins nothing.
-use Rattle.std.proofs.Common.{◌≡◌, Bool, true, false, ◌&&◌, List, [], ◌∷◌, ◌++◌, length, refl, sym, ◌∙◌, ap, subst, inl, inr, append_assoc}
+use Rattle.std.proofs.Common.{◌≡◌, Bool, true, false, List, [], ◌∷◌, ◌++◌, length, refl, sym, ◌∙◌, ap, subst, inl, inr, append_assoc}
 use Rattle.std.specs.Prelude.{if◌then◌else◌}
 use Rattle.std.proofs.lemmas.Bool.{cases_Bool, and_parts}
+use Rattle.schedule_replay.proofs.UnderWay.{after_append}
 use Rattle.ipc_ids.specs.declared.entry.Entry.{Entry}
 use Rattle.ipc_ids.specs.declared.message.Event.{Event}
 use Rattle.task_system.specs.Run.{RunState, turn, state_after}
 use Rattle.search_goals.specs.GoalText.{Asked, LosesCall, IsRest, IsStuck, HoldAll, HasLine}
 use Rattle.search_goals.specs.GoalList.{may_precede, all_precede}
-use Rattle.schedule_search.specs.Search.{Search, IsSound, state_behind, first_state, last_told}
+use Rattle.schedule_search.specs.Search.{Search, state_behind, first_state, last_told}
 use Rattle.schedule_search.specs.Meeting.{IsMet, MeetInTurn, Meets}
 use Rattle.schedule_search.specs.Left.{is_met, Left, left_here, left_after, left_behind, IsOver}
-use Rattle.schedule_search.proofs.Behind.{after_both}
 use Rattle.schedule_search.proofs.Fronts.{same_end}
 
 -- ---- one goal
@@ -74,7 +74,7 @@ sooner (goal ∷ goals) asked now es fs meet = (
   meet.1,
   append_assoc es meet.0 meet.1 ∙ ap (λ (z : List Event). es ++ z) meet.2,
   told_behind goal [] now es meet.0 meet.3,
-  subst (λ (z : RunState). MeetInTurn goals asked z [] meet.1) (sym (after_both now es meet.0)) meet.4,
+  subst (λ (z : RunState). MeetInTurn goals asked z [] meet.1) (sym (after_append now es meet.0)) meet.4,
 )
 
 -- ---- as soon as may be

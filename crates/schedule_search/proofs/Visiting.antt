@@ -30,7 +30,7 @@ step_compared now old new task after words same from to after_is words_is is =
     ∙ ap (pointwise nat_eq (run_words (turn now (Step task)).state)) words_is
 
 -- what holds of a value that there is, under a wider word
-if_ok_on : {A E : Type 0} (P Q : A → Type 0) (r : Result A E) → ((x : A) → P x → Q x) → IfOk r P → IfOk r Q
+pub if_ok_on : {A E : Type 0} (P Q : A → Type 0) (r : Result A E) → ((x : A) → P x → Q x) → IfOk r P → IfOk r Q
 if_ok_on P Q (Ok x) f h = f x h
 if_ok_on P Q (Err e) f h = tt
 

@@ -107,7 +107,7 @@ last_whole done wires names old new (Err e) w head sound = tt
 
 -- ---- the kind of the last task
 
-last_of_push : {A : Type 0} (xs : List A) (x : A) → last_of (xs ++ x ∷ []) ≡ Some x
+pub last_of_push : {A : Type 0} (xs : List A) (x : A) → last_of (xs ++ x ∷ []) ≡ Some x
 last_of_push [] x = refl
 last_of_push (y ∷ []) x = refl
 last_of_push (y ∷ z ∷ zs) x = last_of_push (z ∷ zs) x

@@ -2,6 +2,7 @@
 use Rattle.std.proofs.Common.{◌≡◌, ℕ, suc, ◌-◌, ◌≤◌, Bool, true, false, cond, List, [], ◌∷◌, ◌++◌, length, take, drop, take-append-drop, Some, Result, Err, sym, ap, subst, ◌∙◌, inl, inr, arith}
 use Rattle.std.specs.Prelude.{◌==◌}
 use Rattle.std.proofs.lemmas.Bool.{cases_Bool}
+use Rattle.std.proofs.lemmas.Option.{same_Some}
 use Rattle.ipc_ids.specs.declared.op.Op.{Op}
 use Rattle.script_lines.specs.declared.draft.Drafts.{Drafts}
 use Rattle.script_lines.specs.declared.fault.Reason.{Reason}
@@ -17,15 +18,12 @@ use Rattle.script_lines.proofs.Lines.{size_of, first_end, first_more, behind_end
 
 -- ---- the bytes of a line
 
-some_is : (xs ys : List ℕ) → Some xs ≡ Some ys → xs ≡ ys
-some_is xs ys h = cc
-
 -- a text that begins with a line and its line feed
 pub same_front : (line rest : List ℕ) → behind line ≡ Some [] → (first_line (line ++ rest) ≡ first_line line) × (behind (line ++ rest) ≡ Some rest)
 same_front [] rest h = absurd cc
 same_front (x ∷ xs) rest h = elim (cases_Bool (x == 10)) [
   | inl e ↦
-      let none : xs ≡ [] = some_is xs [] (sym (behind_end x xs e) ∙ h) in
+      let none : xs ≡ [] = same_Some xs [] (sym (behind_end x xs e) ∙ h) in
       (first_end x (xs ++ rest) e ∙ sym (first_end x xs e), behind_end x (xs ++ rest) e ∙ ap (λ ys. Some (ys ++ rest)) none)
   | inr e ↦
       let both = same_front xs rest (sym (behind_more x xs e) ∙ h) in
@@ -37,7 +35,7 @@ pub front_is : (text rest : List ℕ) → behind text ≡ Some rest → IsFirstL
 front_is [] rest h = absurd cc
 front_is (x ∷ xs) rest h = elim (cases_Bool (x == 10)) [
   | inl e ↦
-      let same : xs ≡ rest = some_is xs rest (sym (behind_end x xs e) ∙ h) in
+      let same : xs ≡ rest = same_Some xs rest (sym (behind_end x xs e) ∙ h) in
       let one : length (x ∷ xs) - length rest ≡ 1 = omega (arith, ap length same) in
       rw one (behind_end x [] e, first_end x [] e ∙ sym (first_end x xs e))
   | inr e ↦

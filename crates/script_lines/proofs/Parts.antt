@@ -31,8 +31,8 @@ use Rattle.script_lines.specs.Sound.{IsSound, AreApart, IsRawOrAsync}
 use Rattle.script_lines.specs.Draft.{plan_of, IsWhole, on_last, body_with_op, task_with_op, with_op, empty_body, is_full, task_with_body, with_body, present, takes_bodies, service, with_service, new_task, with_task, with_new, limit_at, is_wired, leads_to_service, wire_between, with_wire, stands_first}
 use Rattle.script_lines.specs.Line.{kinds, kind_of, number_up_to, most_behind, head, plain_task, counted_task, task_of, template_of, wire_of, alone_at, ns, task, template, body, wire, operation, after_verb, after_words, after_line}
 use Rattle.script_lines.specs.ScriptParts.{ScriptParts, no_parts, script_of_parts, with_tasks, with_templates, with_wires, part, with_part, PartsFit}
-use Rattle.script_lines.proofs.Faultless.{given, ok_is, then_ok, chosen_ok}
-use Rattle.script_lines.proofs.Soundness.{other_name, none_passes}
+use Rattle.script_lines.proofs.Faultless.{given, then_ok, chosen_ok, given_by}
+use Rattle.script_lines.proofs.Soundness.{other_name, none_passes, made_is}
 use Rattle.script_lines.proofs.TaskKinds.{each_is_raw_or_async}
 
 -- ---- a change of the last task or template
@@ -50,7 +50,7 @@ SameHeads xs ys = (task_names ys ≡ task_names xs) × (kinds_of ys ≡ kinds_of
 op_head : (op : Op) (x y : TaskPlan) → task_with_op op x ≡ Ok y → SameHead x y
 op_head op x y e =
     let got = then_ok (on_last (body_with_op op) x.bodies) (λ (bodies : List Body). given (record x { bodies = bodies })) y e in
-    subst (SameHead x) (ok_is _ y got.2) (refl, refl)
+    subst (SameHead x) (made_is _ y got.2) (refl, refl)
 
 body_head : (connection : Bool) (x y : TaskPlan) → task_with_body connection x ≡ Ok y → SameHead x y
 unfolding task_with_body
@@ -60,25 +60,25 @@ body_head connection x y e = by_room (is_full connection x.bodies) e where
 
   by_room : (full : Bool) → cond full (Err TooMany) (given longer) ≡ Ok y → SameHead x y
   by_room true f = absurd cc
-  by_room false f = subst (SameHead x) (ok_is longer y f) (refl, refl)
+  by_room false f = subst (SameHead x) (made_is longer y f) (refl, refl)
 
 heads_kept : (change : TaskPlan → Result TaskPlan Reason) → ((x y : TaskPlan) → change x ≡ Ok y → SameHead x y) → (xs ys : List TaskPlan) → on_last change xs ≡ Ok ys → SameHeads xs ys
 heads_kept change kept [] ys e = absurd cc
 heads_kept change kept (x ∷ []) ys e =
     let got = then_ok (change x) (λ y. given (y ∷ [])) ys e in
     let head = kept x got.0 got.1 in
-    subst (SameHeads (x ∷ [])) (ok_is _ ys got.2) (ap (λ (n : List ℕ). n ∷ []) head.0, ap (λ (k : Kind). k ∷ []) head.1)
+    subst (SameHeads (x ∷ [])) (made_is _ ys got.2) (ap (λ (n : List ℕ). n ∷ []) head.0, ap (λ (k : Kind). k ∷ []) head.1)
 heads_kept change kept (x ∷ next ∷ others) ys e =
     let got = then_ok (on_last change (next ∷ others)) (λ changed. given (x ∷ changed)) ys e in
     let rest = heads_kept change kept (next ∷ others) got.0 got.1 in
-    subst (SameHeads (x ∷ next ∷ others)) (ok_is _ ys got.2) (ap (λ (ns : List (List ℕ)). x.name ∷ ns) rest.0, ap (λ (ks : List Kind). x.kind ∷ ks) rest.1)
+    subst (SameHeads (x ∷ next ∷ others)) (made_is _ ys got.2) (ap (λ (ns : List (List ℕ)). x.name ∷ ns) rest.0, ap (λ (ks : List Kind). x.kind ∷ ks) rest.1)
 
 on_tasks : (p q : Plan) (change : TaskPlan → Result TaskPlan Reason) → ((x y : TaskPlan) → change x ≡ Ok y → SameHead x y) → (on_last change p.tasks >>= λ tasks. given (record p { tasks = tasks })) ≡ Ok q → SameHeads p.tasks q.tasks
 on_tasks p q change kept e =
     let got = then_ok (on_last change p.tasks) (λ tasks. given (record p { tasks = tasks })) q e in
-    subst (λ (z : Plan). SameHeads p.tasks z.tasks) (ok_is _ q got.2) (heads_kept change kept p.tasks got.0 got.1)
+    subst (λ (z : Plan). SameHeads p.tasks z.tasks) (made_is _ q got.2) (heads_kept change kept p.tasks got.0 got.1)
 
-alone_ok : (here : Bool) (words : List (List ℕ)) (made : Result Plan Reason) (q : Plan) → alone_at here words made ≡ Ok q → made ≡ Ok q
+pub alone_ok : (here : Bool) (words : List (List ℕ)) (made : Result Plan Reason) (q : Plan) → alone_at here words made ≡ Ok q → made ≡ Ok q
 alone_ok false words made q e = absurd cc
 alone_ok true [] made q e = e
 alone_ok true (_ ∷ _) made q e = absurd cc
@@ -104,7 +104,7 @@ wire_keeps p q words e =
     by_phone (nat_le (limit_at p.tasks from.0) said.0.1 || is_wired p.wires (from.0 + 1) said.0.1 || leads_to_service p.tasks from.0 said.0.1) (record p { wires = p.wires ++ wire_between from.0 said.0.1 to.0 ∷ [] }) refl to.2 where
       by_phone : (bad : Bool) (made : Plan) → made.tasks ≡ p.tasks → cond bad (Err BadPhone) (given made) ≡ Ok q → q.tasks ≡ p.tasks
       by_phone true made same f = absurd cc
-      by_phone false made same f = subst (λ (z : Plan). z.tasks ≡ p.tasks) (ok_is made q f) same
+      by_phone false made same f = subst (λ (z : Plan). z.tasks ≡ p.tasks) (made_is made q f) same
 
 -- ---- one more task or template
 
@@ -120,7 +120,7 @@ kind_found : (word : List ℕ) (kind : Kind) → needed (kind_of word) ≡ Ok ki
 unfolding kind_of
 kind_found word kind e = by_found (look_up kinds word) (each_is_raw_or_async word) e where
   by_found : (o : Option Kind) → IfSome o IsRawOrAsync → needed o ≡ Ok kind → IsRawOrAsync kind
-  by_found (Some k) is f = subst IsRawOrAsync (ok_is k kind f) is
+  by_found (Some k) is f = subst IsRawOrAsync (made_is k kind f) is
   by_found None is f = absurd cc
 
 -- a line's head of a raw or an async kind is of that kind
@@ -135,7 +135,7 @@ unfolding plain_task
 plain_found name kind x e =
     let named = then_ok (needed (name_of name)) _ x e in
     let found = then_ok (needed (kind_of kind)) _ x named.2 in
-    subst (λ (z : TaskHead). IsRawOrAsync z.kind) (ok_is _ x found.2) (head_found named.0 found.0 most_phones None (kind_found kind found.0 found.1))
+    subst (λ (z : TaskHead). IsRawOrAsync z.kind) (made_is _ x found.2) (head_found named.0 found.0 most_phones None (kind_found kind found.0 found.1))
 
 counted_found : (name kind count : List ℕ) (x : TaskHead) → counted_task name (kind_of kind) count ≡ Ok x → IsRawOrAsync x.kind
 unfolding counted_task
@@ -143,7 +143,7 @@ counted_found name kind count x e =
     let named = then_ok (needed (name_of name)) _ x e in
     let found = then_ok (needed (kind_of kind)) _ x named.2 in
     let last = then_ok (needed (number_up_to (most_behind found.0) count)) _ x found.2 in
-    subst (λ (z : TaskHead). IsRawOrAsync z.kind) (ok_is _ x last.2) (head_found named.0 found.0 last.0 None (kind_found kind found.0 found.1))
+    subst (λ (z : TaskHead). IsRawOrAsync z.kind) (made_is _ x last.2) (head_found named.0 found.0 last.0 None (kind_found kind found.0 found.1))
 
 template_found : (words : List (List ℕ)) (x : TaskHead) → template_of words ≡ Ok x → IsRawOrAsync x.kind
 unfolding template_of
@@ -169,7 +169,7 @@ one_more IsSuch names p q made such e = by_other (is_some (place_of names made.n
 
   by_full : (f : Bool) → is_some (place_of names made.name) ≡ false → is_ns made.name ≡ false → cond f (Err TooMany) (given longer) ≡ Ok q → IsOneMore IsSuch names p q
   by_full true free other e = absurd cc
-  by_full false free other e = subst (IsOneMore IsSuch names p) (ok_is longer q e) (record { new = new_task made; tasks = refl; free = free; not_ns = other_name made.name other; of_kind = such })
+  by_full false free other e = subst (IsOneMore IsSuch names p) (made_is longer q e) (record { new = new_task made; tasks = refl; free = free; not_ns = other_name made.name other; of_kind = such })
 
   by_own : (t : Bool) → taken ≡ t → is_some (place_of names made.name) ≡ false → cond t (Err NameTaken) (cond full (Err TooMany) (given longer)) ≡ Ok q → IsOneMore IsSuch names p q
   by_own true is free e = absurd cc
@@ -254,38 +254,35 @@ part_fits tasks templates false q fit same = record {
 
 ns_made : (w : ScriptParts) (q : Plan) (words : List (List ℕ)) → ns w words ≡ Ok q → with_service w.tasks ≡ q
 unfolding ns
-ns_made w q words e = ok_is (with_service w.tasks) q (alone_ok (stands_first (script_of_parts w)) words (given (with_service w.tasks)) q e)
+ns_made w q words e = made_is (with_service w.tasks) q (alone_ok (stands_first (script_of_parts w)) words (given (with_service w.tasks)) q e)
 
 module _ (w v : ScriptParts) (fit : PartsFit w) where
-  put : (r : Result Plan Reason) (f : Plan → ScriptParts) → (r >>= λ plan. given (f plan)) ≡ Ok v → (q : Plan) × (r ≡ Ok q) × (f q ≡ v)
-  put r f e = let got = then_ok r (λ plan. given (f plan)) v e in (got.0, got.1, ok_is (f got.0) v got.2)
-
   verb_fits : (verb : Option Verb) (words : List (List ℕ)) → after_verb w verb words ≡ Ok v → PartsFit v
   verb_fits None words e = absurd cc
   verb_fits (Some first.Ns) words e =
-      let got = put (ns w words) (with_tasks w) e in
+      let got = given_by (ns w words) (with_tasks w) v e in
       subst PartsFit (ap (with_tasks w) (ns_made w got.0 words got.1) ∙ got.2) (service_fits w fit)
   verb_fits (Some first.Task) words e =
-      let got = put (task (task_names w.templates.tasks) w.tasks words) (with_tasks w) e in
+      let got = given_by (task (task_names w.templates.tasks) w.tasks words) (with_tasks w) v e in
       subst PartsFit got.2 (task_fits w got.0 fit (task_keeps (task_names w.templates.tasks) w.tasks got.0 words got.1))
   verb_fits (Some first.Template) words e =
-      let got = put (template (task_names w.tasks.tasks) w.templates words) (with_templates w) e in
+      let got = given_by (template (task_names w.tasks.tasks) w.templates words) (with_templates w) v e in
       subst PartsFit got.2 (template_fits w got.0 fit (template_keeps (task_names w.tasks.tasks) w.templates got.0 words got.1))
   verb_fits (Some first.Fibril) words e =
-      let got = put (body (part w) false words) (with_part w) e in
+      let got = given_by (body (part w) false words) (with_part w) v e in
       subst PartsFit got.2 (part_fits w.tasks w.templates w.on_template got.0 fit (body_keeps (part w) got.0 false words got.1))
   verb_fits (Some first.Connection) words e =
-      let got = put (body (part w) true words) (with_part w) e in
+      let got = given_by (body (part w) true words) (with_part w) v e in
       subst PartsFit got.2 (part_fits w.tasks w.templates w.on_template got.0 fit (body_keeps (part w) got.0 true words got.1))
   verb_fits (Some first.Wire) words e =
-      let got = put (wire w.tasks words) (with_wires w) e in
+      let got = given_by (wire w.tasks words) (with_wires w) v e in
       subst PartsFit got.2 (wire_fits w got.0 fit (wire_keeps w.tasks got.0 words got.1))
   verb_fits (Some (first.Op verb)) words e =
-      let got = put (operation (part w) verb words) (with_part w) e in
+      let got = given_by (operation (part w) verb words) (with_part w) v e in
       subst PartsFit got.2 (part_fits w.tasks w.templates w.on_template got.0 fit (operation_keeps (part w) got.0 verb words got.1))
 
   words_fit : (words : List (List ℕ)) → after_words w words ≡ Ok v → PartsFit v
-  words_fit [] e = subst PartsFit (ok_is w v e) fit
+  words_fit [] e = subst PartsFit (made_is w v e) fit
   words_fit (first ∷ others) e = verb_fits (verb_of first) others e
 
   pub line_fits : (line : List ℕ) → after_line w line ≡ Ok v → PartsFit v

@@ -5,7 +5,7 @@ use Rattle.std.specs.List.{position_or_len}
 use Rattle.std.specs.Option.{option_map_or}
 use Rattle.std.specs.Str.{bytes_eq}
 use Rattle.std.proofs.Math.ListN.{get_or-append}
-use Rattle.std.proofs.lemmas.Bool.{cases_lt, lt-ltb, le-ltb, eq-eqb, and_from}
+use Rattle.std.proofs.lemmas.Bool.{cases_lt, lt-ltb, le-ltb, eq-eqb, and_from, false_from_ne_true}
 use Rattle.std.proofs.lemmas.List.{get_or-take}
 use Rattle.std.proofs.lemmas.List.Elements.{All-push, All-weaker}
 use Rattle.std.proofs.lemmas.List.Quantifiers.{all_pairs_push}
@@ -34,7 +34,7 @@ use Rattle.script_lines.proofs.Places.{position_through}
 abbrev given : {A : Type 0} → A → Result A Reason
 given x = Ok x
 
-made_is : {A : Type 0} (x y : A) → given x ≡ given y → x ≡ y
+pub made_is : {A : Type 0} (x y : A) → given x ≡ given y → x ≡ y
 made_is x y e = cc
 
 pub all_one : {X : Type 0} (P : X → Type 0) (x : X) → P x → All P (x ∷ [])
@@ -210,10 +210,6 @@ none_is p xs d fails =
     let end = position_or_len_is p xs (length xs) d (omega arith) fails (λ lt. absurd (omega arith)) in
     ap (λ (b : Bool). is_some (cond b (Some (position_or_len p xs)) None)) (le-ltb (position_or_len p xs) (length xs) (omega arith))
 
-is_false : (b : Bool) → (b ≡ true → ⊥) → b ≡ false
-is_false true h = absurd (h refl)
-is_false false h = refl
-
 -- the names of the tasks before one do not have its name
 pub name_before_is_new : (tasks : List TaskPlan) (i : ℕ) (d : TaskPlan) → NamesDiffer tasks → i < length tasks → is_some (place_of (task_names (take i tasks)) (get_or tasks i d).name) ≡ false
 name_before_is_new tasks i d differ lt =
@@ -221,7 +217,7 @@ name_before_is_new tasks i d differ lt =
     let len = length-take-le i tasks (omega arith) in
     let other : (k : ℕ) → k < i → bytes_eq name (get_or tasks k d).name ≡ true → ⊥ = λ k below same. differ k i d below lt (sym ((bytes_eq-Decides name (get_or tasks k d).name).0 same)) in
     let fails : (k : ℕ) → k < length (take i tasks) → bytes_eq name (get_or (take i tasks) k d).name ≡ false =
-    λ k below. rw (get_or-take i tasks k d (omega arith)) (is_false (bytes_eq name (get_or tasks k d).name) (other k (omega arith))) in
+    λ k below. rw (get_or-take i tasks k d (omega arith)) (false_from_ne_true (bytes_eq name (get_or tasks k d).name) (other k (omega arith))) in
     ap is_some (sym (position_through (λ (t : TaskPlan). t.name) (bytes_eq name) (take i tasks))) ∙ none_is (λ (t : TaskPlan). bytes_eq name t.name) (take i tasks) d fails
 
 -- ---- the parts of a sound script

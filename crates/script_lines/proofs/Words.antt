@@ -89,12 +89,12 @@ len_more x xs e = rw e (omega arith)
 abbrev pub Cut : ℕ → List ℕ → Type 0
 Cut i xs = (pieces xs ≡ take i xs ∷ drop 1 (pieces (drop i xs))) × (words (drop i xs) ≡ kept (drop 1 (pieces (drop i xs))))
 
-cut_here : (xs : List ℕ) (parts : List (List ℕ)) → pieces xs ≡ [] ∷ parts → Cut 0 xs
+pub cut_here : (xs : List ℕ) (parts : List (List ℕ)) → pieces xs ≡ [] ∷ parts → Cut 0 xs
 cut_here xs parts e =
     let whole : pieces xs ≡ [] ∷ drop 1 (pieces xs) = e ∙ ap (λ z. [] ∷ drop 1 z) (sym e) in
     (whole, ap kept whole)
 
-cut_more : (i x : ℕ) (xs : List ℕ) → pieces (x ∷ xs) ≡ onto_first x (pieces xs) → Cut i xs → Cut (suc i) (x ∷ xs)
+pub cut_more : (i x : ℕ) (xs : List ℕ) → pieces (x ∷ xs) ≡ onto_first x (pieces xs) → Cut i xs → Cut (suc i) (x ∷ xs)
 cut_more i x xs e cut = (e ∙ ap (onto_first x) cut.0, cut.1)
 
 cut_at_end : (x : ℕ) (xs : List ℕ) → is_allowed x ≡ true → ends_word x ≡ true → Cut 0 (x ∷ xs)

@@ -4,6 +4,7 @@ use Rattle.std.specs.Prelude.{is_some, nat_le, nat_lt, codes, option_map, ◌↔
 use Rattle.std.specs.List.{list_all}
 use Rattle.std.specs.Str.{bytes_eq}
 use Rattle.std.specs.Option.{option_or, option_and_then, option_map_or, ok_or}
+use Rattle.std.proofs.lemmas.Option.{same_Some}
 use Rattle.ipc_ids.specs.Tables.{most_events, most_tasks}
 use Rattle.ipc_ids.specs.declared.numbers.TaskNo.{TaskNo}
 use Rattle.ipc_ids.specs.declared.message.Event.{Event}
@@ -22,14 +23,11 @@ use Rattle.script_reader.specs.EventLine.{EventsAndNames, unless, is_taken, spaw
 use Rattle.script_reader.specs.Reasons.{THE, UP_TO, event_forms, has_wrong_count, has_bad_word, event_names_unknown, event_name_is_taken, are_too_many_tasks, passes_limit, are_too_many_events, is_unknown_operation, on_line, event_reasons}
 use Rattle.script_reader.specs.Rows.{Row, IsFirstReason, first_reason, fault_in}
 use Rattle.script_lines.proofs.NearPlaces.{flip}
-use Rattle.script_reader.proofs.FormFaults.{differ}
-use Rattle.script_reader.proofs.Faults.{bind_fault, rows_join, bytes_first, at_fault_both}
+use Rattle.script_reader.proofs.FormFaults.{differ, bind_ok}
+use Rattle.script_reader.proofs.Faults.{bind_fault, rows_join, bytes_first, at_fault_both, ok_is}
 
 abbrev given : (A : Type 0) → A → Result A Reason
 given A x = Ok x
-
-ok_is : {A : Type 0} (x y : A) → given A x ≡ given A y → x ≡ y
-ok_is x y e = cc
 
 -- ---- one word after another
 
@@ -149,14 +147,11 @@ with_events_fault before event count = go (nat_lt most_events (length before + c
   go true made = refl
   go false made = refl
 
-some_is : (m n : ℕ) → Some m ≡ Some n → m ≡ n
-some_is m n e = cc
-
 step_rest : (names : List (List ℕ)) (before : List Event) (words : List (List ℕ)) (x : Event × ℕ) → step_of names words ≡ Ok x
     → fault_in (with_events before x.0 x.1) ≡ first_reason ((TooManyEvents, are_too_many_events before Step words) ∷ [])
 unfolding step_of
 step_rest names before [] x e = absurd cc
-step_rest names before (a ∷ []) x e = rw (some_is 1 x.1 (step_count names a (Some 1) x e)) (with_events_fault before x.0 x.1)
+step_rest names before (a ∷ []) x e = rw (same_Some 1 x.1 (step_count names a (Some 1) x e)) (with_events_fault before x.0 x.1)
 step_rest names before (a ∷ b ∷ []) x e = absurd cc
 step_rest names before (a ∷ b ∷ c ∷ []) x e = rw (count_is b c x.1 (step_count names a (count_of b c) x e)) (with_events_fault before x.0 x.1)
 step_rest names before (a ∷ b ∷ c ∷ d ∷ others) x e = absurd cc
@@ -194,10 +189,6 @@ hangup_rest names before (a ∷ b ∷ c ∷ others) x e = absurd cc
 
 -- ---- a task that is made
 
-kept_fault : {A B : Type 0} (r : Result A Reason) (f : A → B) → fault_in (r >>= λ x. Ok (f x)) ≡ fault_in r
-kept_fault (Ok x) f = refl
-kept_fault (Err reason) f = refl
-
 join_row : (reason : Reason) (b : Bool) (rows rest : List Row) → option_or (first_reason rows) (first_reason rest) ≡ first_reason (rows ++ rest)
     → option_or (cond b (Some reason) (first_reason rows)) (first_reason rest) ≡ cond b (Some reason) (first_reason (rows ++ rest))
 join_row reason true rows rest e = refl
@@ -232,7 +223,7 @@ module _ (templates : List (List ℕ)) (before : EventsAndNames) (a b : List ℕ
   spawn_says =
       let rest : List Row = (TooManyEvents, passes_limit before.events 1) ∷ [] in
       bind_fault (spawn_place templates before.names a b) (λ place. with_spawn before place b) rest
-      (λ place is. kept_fault (with_events before.events (events.Spawn place) 1) _ ∙ with_events_fault before.events (events.Spawn place) 1)
+      (λ place is. bind_ok (with_events before.events (events.Spawn place) 1) _ ∙ with_events_fault before.events (events.Spawn place) 1)
       ∙ ap (λ (o : Option Reason). option_or o (first_reason rest)) place_says
       ∙ join ((BadWord, not (is_name a && (is_name b && true)) && true) ∷ behind_names) rest
 
@@ -263,7 +254,7 @@ event_line : (before : EventsAndNames) (verb : EventVerb) (words : List (List �
     ∷ (UnknownName, event_names_unknown [] before.names verb words) ∷ (TooManyEvents, are_too_many_events before.events verb words) ∷ [])
 event_line before verb words r says h =
     let rest : List Row = (TooManyEvents, are_too_many_events before.events verb words) ∷ [] in
-    bind_fault r (with_repeated before) rest (λ x is. kept_fault (with_events before.events x.0 x.1) _ ∙ h x is) ∙ ap (λ (o : Option Reason). option_or o (first_reason rest)) says
+    bind_fault r (with_repeated before) rest (λ x is. bind_ok (with_events before.events x.0 x.1) _ ∙ h x is) ∙ ap (λ (o : Option Reason). option_or o (first_reason rest)) says
     ∙ rows_join (has_wrong_count (event_forms verb) words) (has_bad_word (event_forms verb) words) (event_names_unknown [] before.names verb words) WrongCount BadWord UnknownName rest
 
 -- an event on a task names no template

@@ -13,7 +13,8 @@ use Rattle.script_lines.specs.Operation.{needed}
 use Rattle.script_reader.specs.Schedule.{MayCome, MayAllCome, tasks_after, task_of_event, count_of, step_with, step_of, kill_of, hangup_of}
 use Rattle.script_lines.specs.Sound.{IsTask}
 use Rattle.script_lines.specs.Word.{name_of, number}
-use Rattle.script_lines.proofs.Faultless.{ok_is, then_ok, found_is}
+use Rattle.script_lines.proofs.Faultless.{then_ok, found_is}
+use Rattle.script_lines.proofs.Soundness.{made_is}
 
 -- ---- the task of one event
 
@@ -42,7 +43,7 @@ step_on names name count x e =
     let known = then_ok (needed (name_of name)) _ x e in
     let counted = then_ok (needed count) _ x known.2 in
     let found = then_ok (ok_or (task_named names known.0) UnknownName) _ x counted.2 in
-    subst (λ (y : Event × ℕ). IsOn (length names) y.0) (ok_is _ x found.2) (named_is_task names known.0 found.0 (found_is _ found.0 found.1))
+    subst (λ (y : Event × ℕ). IsOn (length names) y.0) (made_is _ x found.2) (named_is_task names known.0 found.0 (found_is _ found.0 found.1))
 
 pub steps_on : (names words : List (List ℕ)) (x : Event × ℕ) → step_of names words ≡ Ok x → IsOn (length names) x.0
 unfolding step_of
@@ -55,7 +56,7 @@ unfolding kill_of
 kill_on names (name ∷ []) x e =
     let known = then_ok (needed (name_of name)) _ x e in
     let found = then_ok (ok_or (task_named names known.0) UnknownName) _ x known.2 in
-    subst (λ (y : Event × ℕ). IsOn (length names) y.0) (ok_is _ x found.2) (named_is_task names known.0 found.0 (found_is _ found.0 found.1))
+    subst (λ (y : Event × ℕ). IsOn (length names) y.0) (made_is _ x found.2) (named_is_task names known.0 found.0 (found_is _ found.0 found.1))
 kill_on names _ x e = absurd cc
 
 pub hangup_on : (names words : List (List ℕ)) (x : Event × ℕ) → hangup_of names words ≡ Ok x → IsOn (length names) x.0
@@ -64,7 +65,7 @@ hangup_on names (name ∷ phone ∷ []) x e =
     let known = then_ok (needed (name_of name)) _ x e in
     let numbered = then_ok (needed (number phone)) _ x known.2 in
     let found = then_ok (ok_or (task_named names known.0) UnknownName) _ x numbered.2 in
-    subst (λ (y : Event × ℕ). IsOn (length names) y.0) (ok_is _ x found.2) (named_is_task names known.0 found.0 (found_is _ found.0 found.1))
+    subst (λ (y : Event × ℕ). IsOn (length names) y.0) (made_is _ x found.2) (named_is_task names known.0 found.0 (found_is _ found.0 found.1))
 hangup_on names _ x e = absurd cc
 
 -- ---- what may come

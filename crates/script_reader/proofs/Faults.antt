@@ -27,7 +27,7 @@ use Rattle.script_lines.specs.Line.{kind_of, counted_kind_of, service_kind_of, n
 use Rattle.script_reader.specs.Reasons.{Form, UP_TO, raw_forms, async_forms, op_forms, alone_where, forms, is_out_of_place, has_wrong_count, has_bad_word, names_unknown, name_is_taken, cannot_lead_from, cannot_lead, phone_is_bad, of_last_task, is_too_many, subject, is_among, is_taken_beside, is_known, line_reasons}
 use Rattle.script_lines.specs.Sound.{most_blocks}
 use Rattle.script_reader.specs.Rows.{Row, first_reason, fault_in, IsFirstReason, NoReason}
-use Rattle.script_reader.proofs.FormFaults.{Says, bad, differ, two_needed, three_needed, raw_says, async_says}
+use Rattle.script_reader.proofs.FormFaults.{Says, bad, differ, two_needed, three_needed, raw_says, async_says, bind_ok}
 
 abbrev given : (A : Type 0) → A → Result A Reason
 given A x = Ok x
@@ -57,15 +57,10 @@ form_rows forms words rest r f says h =
 
 -- ---- an operation
 
--- an answer that is kept as it is
-kept : {A B : Type 0} (r : Result A Reason) (f : A → B) → fault_in (r >>= λ x. Ok (f x)) ≡ fault_in r
-kept (Ok x) f = refl
-kept (Err e) f = refl
-
 on_last_fault : {A : Type 0} (change : A → Result A Reason) (xs : List A) → fault_in (on_last change xs) ≡ option_map_or (λ x. fault_in (change x)) (last_of xs) (Some OutOfPlace)
 on_last_fault change [] = refl
-on_last_fault {A} change (a ∷ []) = kept (change a) (λ (y : A). y ∷ [])
-on_last_fault {A} change (a ∷ b ∷ xs) = kept (on_last change (b ∷ xs)) (λ (changed : List A). a ∷ changed) ∙ on_last_fault change (b ∷ xs)
+on_last_fault {A} change (a ∷ []) = bind_ok (change a) (λ (y : A). y ∷ [])
+on_last_fault {A} change (a ∷ b ∷ xs) = bind_ok (on_last change (b ∷ xs)) (λ (changed : List A). a ∷ changed) ∙ on_last_fault change (b ∷ xs)
 
 body_full : (body : Body) (op : Op) → fault_in (body_with_op op body) ≡ first_reason ((TooMany, nat_le most_operations (length body.ops)) ∷ [])
 body_full body op = go (nat_le most_operations (length body.ops)) where
@@ -84,7 +79,7 @@ tasks_full : (tasks : List TaskPlan) (op : Op) (o : Option TaskPlan) → last_of
 tasks_full tasks op None e there = absurd cc
 tasks_full tasks op (Some task) e there =
     on_last_fault (task_with_op op) tasks ∙ ap (λ (o : Option TaskPlan). option_map_or (λ x. fault_in (task_with_op op x)) o (Some OutOfPlace)) e
-    ∙ kept (on_last (body_with_op op) task.bodies) (λ (bodies : List Body). record task { bodies = bodies })
+    ∙ bind_ok (on_last (body_with_op op) task.bodies) (λ (bodies : List Body). record task { bodies = bodies })
     ∙ bodies_full task.bodies op (last_of task.bodies) refl (there_is (last_of task.bodies) there) where
       there_is : (o : Option Body) → is_some (option_map (λ _. task.kind) o) ≡ true → is_some o ≡ true
       there_is None h = h
@@ -93,7 +88,7 @@ tasks_full tasks op (Some task) e there =
 op_full : (plan : Plan) (op : Op) (kind : Kind) (words : List (List ℕ)) (verb : OpVerb) → present plan ≡ Some kind → fault_in (with_op plan op) ≡ first_reason ((TooMany, is_too_many plan (first.Op verb) words) ∷ [])
 unfolding present with_op
 op_full plan op kind words verb e =
-    kept (on_last (task_with_op op) plan.tasks) (λ (tasks : List TaskPlan). record plan { tasks = tasks })
+    bind_ok (on_last (task_with_op op) plan.tasks) (λ (tasks : List TaskPlan). record plan { tasks = tasks })
     ∙ tasks_full plan.tasks op (last_of plan.tasks) refl (ap is_some e)
 
 -- the rows of a line whose first word is known, from its place on
@@ -148,7 +143,7 @@ ns_line w words = alone_rows (stands_first (script_of_parts w)) words (Ok (with_
 with_body_fault : (plan : Plan) (connection : Bool) → takes_bodies plan ≡ true → fault_in (with_body plan connection) ≡ first_reason ((TooMany, of_last_task plan (λ task. is_full connection task.bodies)) ∷ [])
 unfolding with_body takes_bodies task_with_body
 with_body_fault plan connection takes =
-    kept (on_last (task_with_body connection) plan.tasks) (λ (tasks : List TaskPlan). record plan { tasks = tasks })
+    bind_ok (on_last (task_with_body connection) plan.tasks) (λ (tasks : List TaskPlan). record plan { tasks = tasks })
     ∙ on_last_fault (task_with_body connection) plan.tasks ∙ go (last_of plan.tasks) takes where
       pick : {A : Type 0} (b : Bool) (made : A) → fault_in (cond b (Err TooMany) (Ok made)) ≡ first_reason ((TooMany, b) ∷ [])
       pick true made = refl
@@ -317,7 +312,7 @@ wire_says plan (a ∷ b ∷ []) = refl
 wire_says plan (a ∷ b ∷ c ∷ []) = three_needed (name_of a) (number b) (name_of c) (λ f p t. (f, p, t)) ∙ rw (is_named a, is_named c) refl
 wire_says plan (a ∷ b ∷ c ∷ d ∷ others) = rw (differ 3 (suc (suc (suc (suc (length others))))) (omega arith)) refl
 
-ok_is : {A : Type 0} (x y : A) → given A x ≡ given A y → x ≡ y
+pub ok_is : {A : Type 0} (x y : A) → given A x ≡ given A y → x ≡ y
 ok_is x y e = cc
 
 with_task_fault : (plan : Plan) (made : TaskHead)
@@ -329,7 +324,7 @@ with_task_fault plan made = go (is_ns made.name || is_known plan made.name) (nat
   go false true made = refl
   go false false made = refl
 
-head_name : (name : List ℕ) (kind : Kind) (count : ℕ) (service : Option ℕ) → (head name kind count service).name ≡ name
+pub head_name : (name : List ℕ) (kind : Kind) (count : ℕ) (service : Option ℕ) → (head name kind count service).name ≡ name
 head_name name Naming count service = refl
 head_name name Raw count service = refl
 head_name name Async count service = refl
@@ -488,13 +483,13 @@ same_template_rows : (names : List (List ℕ)) (plan : Plan) (words : List (List
 same_template_rows names plan words = refl
 
 verb_line : (w : ScriptParts) (verb : Verb) (words : List (List ℕ)) → fault_in (after_verb w (Some verb) words) ≡ first_reason (line_rows w verb words)
-verb_line w first.Ns words = kept (ns w words) (with_tasks w) ∙ ns_line w words
-verb_line w first.Task words = kept (task (task_names w.templates.tasks) w.tasks words) (with_tasks w) ∙ task_line (task_names w.templates.tasks) w.tasks words ∙ same_task_rows (task_names w.templates.tasks) w.tasks words
-verb_line w first.Template words = kept (template (task_names w.tasks.tasks) w.templates words) (with_templates w) ∙ template_line (task_names w.tasks.tasks) w.templates words ∙ same_template_rows (task_names w.tasks.tasks) w.templates words
-verb_line w first.Fibril words = kept (body (part w) false words) (with_part w) ∙ fibril_line (part w) words
-verb_line w first.Connection words = kept (body (part w) true words) (with_part w) ∙ connection_line (part w) words
-verb_line w first.Wire words = kept (wire w.tasks words) (with_wires w) ∙ wire_line w.tasks words
-verb_line w (first.Op verb) words = kept (operation (part w) verb words) (with_part w) ∙ op_line (part w) verb words
+verb_line w first.Ns words = bind_ok (ns w words) (with_tasks w) ∙ ns_line w words
+verb_line w first.Task words = bind_ok (task (task_names w.templates.tasks) w.tasks words) (with_tasks w) ∙ task_line (task_names w.templates.tasks) w.tasks words ∙ same_task_rows (task_names w.templates.tasks) w.tasks words
+verb_line w first.Template words = bind_ok (template (task_names w.tasks.tasks) w.templates words) (with_templates w) ∙ template_line (task_names w.tasks.tasks) w.templates words ∙ same_template_rows (task_names w.tasks.tasks) w.templates words
+verb_line w first.Fibril words = bind_ok (body (part w) false words) (with_part w) ∙ fibril_line (part w) words
+verb_line w first.Connection words = bind_ok (body (part w) true words) (with_part w) ∙ connection_line (part w) words
+verb_line w first.Wire words = bind_ok (wire w.tasks words) (with_wires w) ∙ wire_line w.tasks words
+verb_line w (first.Op verb) words = bind_ok (operation (part w) verb words) (with_part w) ∙ op_line (part w) verb words
 
 known_line : (w : ScriptParts) (verb : Option Verb) (others : List (List ℕ)) → fault_in (after_verb w verb others)
     ≡ first_reason (

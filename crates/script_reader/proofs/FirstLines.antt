@@ -18,9 +18,11 @@ use Rattle.script_lines.specs.Names.{task_names, place_of, is_ns}
 use Rattle.script_lines.specs.Operation.{◌>>=◌, op_in}
 use Rattle.script_lines.specs.Plan.{Plan}
 use Rattle.script_lines.specs.Draft.{on_last, task_with_op, with_op, task_with_body, with_body, present, takes_bodies, service, with_service, new_task, with_task, with_new, limit_at, is_wired, leads_to_service, wire_between, with_wire, stands_first}
-use Rattle.script_lines.specs.Line.{task_of, template_of, wire_of, alone_at, ns, task, template, body, wire, operation, after_verb, after_words, after_line}
+use Rattle.script_lines.specs.Line.{task_of, template_of, wire_of, ns, task, template, body, wire, operation, after_verb, after_words, after_line}
 use Rattle.script_lines.specs.ScriptParts.{ScriptParts, no_parts, script_of_parts, with_tasks, with_templates, with_wires, part, with_part}
-use Rattle.script_lines.proofs.Faultless.{given, ok_is, then_ok, chosen_ok}
+use Rattle.script_lines.proofs.Faultless.{given, then_ok, chosen_ok, given_by}
+use Rattle.script_lines.proofs.Parts.{alone_ok}
+use Rattle.script_lines.proofs.Soundness.{made_is}
 use Rattle.script_reader.specs.Grammar.{Makes}
 use Rattle.script_reader.specs.FirstLine.{HaveNoWords}
 
@@ -33,15 +35,10 @@ HasTask plan = 0 < length plan.tasks
 one_more : (tasks : List TaskPlan) (new : TaskPlan) → 0 < length (tasks ++ new ∷ [])
 one_more tasks new = rw (length-append tasks (new ∷ [])) (omega arith)
 
-alone_ok : (here : Bool) (words : List (List ℕ)) (made : Result Plan Reason) (q : Plan) → alone_at here words made ≡ Ok q → made ≡ Ok q
-alone_ok false words made q e = absurd cc
-alone_ok true [] made q e = e
-alone_ok true (_ ∷ _) made q e = absurd cc
-
 ns_has : (w : ScriptParts) (q : Plan) (words : List (List ℕ)) → ns w words ≡ Ok q → HasTask q
 unfolding ns with_service
 ns_has w q words e =
-    let made = ok_is (with_service w.tasks) q (alone_ok (stands_first (script_of_parts w)) words (given (with_service w.tasks)) q e) in
+    let made = made_is (with_service w.tasks) q (alone_ok (stands_first (script_of_parts w)) words (given (with_service w.tasks)) q e) in
     subst HasTask made (one_more w.tasks.tasks service)
 
 new_has : (names : List (List ℕ)) (p q : Plan) (made : TaskHead) → with_new names p made ≡ Ok q → HasTask q
@@ -54,7 +51,7 @@ new_has names p q made e = go (is_some (place_of names made.name)) (is_ns made.n
   go true own full f = absurd cc
   go false true full f = absurd cc
   go false false true f = absurd cc
-  go false false false f = subst HasTask (ok_is longer q f) (one_more p.tasks (new_task made))
+  go false false false f = subst HasTask (made_is longer q f) (one_more p.tasks (new_task made))
 
 task_has : (names : List (List ℕ)) (p q : Plan) (words : List (List ℕ)) → task names p words ≡ Ok q → HasTask q
 unfolding task
@@ -68,16 +65,16 @@ last_has : (change : TaskPlan → Result TaskPlan Reason) (xs ys : List TaskPlan
 last_has change [] ys e = absurd cc
 last_has change (x ∷ []) ys e =
     let got = then_ok (change x) (λ y. given (y ∷ [])) ys e in
-    subst (λ (z : List TaskPlan). 0 < length z) (ok_is _ ys got.2) (omega arith)
+    subst (λ (z : List TaskPlan). 0 < length z) (made_is _ ys got.2) (omega arith)
 last_has change (x ∷ next ∷ others) ys e =
     let got = then_ok (on_last change (next ∷ others)) (λ changed. given (x ∷ changed)) ys e in
-    subst (λ (z : List TaskPlan). 0 < length z) (ok_is _ ys got.2) (omega arith)
+    subst (λ (z : List TaskPlan). 0 < length z) (made_is _ ys got.2) (omega arith)
 
 changed_has : (p q : Plan) (change : TaskPlan → Result TaskPlan Reason)
     → (on_last change p.tasks >>= λ tasks. given (record p { tasks = tasks })) ≡ Ok q → HasTask q
 changed_has p q change e =
     let got = then_ok (on_last change p.tasks) (λ tasks. given (record p { tasks = tasks })) q e in
-    subst HasTask (ok_is _ q got.2) (last_has change p.tasks got.0 got.1)
+    subst HasTask (made_is _ q got.2) (last_has change p.tasks got.0 got.1)
 
 body_has : (p q : Plan) (connection : Bool) (words : List (List ℕ)) → body p connection words ≡ Ok q → HasTask q
 unfolding body with_body
@@ -102,7 +99,7 @@ wire_has p q words e =
     by_phone (nat_le (limit_at p.tasks from.0) said.0.1 || is_wired p.wires (from.0 + 1) said.0.1 || leads_to_service p.tasks from.0 said.0.1) (record p { wires = p.wires ++ wire_between from.0 said.0.1 to.0 ∷ [] }) (named_has p.tasks said.0.0 from.0 from.1) to.2 where
       by_phone : (bad : Bool) (made : Plan) → HasTask made → cond bad (Err BadPhone) (given made) ≡ Ok q → HasTask q
       by_phone true made has f = absurd cc
-      by_phone false made has f = subst HasTask (ok_is made q f) has
+      by_phone false made has f = subst HasTask (made_is made q f) has
 
 -- ---- so the parts stand no more before their first line
 
@@ -120,32 +117,29 @@ part_has tasks templates q true has = inr has
 part_has tasks templates q false has = inl has
 
 module _ (w v : ScriptParts) where
-  put : (r : Result Plan Reason) (f : Plan → ScriptParts) → (r >>= λ plan. given (f plan)) ≡ Ok v → (q : Plan) × (r ≡ Ok q) × (f q ≡ v)
-  put r f e = let got = then_ok r (λ plan. given (f plan)) v e in (got.0, got.1, ok_is (f got.0) v got.2)
-
   abbrev Stands : ScriptParts → Type 0
   Stands x = HasTask x.tasks ⊎ HasTask x.templates
 
   verb_has : (verb : Option Verb) (words : List (List ℕ)) → after_verb w verb words ≡ Ok v → Stands v
   verb_has None words e = absurd cc
   verb_has (Some first.Ns) words e =
-      let got = put (ns w words) (with_tasks w) e in subst Stands got.2 (inl (ns_has w got.0 words got.1))
+      let got = given_by (ns w words) (with_tasks w) v e in subst Stands got.2 (inl (ns_has w got.0 words got.1))
   verb_has (Some first.Task) words e =
-      let got = put (task (task_names w.templates.tasks) w.tasks words) (with_tasks w) e in
+      let got = given_by (task (task_names w.templates.tasks) w.tasks words) (with_tasks w) v e in
       subst Stands got.2 (inl (task_has (task_names w.templates.tasks) w.tasks got.0 words got.1))
   verb_has (Some first.Template) words e =
-      let got = put (template (task_names w.tasks.tasks) w.templates words) (with_templates w) e in
+      let got = given_by (template (task_names w.tasks.tasks) w.templates words) (with_templates w) v e in
       subst Stands got.2 (inr (template_has (task_names w.tasks.tasks) w.templates got.0 words got.1))
   verb_has (Some first.Fibril) words e =
-      let got = put (body (part w) false words) (with_part w) e in
+      let got = given_by (body (part w) false words) (with_part w) v e in
       subst Stands got.2 (part_has w.tasks w.templates got.0 w.on_template (body_has (part w) got.0 false words got.1))
   verb_has (Some first.Connection) words e =
-      let got = put (body (part w) true words) (with_part w) e in
+      let got = given_by (body (part w) true words) (with_part w) v e in
       subst Stands got.2 (part_has w.tasks w.templates got.0 w.on_template (body_has (part w) got.0 true words got.1))
   verb_has (Some first.Wire) words e =
-      let got = put (wire w.tasks words) (with_wires w) e in subst Stands got.2 (inl (wire_has w.tasks got.0 words got.1))
+      let got = given_by (wire w.tasks words) (with_wires w) v e in subst Stands got.2 (inl (wire_has w.tasks got.0 words got.1))
   verb_has (Some (first.Op verb)) words e =
-      let got = put (operation (part w) verb words) (with_part w) e in
+      let got = given_by (operation (part w) verb words) (with_part w) v e in
       subst Stands got.2 (part_has w.tasks w.templates got.0 w.on_template (operation_has (part w) got.0 verb words got.1))
 
 -- a line without words leaves the parts, and one that has words leaves a task or a template
@@ -154,7 +148,7 @@ line_stands : (w v : ScriptParts) (line : List ℕ) → after_line w line ≡ Ok
 unfolding after_line
 line_stands w v line e = go (words line) (chosen_ok (list_all is_allowed line) (after_words w (words line)) v e) where
   go : (ws : List (List ℕ)) → after_words w ws ≡ Ok v → ((ws ≡ []) × (w ≡ v)) ⊎ ((ws ≡ [] → ⊥) × (stands_first (script_of_parts v) ≡ false))
-  go [] f = inl (refl, ok_is w v f)
+  go [] f = inl (refl, made_is w v f)
   go (word ∷ others) f = inr (λ none. cc, stands_no_more v (verb_has w v (verb_of word) others f))
 
 lines_stand : (before : List (List ℕ)) (w made : ScriptParts) → Makes after_line w before made

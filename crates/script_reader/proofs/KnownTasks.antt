@@ -29,7 +29,8 @@ use Rattle.script_reader.specs.Schedule.{task_of_event, MayAllCome, tasks_after,
 use Rattle.script_lines.specs.Sound.{IsTask}
 use Rattle.script_lines.specs.Text.{is_allowed, words}
 use Rattle.script_lines.specs.Word.{name_of}
-use Rattle.script_lines.proofs.Faultless.{ok_is, then_ok, found_is, chosen_ok, allowed_ok}
+use Rattle.script_lines.proofs.Faultless.{then_ok, found_is, chosen_ok, allowed_ok}
+use Rattle.script_lines.proofs.Soundness.{made_is}
 use Rattle.script_reader.proofs.EventTasks.{IsOn, may_on, steps_on, kill_on, hangup_on}
 
 -- how many tasks there are after events
@@ -65,6 +66,10 @@ added before event times after e =
     let got = allowed_ok (ltb 65536 (length before + times)) (before ++ replicate times event) after e in
     (sym got.1, ltb-false _ _ got.0)
 
+pub free_ok : (b : Bool) (reason : Reason) (x : ⊤) → unless b reason ≡ Ok x → b ≡ false
+free_ok true reason x e = absurd (cc e)
+free_ok false reason x e = refl
+
 module _ (script : Plan) (before : EventsAndNames) (fits : Fits script before) where
   -- an event on a task, so many times
   more_fit : (event : Event) (times : ℕ) (after : EventsAndNames) → IsTask (length before.names) (task_of_event event).0 → with_repeated before (event, times) ≡ Ok after → Fits script after
@@ -75,7 +80,7 @@ module _ (script : Plan) (before : EventsAndNames) (fits : Fits script before) w
       let more = may_times (tasks_after_all (length script.tasks) before.events) (length script.templates) times event there in
       let len = length-append before.events (replicate times event) ∙ ap (λ (n : ℕ). length before.events + n) (length-replicate times event) in
       let room = got.1 in
-      subst (Fits script) (ok_is _ after made.2) (record {
+      subst (Fits script) (made_is _ after made.2) (record {
         few = rw (got.0) (omega (arith, len, room));
         may = rw (got.0) (may_append (length script.tasks) (length script.templates) before.events (replicate times event) fits.may more.0);
         known = rw (got.0) (fits.known ∙ sym (after_append (length script.tasks) before.events (replicate times event) ∙ more.1));
@@ -91,15 +96,11 @@ module _ (script : Plan) (before : EventsAndNames) (fits : Fits script before) w
       let room : n < most_tasks = omega (arith, few, known) in
       let len = length-append before.events (Spawn place ∷ []) in
       let limit = got.1 in
-      subst (Fits script) (ok_is _ after made.2) (record {
+      subst (Fits script) (made_is _ after made.2) (record {
         few = rw (got.0) (omega (arith, len, limit));
         may = rw (got.0) (may_append (length script.tasks) (length script.templates) before.events (Spawn place ∷ []) fits.may ((within, room), tt));
         known = rw (got.0) (let names = length-append before.names (name ∷ []) in names ∙ ap (λ (m : ℕ). m + 1) known ∙ sym (after_append (length script.tasks) before.events (Spawn place ∷ [])));
       })
-
-  free_ok : (b : Bool) (reason : Reason) (x : ⊤) → unless b reason ≡ Ok x → b ≡ false
-  free_ok true reason x e = absurd (cc e)
-  free_ok false reason x e = refl
 
   below : (n : ℕ) → nat_le most_tasks n ≡ false → n < 64
   below n h = grind (arith, nat_tests)
@@ -115,7 +116,7 @@ module _ (script : Plan) (before : EventsAndNames) (fits : Fits script before) w
       let room = then_ok (unless (nat_le most_tasks (length before.names)) TooMany) _ chosen.0 free.2 in
       let within = (position-Some (λ known. bytes_eq first.0 known) (task_names script.templates) found.0 [] (found_is _ found.0 found.1)).0 in
       let long = length-map script.templates (λ (t : TaskPlan). t.name) in
-      let same : found.0 ≡ chosen.0 = ok_is found.0 chosen.0 room.2 in
+      let same : found.0 ≡ chosen.0 = made_is found.0 chosen.0 room.2 in
       one_more chosen.0 name after (omega (arith, within, long, same)) (below (length before.names) (free_ok _ TooMany room.0 room.1)) chosen.2
   spawn_fits _ after e = absurd cc
 
@@ -132,7 +133,7 @@ module _ (script : Plan) (before : EventsAndNames) (fits : Fits script before) w
   verb_fits (Some verbs.Spawn) others after e = spawn_fits others after e
 
   words_fit : (words : List (List ℕ)) (after : EventsAndNames) → after_event_words (task_names script.templates) before words ≡ Ok after → Fits script after
-  words_fit [] after e = subst (Fits script) (ok_is before after e) fits
+  words_fit [] after e = subst (Fits script) (made_is before after e) fits
   words_fit (first ∷ others) after e = verb_fits (event_verb_of first) others after e
 
   line_fits : (line : List ℕ) (after : EventsAndNames) → after_event script before line ≡ Ok after → Fits script after

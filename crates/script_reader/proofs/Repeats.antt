@@ -6,6 +6,7 @@ use Rattle.std.proofs.Math.ListN.{get_or, set, take, drop}
 use Rattle.std.proofs.lemmas.Grind.{replicate_next}
 use Rattle.ipc_ids.specs.declared.message.Event.{Event}
 use Rattle.script_lines.specs.Draft.{last_of}
+use Rattle.script_lines.proofs.DraftSteps.{last_of_push}
 use Rattle.script_reader.specs.declared.repeated.Repeated.{Repeated}
 use Rattle.script_reader.specs.Repeated.{events_of, events_left}
 
@@ -55,11 +56,6 @@ longer (x ∷ y ∷ ys) (suc i) last other times len is =
 
 -- ---- the last event
 
-last_behind : {A : Type 0} (xs : List A) (x : A) → last_of (xs ++ x ∷ []) ≡ Some x
-last_behind [] x = refl
-last_behind (y ∷ []) x = refl
-last_behind (y ∷ z ∷ zs) x = last_behind (z ∷ zs) x
-
 -- what stands before the last event
 before_last : (parts : List Repeated) (i : ℕ) (other : Repeated) → length parts ≡ suc i
     → (before : List Event) × (events_of parts ≡ before ++ (get_or parts i other).event ∷ [])
@@ -77,7 +73,7 @@ pub last_is : (parts : List Repeated) (other : Repeated) → 1 ≤ length parts
 last_is parts other some =
     let len : length parts ≡ suc (length parts - 1) = omega (arith, some) in
     let got = before_last parts (length parts - 1) other len in
-    ap last_of got.1 ∙ last_behind got.0 (get_or parts (length parts - 1) other).event
+    ap last_of got.1 ∙ last_of_push got.0 (get_or parts (length parts - 1) other).event
 
 -- the last part comes no more often than all events
 pub last_fits : (parts : List Repeated) (i : ℕ) (last other : Repeated) → length parts ≡ suc i → get_or parts i other ≡ last

@@ -1,6 +1,6 @@
 -- Digits of a count, which are read one after the other.
-use Rattle.std.proofs.Common.{◌≡◌, ℕ, ◌+◌, ◌*◌, ◌-◌, ◌≤◌, ◌<◌, ◌^◌, Bool, true, false, List, [], ◌∷◌, ◌++◌, length, Some, refl, sym, ap, ◌∙◌, arith, le-leb, lt-ltb, le-ltb}
-use Rattle.std.specs.Prelude.{◌&&◌, codes, drop, take, nat_eq, nat_le, slice_index_or}
+use Rattle.std.proofs.Common.{◌≡◌, ℕ, ◌+◌, ◌*◌, ◌-◌, ◌≤◌, ◌<◌, ◌^◌, true, false, List, [], ◌∷◌, ◌++◌, length, Some, refl, sym, ap, ◌∙◌, arith, le-leb, lt-ltb, le-ltb}
+use Rattle.std.specs.Prelude.{codes, drop, take, nat_eq, nat_le, slice_index_or}
 use Rattle.std.specs.Char.{digit_value, is_digit, is_ascii_digit}
 use Rattle.std.specs.List.{list_all, starts_with}
 use Rattle.std.specs.Str.Parse.{digits_value, digits_value_after}
@@ -8,13 +8,14 @@ use Rattle.std.proofs.lemmas.Bool.{and_parts, and_from, leb-true, ne_eqb}
 use Rattle.std.proofs.lemmas.List.{append_assoc, length-append, take_all}
 use Rattle.std.proofs.lemmas.List.Folds.{list_all-append}
 use Rattle.ipc_ids.specs.Digits.{in_base}
+use Rattle.ipc_ids.proofs.Common.{and_false}
 use Rattle.script_lines.specs.Word.{number}
 use Rattle.script_reader.specs.Schedule.{count_of}
 use Rattle.script_reader.specs.StepLine.{IsSpelled, IsCounted}
 
 -- ---- one digit more
 
-value_is : (c : ℕ) → 48 ≤ c → c ≤ 57 → digit_value c ≡ c - 48
+pub value_is : (c : ℕ) → 48 ≤ c → c ≤ 57 → digit_value c ≡ c - 48
 value_is c low high = rw (le-ltb c 48 low, lt-ltb c 58 (omega (arith, high))) refl
 
 more_after : (n : ℕ) (ds : List ℕ) (c : ℕ) → digits_value_after 10 n (ds ++ c ∷ []) ≡ digits_value_after 10 n ds * 10 + digit_value c
@@ -48,7 +49,7 @@ no_more most text n rest less s = record {
 
 -- ---- what they count
 
-all_digits : (ds : List ℕ) → list_all is_ascii_digit ds ≡ true → list_all (λ c. is_digit c 10) ds ≡ true
+pub all_digits : (ds : List ℕ) → list_all is_ascii_digit ds ≡ true → list_all (λ c. is_digit c 10) ds ≡ true
 all_digits [] h = refl
 all_digits (c ∷ ds) h =
     let parts = and_parts (is_ascii_digit c) (list_all is_ascii_digit ds) h in
@@ -58,21 +59,14 @@ all_digits (c ∷ ds) h =
     and_from _ _ (lt-ltb (digit_value c) 10 (let value = value_is c low high in omega (arith, value, high))) (all_digits ds parts.1)
 
 -- they are no hexadecimal number
-no_hex : (ds : List ℕ) → list_all is_ascii_digit ds ≡ true → starts_with nat_eq ds (codes "0x") ≡ false
+pub no_hex : (ds : List ℕ) → list_all is_ascii_digit ds ≡ true → starts_with nat_eq ds (codes "0x") ≡ false
 no_hex [] h = refl
-no_hex (c ∷ []) h = by (nat_eq 48 c) where
-  by : (b : Bool) → (b && false) ≡ false
-  by true = refl
-  by false = refl
+no_hex (c ∷ []) h = and_false (nat_eq 48 c)
 no_hex (c ∷ d ∷ ds) h =
     let parts = and_parts (is_ascii_digit d) (list_all is_ascii_digit ds) (and_parts (is_ascii_digit c) (list_all is_ascii_digit (d ∷ ds)) h).1 in
     let high : d ≤ 57 = leb-true d 57 (and_parts (nat_le 48 d) (nat_le d 57) parts.0).1 in
     let other : nat_eq 120 d ≡ false = ne_eqb 120 d (λ (e : 120 ≡ d). omega (arith, e, high)) in
-    rw other (by (nat_eq 48 c))
-  where
-    by : (b : Bool) → (b && false) ≡ false
-    by true = refl
-    by false = refl
+    rw other (and_false (nat_eq 48 c))
 
 some : (ds : List ℕ) (n : ℕ) → n ≡ digits_value 10 ds → 1 ≤ n → 1 ≤ length ds
 some [] n e lo = absurd (omega (arith, e, lo))
@@ -84,7 +78,7 @@ spelled ds n all few value lo hi =
     let count = some ds n value lo in
     rw (no_hex ds all) (rw (lt-ltb 0 (length ds) (omega (arith, count)), le-leb (length ds) 20 (omega (arith, few)), all_digits ds all, lt-ltb (digits_value 10 ds) (2 ^ 64) (omega (arith, value, hi))) (ap Some (sym value)))
 
-count_is : (ds : List ℕ) (n : ℕ) → number ds ≡ Some n → 1 ≤ n → n ≤ 65536 → count_of (codes "x") ds ≡ Some n
+pub count_is : (ds : List ℕ) (n : ℕ) → number ds ≡ Some n → 1 ≤ n → n ≤ 65536 → count_of (codes "x") ds ≡ Some n
 unfolding count_of
 count_is ds n e lo hi = rw e (rw (le-leb 1 n lo, le-leb n 65536 hi) refl)
 

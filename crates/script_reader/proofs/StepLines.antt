@@ -3,8 +3,9 @@ use Rattle.std.proofs.Common.{◌≡◌, ℕ, suc, ◌≤◌, Bool, true, false,
 use Rattle.std.specs.Prelude.{◌==◌, is_some, position, codes}
 use Rattle.std.specs.List.{list_all, position_or_len, onto_first}
 use Rattle.std.specs.Char.{is_ascii_digit, is_ascii_lowercase}
-use Rattle.std.proofs.lemmas.Bool.{cases_Bool, and_parts, or_cases, cases_lt, lt-ltb, true≢false}
+use Rattle.std.proofs.lemmas.Bool.{cases_Bool, and_parts, or_cases, cases_lt, lt-ltb, true≢false, not-true}
 use Rattle.std.proofs.lemmas.List.Sums.{prefix_len-le-length}
+use Rattle.std.proofs.lemmas.Option.{same_Some}
 use Rattle.ipc_ids.specs.Digits.{in_base}
 use Rattle.script_lines.specs.Text.{is_allowed, is_blank, ends_word, first_line, behind, words}
 use Rattle.script_lines.specs.Word.{is_name, is_name_byte, number}
@@ -18,7 +19,7 @@ use Rattle.script_lines.proofs.Lines.{first_end, first_more, behind_end, behind_
 -- ---- bytes at the front that pass a test
 
 -- where no byte stops it, it has all bytes
-no_end : (p : ℕ → Bool) (xs : List ℕ) → position p xs ≡ None → length xs ≡ position_or_len p xs
+pub no_end : (p : ℕ → Bool) (xs : List ℕ) → position p xs ≡ None → length xs ≡ position_or_len p xs
 no_end p xs e = elim (cases_lt (position_or_len p xs) (length xs)) [
   | inl lt ↦ absurd (true≢false (sym (ap (λ b. is_some (cond b (Some (position_or_len p xs)) None)) (lt-ltb (position_or_len p xs) (length xs) lt)) ∙ ap is_some e))
   | inr ge ↦ let most = prefix_len-le-length (λ x. not (p x)) xs in omega (arith, ge, most)
@@ -37,9 +38,6 @@ front p (x ∷ xs) = elim (cases_Bool (p x)) [
   | inr e ↦ rw (no_more p x xs e) refl
 ]
 
-some_is : (a b : ℕ) → Some a ≡ Some b → a ≡ b
-some_is a b h = cc
-
 -- the bytes before the place that was found pass, and where none was found all do
 found_front : (p : ℕ → Bool) (xs : List ℕ) (at : ℕ) → position (λ b. not (p b)) xs ≡ Some at → (list_all p (take at xs) ≡ true) × (at ≤ length xs)
 found_front p xs at e =
@@ -47,7 +45,7 @@ found_front p xs at e =
     elim (cases_lt (position_or_len q xs) (length xs)) [
       | inl lt ↦
           let found : position q xs ≡ Some (position_or_len q xs) = rw (lt-ltb (position_or_len q xs) (length xs) lt) refl in
-          let same : position_or_len q xs ≡ at = some_is (position_or_len q xs) at (sym found ∙ e) in
+          let same : position_or_len q xs ≡ at = same_Some (position_or_len q xs) at (sym found ∙ e) in
           (subst (λ n. list_all p (take n xs) ≡ true) same (front p xs), omega (arith, same, lt))
       | inr ge ↦
           let none : position q xs ≡ None = rw (le-ltb (position_or_len q xs) (length xs) ge) refl in
@@ -78,12 +76,9 @@ abbrev IsOfWords : (ℕ → Bool) → Type 0
 IsOfWords p = (b : ℕ) → p b ≡ true → ends_word b ≡ false
 
 goes_on : IsOfWords goes
-goes_on b h = turn (ends_word b) h where
-  turn : (t : Bool) → not t ≡ true → t ≡ false
-  turn true e = sym e
-  turn false e = refl
+goes_on b h = not-true (ends_word b) h
 
-between : (b : ℕ) → 48 ≤ b → b ≤ 122 → ends_word b ≡ false
+pub between : (b : ℕ) → 48 ≤ b → b ≤ 122 → ends_word b ≡ false
 between b lo hi = rw (ne_eqb b 32 (λ e. omega (arith, e, lo)), ne_eqb b 9 (λ e. omega (arith, e, lo)), ne_eqb b 35 (λ e. omega (arith, e, lo)), le-leb 32 b (omega (arith, lo)), le-leb b 126 (omega (arith, hi))) refl
 
 digit_goes : IsOfWords is_ascii_digit
@@ -91,7 +86,7 @@ digit_goes b h =
     let parts = and_parts _ _ h in
     between b (leb-true 48 b parts.0) (let hi = leb-true b 57 parts.1 in omega (arith, hi))
 
-lower_goes : (b : ℕ) → is_ascii_lowercase b ≡ true → ends_word b ≡ false
+pub lower_goes : (b : ℕ) → is_ascii_lowercase b ≡ true → ends_word b ≡ false
 lower_goes b h =
     let parts = and_parts _ _ h in
     between b (let lo = leb-true 97 b parts.0 in omega (arith, lo)) (leb-true b 122 parts.1)
@@ -225,7 +220,7 @@ line_says : (templates : List (List ℕ)) (before : EventsAndNames) (line : List
 unfolding after_event_line
 line_says templates before line clean = chosen (list_all is_allowed line) _ _ clean
 
-step_says : (templates : List (List ℕ)) (before : EventsAndNames) (others : List (List ℕ)) → after_event_words templates before (codes "step" ∷ others) ≡ (step_of before.names others >>= with_repeated before)
+pub step_says : (templates : List (List ℕ)) (before : EventsAndNames) (others : List (List ℕ)) → after_event_words templates before (codes "step" ∷ others) ≡ (step_of before.names others >>= with_repeated before)
 unfolding event_verb_of
 step_says templates before others = refl
 

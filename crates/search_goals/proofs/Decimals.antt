@@ -1,16 +1,19 @@
 -- The digits of a number are read as that number.
-use Rattle.std.proofs.Common.{◌≡◌, ℕ, ◌+◌, ◌-◌, ◌^◌, ◌%◌, ◌<◌, ◌≤◌, Bool, true, false, List, [], ◌∷◌, length, Some, refl, ap, ◌∙◌, arith, le-leb, lt-ltb, le-ltb, ne_eqb, decimal}
-use Rattle.std.specs.Prelude.{◌&&◌, codes, nat_eq, nat_le}
-use Rattle.std.specs.Char.{digit_value, is_digit, is_ascii_digit}
-use Rattle.std.specs.List.{list_all, starts_with}
+use Rattle.std.proofs.Common.{◌≡◌, ℕ, ◌+◌, ◌-◌, ◌^◌, ◌%◌, ◌<◌, ◌≤◌, true, false, List, [], ◌∷◌, length, Some, refl, ap, ◌∙◌, arith, le-leb, lt-ltb, decimal}
+use Rattle.std.specs.Prelude.{codes}
+use Rattle.std.specs.Char.{is_ascii_digit}
+use Rattle.std.specs.List.{list_all}
 use Rattle.std.specs.Str.Parse.{digits_value}
 use Rattle.std.proofs.lemmas.Bool.{and_parts, and_from, leb-true}
 use Rattle.std.proofs.lemmas.List.Folds.{list_all-append}
-use Rattle.std.proofs.lemmas.Fmt.{decimal_is_IsNumeral, decimal_by_steps, decimal_nonempty, length-decimal-le}
+use Rattle.std.proofs.lemmas.Fmt.{decimal_is_IsNumeral, decimal_by_steps, decimal_nonempty}
+use Rattle.trace_print.proofs.Digits.{length_20}
 use Rattle.ipc_ids.specs.Digits.{in_base}
 use Rattle.script_lines.specs.Word.{number}
 use Rattle.script_lines.specs.Text.{ends_word}
 use Rattle.script_reader.specs.Schedule.{count_of}
+use Rattle.script_reader.proofs.SpelledCounts.{count_is, all_digits, no_hex}
+use Rattle.script_reader.proofs.StepLines.{between}
 use Rattle.search_goals.proofs.Spaced.{goes, IsWord}
 
 pub one_digit : (d : ℕ) → d < 10 → is_ascii_digit (48 + d) ≡ true
@@ -24,33 +27,6 @@ are_digits n fits =
     ∙ and_from _ _ all (and_from _ _ (one_digit (m % 10) (omega arith)) refl))
     n fits
 
-value_is : (c : ℕ) → 48 ≤ c → c ≤ 57 → digit_value c ≡ c - 48
-value_is c low high = rw (le-ltb c 48 low, lt-ltb c 58 (omega (arith, high))) refl
-
-all_digits : (ds : List ℕ) → list_all is_ascii_digit ds ≡ true → list_all (λ c. is_digit c 10) ds ≡ true
-all_digits [] h = refl
-all_digits (c ∷ ds) h =
-    let parts = and_parts (is_ascii_digit c) (list_all is_ascii_digit ds) h in
-    let range = and_parts _ _ parts.0 in
-    let low = leb-true 48 c range.0 in
-    let high = leb-true c 57 range.1 in
-    and_from _ _ (lt-ltb (digit_value c) 10 (let value = value_is c low high in omega (arith, value, high)))
-    (all_digits ds parts.1)
-
-and_false : (b : Bool) → (b && false) ≡ false
-and_false true = refl
-and_false false = refl
-
-no_hex : (ds : List ℕ) → list_all is_ascii_digit ds ≡ true → starts_with nat_eq ds (codes "0x") ≡ false
-no_hex [] h = refl
-no_hex (c ∷ []) h = and_false (nat_eq 48 c)
-no_hex (c ∷ d ∷ ds) h =
-    let parts = and_parts (is_ascii_digit d) (list_all is_ascii_digit ds) (and_parts (is_ascii_digit c)
-    (list_all is_ascii_digit (d ∷ ds)) h).1 in
-    let high : d ≤ 57 = leb-true d 57 (and_parts (nat_le 48 d) (nat_le d 57) parts.0).1 in
-    let other : nat_eq 120 d ≡ false = ne_eqb 120 d (λ (e : 120 ≡ d). omega (arith, e, high)) in
-    rw other (and_false (nat_eq 48 c))
-
 spelled : (ds : List ℕ) (n : ℕ) → list_all is_ascii_digit ds ≡ true → 0 < length ds → length ds ≤ 20 →
     digits_value 10 ds ≡ n → n < 2 ^ 64 → number ds ≡ Some n
 unfolding number in_base
@@ -63,14 +39,10 @@ spelled ds n all some few value fits =
           (digits_value 10 ds) (2 ^ 64) (omega (arith, value, fits)),
     ) (ap Some value))
 
-pub length_20 : (n : ℕ) → n < 2 ^ 64 → length (decimal n) ≤ 20
-length_20 n h = length-decimal-le 20 n (omega arith) (omega arith) h
-
 pub number_decimal : (n : ℕ) → n < 2 ^ 64 → number (decimal n) ≡ Some n
 number_decimal n fits = spelled (decimal n) n (are_digits n fits) (decimal_nonempty n fits) (length_20 n fits)
     (decimal_is_IsNumeral n fits).1 fits
 
-count_is : (ds : List ℕ) (n : ℕ) → number ds ≡ Some n → 1 ≤ n → n ≤ 65536 → count_of (codes "x") ds ≡ Some n
 unfolding count_of
 count_is ds n e lo hi = rw e (rw (le-leb 1 n lo, le-leb n 65536 hi) refl)
 
@@ -78,16 +50,6 @@ pub count_decimal : (n : ℕ) → 1 ≤ n → n ≤ 65536 → count_of (codes "x
 count_decimal n lo hi = count_is (decimal n) n (number_decimal n (omega (arith, hi))) lo hi
 
 -- ---- they are a word
-
-pub between : (b : ℕ) → 48 ≤ b → b ≤ 122 → ends_word b ≡ false
-between b lo hi = rw (
-  ne_eqb b 32 (λ e. omega (arith, e, lo)),
-  ne_eqb b 9 (λ e. omega (arith, e, lo)),
-  ne_eqb b 35
-      (λ e. omega (arith, e, lo)),
-  le-leb 32 b (omega (arith, lo)),
-  le-leb b 126 (omega (arith, hi)),
-) refl
 
 pub going : (b : ℕ) → ends_word b ≡ false → goes b ≡ true
 going b h = rw h refl

@@ -12,6 +12,7 @@ use Rattle.script_lines.specs.Operation.{◌>>=◌}
 use Rattle.script_lines.specs.Word.{is_name, name_of, number}
 use Rattle.script_reader.specs.Schedule.{count_of, step_with, step_of, kill_of, hangup_of, event_verb_of, with_events}
 use Rattle.script_reader.specs.EventLine.{EventsAndNames, spawn_place, with_spawn, with_repeated, after_event_words}
+use Rattle.script_reader.proofs.StepLines.{step_says}
 use Rattle.search_goals.specs.Lines.{step_text, kill_text, hangup_text, spawn_text}
 use Rattle.search_goals.specs.Writing.{IsNameOf, IsNew, with_more, Adds}
 use Rattle.search_goals.proofs.Spaced.{IsWord}
@@ -69,9 +70,6 @@ hangup_is : (names : List (List ℕ)) (name digits : List ℕ) (task : TaskNo) (
 unfolding hangup_of name_of
 hangup_is names name digits task phone good found spelled = rw good (rw spelled (rw found cc))
 
-step_says : (templates : List (List ℕ)) (before : EventsAndNames) (others : List (List ℕ)) →
-    after_event_words templates before (codes "step" ∷ others) ≡ (step_of before.names others >>= with_repeated
-    before)
 unfolding event_verb_of
 step_says templates before others = refl
 

@@ -5,6 +5,8 @@ use Rattle.std.specs.List.{slice_split, onto_first, position_or_len}
 use Rattle.std.proofs.lemmas.Bool.{cases_Bool, cases_lt, lt-ltb, le-ltb, ne_eqb, true≢false}
 use Rattle.std.proofs.lemmas.List.Sums.{prefix_len-le-length}
 use Rattle.std.proofs.lemmas.List.Splits.{slice_split-cons_yes, slice_split-cons_no}
+use Rattle.std.proofs.lemmas.Option.{same_Some}
+use Rattle.script_lines.proofs.Words.{kept_cons}
 use Rattle.search_goals.specs.Goals.{is_gap, text_words, after_gaps}
 
 abbrev pieces : List ℕ → List (List ℕ)
@@ -16,24 +18,13 @@ kept parts = filter (λ word. not (length word == 0)) parts
 abbrev len : List ℕ → ℕ
 len xs = position_or_len is_gap xs
 
--- where no byte passes, the place is the end
-pub none_found : (p : ℕ → Bool) (xs : List ℕ) → position p xs ≡ None → length xs ≡ position_or_len p xs
-none_found p xs e = elim (cases_lt (position_or_len p xs) (length xs)) [
-  | inl lt ↦ absurd (true≢false (sym (ap (λ b. is_some (cond b (Some (position_or_len p xs)) None))
-      (lt-ltb (position_or_len p xs) (length xs) lt)) ∙ ap is_some e))
-  | inr ge ↦ let most = prefix_len-le-length (λ x. not (p x)) xs in omega (arith, ge, most)
-]
-
-some_is : (a b : ℕ) → Some a ≡ Some b → a ≡ b
-some_is a b h = cc
-
 pub found_at : (p : ℕ → Bool) (xs : List ℕ) (at : ℕ) → position p xs ≡ Some at →
     (at ≡ position_or_len p xs) × (at ≤ length xs)
 found_at p xs at e = elim (cases_lt (position_or_len p xs) (length xs)) [
   | inl lt ↦
       let found : position p xs ≡ Some (position_or_len p xs) = ap (λ b. cond b (Some (position_or_len p xs)) None)
       (lt-ltb (position_or_len p xs) (length xs) lt) in
-      let same : position_or_len p xs ≡ at = some_is (position_or_len p xs) at (sym found ∙ e) in
+      let same : position_or_len p xs ≡ at = same_Some (position_or_len p xs) at (sym found ∙ e) in
       (sym same, omega (arith, same, lt))
   | inr ge ↦ let most = prefix_len-le-length (λ x. not (p x)) xs in absurd (true≢false (ap is_some (sym e
       ∙ none ge)))
@@ -73,10 +64,6 @@ cut (x ∷ xs) = elim (cases_Bool (is_gap x)) [
   | inr goes ↦ subst (λ i. Cut i (x ∷ xs)) (sym (len_more x xs goes))
       (cut_more (len xs) x xs (slice_split-cons_no is_gap x xs goes) (cut xs))
 ]
-
-kept_cons : (word : List ℕ) (parts : List (List ℕ)) → (length word == 0) ≡ false →
-    kept (word ∷ parts) ≡ word ∷ kept parts
-kept_cons word parts e = rw e refl
 
 word_first : (x : ℕ) (xs : List ℕ) → is_gap x ≡ false →
     text_words (x ∷ xs) ≡ (x ∷ take (len xs) xs) ∷ text_words (drop (len xs) xs)

@@ -6,12 +6,13 @@ use Rattle.std.specs.List.{AllPairs, list_all, list_any, position_or_len}
 use Rattle.std.specs.Str.{bytes_eq}
 use Rattle.std.specs.Global.{Vec}
 use Rattle.std.proofs.lemmas.Bool.{and_parts, and_from, or_cases, leb-true, eqb-true, false_from_ne_true, both_ways}
-use Rattle.std.proofs.lemmas.List.{length-map, length-take-le, get_or-map, get_or-take, take-map, take_more, take_all}
+use Rattle.std.proofs.lemmas.List.{length-map, length-take-le, get_or-map, get_or-take, take-map}
 use Rattle.std.proofs.lemmas.List.Elements.{All-push, All-map}
 use Rattle.std.proofs.lemmas.List.Folds.{list_any_at}
 use Rattle.std.proofs.lemmas.List.Quantifiers.{all_pairs_push}
 use Rattle.std.proofs.lemmas.List.Sums.{position_or_len_is}
 use Rattle.std.proofs.lemmas.Slice.Eq.{bytes_eq-Decides}
+use Rattle.script_reader.proofs.StepLines.{lower_goes}
 use Rattle.ipc_ids.specs.declared.numbers.TaskNo.{TaskNo}
 use Rattle.script_lines.specs.declared.plan.TaskPlan.{TaskPlan}
 use Rattle.script_lines.specs.Draft.{service}
@@ -23,14 +24,9 @@ use Rattle.script_lines.proofs.Places.{none_any}
 use Rattle.search_goals.specs.Goals.{listed}
 use Rattle.search_goals.specs.Writing.{AreNamed, AreNames, IsNameOf}
 use Rattle.search_goals.proofs.Spaced.{goes, IsWord}
-use Rattle.search_goals.proofs.Decimals.{between, going, digit_goes}
+use Rattle.search_goals.proofs.Decimals.{going, digit_goes}
 
 -- ---- a name is a word
-
-lower_goes : (b : ℕ) → is_ascii_lowercase b ≡ true → ends_word b ≡ false
-lower_goes b h =
-    let parts = and_parts _ _ h in
-    between b (let lo = leb-true 97 b parts.0 in omega (arith, lo)) (leb-true b 122 parts.1)
 
 name_goes : (b : ℕ) → is_name_byte b ≡ true → ends_word b ≡ false
 name_goes b h = elim (or_cases (is_ascii_lowercase b || is_ascii_digit b) (b == 95) h) [

@@ -5,7 +5,7 @@ use Rattle.std.specs.Char.{is_ascii_digit, is_ascii_lowercase}
 use Rattle.std.specs.List.{list_all, list_any}
 use Rattle.std.specs.Str.{bytes_eq}
 use Rattle.std.specs.Str.Parse.{digits_value}
-use Rattle.std.proofs.lemmas.Bool.{and_parts, and_from, or_cases, or_parts, cases_lt, eq-eqb}
+use Rattle.std.proofs.lemmas.Bool.{and_parts, and_from, or_cases, or_parts, cases_lt, eq-eqb, or_right, or_left}
 use Rattle.std.proofs.lemmas.Fmt.{decimal_is_IsNumeral, length-decimal-le}
 use Rattle.std.proofs.lemmas.List.{length-map}
 use Rattle.std.proofs.lemmas.List.Folds.{list_any-append, list_any_at}
@@ -18,17 +18,10 @@ use Rattle.script_reader.specs.EventLine.{is_taken}
 use Rattle.search_goals.specs.Writing.{IsNew, made_name}
 use Rattle.search_goals.proofs.Decimals.{are_digits}
 
-or_later : (a b : Bool) → b ≡ true → (a || b) ≡ true
-or_later true b e = refl
-or_later false b e = e
-
-or_first : (a b : Bool) → a ≡ true → (a || b) ≡ true
-or_first a b e = ap (λ (c : Bool). c || b) e
-
 -- ---- it is a name
 
 digit_named : (b : ℕ) → is_ascii_digit b ≡ true → is_name_byte b ≡ true
-digit_named b h = or_first _ _ (or_later (is_ascii_lowercase b) (is_ascii_digit b) h)
+digit_named b h = or_left _ _ (or_right (is_ascii_lowercase b) (is_ascii_digit b) h)
 
 digits_named : (w : List ℕ) → list_all is_ascii_digit w ≡ true → list_all is_name_byte w ≡ true
 digits_named [] h = refl
@@ -67,10 +60,10 @@ taken_listed templates names name h =
     ∙ ap (λ (b : Bool). list_any p names || b) (list_any-append p templates (ns_name ∷ [])) in
     all ∙ elim (or_cases (is_some (place_of names name) || is_some (place_of templates name)) (is_ns name) h) [
       | inl tasks ↦ elim (or_cases (is_some (place_of names name)) (is_some (place_of templates name)) tasks) [
-        | inl known ↦ or_first _ _ (some_any names name known)
-        | inr template ↦ or_later (list_any p names) _ (or_first _ _ (some_any templates name template))
+        | inl known ↦ or_left _ _ (some_any names name known)
+        | inr template ↦ or_right (list_any p names) _ (or_left _ _ (some_any templates name template))
       ]
-      | inr service ↦ or_later (list_any p names) _ (or_later (list_any p templates) _ (or_first _ _ service))
+      | inr service ↦ or_right (list_any p names) _ (or_right (list_any p templates) _ (or_left _ _ service))
     ]
 
 -- ---- each number has a name of its own
@@ -89,9 +82,9 @@ number_listed : (start q : ℕ) (name : List ℕ) (xs : List (List ℕ)) → num
 number_listed start q name [] is h = absurd (cc h)
 number_listed start q name (x ∷ xs) is h =
     elim (or_cases (bytes_eq name x) (list_any (bytes_eq name) xs) h) [
-      | inl same ↦ or_first _ _ (eq-eqb q (number_from start x)
+      | inl same ↦ or_left _ _ (eq-eqb q (number_from start x)
           (sym is ∙ ap (number_from start) ((bytes_eq-Decides name x).0 same)))
-      | inr later ↦ or_later (eqb q (number_from start x)) _ (number_listed start q name xs is later)
+      | inr later ↦ or_right (eqb q (number_from start x)) _ (number_listed start q name xs is later)
     ]
 
 -- so many numbers from one on have names that are taken: no more than there are names

@@ -1,8 +1,8 @@
 -- A line of words with one space between two, and a line feed behind the last.
-use Rattle.std.proofs.Common.{◌≡◌, ℕ, ◌≤◌, Bool, true, false, not, List, [], ◌∷◌, ◌++◌, length, Some, refl, sym, ap, ◌∙◌, append_assoc, arith, ne_eqb}
+use Rattle.std.proofs.Common.{◌≡◌, ℕ, ◌≤◌, Bool, true, false, not, List, [], ◌∷◌, ◌++◌, length, Some, refl, ap, ◌∙◌, append_assoc, arith, ne_eqb}
 use Rattle.std.specs.Prelude.{◌==◌}
 use Rattle.std.specs.List.{list_all, onto_first}
-use Rattle.std.proofs.lemmas.Bool.{and_parts}
+use Rattle.std.proofs.lemmas.Bool.{and_parts, not-true}
 use Rattle.script_lines.specs.Text.{is_allowed, is_blank, ends_word, first_line, behind, words}
 use Rattle.script_reader.specs.EventLine.{EventsAndNames, after_event_words, after_event_line}
 use Rattle.script_lines.proofs.Words.{pieces, kept, in_word, pieces_blank, pieces_more, kept_cons}
@@ -12,10 +12,7 @@ abbrev pub goes : ℕ → Bool
 goes b = not (ends_word b)
 
 goes_on : (b : ℕ) → goes b ≡ true → ends_word b ≡ false
-goes_on b h = turn (ends_word b) h where
-  turn : (t : Bool) → not t ≡ true → t ≡ false
-  turn true e = sym e
-  turn false e = refl
+goes_on b h = not-true (ends_word b) h
 
 -- some bytes of a word
 abbrev pub IsWord : List ℕ → Type 0

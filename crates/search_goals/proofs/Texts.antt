@@ -1,25 +1,23 @@
 -- The text of a schedule, line by line and as a whole.
-use Rattle.std.proofs.Common.{◌≡◌, ℕ, zero, suc, ◌+◌, ◌^◌, ◌≤◌, ◌<◌, ◌⊎◌, Bool, true, false, List, [], ◌∷◌, ◌++◌, length, Result, Ok, Err, refl, sym, ap, subst, ◌∙◌, inl, inr, append_assoc, arith, length-append, decimal, Some}
-use Rattle.std.specs.Prelude.{codes, replicate, nat_lt, OnOk, ◌==◌}
+use Rattle.std.proofs.Common.{◌≡◌, ℕ, zero, suc, ◌+◌, ◌^◌, ◌≤◌, ◌<◌, ◌⊎◌, Bool, true, false, List, [], ◌∷◌, ◌++◌, length, Ok, refl, sym, ap, subst, ◌∙◌, inl, inr, append_assoc, arith, length-append, decimal, Some}
+use Rattle.std.specs.Prelude.{codes, replicate, nat_lt, ◌==◌}
 use Rattle.std.specs.List.{list_all}
 use Rattle.std.proofs.lemmas.Bool.{cases_Bool, and_parts, eqb-true, true≢false}
 use Rattle.std.proofs.lemmas.List.{length-replicate}
+use Rattle.trace_print.proofs.Digits.{length_20}
 use Rattle.ipc_ids.specs.declared.numbers.TaskNo.{TaskNo}
 use Rattle.ipc_ids.specs.declared.message.Event.{Event}
 use Rattle.ipc_ids.specs.declared.message.Event.TheVariants as events
-use Rattle.script_lines.specs.declared.fault.Reason.{Reason}
-use Rattle.script_lines.specs.Names.{task_names, place_of}
-use Rattle.script_lines.specs.Plan.{Plan}
+use Rattle.script_lines.specs.Names.{place_of}
 use Rattle.script_lines.specs.Text.{lines, is_allowed, first_line, behind}
 use Rattle.script_lines.specs.Word.{is_name}
-use Rattle.script_reader.specs.EventLine.{EventsAndNames, no_events, after_event_line}
-use Rattle.script_reader.specs.Reading.{lines_from, reading, events_alone, schedule_of}
+use Rattle.script_reader.specs.EventLine.{EventsAndNames, after_event_line}
+use Rattle.script_reader.specs.Reading.{lines_from}
 use Rattle.script_reader.specs.Schedule.{MayCome, MayAllCome, tasks_after}
 use Rattle.script_lines.proofs.Lines.{first_end, first_more, behind_end, behind_more}
 use Rattle.search_goals.specs.Lines.{comment_text, times_text, step_text, kill_text, hangup_text, spawn_text}
-use Rattle.search_goals.specs.Writing.{IsNameOf, IsNew, tasks_behind, with_more, Adds, Writes, IsFront, IsUnderWay, IsStep}
-use Rattle.search_goals.proofs.Adding.{one_read, with_none, both_added, writes_line, writes_both}
-use Rattle.search_goals.proofs.Decimals.{length_20}
+use Rattle.search_goals.specs.Writing.{IsNameOf, IsNew, tasks_behind, Adds, Writes, IsFront, IsUnderWay, IsStep}
+use Rattle.search_goals.proofs.Adding.{one_read, with_none, writes_line, writes_both}
 use Rattle.search_goals.proofs.EventLines.{step_adds, kill_adds, hangup_adds, spawn_adds}
 use Rattle.search_goals.proofs.NameWords.{name_word}
 
@@ -124,10 +122,6 @@ pub made_written : (templates names known : List (List ℕ)) (place : ℕ) (old 
 made_written templates names known place old new event count e one wrote =
     subst (λ (z : Event). Writes templates names old new (replicate count z) known) (sym e)
     (subst (λ (n : ℕ). Writes templates names old new (replicate n (events.Spawn place)) known) (sym one) wrote)
-
-pub then_ok : {A E : Type 0} {P Q : Type 0} (r : Result A E) → OnOk r P → (P → Q) → OnOk r Q
-then_ok (Ok x) p f = f p
-then_ok (Err e) p f = tt
 
 -- ---- what may come
 

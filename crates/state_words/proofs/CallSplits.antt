@@ -16,7 +16,7 @@ use Rattle.state_words.specs.CallWords.{task_words, label_words, msg_words, repl
 use Rattle.state_words.specs.Apart.{AreBelow}
 use Rattle.state_words.proofs.Splits.{Splits, read_splits, pair_splits, by_splits, list_splits, option_splits, number_splits}
 
-numbers_splits : Splits (list_words number_words)
+pub numbers_splits : Splits (list_words number_words)
 numbers_splits = list_splits number_words number_splits
 
 pub task_splits : Splits task_words

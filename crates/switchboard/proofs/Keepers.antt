@@ -2,9 +2,11 @@
 use Rattle.std.proofs.Common.{◌≡◌, ℕ, inl, inr, Option, None, Some, List, refl, ap, sym, subst, ◌∙◌}
 use Rattle.std.specs.Prelude.{◌==◌, ⊤, if◌then◌else◌, IsSome, option_and_then}
 use Rattle.std.proofs.lemmas.Bool.{cases_eq, eq-eqb, ne_eqb}
+use Rattle.std.proofs.lemmas.Option.{same_Some}
 use Rattle.ipc_ids.specs.declared.numbers.Label.{Label}
 use Rattle.ipc_ids.specs.declared.message.PhoneState.{PhoneState}
 use Rattle.ipc_ids.specs.declared.message.PhoneState.TheVariants.{Connecting}
+use Rattle.ipc_ids.proofs.Common.{is_some, none_some}
 use Rattle.call_slab.specs.declared.call.Call.{Call}
 use Rattle.answerbox.specs.Calls.{CallTable, call_at}
 use Rattle.phone_table.specs.Phones.{state_at}
@@ -16,12 +18,6 @@ use Rattle.switchboard.proofs.Rows.{state_changed_at}
 use Rattle.switchboard.proofs.Soundness.{phone_kept, value_of}
 
 -- phones
-
-is_some : {A : Type 0} (o : Option A) (x : A) → o ≡ Some x → IsSome o
-is_some o x e = rw e refl
-
-one_label : (l m : Label) → Some l ≡ Some m → l ≡ m
-one_label l m e = cc
 
 pub same_phone : (l m : Label) → l.task.0 ≡ m.task.0 → l.phone.0 ≡ m.phone.0 → l ≡ m
 same_phone l m e f = ap (λ t. label_at t l.phone.0) e ∙ ap (λ p. label_at m.task.0 p) f
@@ -118,9 +114,6 @@ keepers_phone_changed {rows} a b state s not = record {
   each = λ t p is. elim (state_changed_at rows a b t p state Connecting is) [ inl e ↦ absurd (not e.2) | inr e ↦ s.each t p e.1 ];
 }
 
-none_some : (o : Option Label) (x : Label) → o ≡ None → o ≡ Some x → ⊥
-none_some o x a b = cc
-
 -- a call lets its phone go, and the others keep theirs
 module _ {rows : List (List PhoneState)} (q r : CallTable) (n : ℕ) (l : Label) (was : kept_by q n ≡ Some l) (is : kept_by r n ≡ None) (others : (m : ℕ) → (n ≡ m → ⊥) → kept_by r m ≡ kept_by q m) where
   pub let_go_kept : AreKept rows q → AreKept rows r
@@ -143,7 +136,7 @@ module _ {rows : List (List PhoneState)} (q r : CallTable) (n : ℕ) (l : Label)
     each = λ t p waits. elim (state_changed_at rows l.task.0 l.phone.0 t p state Connecting waits) [
       | inl e ↦ absurd (not e.2)
       | inr e ↦ let k = s.each t p e.1 in elim (cases_eq n k.0) [
-        | inl same ↦ absurd (let it : label_at t p ≡ l = one_label (label_at t p) l (sym k.1 ∙ ap (kept_by q) (sym same) ∙ was) in e.0 (ap (λ (x : Label). x.task.0) it, ap (λ (x : Label). x.phone.0) it))
+        | inl same ↦ absurd (let it : label_at t p ≡ l = same_Some (label_at t p) l (sym k.1 ∙ ap (kept_by q) (sym same) ∙ was) in e.0 (ap (λ (x : Label). x.task.0) it, ap (λ (x : Label). x.phone.0) it))
         | inr ne ↦ (k.0, others k.0 ne ∙ k.1)
       ]
     ];
@@ -154,7 +147,7 @@ module _ {rows : List (List PhoneState)} (q r : CallTable) (n : ℕ) (l : Label)
   pub taken_kept : AreKept rows q → state_at rows l.task.0 l.phone.0 ≡ Some Connecting → ((m : ℕ) → kept_by q m ≡ Some l → ⊥) → AreKept rows r
   taken_kept s waits unkept = record {
     waits = λ m x has. elim (cases_eq n m) [
-      | inl e ↦ let it : l ≡ x = one_label l x (sym is ∙ ap (kept_by r) e ∙ has) in subst (λ (y : Label). state_at rows y.task.0 y.phone.0 ≡ Some Connecting) it waits
+      | inl e ↦ let it : l ≡ x = same_Some l x (sym is ∙ ap (kept_by r) e ∙ has) in subst (λ (y : Label). state_at rows y.task.0 y.phone.0 ≡ Some Connecting) it waits
       | inr ne ↦ s.waits m x (sym (others m ne) ∙ has)
     ];
     alone = λ m i x a b. elim (cases_eq n m) [

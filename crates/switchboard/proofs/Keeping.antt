@@ -3,7 +3,8 @@ use Rattle.std.proofs.Common.{◌≡◌, ℕ, ◌+◌, ◌-◌, ◌<◌, Bool, t
 use Rattle.std.specs.Prelude.{IsSome, slice_get, option_and_then, ◌==◌, if◌then◌else◌}
 use Rattle.std.specs.Option.{option_map_or, IsSomeAnd}
 use Rattle.std.specs.Cmp.{nat_cmp_total}
-use Rattle.std.specs.FinMap.{len, len-insert, get, insert, remove, get-remove}
+use Rattle.std.specs.FinMap.{len, len-insert}
+use Rattle.std.proofs.lemmas.Option.{same_Some}
 use Rattle.ipc_ids.specs.declared.numbers.TaskNo.{TaskNo}
 use Rattle.ipc_ids.specs.declared.numbers.Label.{Label}
 use Rattle.ipc_ids.specs.declared.numbers.Code.{Code}
@@ -14,14 +15,15 @@ use Rattle.answerbox.specs.Calls.{CallTable, call_at, enqueue, put_at, with_reco
 use Rattle.ipc_ids.specs.Labels.{same_label}
 use Rattle.answerbox.proofs.Used.{few_enqueue, few_put, few_record, same_room, used-less}
 use Rattle.ipc_ids.specs.Tables.{most_buffered}
-use Rattle.answerbox.proofs.Counts.{insert-remove, ties, active-without_call, count-with_record}
+use Rattle.ipc_ids.proofs.Common.{and_false, is_some}
+use Rattle.answerbox.proofs.Counts.{active-without_call, count-with_record}
 use Rattle.phone_table.specs.Phones.{Row, row_at, state_at, count_at, after_hangup}
 use Rattle.phone_table.specs.declared.hung.Hung.{Hung}
 use Rattle.phone_table.proofs.Lookups.{same_row}
 use Rattle.switchboard.specs.State.{with_state_at}
 use Rattle.switchboard.specs.Counts.{label_at, recount, count_changed, counts_without, IsCounted, HasCounts}
 use Rattle.switchboard.specs.Board.{hung_rows}
-use Rattle.switchboard.proofs.Lookups.{at_insert, at_remove, chosen, same_call, fewer_calls}
+use Rattle.switchboard.proofs.Lookups.{at_insert, at_remove, chosen, fewer_calls}
 use Rattle.switchboard.proofs.Rows.{some_of, state_changed_at}
 use Rattle.switchboard.proofs.Soundness.{some_set, value_of, row_after, phone_kept}
 use Rattle.switchboard.proofs.Recounting.{some_and}
@@ -40,9 +42,6 @@ len_put q c d place is = rw (len-insert nat_cmp_total q.records d.number.0 (reco
 
 -- each phone has a count
 
-row_inj : (x y : List ℕ) → Some x ≡ Some y → x ≡ y
-row_inj x y e = cc
-
 some_changed : (f : ℕ → ℕ) (row : List ℕ) (b p : ℕ) → IsSome (slice_get row p) → IsSome (slice_get (count_changed f row b) p)
 some_changed f row b p h = by_count (slice_get row b) where
   by_count : (o : Option ℕ) → IsSome (slice_get (option_map_or (λ m. set row b (f m)) o row) p)
@@ -57,7 +56,7 @@ shaped_recount f counts a b t p h = by_row (row_at counts a) refl where
       let found = value_of (count_at counts t p) h in
       let row = some_of (row_at counts t) (λ r. slice_get r p) found.0 found.1 in
       elim (row_after counts a t old (count_changed f old b) row.0 is row.1) [
-        | inl e ↦ let same : row.0 ≡ old = row_inj row.0 old (sym row.1 ∙ ap (row_at counts) e.0 ∙ is) in rw (e.1) (some_changed f old b p (rw (← same, row.2) refl))
+        | inl e ↦ let same : row.0 ≡ old = same_Some row.0 old (sym row.1 ∙ ap (row_at counts) e.0 ∙ is) in rw (e.1) (some_changed f old b p (rw (← same, row.2) refl))
         | inr e ↦ rw (e.1, row.2) refl
       ]
 
@@ -66,9 +65,6 @@ shaped_without counts caller from t p h = by_caller (is_caller from.task caller)
   by_caller : (b : Bool) → IsSome (count_at (cond b (recount (λ n. n - 1) counts from.task.0 from.phone.0) counts) t p)
   by_caller true = shaped_recount (λ n. n - 1) counts from.task.0 from.phone.0 t p h
   by_caller false = h
-
-is_some : {A : Type 0} (o : Option A) (x : A) → o ≡ Some x → IsSome o
-is_some o x e = rw e refl
 
 -- a phone that is there after a change of one was there before
 pub phone_was : (rows : List (List PhoneState)) (a b t p : ℕ) (s : PhoneState) → IsSome (state_at rows a b) → IsSome (state_at (with_state_at rows a b s) t p) → IsSome (state_at rows t p)
@@ -83,7 +79,7 @@ phone_was rows a b t p s there h =
 pub each_with : (P : ℕ → Call → Type 0) (q r : CallTable) (n : ℕ) (d : Call) → ((m : ℕ) (c : Call) → call_at q m ≡ Some c → P m c) → ((m : ℕ) → call_at r m ≡ (if n == m then Some d else call_at q m)) → P n d → (m : ℕ) (c : Call) → call_at r m ≡ Some c → P m c
 each_with P q r n d s at new m c is =
     elim (chosen n m (Some d) (call_at q m) (Some c) (sym (at m) ∙ is)) [
-      | inl e ↦ subst (P m) (same_call d c e.1) (subst (λ (i : ℕ). P i d) e.0 new)
+      | inl e ↦ subst (P m) (same_Some d c e.1) (subst (λ (i : ℕ). P i d) e.0 new)
       | inr e ↦ s m c e.1
     ]
 
@@ -96,10 +92,7 @@ each_without P q n s m c is =
 
 -- a call without a caller is active nowhere
 idle : (from l : Label) → (same_label from l && false) ≡ false
-idle from l = by_label (same_label from l) where
-  by_label : (b : Bool) → (b && false) ≡ false
-  by_label true = refl
-  by_label false = refl
+idle from l = and_false (same_label from l)
 
 without_or_forgotten : (b : Bool) (x y z w : ℕ) → w ≡ cond b 1 0 + x → cond b 1 0 + y ≡ cond false 1 0 + w → y ≡ x
 without_or_forgotten true x y z w h g = omega arith

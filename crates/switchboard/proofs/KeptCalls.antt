@@ -10,6 +10,7 @@ use Rattle.ipc_ids.specs.declared.message.Reply.{Reply}
 use Rattle.ipc_ids.specs.declared.message.PhoneState.{PhoneState}
 use Rattle.ipc_ids.specs.declared.methods.MethodKind.TheVariants.{ConnectToMe, ConnectMeTo}
 use Rattle.ipc_ids.specs.Methods.{kind_of}
+use Rattle.ipc_ids.proofs.Common.{none_some}
 use Rattle.call_slab.specs.declared.call.Call.{Call}
 use Rattle.call_slab.specs.declared.call.Place.{Place}
 use Rattle.call_slab.specs.declared.call.Place.TheVariants.{Incoming, Dispatched, Answers}
@@ -22,9 +23,6 @@ use Rattle.switchboard.specs.Joins.{declined_call, passed_call}
 use Rattle.switchboard.specs.Board.{IsPendingAt, IsHeldCall}
 use Rattle.switchboard.proofs.Lookups.{at_insert, at_remove}
 use Rattle.switchboard.proofs.Keepers.{AreUnkept, all_same, kept_here, kept_less, kept_of_call, kept_other, kept_same, let_go_loose, let_go_unkept, taken_kept}
-
-none_some : (o : Option Label) (x : Label) → o ≡ None → o ≡ Some x → ⊥
-none_some o x a b = cc
 
 -- a record keeps what it kept, or a phone that no call keeps
 pub kept_with : (k : KernelState) (r : CallTable) (n : ℕ) (d : Call) → AreKept k.tasks.phones k.calls → ((m : ℕ) → call_at r m ≡ (if n == m then Some d else call_at k.calls m)) → (kept_phone d ≡ kept_by k.calls n) ⊎ IsLoose k (kept_phone d) → AreKept k.tasks.phones r

@@ -1,10 +1,12 @@
 -- The rows of phones after a phone of one of them was kept, connected or freed.
 use Rattle.std.proofs.Common.{◌≡◌, ℕ, ◌+◌, ◌-◌, Bool, true, false, Option, None, Some, List, [], ◌∷◌, refl, ap, sym, subst, ◌∙◌, arith, set, suc}
 use Rattle.std.specs.Prelude.{if◌then◌else◌, IsSome, slice_get, option_and_then}
+use Rattle.std.proofs.lemmas.Option.{same_Some}
 use Rattle.ipc_ids.specs.declared.numbers.TaskNo.{TaskNo}
 use Rattle.ipc_ids.specs.declared.numbers.Label.{Label}
 use Rattle.ipc_ids.specs.declared.message.PhoneState.{PhoneState}
 use Rattle.ipc_ids.specs.declared.message.PhoneState.TheVariants.{Free, Connecting, Connected, HungUp, Slammed}
+use Rattle.ipc_ids.proofs.Common.{is_some}
 use Rattle.answerbox.specs.Calls.{CallTable, active_calls}
 use Rattle.phone_table.specs.Phones.{Row, Rows, row_at, state_at, count_at, is_usable, first_usable, first_usable_from as first_in}
 use Rattle.phone_table.proofs.Lookups.{same_row}
@@ -93,23 +95,17 @@ first_unkept k t s = by_first (first_usable_of k t) refl where
   not_usable HungUp n h e = cc e
   not_usable Slammed n h e = absurd (cc h)
 
-  one : (a b : PhoneState) → Some a ≡ Some b → a ≡ b
-  one a b e = cc
-
   by_first : (o : Option Label) → first_usable_of k t ≡ o → AreUnkept k.calls o
   by_first None is = tt
   by_first (Some l) is =
       let f = usable_is k t l is in
-      not_waiting l.task.0 l.phone.0 s (λ waits. not_usable f.state (active_calls k.calls l) f.usable (one f.state Connecting (sym f.is ∙ waits)))
+      not_waiting l.task.0 l.phone.0 s (λ waits. not_usable f.state (active_calls k.calls l) f.usable (same_Some f.state Connecting (sym f.is ∙ waits)))
 
 pub first_there : (k : KernelState) (t : TaskNo) → IsThere k.tasks.phones (first_usable_of k t)
 first_there k t = by_first (first_usable_of k t) refl where
-  some : {A : Type 0} (o : Option A) (x : A) → o ≡ Some x → IsSome o
-  some o x e = rw e refl
-
   by_first : (o : Option Label) → first_usable_of k t ≡ o → IsThere k.tasks.phones o
   by_first None is = tt
-  by_first (Some l) is = let f = usable_is k t l is in some (phone_at k l.task l.phone.0) f.state f.is
+  by_first (Some l) is = let f = usable_is k t l is in is_some (phone_at k l.task l.phone.0) f.state f.is
 
 pub first_loose : (k : KernelState) (t : TaskNo) → AreKept k.tasks.phones k.calls → IsLoose (with_kept k (first_usable_of k t) Connecting) (first_usable_of k t)
 first_loose k t s = by_first (first_usable_of k t) (first_unkept k t s) (first_there k t) where

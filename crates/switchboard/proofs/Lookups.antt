@@ -6,9 +6,10 @@ use Rattle.std.specs.Cmp.{nat_cmp_total}
 use Rattle.std.specs.FinMap.{FinMap, get, insert, remove, get-insert, get-remove, len, len-insert}
 use Rattle.std.proofs.lemmas.Bool.Decides.{nat_tests}
 use Rattle.std.proofs.lemmas.Bool.{cases_eq, eq-eqb, ne_eqb}
+use Rattle.ipc_ids.proofs.Common.{own_key}
 use Rattle.call_slab.specs.declared.call.Call.{Call}
 use Rattle.answerbox.specs.Calls.{CallTable, call_at, without_call}
-use Rattle.answerbox.proofs.Counts.{insert-remove, ties}
+use Rattle.answerbox.proofs.Counts.{insert-remove}
 use Rattle.phone_table.specs.Phones.{row_at}
 
 same_test : (q n : ℕ) → eq_by_cmp nat_cmp q n ≡ (n == q)
@@ -23,9 +24,6 @@ at_remove m n q = get-remove nat_cmp_total m n q ∙ ap (λ b. cond b None (get 
 -- what a choice gave
 pub chosen : {A : Type 0} (m n : ℕ) (x y z : A) → (if m == n then x else y) ≡ z → ((m ≡ n) × (x ≡ z)) ⊎ ((m ≡ n → ⊥) × (y ≡ z))
 chosen m n x y z h = elim (cases_eq m n) [ inl e ↦ inl (e, rw (eq-eqb m n e) at h) | inr ne ↦ inr (ne, rw (ne_eqb m n ne) at h) ]
-
-pub same_call : (c d : Call) → Some c ≡ Some d → c ≡ d
-same_call c d e = cc
 
 -- a live call has a record
 pub record_of : (o : Option Call) → IsSome o → (c : Call) × (o ≡ Some c)
@@ -70,7 +68,7 @@ row_at_set rows (suc t) (suc u) row some added =
 -- a call that is over is one less
 pub fewer_calls : (q : CallTable) (n : ℕ) (c : Call) → call_at q n ≡ Some c → len (without_call q n).records + 1 ≡ len q.records
 fewer_calls q n c is =
-    let gone : get (remove q.records n) n ≡ None = get-remove nat_cmp_total q.records n n ∙ rw (ties n) in
+    let gone : get (remove q.records n) n ≡ None = get-remove nat_cmp_total q.records n n ∙ rw (own_key n) in
     let again : len (insert (remove q.records n) n c) ≡ len (remove q.records n) + 1 = rw (len-insert nat_cmp_total (remove q.records n) n c, gone) (omega arith) in
     let whole = ap len (insert-remove q.records n c is) in
     omega arith

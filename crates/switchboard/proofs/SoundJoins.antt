@@ -2,6 +2,7 @@
 use Rattle.std.proofs.Common.{◌≡◌, ℕ, Bool, true, false, ◌⊎◌, inl, inr, Option, None, Some, List, refl, ap, sym, subst, ◌∙◌, length, ◌+◌, ◌≤◌}
 use Rattle.std.specs.Prelude.{◌==◌, ⊤, if◌then◌else◌, IsSome, slice_index}
 use Rattle.std.proofs.lemmas.Bool.{eq-eqb, eqb-true, false≢true}
+use Rattle.std.proofs.lemmas.Option.{same_Some}
 use Rattle.ipc_ids.specs.declared.numbers.TaskNo.{TaskNo}
 use Rattle.ipc_ids.specs.declared.numbers.Label.{Label}
 use Rattle.ipc_ids.specs.declared.numbers.Code.{Code}
@@ -18,6 +19,7 @@ use Rattle.call_slab.specs.declared.call.Place.TheVariants.{Incoming, Dispatched
 use Rattle.answerbox.specs.Calls.{CallTable, call_at, enqueue, put_at, without_call, same_place, active_calls, used}
 use Rattle.answerbox.proofs.Used.{same_room}
 use Rattle.ipc_ids.specs.Tables.{most_buffered}
+use Rattle.ipc_ids.proofs.Common.{none_some}
 use Rattle.phone_table.specs.Phones.{state_at, is_usable}
 use Rattle.switchboard.specs.declared.kept.Keeper.{Keeper}
 use Rattle.switchboard.specs.declared.kept.Keeper.TheVariants.{Nobody, Receiver, Caller}
@@ -152,9 +154,6 @@ freed_none (Dispatched t) None pending lent = refl
 freed_none (Dispatched t) (Some l) pending lent = rw (eq-eqb l.task.0 t.0 (ap (λ (u : TaskNo). u.0) (lent l refl))) refl
 freed_none (Answers t) reserved pending lent = absurd pending
 
-none_some : (o : Option Label) (l : Label) → o ≡ None → o ≡ Some l → ⊥
-none_some o l a b = cc
-
 -- what the call keeps, and has reserved, before and after
 module _ (from : TaskNo) (old new : Place) (was code : Code) (reserved : Option Label) (pending : IsPendingAt old) (left : IsLeft new code) where
   abbrev freed : Keeper → Option Label
@@ -180,7 +179,7 @@ module _ (from : TaskNo) (old new : Place) (was code : Code) (reserved : Option 
   left_needed Receiver needed needs = absurd needs
   left_needed Caller needed needs = needed (pending_open old was pending)
 
-unfreed : (freed reserved : Option Label) (l : Label) → unless_freed freed reserved ≡ Some l → reserved ≡ Some l
+pub unfreed : (freed reserved : Option Label) (l : Label) → unless_freed freed reserved ≡ Some l → reserved ≡ Some l
 unfreed None reserved l is = is
 unfreed (Some x) reserved l is = absurd (none_some None l refl is)
 
@@ -244,11 +243,8 @@ answered_sound phones c reply u pending was = record {
 task_of_phone : (t : TaskNo) (reserved : Option Label) (l : Label) → phone_of t reserved ≡ Some l → l.task.0 ≡ t.0
 task_of_phone t None l is = absurd (none_some None l refl is)
 task_of_phone t (Some x) l is = by_test (x.task.0 == t.0) refl is where
-  one : (x l : Label) → Some x ≡ Some l → x ≡ l
-  one x l e = cc
-
   by_test : (b : Bool) → (x.task.0 == t.0) ≡ b → (if b then Some x else None) ≡ Some l → l.task.0 ≡ t.0
-  by_test true e h = ap (λ (y : Label). y.task.0) (sym (one x l h)) ∙ eqb-true x.task.0 t.0 e
+  by_test true e h = ap (λ (y : Label). y.task.0) (sym (same_Some x l h)) ∙ eqb-true x.task.0 t.0 e
   by_test false e h = absurd (none_some None l refl h)
 
 holder_alive : (tasks : Tasks) (caller : Option TaskNo) (place : Place) (reserved : Option Label) (l : Label) → IsPlaced tasks caller place → held_phone place reserved ≡ Some l → alive_in tasks.alive l.task.0 ≡ true
@@ -324,17 +320,14 @@ taken k q n t l s takes was is others calls =
       memory = s.memory;
     }
 
-same_label : (x l : Label) → Some x ≡ Some l → x ≡ l
-same_label x l e = cc
-
-own_phone : (t : TaskNo) (l : Label) → l.task ≡ t → phone_of t (Some l) ≡ Some l
+pub own_phone : (t : TaskNo) (l : Label) → l.task ≡ t → phone_of t (Some l) ≡ Some l
 own_phone t l is = rw (eq-eqb l.task.0 t.0 (ap (λ (u : TaskNo). u.0) is)) refl
 
 -- the record of a call for which this phone is reserved
 with_phone_sound : (k : KernelState) (t : TaskNo) (l : Label) (c : Call) → IsUsable k t l → c.reserved ≡ Some l → IsReservedAt (who_keeps c) c.from.task c.place l → HasSoundPhone k.tasks.phones c
 with_phone_sound k t l c takes is owner = record {
-  there = λ x has. subst (λ (y : Label). IsSome (phone_at k y.task y.phone.0)) (same_label l x (sym is ∙ has)) (usable_there k t l takes);
-  owner = λ x has. subst (IsReservedAt (who_keeps c) c.from.task c.place) (same_label l x (sym is ∙ has)) owner;
+  there = λ x has. subst (λ (y : Label). IsSome (phone_at k y.task y.phone.0)) (same_Some l x (sym is ∙ has)) (usable_there k t l takes);
+  owner = λ x has. subst (IsReservedAt (who_keeps c) c.from.task c.place) (same_Some l x (sym is ∙ has)) owner;
   needed = λ n. rw is refl;
 }
 

@@ -1,7 +1,8 @@
 -- The memory stays sound with a new task, with each request of a task that is alive, and at the end of a task.
-use Rattle.std.proofs.Common.{set, ◌≡◌, ℕ, zero, suc, ◌+◌, ◌-◌, ◌<◌, ◌≤◌, Bool, true, false, inl, inr, List, [], ◌∷◌, ◌++◌, length, refl, ap, sym, ◌∙◌, arith, length-append}
+use Rattle.std.proofs.Common.{set, ◌≡◌, ℕ, zero, suc, ◌+◌, ◌-◌, ◌≤◌, Bool, true, false, inl, inr, List, [], ◌∷◌, ◌++◌, length, refl, ap, sym, ◌∙◌, arith, length-append}
 use Rattle.std.specs.Prelude.{slice_get, unwrap_or}
 use Rattle.ipc_ids.specs.declared.numbers.TaskNo.{TaskNo}
+use Rattle.ipc_ids.proofs.Common.{in_marks}
 use Rattle.std.proofs.Math.ListN.{length-set}
 use Rattle.std.proofs.lemmas.Bool.{cases_eq, ne_eqb, false≢true}
 use Rattle.address_space.specs.Areas.{Area}
@@ -46,21 +47,18 @@ memory_task {alive} {m} s = record {
 apart : (alive : List Bool) (t u : TaskNo) → alive_in alive t.0 ≡ true → alive_in alive u.0 ≡ false → u.0 ≡ t.0 → ⊥
 apart alive t u lives ended e = false≢true (sym ended ∙ ap (alive_in alive) e ∙ lives)
 
-pub from_one : (alive : List Bool) (t : TaskNo) → alive_in alive t.0 ≡ true → 1 ≤ t.0
-from_one alive t lives = by_number t.0 lives where
-  by_number : (n : ℕ) → alive_in alive n ≡ true → 1 ≤ n
-  by_number zero h = absurd (false≢true h)
-  by_number (suc n) h = omega arith
+pub positive : (alive : List Bool) (n : ℕ) → alive_in alive n ≡ true → 1 ≤ n
+positive alive zero h = absurd (false≢true h)
+positive alive (suc n) h = omega arith
 
-mark_within : (alive : List Bool) (t : ℕ) → alive_in alive t ≡ true → t ≤ length alive
+pub from_one : (alive : List Bool) (t : TaskNo) → alive_in alive t.0 ≡ true → 1 ≤ t.0
+from_one alive t lives = positive alive t.0 lives
+
+pub mark_within : (alive : List Bool) (t : ℕ) → alive_in alive t ≡ true → t ≤ length alive
 mark_within alive t h = elim (cases_eq t 0) [
   | inl e ↦ omega (arith, e)
-  | inr nt ↦ let few = within alive (t - 1) (rw (ne_eqb t 0 nt) at h) in omega (arith, few)
-] where
-  within : (marks : List Bool) (i : ℕ) → unwrap_or (slice_get marks i) false ≡ true → i < length marks
-  within [] i h = absurd (cc h)
-  within (b ∷ marks) zero h = omega arith
-  within (b ∷ marks) (suc i) h = let few = within marks i h in omega (arith, few)
+  | inr nt ↦ let few = in_marks alive (t - 1) (rw (ne_eqb t 0 nt) at h) in omega (arith, few)
+]
 
 pub memory_make : {alive : List Bool} {m : Memory} (t : TaskNo) (base pages rights : ℕ) → alive_in alive t.0 ≡ true → HasSoundMemory alive m → HasSoundMemory alive (spaces.make m t base pages rights).memory
 memory_make {alive} {m} t base pages rights lives s = record {

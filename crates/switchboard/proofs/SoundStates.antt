@@ -15,6 +15,7 @@ use Rattle.call_slab.specs.declared.call.Place.TheVariants.{Incoming, Dispatched
 use Rattle.answerbox.specs.Calls.{CallTable, call_at, enqueue, put_at, no_calls, used, bytes_in}
 use Rattle.answerbox.proofs.Used.{sum-none}
 use Rattle.ipc_ids.specs.Tables.{most_buffered}
+use Rattle.ipc_ids.proofs.Common.{none_some, free_waits}
 use Rattle.phone_table.specs.Phones.{row_at, state_at}
 use Rattle.switchboard.specs.declared.kept.Keeper.{Keeper}
 use Rattle.switchboard.specs.declared.kept.Keeper.TheVariants.{Nobody, Receiver, Caller}
@@ -23,9 +24,10 @@ use Rattle.switchboard.specs.Kept.{AreKept, who_keeps, phone_of, is_accepted, he
 use Rattle.switchboard.specs.Sound.{IsPlaced, IsCaller, NeedsPhone, HasSoundPhone, Carries, AreSoundCalls, AreSoundTasks, IsSound}
 use Rattle.switchboard.proofs.Lookups.{at_insert}
 use Rattle.switchboard.proofs.Rows.{some_of}
-use Rattle.switchboard.proofs.Soundness.{next_free, sound_enqueue, sound_put, sound_under, phone_kept, sound_quieted, sound_wired, sound_task, row_append, row_before, alive_before, phone_before, all_same}
+use Rattle.switchboard.proofs.Soundness.{next_free, sound_enqueue, sound_put, sound_under, phone_kept, sound_quieted, sound_wired, sound_task, row_append, alive_before, phone_before, all_same}
 use Rattle.switchboard.proofs.SoundMemory.{memory_start, memory_task}
 use Rattle.switchboard.proofs.Keepers.{kept_here, kept_other, kept_of_call, kept_same, keepers_same, all_same as same_of_all, not_waiting, kept_phone_changed, keepers_phone_changed}
+use Rattle.switchboard.proofs.Switched.{same_before}
 
 -- calls
 
@@ -53,12 +55,10 @@ keeps_none c none = by_keeper (who_keeps c) where
 -- a call for which no phone is reserved, and none needs to be
 pub no_phone : (phones : List (List PhoneState)) (c : Call) → c.reserved ≡ None → (NeedsPhone (who_keeps c) c.place c.reply.code → ⊥) → HasSoundPhone phones c
 no_phone phones c none needless = record {
-  there = λ l is. absurd (not_both c.reserved l none is);
-  owner = λ l is. absurd (not_both c.reserved l none is);
+  there = λ l is. absurd (none_some c.reserved l none is);
+  owner = λ l is. absurd (none_some c.reserved l none is);
   needed = λ n. absurd (needless n);
-} where
-  not_both : (o : Option Label) (l : Label) → o ≡ None → o ≡ Some l → ⊥
-  not_both o l a b = cc
+}
 
 -- a new call, which keeps no phone
 pub sound_enqueued : (k : KernelState) (c : Call) → IsSound k → c.number.0 ≡ k.calls.next_number → IsPlaced k.tasks c.caller c.place → IsCaller k.tasks c.from c.caller → IsSome (state_at k.tasks.phones c.from.task.0 c.from.phone.0) → c.discard ≡ (c.request.method == 0) → HasSoundPhone k.tasks.phones c → Carries (kind_of c.request.method) c.place c.buffer (slice_index c.request.args 1) → kept_phone c ≡ None → used k.calls + length c.buffer ≤ most_buffered → IsSound (with_calls k (enqueue k.calls c))
@@ -102,13 +102,7 @@ pub kept_hung_up : (k : KernelState) (t : TaskNo) (p : ℕ) → IsSound k → (p
 kept_hung_up k t p s before = kept_state k t p HungUp s before (λ e. cc e) (sound_quieted k.tasks t.0 p HungUp tt s.tasks)
 
 pub kept_wired : (k : KernelState) (t : TaskNo) (p : ℕ) (u : TaskNo) → IsSound k → alive_in k.tasks.alive t.0 ≡ true → alive_in k.tasks.alive u.0 ≡ true → phone_at k t p ≡ Some Free → IsSound (with_phone k t p (Connected u))
-kept_wired k t p u s from to free = kept_state k t p (Connected u) s (λ e. not_both (phone_at k t p) free e) (λ e. cc e) (sound_wired k.tasks t.0 p u s.tasks from to) where
-  not_both : (o : Option PhoneState) → o ≡ Some Free → o ≡ Some Connecting → ⊥
-  not_both o a b = cc
-
--- a state among the phones, and among those of one task more
-pub state_before : (rows : List (List PhoneState)) (row : List PhoneState) (t p : ℕ) (x : PhoneState) → state_at rows t p ≡ Some x → state_at (rows ++ row ∷ []) t p ≡ Some x
-state_before rows row t p x is = let was = some_of (row_at rows t) (λ r. slice_get r p) x is in rw (row_before rows row t was.0 was.1) was.2
+kept_wired k t p u s from to free = kept_state k t p (Connected u) s (λ e. free_waits (phone_at k t p) free e) (λ e. cc e) (sound_wired k.tasks t.0 p u s.tasks from to)
 
 pub state_of_old : (rows : List (List PhoneState)) (limit t p : ℕ) (x : PhoneState) → (Free ≡ x → ⊥) → state_at (rows ++ replicate limit Free ∷ []) t p ≡ Some x → state_at rows t p ≡ Some x
 state_of_old rows limit t p x not is =
@@ -119,7 +113,7 @@ state_of_old rows limit t p x not is =
     ]
 
 pub kept_added : {rows : List (List PhoneState)} {q : CallTable} (limit : ℕ) → AreKept rows q → AreKept (rows ++ replicate limit Free ∷ []) q
-kept_added {rows} limit s = record { waits = λ n l is. state_before rows (replicate limit Free) l.task.0 l.phone.0 Connecting (s.waits n l is); alone = s.alone }
+kept_added {rows} limit s = record { waits = λ n l is. same_before rows (replicate limit Free) l.task.0 l.phone.0 Connecting (s.waits n l is); alone = s.alone }
 
 pub kept_task : (k : KernelState) (limit : ℕ) → IsSound k → IsSound (with_task k limit)
 kept_task k limit s = record {

@@ -4,6 +4,7 @@ use Rattle.std.proofs.Math.ListN.{length-set}
 use Rattle.std.specs.Prelude.{◌==◌, if◌then◌else◌, IsSome, slice_get, slice_index, unwrap_or}
 use Rattle.std.specs.Option.{option_map_or}
 use Rattle.std.proofs.lemmas.Bool.{cases_eq, eq-eqb, ne_eqb}
+use Rattle.std.proofs.lemmas.Option.{same_Some}
 use Rattle.ipc_ids.specs.declared.numbers.TaskNo.{TaskNo}
 use Rattle.ipc_ids.specs.declared.numbers.Label.{Label}
 use Rattle.ipc_ids.specs.declared.message.PhoneState.{PhoneState}
@@ -19,9 +20,10 @@ use Rattle.switchboard.specs.State.{Tasks, alive_in, with_state_at}
 use Rattle.ipc_ids.specs.declared.methods.MethodKind.{MethodKind}
 use Rattle.ipc_ids.specs.declared.methods.MethodKind.TheVariants.{DataWrite}
 use Rattle.ipc_ids.specs.Methods.{kind_of}
+use Rattle.ipc_ids.proofs.Common.{same_end, not_both}
 use Rattle.switchboard.specs.Sound.{IsPlaced, IsCaller, IsSoundCall, AreSoundCalls, IsQuiet, AreSoundTasks, HasSoundPhone, HasBytesAt, Carries}
 use Rattle.switchboard.specs.Board.{IsPendingAt}
-use Rattle.switchboard.proofs.Lookups.{at_insert, at_remove, chosen, same_call}
+use Rattle.switchboard.proofs.Lookups.{at_insert, at_remove, chosen}
 use Rattle.switchboard.proofs.Rows.{some_of, state_changed_at}
 
 -- a record stays sound while the next number and the next stamp rise
@@ -67,17 +69,17 @@ sound_with tasks q r n d s at more stamps behind few sound = record {
   bytes = few;
   each = λ m c is.
       elim (chosen n m (Some d) (call_at q m) (Some c) (sym (at m) ∙ is)) [
-        | inl e ↦ subst (λ (x : Call). IsSoundCall tasks r.next_number r.next_stamp m x) (same_call d c e.1) (subst (λ (i : ℕ). IsSoundCall tasks r.next_number r.next_stamp i d) e.0 sound)
+        | inl e ↦ subst (λ (x : Call). IsSoundCall tasks r.next_number r.next_stamp m x) (same_Some d c e.1) (subst (λ (i : ℕ). IsSoundCall tasks r.next_number r.next_stamp i d) e.0 sound)
         | inr e ↦ later tasks q.next_number q.next_stamp r.next_number r.next_stamp m c (s.each m c e.1) more (omega arith)
       ];
   stamps_differ = λ m i b c is has same.
       elim (chosen n m (Some d) (call_at q m) (Some b) (sym (at m) ∙ is)) [
         | inl e ↦ elim (chosen n i (Some d) (call_at q i) (Some c) (sym (at i) ∙ has)) [
           | inl f ↦ sym e.0 ∙ f.0
-          | inr f ↦ let old = (s.each i c f.1).stamp in let b_is : b.stamp ≡ d.stamp = ap (λ (x : Call). x.stamp) (sym (same_call d b e.1)) in absurd (omega arith)
+          | inr f ↦ let old = (s.each i c f.1).stamp in let b_is : b.stamp ≡ d.stamp = ap (λ (x : Call). x.stamp) (sym (same_Some d b e.1)) in absurd (omega arith)
         ]
         | inr e ↦ elim (chosen n i (Some d) (call_at q i) (Some c) (sym (at i) ∙ has)) [
-          | inl f ↦ let old = (s.each m b e.1).stamp in let c_is : c.stamp ≡ d.stamp = ap (λ (x : Call). x.stamp) (sym (same_call d c f.1)) in absurd (omega arith)
+          | inl f ↦ let old = (s.each m b e.1).stamp in let c_is : c.stamp ≡ d.stamp = ap (λ (x : Call). x.stamp) (sym (same_Some d c f.1)) in absurd (omega arith)
           | inr f ↦ s.stamps_differ m i b c e.1 f.1 same
         ]
       ];
@@ -223,7 +225,7 @@ phone_kept rows a b t p s h = by_row (row_at rows a) refl where
         | inr e ↦ rw (e.1, row.2) refl
       ]
 
-length_rows : (rows : List (List PhoneState)) (a b : ℕ) (s : PhoneState) → length (with_state_at rows a b s) ≡ length rows
+pub length_rows : (rows : List (List PhoneState)) (a b : ℕ) (s : PhoneState) → length (with_state_at rows a b s) ≡ length rows
 length_rows rows a b s = by_row (row_at rows a) where
   by_row : (o : Option (List PhoneState)) → length (option_map_or (λ row. set rows (a - 1) (set row b s)) o rows) ≡ length rows
   by_row None = refl
@@ -241,14 +243,9 @@ sound_quieted tasks t p x quiet s = record {
 pub sound_wired : (tasks : Tasks) (t p : ℕ) (u : TaskNo) → AreSoundTasks tasks → alive_in tasks.alive t ≡ true → alive_in tasks.alive u.0 ≡ true → AreSoundTasks (record { alive = tasks.alive; phones = with_state_at tasks.phones t p (Connected u) })
 sound_wired tasks t p u s from to = record {
   paired = length_rows tasks.phones t p (Connected u) ∙ s.paired;
-  leads = λ a b v is. elim (state_changed_at tasks.phones t p a b (Connected u) (Connected v) is) [ inl e ↦ subst (λ (x : TaskNo). alive_in tasks.alive x.0 ≡ true) (connected_to u v e.2) to | inr e ↦ s.leads a b v e.1 ];
-  quiet = λ a b state is ended. elim (state_changed_at tasks.phones t p a b (Connected u) state is) [ inl e ↦ absurd (not_both (alive_in tasks.alive a) (ap (alive_in tasks.alive) e.0 ∙ from) ended) | inr e ↦ s.quiet a b state e.1 ended ];
-} where
-  connected_to : (u v : TaskNo) → Connected u ≡ Connected v → u ≡ v
-  connected_to u v e = cc
-
-  not_both : (b : Bool) → b ≡ true → b ≡ false → ⊥
-  not_both b x y = cc
+  leads = λ a b v is. elim (state_changed_at tasks.phones t p a b (Connected u) (Connected v) is) [ inl e ↦ subst (λ (x : TaskNo). alive_in tasks.alive x.0 ≡ true) (same_end u v e.2) to | inr e ↦ s.leads a b v e.1 ];
+  quiet = λ a b state is ended. elim (state_changed_at tasks.phones t p a b (Connected u) state is) [ inl e ↦ absurd (not_both (ap (alive_in tasks.alive) e.0 ∙ from) ended) | inr e ↦ s.quiet a b state e.1 ended ];
+}
 
 get_append : {A : Type 0} (xs : List A) (y : A) (i : ℕ) (v : A) → slice_get (xs ++ y ∷ []) i ≡ Some v → (slice_get xs i ≡ Some v) ⊎ ((i ≡ length xs) × (y ≡ v))
 get_append [] y zero v h = inr (refl, cc)

@@ -1,5 +1,5 @@
 -- Each step keeps what a switchboard keeps.
-use Rattle.std.proofs.Common.{◌≡◌, ℕ, zero, suc, ◌≤◌, ◌<◌, ◌+◌, ◌-◌, ◌^◌, Bool, true, false, ◌&&◌, Option, None, Some, List, [], ◌∷◌, ◌++◌, replicate, length, length-append, refl, ap, sym, subst, ◌∙◌, arith, inl, inr}
+use Rattle.std.proofs.Common.{◌≡◌, ℕ, zero, suc, ◌≤◌, ◌<◌, ◌+◌, ◌-◌, ◌^◌, Bool, true, false, Option, None, Some, List, [], ◌∷◌, ◌++◌, replicate, length, length-append, refl, ap, sym, subst, ◌∙◌, arith, inl, inr}
 use Rattle.std.specs.Prelude.{IsSome, IfSome, slice_get, option_and_then, ◌==◌, OnOk, Result, Ok, Err}
 use Rattle.std.specs.Option.{IsSomeAnd}
 use Rattle.ipc_ids.specs.declared.numbers.TaskNo.{TaskNo}
@@ -18,14 +18,16 @@ use Rattle.answerbox.proofs.Steps.{call_at-no_calls}
 use Rattle.std.proofs.lemmas.Bool.{cases_eq, eq-eqb, ne_eqb}
 use Rattle.std.specs.Ordering.{nat_cmp}
 use Rattle.std.specs.FinMap.{len-empty}
+use Rattle.std.proofs.lemmas.Option.{slice_get_within}
 use Rattle.ipc_ids.specs.declared.numbers.Code.{Code}
+use Rattle.ipc_ids.proofs.Common.{and_false, same_end}
 use Rattle.phone_table.specs.Phones.{row_at, state_at, count_at, hangup_answer}
 use Rattle.phone_table.specs.Usable.{IsConnected}
 use Rattle.phone_table.specs.declared.hung.Hung.{Hung}
 use Rattle.phone_table.specs.declared.hung.Hung.TheVariants.{Sent, Silent}
 use Rattle.switchboard.specs.Board.{hung_rows, IsSwitched, TellsAdded, LeadsToAdded}
 use Rattle.switchboard.specs.State.{KernelState, label_of, with_state_at}
-use Rattle.switchboard.proofs.Soundness.{phone_kept, value_of, get_last, row_append, row_before}
+use Rattle.switchboard.proofs.Soundness.{phone_kept, value_of, get_last, row_append, row_before, length_rows, phone_before}
 use Rattle.switchboard.specs.Counts.{label_at, IsCounted, HasCounts}
 use Rattle.switchboard.specs.Kept.{AreKept, kept_by, kept_phone, kept_rows}
 use Rattle.switchboard.proofs.Keepers.{IsUnkept, AreUnkept, IsThere, kept_phone_changed, not_waiting}
@@ -33,7 +35,7 @@ use Rattle.switchboard.proofs.Rows.{state_changed_at, some_of}
 use Rattle.switchboard.proofs.Recounting.{some_and}
 use Rattle.switchboard.proofs.Counting.{counted_none, elsewhere, zeros}
 use Rattle.switchboard.proofs.Keeping.{counts_put, counts_phone}
-use Rattle.switchboard.proofs.Endings.{length_rows, sent_to}
+use Rattle.switchboard.proofs.Endings.{sent_to}
 
 -- calls and counts change
 pub switched_calls : {alive : List Bool} {phones : List (List PhoneState)} {counts : List (List ℕ)} {calls : CallTable} {tasks : ℕ} (counts' : List (List ℕ)) (calls' : CallTable) → IsSwitched alive phones counts calls tasks → HasCounts phones counts' calls' → AreKept phones calls' → IsSwitched alive phones counts' calls' tasks
@@ -65,10 +67,7 @@ may_count phones counts calls from s there few =
 
 -- a hangup of one phone leaves the calls of the next ones
 other_label : (t : TaskNo) (p q : ℕ) → p < q → same_label (label_of t p) (label_of t q) ≡ false
-other_label t p q lt = let ne : p ≡ q → ⊥ = λ e. omega arith in rw (ne_eqb p q ne) (by_task (t.0 == t.0)) where
-  by_task : (b : Bool) → (b && false) ≡ false
-  by_task true = refl
-  by_task false = refl
+other_label t p q lt = let ne : p ≡ q → ⊥ = λ e. omega arith in rw (ne_eqb p q ne) (and_false (t.0 == t.0))
 
 pub later_same : (k : KernelState) (t : TaskNo) (p q : ℕ) (o : Option PhoneState) → call_at k.calls k.calls.next_number ≡ None → p < q → active_calls (hang_up k t p o).state.calls (label_of t q) ≡ active_calls k.calls (label_of t q)
 later_same k t p q None free lt = refl
@@ -125,10 +124,6 @@ leads_of k t p (Some Connecting) s e = tt
 leads_of k t p (Some (Connected u)) s e = s t p u (sym e)
 leads_of k t p (Some HungUp) s e = tt
 leads_of k t p (Some Slammed) s e = tt
-
--- a phone that is there leads to a task from now on
-same_end : (u v : TaskNo) → Connected u ≡ Connected v → u ≡ v
-same_end u v e = cc
 
 pub switched_wired : {alive : List Bool} {phones : List (List PhoneState)} {counts : List (List ℕ)} {calls : CallTable} {tasks : ℕ} (a b : ℕ) (to : TaskNo) → IsSwitched alive phones counts calls tasks → IsSome (state_at phones a b) → to.0 ≤ length alive → IsUnkept calls a b → IsSwitched alive (with_state_at phones a b (Connected to)) counts calls tasks
 switched_wired {alive} {phones} {counts} {calls} a b to s there added unkept = record {
@@ -206,27 +201,15 @@ free_leads_nowhere zero p u h = cc
 free_leads_nowhere (suc k) zero u h = cc
 free_leads_nowhere (suc k) (suc p) u h = free_leads_nowhere k p u h
 
-there_before : (rows : List (List PhoneState)) (row : List PhoneState) (t p : ℕ) → IsSome (state_at rows t p) → IsSome (state_at (rows ++ row ∷ []) t p)
-there_before rows row t p h =
-    let f = value_of (state_at rows t p) h in
-    let r = some_of (row_at rows t) (λ x. slice_get x p) f.0 f.1 in
-    rw (row_before rows row t r.0 r.1, r.2) refl
-
-same_before : (rows : List (List PhoneState)) (row : List PhoneState) (t p : ℕ) (x : PhoneState) → state_at rows t p ≡ Some x → state_at (rows ++ row ∷ []) t p ≡ Some x
+pub same_before : (rows : List (List PhoneState)) (row : List PhoneState) (t p : ℕ) (x : PhoneState) → state_at rows t p ≡ Some x → state_at (rows ++ row ∷ []) t p ≡ Some x
 same_before rows row t p x h =
     let r = some_of (row_at rows t) (λ y. slice_get y p) x h in
     rw (row_before rows row t r.0 r.1) r.2
 
--- a row that is there has a number up to their count
-get_few : {A : Type 0} (xs : List A) (i : ℕ) (x : A) → slice_get xs i ≡ Some x → i < length xs
-get_few [] i x h = absurd (cc h)
-get_few (y ∷ xs) zero x h = omega arith
-get_few (y ∷ xs) (suc i) x h = let f = get_few xs i x h in omega arith
-
 row_few : {A : Type 0} (rows : List A) (t : ℕ) (row : A) → row_at rows t ≡ Some row → t ≤ length rows
 row_few rows t row h = elim (cases_eq t 0) [
   | inl e ↦ omega arith
-  | inr ne ↦ let f = get_few rows (t - 1) row (rw (ne_eqb t 0 ne) at h) in omega arith
+  | inr ne ↦ let f = slice_get_within rows (t - 1) row (rw (ne_eqb t 0 ne) at h) in omega arith
 ]
 
 -- no live call goes over a phone of a task that is not there yet
@@ -262,7 +245,7 @@ switched_task {alive} {phones} {counts} {calls} limit tasks' s paired enough = r
       ];
   has_counts = record {
     numbered = s.has_counts.numbered;
-    over_phone = λ n c is. there_before phones (replicate limit Free) c.from.task.0 c.from.phone.0 (s.has_counts.over_phone n c is);
+    over_phone = λ n c is. phone_before phones (replicate limit Free) c.from.task.0 c.from.phone.0 (s.has_counts.over_phone n c is);
     shaped = λ t p h. shaped_task phones counts limit t p paired s.has_counts.shaped h;
     counted = counted_more counts calls limit s.has_counts.counted (none_over_new phones counts calls s.has_counts paired);
     few = s.has_counts.few;

@@ -1,6 +1,6 @@
 -- The wires of a sound script are open once its tasks are there.
-use Rattle.std.proofs.Common.{◌≡◌, ℕ, zero, suc, ◌-◌, ◌<◌, Bool, true, List, [], ◌∷◌, ◌++◌, length, map, replicate, Option, Some, refl, ap, sym, ◌∙◌, arith, append_assoc, inl, inr}
-use Rattle.std.specs.Prelude.{slice_get, ◌≢◌, ◌≤◌, ◌+◌, if◌then◌else◌, IsSome, All, slice_index_or, false}
+use Rattle.std.proofs.Common.{◌≡◌, ℕ, zero, suc, ◌-◌, ◌<◌, Bool, true, List, [], ◌∷◌, ◌++◌, length, map, replicate, Some, refl, ap, sym, ◌∙◌, arith, append_assoc}
+use Rattle.std.specs.Prelude.{slice_get, ◌≢◌, ◌≤◌, ◌+◌, if◌then◌else◌, All, slice_index_or, false}
 use Rattle.std.proofs.lemmas.Option.{slice_get-map, get_or_from_slice_get}
 use Rattle.std.proofs.lemmas.List.{append-nil}
 use Rattle.std.proofs.lemmas.Bool.{ne_eqb}
@@ -13,9 +13,8 @@ use Rattle.script_lines.specs.declared.plan.Wire.{Wire}
 use Rattle.script_lines.specs.Plan.{Plan}
 use Rattle.script_lines.specs.Sound.{IsTask, IsSoundTask, has_service, IsBesideService, Leads, PhonesDiffer, IsSound}
 use Rattle.phone_table.specs.Phones.{state_at}
-use Rattle.switchboard.specs.State.{Tasks, KernelState, start, alive_in, with_task, with_state_at}
-use Rattle.switchboard.proofs.Rows.{state_changed_at}
-use Rattle.switchboard.proofs.Soundness.{value_of, phone_kept}
+use Rattle.switchboard.specs.State.{Tasks, KernelState, start, alive_in, with_task}
+use Rattle.switchboard.proofs.Keepers.{state_elsewhere}
 use Rattle.task_system.specs.Run.{with_tasks, with_service}
 use Rattle.task_system.specs.Wiring.{service_wire, service_wires, wires_to_service, with_wire, with_wires, IsOpen, AreOpen}
 
@@ -34,7 +33,7 @@ tasks_added k (task ∷ tasks) =
     tasks_added (with_task k task.limit) tasks
     ∙ rw (append_assoc k.tasks.alive (true ∷ []) (map is_there tasks), append_assoc k.tasks.phones (free_phones task ∷ []) (map free_phones tasks)) refl
 
-item : (tasks : List TaskPlan) (i : ℕ) → i < length tasks → (task : TaskPlan) × (slice_get tasks i ≡ Some task)
+pub item : (tasks : List TaskPlan) (i : ℕ) → i < length tasks → (task : TaskPlan) × (slice_get tasks i ≡ Some task)
 item [] i h = absurd (omega (arith, h))
 item (task ∷ tasks) zero h = (task, refl)
 item (task ∷ tasks) (suc i) h = item tasks i (omega (arith, h))
@@ -69,23 +68,11 @@ opened tasks wire leads = record {
   free = rw (tasks_added start tasks) (free_at tasks wire.from.0 wire.phone.0 leads.from_task leads.in_range);
 }
 
-is_some : (o : Option PhoneState) (x : PhoneState) → o ≡ Some x → IsSome o
-is_some o x e = rw e refl
-
--- a phone keeps its state where another is wired
-still_free : (rows : List (List PhoneState)) (a b t p : ℕ) (s x : PhoneState) → state_at rows t p ≡ Some x → ((t ≡ a) × (p ≡ b) → ⊥) → state_at (with_state_at rows a b s) t p ≡ Some x
-still_free rows a b t p s x h apart =
-    let found = value_of (state_at (with_state_at rows a b s) t p) (phone_kept rows a b t p s (is_some (state_at rows t p) x h)) in
-    elim (state_changed_at rows a b t p s found.0 found.1) [
-      | inl e ↦ absurd (apart (e.0, e.1))
-      | inr e ↦ found.1 ∙ sym e.1 ∙ h
-    ]
-
 still_open : (k : KernelState) (wire other : Wire) → IsOpen k other → (wire.from ≡ other.from → wire.phone ≢ other.phone) → IsOpen (with_wire k wire) other
 still_open k wire other is apart = record {
   from = is.from;
   to = is.to;
-  free = still_free k.tasks.phones wire.from.0 wire.phone.0 other.from.0 other.phone.0 (Connected wire.to) Free is.free
+  free = state_elsewhere k.tasks.phones wire.from.0 wire.phone.0 other.from.0 other.phone.0 (Connected wire.to) Free is.free
       (λ e. apart (ap (λ (n : ℕ). number n) (sym e.0)) (ap (λ (n : ℕ). phone n) (sym e.1)));
 } where
   number : ℕ → TaskNo

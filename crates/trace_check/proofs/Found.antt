@@ -1,17 +1,20 @@
 -- What is found of entries that were read one by one.
-use Rattle.std.proofs.Common.{ℕ, suc, ◌≡◌, ◌<◌, ◌≤◌, ◌+◌, ◌++◌, List, [], ◌∷◌, length, refl, sym, ap, subst, ◌∙◌, arith, inl, inr, append_assoc}
+use Rattle.std.proofs.Common.{ℕ, ◌≡◌, ◌<◌, ◌≤◌, ◌+◌, ◌++◌, List, [], ◌∷◌, length, refl, sym, ap, subst, ◌∙◌, arith, inl, inr, append_assoc}
+use Rattle.std.proofs.lemmas.List.{append-nil}
 use Rattle.ipc_ids.specs.declared.entry.Entry.{Entry}
 use Rattle.ipc_ids.specs.Laws.{LivesAreLawful, AnsweredAtMostOnce, KillEndsHeldCalls}
 use Rattle.ipc_ids.specs.AreaLaw.{AreasAreLawful}
+use Rattle.ipc_ids.proofs.Common.{suc_over}
 use Rattle.trace_print.specs.Text.{text_of_entry, text_of}
+use Rattle.trace_print.proofs.Texts.{text_append}
 use Rattle.law_check.specs.Passing.{in_order}
 use Rattle.law_check.specs.Judging.{events_of}
 use Rattle.law_check.specs.Verdict.{IsVerdict}
 use Rattle.law_check.specs.declared.verdict.Verdict.TheVariants as verdict
 use Rattle.trace_reader.specs.Line.{IsBuilt}
 use Rattle.trace_reader.specs.Trace.{AreBuilt, IsTrace, IsNoLine, IsFirstBad}
-use Rattle.trace_reader.proofs.Only.{one_list, no_bad, append_nil}
-use Rattle.trace_reader.proofs.ReadAgain.{text_of-append, built_push}
+use Rattle.trace_reader.proofs.Only.{one_list, no_bad}
+use Rattle.trace_reader.proofs.ReadAgain.{built_push}
 use Rattle.trace_check.specs.declared.reading.Reading.{Reading}
 use Rattle.trace_check.specs.Finding.{most_trace, IsLawfulTrace}
 use Rattle.trace_check.specs.Reading.{HasRead, ReadsTo}
@@ -27,9 +30,7 @@ in_order_length : (p es : List Entry) → length (in_order p es) ≡ length p + 
 in_order_length [] es = first (length es) where
   first : (n : ℕ) → n ≡ 0 + n
   first n = omega arith
-in_order_length (e ∷ p) es = in_order_length p (e ∷ es) ∙ moved (length p) (length es) where
-  moved : (m n : ℕ) → m + suc n ≡ suc m + n
-  moved m n = omega arith
+in_order_length (e ∷ p) es = in_order_length p (e ∷ es) ∙ suc_over (length p) (length es)
 
 -- one more entry
 pub reads_on :
@@ -43,7 +44,7 @@ reads_on bytes rest more e old new to line built short read one events =
       read = read;
       text =
           ap (λ (es : List Entry). text_of es ++ more) there
-          ∙ ap (λ (t : List ℕ). t ++ more) (text_of-append (in_order to.past []) (e ∷ []) ∙ ap (λ (t : List ℕ). text_of (in_order to.past []) ++ t) (append_nil (text_of_entry e)))
+          ∙ ap (λ (t : List ℕ). t ++ more) (text_append (in_order to.past []) (e ∷ []) ∙ ap (λ (t : List ℕ). text_of (in_order to.past []) ++ t) (append-nil (text_of_entry e)))
           ∙ append_assoc (text_of (in_order to.past [])) (text_of_entry e) more
           ∙ ap (λ (t : List ℕ). text_of (in_order to.past []) ++ t) (sym line)
           ∙ to.text;
@@ -78,7 +79,7 @@ bad_is_unlawful bytes rest s to some bad lawful =
 -- ---- all lines
 pub is_trace : (bytes rest : List ℕ) (s : Reading) (to : ReadsTo bytes rest s) → rest ≡ [] → IsTrace (in_order to.past []) bytes
 is_trace bytes rest s to done = (
-  sym (append_nil (text_of (in_order to.past []))) ∙ ap (λ (r : List ℕ). text_of (in_order to.past []) ++ r) (sym done) ∙ to.text,
+  sym (append-nil (text_of (in_order to.past []))) ∙ ap (λ (r : List ℕ). text_of (in_order to.past []) ++ r) (sym done) ∙ to.text,
   to.built,
 )
 

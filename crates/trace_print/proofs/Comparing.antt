@@ -1,23 +1,19 @@
 -- A line that is compared with a text.
 use Rattle.std.proofs.Common.{◌≡◌, ℕ, ◌+◌, ◌↔◌, Bool, true, List, [], ◌∷◌, ◌++◌, length, take, drop, refl, sym, ap, ◌∙◌, append_assoc, arith}
-use Rattle.std.specs.Prelude.{IsTrue, nat_eq, slice_index, ◌==◌}
+use Rattle.std.specs.Prelude.{IsTrue, nat_eq, ◌==◌}
 use Rattle.std.proofs.lemmas.Bool.{eqb-true}
 use Rattle.std.specs.Cmp.Lexicographic.{pointwise}
-use Rattle.std.proofs.lemmas.List.{take-append-drop, append_cancel_left}
+use Rattle.std.proofs.lemmas.List.{take-append-drop, append_cancel_left, append-nil}
 use Rattle.std.proofs.Math.Seq.{take-add, take-append_seam}
 use Rattle.trace_print.specs.Comparison.{compared}
-use Rattle.trace_print.proofs.Lasts.{is_line, same_but_last}
-
-nil_behind : (xs : List ℕ) → xs ++ [] ≡ xs
-nil_behind [] = refl
-nil_behind (x ∷ xs) = ap (λ l. x ∷ l) (nil_behind xs)
+use Rattle.trace_print.proofs.Lasts.{is_line, same_but_last, tail_same}
 
 -- what comes where the line goes on with it
 pub same_more :
     (line other w : List ℕ) (same count : ℕ) → other ≡ [] → take count (drop same line) ≡ w →
     compared line (same + count) other ≡ compared line same other ++ w
 same_more line other w same count none goes =
-    rw (none, take-add same count line, goes, nil_behind (take same line ++ w), nil_behind (take same line))
+    rw (none, take-add same count line, goes, append-nil (take same line ++ w), append-nil (take same line))
     (ap (λ (l : List ℕ). length line ∷ l) (sym (append_assoc line (take same line) w)))
 
 pub no_items : (xs : List ℕ) → (length xs == 0) ≡ true → xs ≡ []
@@ -28,15 +24,12 @@ no_items (x ∷ xs) h = absurd (grind arith)
 pub apart : (a b x y : List ℕ) → length a ∷ a ++ x ≡ (length b ∷ b) ++ y → (a ≡ b) × (x ≡ y)
 apart a b x y h =
     let long : length a ≡ length b = head_of (length a) (length b) (a ++ x) (b ++ y) h in
-    let rest : a ++ x ≡ b ++ y = tail_of (length a) (length b) (a ++ x) (b ++ y) h in
+    let rest : a ++ x ≡ b ++ y = tail_same (length a) (length b) (a ++ x) (b ++ y) h in
     let same : a ≡ b = sym (take-append_seam a x) ∙ ap (λ l. take (length a) l) rest ∙ ap (λ n. take n (b ++ y)) long ∙ take-append_seam b y in
     (same, append_cancel_left b x y (ap (λ l. l ++ x) (sym same) ∙ rest))
   where
     head_of : (m n : ℕ) (xs ys : List ℕ) → m ∷ xs ≡ n ∷ ys → m ≡ n
     head_of m n xs ys h = cc
-
-    tail_of : (m n : ℕ) (xs ys : List ℕ) → m ∷ xs ≡ n ∷ ys → xs ≡ ys
-    tail_of m n xs ys h = cc
 
 -- ---- the end
 

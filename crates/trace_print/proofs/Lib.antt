@@ -4,4 +4,5 @@ pub mod Digits
 pub mod Lasts
 pub mod Marks
 pub mod Pairs
+pub mod Texts
 mod TextExamples

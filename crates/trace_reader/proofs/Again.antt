@@ -1,13 +1,13 @@
 -- What is read in the words of an entry is what the entry has.
 use Rattle.std.proofs.Common.{ℕ, get_or, zero, suc, drop, ◌-◌, ◌≡◌, ◌<◌, ◌≤◌, ◌+◌, ◌^◌, true, List, [], ◌∷◌, ◌++◌, length, Option, None, refl, sym, ap, ◌∙◌, arith, ne_eqb, decimal, append_assoc, subst, inl, inr, ◌/◌, ◌%◌, ◌*◌}
 use native.Mathlib.Numerals.{unary_clauses}
-use Rattle.std.specs.Prelude.{unwrap_or, nat_eq}
+use Rattle.std.specs.Prelude.{unwrap_or}
 use Rattle.std.specs.Char.{digit_value}
 use Rattle.std.specs.Str.Parse.{digits_value, digits_value_after, AllDigits}
 use Rattle.std.proofs.lemmas.Bool.{lt-ltb, cases_eq, cases_lt}
-use Rattle.std.specs.Cmp.Lexicographic.{pointwise}
 use Rattle.std.proofs.lemmas.Fmt.{decimal_is_IsNumeral}
 use Rattle.std.proofs.lemmas.Grind.{common_steps}
+use Rattle.std.proofs.lemmas.List.{append-nil}
 use Rattle.ipc_ids.specs.declared.numbers.TaskNo.{TaskNo}
 use Rattle.ipc_ids.specs.declared.numbers.Label.{Label}
 use Rattle.ipc_ids.specs.declared.numbers.Code.{Code}
@@ -226,7 +226,4 @@ pub none_left : (left : ℕ) (rest : List ℕ) → left ≡ 0 → bytes_from lef
 none_left left rest h = ap (λ (k : ℕ). bytes_from k rest) h
 
 pub all_bytes : (items more all : List ℕ) → more ≡ [] → items ++ more ≡ all → items ≡ all
-all_bytes items more all none h = sym (append_nil items) ∙ ap (λ (m : List ℕ). items ++ m) (sym none) ∙ h where
-  append_nil : (xs : List ℕ) → xs ++ [] ≡ xs
-  append_nil [] = refl
-  append_nil (x ∷ xs) = ap (λ l. x ∷ l) (append_nil xs)
+all_bytes items more all none h = sym (append-nil items) ∙ ap (λ (m : List ℕ). items ++ m) (sym none) ∙ h

@@ -5,6 +5,7 @@ use Rattle.std.proofs.lemmas.Grind.{common_steps}
 use Rattle.std.proofs.lemmas.Fmt.{decimal_is_IsNumeral}
 use Rattle.std.specs.Prelude.{codes, slice_index, Result, Err}
 use Rattle.std.specs.Str.Parse.{AllDigits}
+use Rattle.std.proofs.lemmas.List.{append-nil}
 use Rattle.ipc_ids.specs.declared.numbers.TaskNo.{TaskNo}
 use Rattle.ipc_ids.specs.declared.numbers.Code.{Code}
 use Rattle.ipc_ids.specs.declared.message.Mode.{Mode}
@@ -20,8 +21,10 @@ use Rattle.ipc_ids.specs.declared.message.Outcome.TheVariants as got
 use Rattle.ipc_ids.specs.declared.entry.Entry.{Entry}
 use Rattle.ipc_ids.specs.declared.entry.Entry.TheVariants as entry
 use Rattle.ipc_ids.specs.Codes.{eok}
+use Rattle.ipc_ids.proofs.Common.{not_both}
 use Rattle.trace_print.specs.Text.{text_of_entry, text_of, code_text, fibril_text, mode_text, exchange_mode_text}
 use Rattle.trace_print.proofs.Lasts.{same_but_last}
+use Rattle.trace_print.proofs.Texts.{text_append}
 use Rattle.trace_reader.specs.Words.{number_of, code_of, before, behind}
 use Rattle.trace_reader.specs.Line.{join, words_of, AreArgs, IsBuilt}
 use Rattle.trace_reader.specs.Read.{entry_in, nth, read, IsPlain, outcome_in, mode_in, exchange_mode_in, is}
@@ -199,10 +202,7 @@ pub unread :
     (e : Entry) (line : List ℕ) (b : Bool) → (text_of_entry (read line) ≡ line ++ 10 ∷ [] → b ≡ true) → b ≡ false →
     IsBuilt e → text_of_entry e ≡ line ++ 10 ∷ [] → ⊥
 unread e line b test no_test built text =
-    not_both b (test (ap text_of_entry (line_again e line built text) ∙ text)) no_test
-  where
-    not_both : (b : Bool) → b ≡ true → b ≡ false → ⊥
-    not_both b h k = cc
+    not_both (test (ap text_of_entry (line_again e line built text) ∙ text)) no_test
 
 -- bytes that begin with the text of an entry begin with its words and a line feed
 pub first_of :
@@ -223,10 +223,6 @@ not_read rest line is none e more b h =
     let at : rest ≡ join (words_of e) ++ 10 ∷ more = first_of e rest more b h in
     let same : line ≡ join (words_of e) = is ∙ ap (before 10) at ∙ before_mark 10 (join (words_of e)) more (lacks_join (words_of e) (words_lack e b).1) in
     none e b (is_joined e ∙ ap (λ (l : List ℕ). l ++ 10 ∷ []) (sym same))
-
-pub text_of-append : (xs ys : List Entry) → text_of (xs ++ ys) ≡ text_of xs ++ text_of ys
-text_of-append [] ys = refl
-text_of-append (x ∷ xs) ys = ap (λ t. text_of_entry x ++ t) (text_of-append xs ys) ∙ sym (append_assoc (text_of_entry x) (text_of xs) (text_of ys))
 
 pub built_push : (es : List Entry) (e : Entry) → AreBuilt es → IsBuilt e → AreBuilt (es ++ e ∷ [])
 built_push [] e h k = (k, tt)
@@ -250,15 +246,12 @@ pub read_on :
     (es : List Entry) (e : Entry) (bytes rest more : List ℕ) → text_of es ++ rest ≡ bytes → AreBuilt es → IsBuilt e →
     rest ≡ text_of_entry e ++ more → (text_of (es ++ e ∷ []) ++ more ≡ bytes) × AreBuilt (es ++ e ∷ [])
 read_on es e bytes rest more text built own line = (
-  ap (λ (t : List ℕ). t ++ more) (text_of-append es (e ∷ []) ∙ ap (λ (t : List ℕ). text_of es ++ t) (append_nil (text_of_entry e)))
+  ap (λ (t : List ℕ). t ++ more) (text_append es (e ∷ []) ∙ ap (λ (t : List ℕ). text_of es ++ t) (append-nil (text_of_entry e)))
       ∙ append_assoc (text_of es) (text_of_entry e) more
       ∙ ap (λ (t : List ℕ). text_of es ++ t) (sym line)
       ∙ text,
   built_push es e built own,
-) where
-  append_nil : (xs : List ℕ) → xs ++ [] ≡ xs
-  append_nil [] = refl
-  append_nil (x ∷ xs) = ap (λ l. x ∷ l) (append_nil xs)
+)
 
 same_line : {A : Type 0} (a b : ℕ) → (let x : Result A TraceFault = Err (Bad a) in x ≡ Err (Bad b)) → a ≡ b
 same_line a b h = cc

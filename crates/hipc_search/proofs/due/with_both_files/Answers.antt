@@ -1,6 +1,6 @@
 use Rattle.std.proofs.Common.{ap, ◌∙◌, ◌++◌, ◌∷◌, [], Err}
+use Rattle.schedule_search.proofs.Visiting.{if_ok_on}
 use Rattle.hipc_search.specs.Command.{said}
-use Rattle.hipc_search.proofs.Answering.{if_ok_on}
 use Rattle.hipc_search.proofs.Loading.{first_lost, second_lost, both_loaded}
 use Rattle.command_line.proofs.Lost.{lost_it, lost_only, lost_none}
 use Rattle.hipc_search.proofs.due.with_both_files.Goals as goal

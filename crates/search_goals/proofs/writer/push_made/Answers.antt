@@ -1,6 +1,7 @@
 use Rattle.std.proofs.Common.{◌≡◌, [], ◌∷◌, ◌++◌, false, List, ℕ, get_or, sym, ap, subst, ◌∙◌}
 use Rattle.std.specs.Prelude.{is_some}
 use Rattle.ipc_ids.specs.declared.message.Event.TheVariants as events
+use Rattle.ipc_ids.proofs.Common.{then_on_ok}
 use Rattle.script_lines.specs.declared.plan.TaskPlan.{TaskPlan}
 use Rattle.script_lines.specs.Names.{task_names, place_of}
 use Rattle.script_lines.specs.Plan.{Plan}
@@ -10,7 +11,7 @@ use Rattle.search_goals.specs.Lines.{spawn_text}
 use Rattle.search_goals.specs.Writing.{IsNew, Writes}
 use Rattle.search_goals.proofs.NameWords.{template_named, template_at}
 use Rattle.search_goals.proofs.NewNames.{new_unknown}
-use Rattle.search_goals.proofs.Texts.{spawn_written, then_ok}
+use Rattle.search_goals.proofs.Texts.{spawn_written}
 use Rattle.search_goals.proofs.writer.push_made.Goals as goal
 
 pub push-requires-clause-new : goal.push-requires-clause-new
@@ -42,7 +43,7 @@ returns c =
     new c.requires.room
     (c.in_ok-push_spawn.ensures
     ∙ ap (λ (n : List ℕ). c.args.text.now.items ++ spawn_text template n) c.as_slice-3.ensures.value) in
-    then_ok c.push.result c.push.ensures
+    then_on_ok c.push.result c.push.ensures
     (λ (known : c.push.new.self ≡ names ++ c.as_slice-4.result.now ∷ []).
     subst
     (λ (ns : List (List ℕ)). Writes (task_names templates) names c.args.text.now.items c.push_spawn.new.text.items (events.Spawn place ∷ []) ns)

@@ -1,6 +1,6 @@
 use Rattle.std.proofs.Common.{◌≡◌, ◌≢◌, [], length, sym, ap, ◌∙◌, arith, false-eqb}
+use Rattle.trace_print.proofs.Comparing.{no_items}
 use Rattle.law_check.specs.Passing.{in_order}
-use Rattle.trace_reader.proofs.Only.{no_bytes}
 use Rattle.trace_check.proofs.Found.{reads_on, first_bad, bad_is_unlawful, is_trace, entries_are, is_lawful, is_unlawful}
 use Rattle.trace_check.proofs.finding.check_trace.Goals as goal
 
@@ -30,7 +30,7 @@ returns-in-None-clause-lawful c =
 pub returns-in-Lawful-clause-is : goal.returns-in-Lawful-clause-is
 returns-in-Lawful-clause-is c =
     let to = c.loop-reader.invariant in
-    let none : c.loop-reader.rest.now ≡ [] = no_bytes c.loop-reader.rest.now (sym c.is_empty.ensures ∙ c.loop-reader-test.false) in (
+    let none : c.loop-reader.rest.now ≡ [] = no_items c.loop-reader.rest.now (sym c.is_empty.ensures ∙ c.loop-reader-test.false) in (
       omega (arith, c.if-bytes-gt-MOST.false),
       in_order to.past [],
       is_trace c.args.bytes.now c.loop-reader.rest.now c.loop-reader.reading to none,
@@ -41,7 +41,7 @@ returns-in-Lawful-clause-is c =
 pub returns-in-Lawful-clause-lawful : goal.returns-in-Lawful-clause-lawful
 returns-in-Lawful-clause-lawful c =
     let to = c.loop-reader.invariant in
-    let none : c.loop-reader.rest.now ≡ [] = no_bytes c.loop-reader.rest.now (sym c.is_empty.ensures ∙ c.loop-reader-test.false) in
+    let none : c.loop-reader.rest.now ≡ [] = no_items c.loop-reader.rest.now (sym c.is_empty.ensures ∙ c.loop-reader-test.false) in
     let text = is_trace c.args.bytes.now c.loop-reader.rest.now c.loop-reader.reading to none in
     let verdict = rw (c.in-Lawful.is) at c.verdict.ensures to.past to.read.judges in (
       λ t. is_lawful c.args.bytes.now (in_order to.past []) c.in-Lawful.calls (omega (arith, c.if-bytes-gt-MOST.false)) text verdict,
@@ -51,7 +51,7 @@ returns-in-Lawful-clause-lawful c =
 pub returns-clause-is : goal.returns-clause-is
 returns-clause-is c =
     let to = c.loop-reader.invariant in
-    let none : c.loop-reader.rest.now ≡ [] = no_bytes c.loop-reader.rest.now (sym c.is_empty.ensures ∙ c.loop-reader-test.false) in (
+    let none : c.loop-reader.rest.now ≡ [] = no_items c.loop-reader.rest.now (sym c.is_empty.ensures ∙ c.loop-reader-test.false) in (
       omega (arith, c.if-bytes-gt-MOST.false),
       in_order to.past [],
       is_trace c.args.bytes.now c.loop-reader.rest.now c.loop-reader.reading to none,
@@ -61,7 +61,7 @@ returns-clause-is c =
 pub returns-clause-lawful : goal.returns-clause-lawful
 returns-clause-lawful c =
     let to = c.loop-reader.invariant in
-    let none : c.loop-reader.rest.now ≡ [] = no_bytes c.loop-reader.rest.now (sym c.is_empty.ensures ∙ c.loop-reader-test.false) in
+    let none : c.loop-reader.rest.now ≡ [] = no_items c.loop-reader.rest.now (sym c.is_empty.ensures ∙ c.loop-reader-test.false) in
     let text = is_trace c.args.bytes.now c.loop-reader.rest.now c.loop-reader.reading to none in
     let verdict = rw (c.in-Breaks.is) at c.verdict.ensures to.past to.read.judges in (
       λ f. absurd f,

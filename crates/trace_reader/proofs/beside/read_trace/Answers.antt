@@ -1,6 +1,8 @@
 use Rattle.std.proofs.Common.{ℕ, ◌≡◌, ◌≢◌, ◌++◌, List, [], length, sym, ap, ◌∙◌, arith, false-eqb}
+use Rattle.std.proofs.lemmas.List.{append-nil}
 use Rattle.trace_print.specs.Text.{text_of}
-use Rattle.trace_reader.proofs.Only.{no_bad, one_list, no_bytes, append_nil}
+use Rattle.trace_print.proofs.Comparing.{no_items}
+use Rattle.trace_reader.proofs.Only.{no_bad, one_list}
 use Rattle.trace_reader.proofs.ReadAgain.{first_bad, read_on}
 use Rattle.trace_reader.proofs.beside.read_trace.Goals as goal
 
@@ -32,7 +34,7 @@ returns-in-None-clause-only c =
 pub returns-clause-only : goal.returns-clause-only
 returns-clause-only c =
     let rest = c.loop-reader.rest.now in
-    let none : rest ≡ [] = no_bytes rest (sym c.is_empty.ensures ∙ c.loop-reader-test.false) in
+    let none : rest ≡ [] = no_items rest (sym c.is_empty.ensures ∙ c.loop-reader-test.false) in
     λ fs built text.
     one_list c.loop-reader.trace.entries fs c.loop-reader.invariant.built built
-    (sym (append_nil (text_of c.loop-reader.trace.entries)) ∙ ap (λ (r : List ℕ). text_of c.loop-reader.trace.entries ++ r) (sym none) ∙ c.loop-reader.invariant.text ∙ sym text)
+    (sym (append-nil (text_of c.loop-reader.trace.entries)) ∙ ap (λ (r : List ℕ). text_of c.loop-reader.trace.entries ++ r) (sym none) ∙ c.loop-reader.invariant.text ∙ sym text)

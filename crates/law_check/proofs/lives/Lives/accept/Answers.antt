@@ -1,7 +1,8 @@
 use Rattle.std.proofs.Common.{refl}
 use Rattle.law_check.specs.declared.lives.Place.TheVariants.{Incoming, Back}
-use Rattle.law_check.proofs.Calls.{knows_accepted, then_on_ok}
+use Rattle.law_check.proofs.Calls.{knows_accepted}
 use Rattle.ipc_ids.specs.Tales.{To, At_once}
+use Rattle.ipc_ids.proofs.Common.{then_on_ok}
 use Rattle.law_check.proofs.lives.Lives.accept.Goals as goal
 
 pub returns-in-Some-clause-knows : goal.returns-in-Some-clause-knows

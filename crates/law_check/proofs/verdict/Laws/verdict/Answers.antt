@@ -1,7 +1,7 @@
 use Rattle.std.proofs.Common.{[], refl, ◌∙◌, inl, inr}
+use Rattle.ipc_ids.proofs.Common.{not_both}
 use Rattle.law_check.specs.Passing.{in_order}
 use Rattle.law_check.proofs.AtMostOnce.{answered_at_most_once}
-use Rattle.law_check.proofs.Calls.{not_both}
 use Rattle.law_check.proofs.Judging.{calls_are}
 use Rattle.law_check.proofs.verdict.Laws.verdict.Goals as goal
 

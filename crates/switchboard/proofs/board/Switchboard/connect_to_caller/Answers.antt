@@ -6,7 +6,6 @@ use Rattle.call_slab.specs.declared.call.Place.TheVariants.{Answers}
 use Rattle.answerbox.specs.Calls.{call_at}
 use Rattle.switchboard.specs.Board.{IsHeldCall}
 use Rattle.switchboard.specs.Kept.{kept_phone}
-use Rattle.switchboard.proofs.Endings.{within}
 use Rattle.switchboard.proofs.Inner.{inner}
 use Rattle.switchboard.proofs.Keepers.{waiting_there}
 use Rattle.switchboard.proofs.KeptCalls.{caller_keeps, held_own, kept_put, put_unkept}
@@ -14,6 +13,7 @@ use Rattle.switchboard.proofs.Live.{live_reply}
 use Rattle.switchboard.proofs.Switched.{leads_here, switched_kept, switched_put}
 use Rattle.switchboard.proofs.Usable.{kept_waits}
 use Rattle.switchboard.proofs.board.Switchboard.connect_to_caller.Goals as goal
+use Rattle.switchboard.proofs.SoundMemory.{mark_within}
 
 pub connect_to_caller-code-requires-clause-own : goal.connect_to_caller-code-requires-clause-own
 connect_to_caller-code-requires-clause-own c =
@@ -36,7 +36,7 @@ invariant_of-self c =
     let r = c.unwrap.result.now in
     let is : call_at i.boxes.calls c.args.call.0 ≡ Some r = sym c.get.ensures.call ∙ ap option_copied c.unwrap.ensures in
     let held : IsHeldCall r ConnectToMe c.args.t c.args.caller = rw is at (rw (← c.self.view_is) at c.requires.held) in
-    let added = within i.alive.items c.args.caller.0 (rw (← c.self.view_is) at c.requires.alive) in
+    let added = mark_within i.alive.items c.args.caller.0 (rw (← c.self.view_is) at c.requires.alive) in
     let number = c.self.invariant.0.has_counts.numbered c.args.call.0 r is in
     let reply = record c.args.reply.now { code = c.connect_to_caller-code.result } in
     let none = caller_keeps r c.args.t c.args.caller reply held in
