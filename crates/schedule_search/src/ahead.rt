@@ -80,7 +80,7 @@ impl Maze for Ahead<'_> {
 fn steps_by(alloc: Global, path: &[u32]) -> Result<Vec<Event>, AllocError>
     ensures { IfOk result (λ steps. steps.items ≡ steps_of (reverse path.now)) }
 {
-    let mut steps = Vec::new(alloc);
+    let mut steps = Vec::with_capacity(alloc, path.len())?;
     for m in path {
         steps.push(Event::Step(TaskNo(*m as u64 + 1)))?;
     }

@@ -15,7 +15,7 @@ pub(crate) fn events_by(
     requires { AreMoves (length moves.now) (reverse path.now) }
     ensures { IfOk result (λ events. events.items ≡ events_of moves.now (reverse path.now)) }
 {
-    let mut events = Vec::new(alloc);
+    let mut events = Vec::with_capacity(alloc, path.len())?;
     for m in path {
         events.push(moves[*m as usize])?;
     }

@@ -13,6 +13,9 @@ use schedule_replay::Replay;
 use script_reader::Script;
 use std::alloc::{AllocError, Global};
 
+/// There is room for so many words at once: a task has some hundred.
+pub(crate) const WORDS: usize = 1024;
+
 /// The tasks of a script before the first event.
 pub(crate) fn started(alloc: Global, script: &Script) -> Result<Replay, AllocError>
     ensures state { IfOk result (λ replay. replay.state ≡ start script.now) }
@@ -115,7 +118,7 @@ pub(crate) fn all_calls(replay: &Replay) -> &Boxes
 pub(crate) fn words_of(alloc: Global, replay: &Replay) -> Result<Vec<u64>, AllocError>
     ensures { IfOk result (λ words. words.items ≡ run_words replay.now.state) }
 {
-    let mut words = Vec::new(alloc);
+    let mut words = Vec::with_capacity(alloc, WORDS)?;
     push_run(replay.system(), &mut words)?;
     Ok(words)
 }

@@ -11,6 +11,7 @@ ghost use Rattle.schedule_search.specs.Problem.{search_of, CanTry, CanDo};
 use crate::kills::{counted, kills_in};
 use crate::left::{Behind, followed};
 use crate::meeting::is_last_met;
+use crate::place::WORDS;
 use crate::problem::Problem;
 use crate::trying::may_try;
 use ipc_ids::{Event, Trace};
@@ -67,7 +68,7 @@ pub(crate) fn words_behind(
     ensures { IfOk result (λ words. words.items
         ≡ length (spawns_of events.now) ∷ (spawns_of events.now ++ run_words replay.now.state)) }
 {
-    let mut words = Vec::new(alloc);
+    let mut words = Vec::with_capacity(alloc, WORDS)?;
     push_behind(alloc, events, replay, &mut words)?;
     Ok(words)
 }
@@ -83,7 +84,7 @@ fn code_of(
     ensures { IfOk result (λ code. code.items ≡ kills ∷ (left
         ∷ (length (spawns_of events.now) ∷ (spawns_of events.now ++ run_words replay.now.state)))) }
 {
-    let mut code = Vec::new(alloc);
+    let mut code = Vec::with_capacity(alloc, WORDS)?;
     code.push(kills)?;
     code.push(left)?;
     push_behind(alloc, events, replay, &mut code)?;

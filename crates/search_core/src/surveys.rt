@@ -9,6 +9,7 @@ ghost use Rattle.search_core.specs.Picked.{AreLabels, ArePicked};
 use crate::answers::{Answer, Survey};
 use crate::by_breadth::look_on;
 use crate::nodes::Nodes;
+use crate::packed::packed;
 use crate::places::{Labelled, Maze, Visit};
 use indexmap::IndexSet;
 use std::alloc::{AllocError, Global};
@@ -30,7 +31,8 @@ pub fn survey<M: Labelled>(
     ensures { IfOk result (λ survey. IsSurvey (M.moves maze.now) (M.label maze.now) most survey) }
 {
     let code = maze.code(alloc, &[])?;
-    let mut nodes = Nodes::new(alloc, code.as_slice())?;
+    let packed = packed(alloc, code.as_slice())?;
+    let mut nodes = Nodes::new(alloc, packed.as_slice())?;
     let unmet = Unmet { maze };
     let answer = look_on(alloc, &unmet, &mut nodes, most, room)?;
     survey_of(alloc, maze, &nodes, most, answer)

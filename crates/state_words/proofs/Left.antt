@@ -1,10 +1,10 @@
 -- The words of what is left of a list, of numbers that are left.
-use Rattle.std.proofs.Common.{ℕ, zero, suc, ◌≡◌, ◌<◌, ◌+◌, ◌-◌, List, [], ◌∷◌, ◌++◌, drop, refl, sym, ◌∙◌, ap, arith, append_assoc, slice_get, Option, Some}
+use Rattle.std.proofs.Common.{ℕ, zero, suc, ◌≡◌, ◌<◌, ◌+◌, ◌-◌, List, [], ◌∷◌, ◌++◌, drop, refl, sym, ◌∙◌, ap, arith, append_assoc, length, slice_get, Option, Some}
 use Rattle.std.proofs.lemmas.Bool.Decides.{nat_tests}
 use Rattle.std.specs.List.{flat_map}
 use Rattle.phone_table.specs.Phones.{row_at}
 use Rattle.answerbox.specs.Calls.{CallTable, call_at}
-use Rattle.state_words.specs.Words.{at_words, option_words}
+use Rattle.state_words.specs.Words.{at_words, list_words, number_words, option_words}
 use Rattle.state_words.specs.CallWords.{call_words, table_from}
 
 left_next : {A : Type 0} (words : A → List ℕ) (xs : List A) (p : ℕ) → flat_map words (drop p xs) ≡ at_words words (slice_get xs p) ++ flat_map words (drop (suc p) xs)
@@ -33,3 +33,13 @@ pub left_calls : (calls : CallTable) (n m : ℕ) → n < m → table_from calls 
 left_calls calls n m l =
     let a : m - n ≡ suc (m - (n + 1)) = omega arith in
     ap (λ (z : ℕ). table_from calls n z) a
+
+number_by_number : (xs : List ℕ) → flat_map number_words xs ≡ xs
+number_by_number [] = refl
+number_by_number (x ∷ xs) = ap (λ (z : List ℕ). x ∷ z) (number_by_number xs)
+
+-- a list's length, and then the whole list
+pub numbers_at_once : (out with new xs : List ℕ) → with ≡ out ++ length xs ∷ [] → new ≡ with ++ xs → new ≡ out ++ list_words number_words xs
+numbers_at_once out with new xs e f =
+    f ∙ ap (λ (z : List ℕ). z ++ xs) e ∙ append_assoc out (length xs ∷ []) xs
+    ∙ ap (λ (z : List ℕ). out ++ length xs ∷ z) (sym (number_by_number xs))
