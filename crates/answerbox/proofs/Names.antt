@@ -54,6 +54,10 @@ look a q n =
     ∙ find-named (entries a.keys) a.slots q (entries_sorted a.keys) (λ r k f. let c = n.names r k (get-entries a.keys r ∙ f) in let s = core_is (get a.slots k) c.0 c.1 in rw s.1 refl)
     ∙ ap (under (cores a.slots)) (sym (get-entries a.keys q))
 
+-- what has a key is live
+pub key_lives : (a : CallsState) (n k : ℕ) → Named (cores a.slots) (get a.keys) → get a.keys n ≡ Some k → IsSome (get (calls_in a) n)
+key_lives a n k names at = let c = names.names n k at in rw (look a n names, at, c.1) refl
+
 pub live_key : (a : CallsState) (q : ℕ) → Named (cores a.slots) (get a.keys) → IsSome (get (calls_in a) q) → IsSome (get a.keys q)
 live_key a q n h = by (get a.keys q) (rw (look a q n) at h)
   where

@@ -5,6 +5,8 @@
 
 mod boxes;
 mod chains;
+mod found;
 mod moves;
 
 pub use boxes::Boxes;
+pub use found::Found;

@@ -1,5 +1,5 @@
 -- The slots with a call as a finite map, and the slots that are ready, as slots are written.
-use Rattle.std.proofs.Common.{◌≡◌, ℕ, zero, suc, ◌+◌, ◌<◌, ◌≤◌, Bool, true, false, cond, List, [], ◌∷◌, ◌++◌, Option, Some, None, IsSome, refl, sym, ap, ◌∙◌, arith, T, nat_eq, ⊎_elim}
+use Rattle.std.proofs.Common.{◌≡◌, ℕ, zero, suc, ◌+◌, ◌<◌, ◌≤◌, Bool, true, false, cond, List, [], ◌∷◌, ◌++◌, Option, Some, None, IsSome, refl, sym, ap, ◌∙◌, arith, T, nat_eq, ⊎_elim, IsTrue, option_map}
 use Rattle.std.specs.Prelude.{slice_index_or, map, count_by, ◌==◌}
 use Rattle.std.proofs.lemmas.List.Sums.{sum_by_push}
 use Rattle.std.specs.Ordering.{nat_cmp, eq_by_cmp, is_eq, is_lt}
@@ -249,6 +249,12 @@ module _ (s : Slab Slot) (k : ℕ) (x v : Slot) (is : slab.get s k ≡ Some x) (
 -- a key with a call: it is a slot of the slab
 pub live_some : (s : Slab Slot) (k : ℕ) → IsSome (fin.get (live_slots s) k) → (live (slab.get s k) ≡ slab.get s k) × IsSome (slab.get s k)
 live_some s k h = live_is (slab.get s k) (rw (get_live s k) at h)
+
+-- a slot with this number has a call, which was put under it
+pub has_name : (s : Slab Slot) (k : ℕ) (v : Slot) (n : ℕ) → slab.get s k ≡ Some v → 0 < n → IsTrue (nat_eq v.name n) → option_map (λ (x : Slot). x.name) (fin.get (live_slots s) k) ≡ Some n
+has_name s k v n is some same =
+    let e : v.name ≡ n = grind (arith, nat_tests) in
+    rw (get_live s k, is, named_live v (omega arith)) (ap Some e)
 
 none_never : (o : Option Slot) → o ≡ None → vacancy o ≡ 0
 none_never o e = rw e refl

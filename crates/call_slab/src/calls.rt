@@ -7,7 +7,7 @@ ghost use Rattle.call_slab.specs.Change.{changed};
 use crate::call::{Call, Place};
 use crate::change::{Change, give};
 use crate::index::Index;
-use crate::links::{CallKey, Links};
+use crate::links::{CallKey, Links, link};
 use crate::slots::Slots;
 use ipc_ids::{CallNo, NoMemory, Steps};
 use std::alloc::Global;
@@ -113,6 +113,17 @@ impl Calls {
     {
         steps.tick();
         self.keys.get(number.0)
+    }
+
+    /// The key that was kept as `kept`, where the call under it was put under this number.
+    #[inline(always)]
+    pub fn key_kept(&self, number: CallNo, kept: u32) -> Option<CallKey>
+        ensures { IfSome result (λ key. get self.now.keys number.0 ≡ Some key) }
+    {
+        match link(kept) {
+            Some(key) if number.0 != 0 && self.slots.has_name(key, number.0) => Some(key),
+            _ => None,
+        }
     }
 
     /// The call under this key.

@@ -36,7 +36,7 @@ impl CallKey {
 
     /// Its number.
     #[inline(always)]
-    pub(crate) fn kept(self) -> u32
+    pub fn kept(self) -> u32
         ensures value { result ≡ self }
         ensures small { result < 4294967295 }
     {

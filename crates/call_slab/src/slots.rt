@@ -121,7 +121,7 @@ impl Model for Slots {
 }
 
 impl Slots {
-    ghost use Rattle.std.specs.Prelude.{◌≡◌, ◌+◌, ◌<◌, ◌≤◌, None, Some, IsSome, OnOk};
+    ghost use Rattle.std.specs.Prelude.{◌≡◌, ◌+◌, ◌<◌, ◌≤◌, None, Some, IsSome, IsTrue, OnOk, option_map};
     ghost use Rattle.std.specs.Borrow.{sem};
     ghost use Rattle.std.specs.FinMap.{empty, get, insert, remove};
     ghost use Rattle.call_slab.specs.Calls.{call_of, links_of};
@@ -197,6 +197,18 @@ impl Slots {
             links: KeptLinks::none(),
         };
         CallKey::of(key)
+    }
+
+    /// Whether a call stands under this key that was put under this number.
+    #[inline(always)]
+    pub fn has_name(&self, key: CallKey, name: u64) -> bool
+        requires named { 0 < name }
+        ensures { IsTrue result → option_map (λ s. s.name) (get self.now.slots key) ≡ Some name }
+    {
+        match self.slab.get(key.kept() as usize) {
+            Some(slot) => slot.name == name,
+            None => false,
+        }
     }
 
     /// The call under this key.

@@ -167,7 +167,7 @@ fn settle_calls_at(board: &mut Switchboard, place: Place, out: &mut Trace)
     for _ in 0..board.calls_at(place) {
         board.check_numbers();
         match board.front(place) {
-            Some(number) => board.settle(number, &Reply::bare(Code::EHANGUP), None, out),
+            Some(found) => board.settle(found, &Reply::bare(Code::EHANGUP), None, out),
             None => return,
         }
     }
@@ -184,7 +184,7 @@ fn drop_answers(board: &mut Switchboard, who: TaskNo, out: &mut Trace)
 {
     for _ in 0..board.calls_at(Place::Answers(who)) {
         match board.front(Place::Answers(who)) {
-            Some(number) => board.drop_answer(number, who, out),
+            Some(found) => board.drop_answer(found, who, out),
             None => return,
         }
     }
@@ -200,7 +200,7 @@ fn forget_calls_elsewhere(board: &mut Switchboard, who: TaskNo, out: &mut Trace)
 {
     for _ in 0..board.calls_by(who) {
         match board.calls_of(who) {
-            Some(number) => board.forget(number, out),
+            Some(found) => board.forget(found, out),
             None => return,
         }
     }

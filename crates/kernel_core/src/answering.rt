@@ -10,6 +10,7 @@ ghost use Rattle.kernel_core.specs.Answering.{answer as answer_of, answer_held, 
 ghost use Rattle.kernel_core.specs.Handing.{IsHeldOf};
 
 use crate::moments::on_accept;
+use answerbox::Found;
 use forwarding::is_held;
 use ipc_ids::{CallNo, Code, MethodKind, NoMemory, Outcome, Reply, TaskNo, Trace};
 use switchboard::Switchboard;
@@ -28,37 +29,41 @@ pub(crate) fn answer(
         (answer_of board.old.state who call.0 reply.now) }
     ensures room { UsesRoom board.old board.new out.old out.new 0 1 2 }
 {
-    match board.get(call) {
-        Some(held) if is_held(held, who) => {
-            let (caller, kind) = (held.caller, MethodKind::of(held.request.method));
-            answer_held(board, call, kind, reply, who, caller, out)
-        }
-        _ => Ok(Outcome::Refused(Code::ENOENT)),
+    let Some(found) = board.find(call) else {
+        return Ok(Outcome::Refused(Code::ENOENT));
+    };
+    let record = board.read(found);
+    if is_held(record, who) {
+        let (caller, kind) = (record.caller, MethodKind::of(record.request.method));
+        answer_held(board, found, kind, reply, who, caller, out)
+    } else {
+        Ok(Outcome::Refused(Code::ENOENT))
     }
 }
 
 /// Answers the call, which the task holds.
 fn answer_held(
     board: &mut Switchboard,
-    call: CallNo,
+    found: Found,
     kind: MethodKind,
     reply: &Reply,
     who: TaskNo,
     caller: Option<TaskNo>,
     out: &mut Trace,
 ) -> Result<Outcome, NoMemory>
-    requires held { IsHeldOf (call_at board.old.state.calls call.0) call kind who caller }
+    requires held { IsHeldOf (call_at board.old.state.calls found.number.0)
+        found.number kind who caller }
     requires added { IsAdded board.old.state who }
     requires room { HasRoom board.old out.old 0 1 2 }
     ensures served { ServesOrLeaves result board.old board.new out.old out.new
-        (answer_held board.old.state who reply.now (call_at board.old.state.calls call.0)) }
+        (answer_held board.old.state who reply.now (call_at board.old.state.calls found.number.0)) }
     ensures room { UsesRoom board.old board.new out.old out.new 0 1 2 }
 {
     if reply.code != Code::EOK {
-        board.settle_for(call, caller, reply, Some(who), out);
+        board.settle_for(found, caller, reply, Some(who), out);
         return Ok(Outcome::Done);
     }
-    match accept(board, call, kind, reply, who, caller, out) {
+    match accept(board, found, kind, reply, who, caller, out) {
         Ok(()) => Ok(Outcome::Done),
         Err(NoMemory) => Err(NoMemory),
     }
@@ -67,28 +72,29 @@ fn answer_held(
 /// Accepts the call, which the task holds; it vanishes where its caller has ended.
 fn accept(
     board: &mut Switchboard,
-    call: CallNo,
+    found: Found,
     kind: MethodKind,
     reply: &Reply,
     who: TaskNo,
     caller: Option<TaskNo>,
     out: &mut Trace,
 ) -> Result<(), NoMemory>
-    requires held { IsHeldOf (call_at board.old.state.calls call.0) call kind who caller }
+    requires held { IsHeldOf (call_at board.old.state.calls found.number.0)
+        found.number kind who caller }
     requires accepts { accepts reply.now.code ≡ true }
     requires added { IsAdded board.old.state who }
     requires room { HasRoom board.old out.old 0 1 2 }
     ensures step { DoesOrLeaves result board.old board.new out.old out.new
         (on_call (λ k c. accept_for k who reply.now c c.caller (lives k c.caller))
-        board.old.state call.0) }
+        board.old.state found.number.0) }
     ensures room { UsesRoom board.old board.new out.old out.new 0 1 2 }
 {
     match caller {
         Some(caller) if board.is_alive(caller) => {
-            on_accept(board, call, kind, reply, who, caller, out)
+            on_accept(board, found, kind, reply, who, caller, out)
         }
         _ => {
-            board.vanish(call, out);
+            board.vanish(found, out);
             Ok(())
         }
     }

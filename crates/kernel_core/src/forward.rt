@@ -6,6 +6,7 @@ ghost use Rattle.switchboard.specs.Rooms.{HasRoom, UsesRoom};
 ghost use Rattle.switchboard.specs.Serving.{Serves};
 ghost use Rattle.kernel_core.specs.Forward.{forward as forward_of, failed_forward};
 
+use answerbox::Found;
 use forwarding::{ForwardFault, label_after, msg_after, receiver_of};
 use ipc_ids::{CallNo, Code, Mode, Msg, Outcome, PhoneNo, Reply, TaskNo, Trace};
 use switchboard::Switchboard;
@@ -29,20 +30,21 @@ pub(crate) fn forward(
     ensures room { UsesRoom board.old board.new out.old out.new 0 1 2 }
 {
     let state = board.phone(who, phone);
-    let Some(held) = board.get(call) else {
+    let Some(found) = board.find(call) else {
         return Outcome::Refused(Code::ENOENT);
     };
-    let caller = held.caller;
-    match receiver_of(held, who, state, change) {
+    let record = board.read(found);
+    let caller = record.caller;
+    match receiver_of(record, who, state, change) {
         Ok(to) => {
-            let msg = msg_after(held, change);
-            let label = label_after(held, who, PhoneNo(phone as u32), mode);
-            board.pass_on(call, msg, label, who, to, out);
+            let msg = msg_after(record, change);
+            let label = label_after(record, who, PhoneNo(phone as u32), mode);
+            board.pass_on(found, msg, label, who, to, out);
             Outcome::Done
         }
         Err(ForwardFault::NotHeld) => Outcome::Refused(Code::ENOENT),
-        Err(ForwardFault::NotForwardable) => fail_forward(board, call, caller, Code::EPERM, out),
-        Err(ForwardFault::NotConnected) => fail_forward(board, call, caller, Code::ENOENT, out),
+        Err(ForwardFault::NotForwardable) => fail_forward(board, found, caller, Code::EPERM, out),
+        Err(ForwardFault::NotConnected) => fail_forward(board, found, caller, Code::ENOENT, out),
     }
 }
 
@@ -50,19 +52,21 @@ pub(crate) fn forward(
 /// code.
 fn fail_forward(
     board: &mut Switchboard,
-    call: CallNo,
+    found: Found,
     caller: Option<TaskNo>,
     code: Code,
     out: &mut Trace,
 ) -> Outcome
-    requires pending { IsPending (call_at board.old.state.calls call.0) }
-    requires number { IfSome (call_at board.old.state.calls call.0) (λ c. c.number ≡ call) }
-    requires caller { IfSome (call_at board.old.state.calls call.0) (λ c. c.caller ≡ caller) }
+    requires pending { IsPending (call_at board.old.state.calls found.number.0) }
+    requires number { IfSome (call_at board.old.state.calls found.number.0)
+        (λ c. c.number ≡ found.number) }
+    requires caller { IfSome (call_at board.old.state.calls found.number.0)
+        (λ c. c.caller ≡ caller) }
     requires room { HasRoom board.old out.old 0 1 2 }
     ensures served { Serves board.new result out.old out.new
-        (failed_forward board.old.state (call_at board.old.state.calls call.0) code) }
+        (failed_forward board.old.state (call_at board.old.state.calls found.number.0) code) }
     ensures room { UsesRoom board.old board.new out.old out.new 0 1 2 }
 {
-    board.settle_for(call, caller, &Reply::bare(Code::EFORWARD), None, out);
+    board.settle_for(found, caller, &Reply::bare(Code::EFORWARD), None, out);
     Outcome::Refused(code)
 }

@@ -1,6 +1,6 @@
 //! The kernel.
 ghost use Rattle.ipc_ids.specs.declared.entry.Entry.{Entry};
-ghost use Rattle.std.specs.Prelude.{List, [], ◌≡◌, ◌+◌, ◌^◌, ◌<◌, ◌≤◌, ◌++◌, true, Some, IfOk, OnOk, OnErr, length};
+ghost use Rattle.std.specs.Prelude.{List, [], ◌≡◌, ◌+◌, ◌^◌, ◌<◌, ◌++◌, true, Some, IfOk, OnOk, OnErr, length};
 ghost use Rattle.ipc_ids.specs.Program.{fits};
 ghost use Rattle.switchboard.specs.State.{start, is_alive, phone_at, with_task, with_phone};
 ghost use Rattle.switchboard.specs.Board.{IsLimit};

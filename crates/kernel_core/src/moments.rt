@@ -9,15 +9,14 @@ ghost use Rattle.switchboard.specs.Joins.{on_call, answer_to};
 ghost use Rattle.switchboard.specs.Kept.{accepts};
 ghost use Rattle.switchboard.specs.Rooms.{KeepsCalls, MayAccept, UsesRoom};
 ghost use Rattle.switchboard.specs.Serving.{DoesOrLeaves};
-ghost use Rattle.kernel_core.specs.Moments.{cut_call, cut_down, with_fifth, with_phone_named, number_of, reply_of, brings_bytes, before_send as before_send_of, on_receive as on_receive_of, on_accept as on_accept_of};
+ghost use Rattle.kernel_core.specs.Moments.{cut_call, cut_down, with_fifth, with_phone_named, number_of, reply_of, brings_bytes, before_send as before_send_of, on_accept as on_accept_of};
 ghost use Rattle.kernel_core.specs.Handing.{IsSent, Arrives};
 
 use address_space::SpaceFault;
+use answerbox::Found;
 use call_slab::Call;
 use data_hooks::{cut_args, read_before_send};
-use ipc_ids::{
-    CallNo, Code, Entry, Label, MethodKind, Msg, NoMemory, PhoneState, Reply, TaskNo, Trace,
-};
+use ipc_ids::{Code, Entry, Label, MethodKind, Msg, NoMemory, PhoneState, Reply, TaskNo, Trace};
 use share_hooks::in_before_send;
 use switchboard::{Arrival, Share, Switchboard, kept_note};
 
@@ -83,15 +82,15 @@ pub(crate) fn before_send(
 
 /// As the task receives the call: it keeps its first usable phone for a CONNECT_TO_ME, and the
 /// message names the phone, or 64. Returns what the call takes with it.
-pub(crate) fn on_receive(board: &mut Switchboard, number: CallNo, who: TaskNo) -> Arrival
-    requires live { IsSome (call_at board.old.state.calls number.0) }
-    requires incoming { IsAt board.old.state.calls number.0 (Incoming who) }
+pub(crate) fn on_receive(board: &mut Switchboard, found: Found, who: TaskNo) -> Arrival
+    requires live { IsSome (call_at board.old.state.calls found.number.0) }
+    requires incoming { IsAt board.old.state.calls found.number.0 (Incoming who) }
     requires added { IsAdded board.old.state who }
     ensures arrives { Arrives board.old board.new result who
-        (call_at board.old.state.calls number.0) }
+        (call_at board.old.state.calls found.number.0) }
     ensures keeps { KeepsCalls board.old board.new }
 {
-    let call = board.get(number).unwrap();
+    let call = board.read(found);
     let (kind, msg, reserved) = (MethodKind::of(call.request.method), call.msg, call.reserved);
     match kind {
         MethodKind::ConnectToMe => {
@@ -126,44 +125,44 @@ pub(crate) fn on_receive(board: &mut Switchboard, number: CallNo, who: TaskNo) -
 /// `NoMemory` where no memory was found for bytes; then nothing has changed.
 pub(crate) fn on_accept(
     board: &mut Switchboard,
-    number: CallNo,
+    found: Found,
     kind: MethodKind,
     reply: &Reply,
     who: TaskNo,
     caller: TaskNo,
     out: &mut Trace,
 ) -> Result<(), NoMemory>
-    requires accepting { MayAccept board.old out.old number kind who caller }
+    requires accepting { MayAccept board.old out.old found.number kind who caller }
     requires accepts { accepts reply.now.code ≡ true }
     ensures step { DoesOrLeaves result board.old board.new out.old out.new
         (on_call (λ k c. answer_to (on_accept_of k c reply.now who caller) (Some who) caller)
-        board.old.state number.0) }
+        board.old.state found.number.0) }
     ensures room { UsesRoom board.old board.new out.old out.new 0 1 2 }
 {
     match kind {
         MethodKind::ConnectToMe => {
-            board.accept_to_me(number, reply, who, caller, out);
+            board.accept_to_me(found, reply, who, caller, out);
             Ok(())
         }
         MethodKind::ConnectMeTo => {
-            board.accept_me_to(number, reply, who, caller, out);
+            board.accept_me_to(found, reply, who, caller, out);
             Ok(())
         }
         MethodKind::DataWrite => {
-            board.accept_write(number, reply, who, caller, out);
+            board.accept_write(found, reply, who, caller, out);
             Ok(())
         }
-        MethodKind::DataRead => board.accept_read(number, reply, who, caller, out),
+        MethodKind::DataRead => board.accept_read(found, reply, who, caller, out),
         MethodKind::ShareOut => {
-            board.accept_share(Share::Out, number, reply, who, caller, out);
+            board.accept_share(Share::Out, found, reply, who, caller, out);
             Ok(())
         }
         MethodKind::ShareIn => {
-            board.accept_share(Share::In, number, reply, who, caller, out);
+            board.accept_share(Share::In, found, reply, who, caller, out);
             Ok(())
         }
         MethodKind::PhoneHungUp | MethodKind::Unused | MethodKind::User => {
-            board.finish(number, reply, who, caller, out);
+            board.finish(found, reply, who, caller, out);
             Ok(())
         }
     }

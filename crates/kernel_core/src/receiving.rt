@@ -9,8 +9,9 @@ ghost use Rattle.switchboard.specs.Serving.{Does, Serves};
 ghost use Rattle.kernel_core.specs.Receiving.{receive as receive_of, receive_first, receive_now as receive_now_of, next_unawaited as next_unawaited_of, drop_unawaited as drop_unawaited_of};
 
 use crate::moments::{brings_bytes, on_delivery, on_receive};
+use answerbox::Found;
 use call_slab::Place;
-use ipc_ids::{CallNo, Outcome, TaskNo, Trace};
+use ipc_ids::{Outcome, TaskNo, Trace};
 use switchboard::Switchboard;
 
 /// Drops the answers at the front that nobody waits for, and gives the task its first answer, or
@@ -28,15 +29,15 @@ pub(crate) fn receive(board: &mut Switchboard, who: TaskNo, out: &mut Trace) -> 
 }
 
 /// The first answer of the task, where nobody waits for it.
-fn next_unawaited(board: &Switchboard, who: TaskNo) -> Option<CallNo>
+fn next_unawaited(board: &Switchboard, who: TaskNo) -> Option<Found>
     requires added { IsAdded board.now.state who }
     ensures none { IfNone result (next_unawaited_of who board.now.state ≡ None) }
-    ensures some { IfSome result (λ n. next_unawaited_of who board.now.state
-        ≡ call_at board.now.state.calls n.0) }
-    ensures live { IfSome result (λ n. IsSome (call_at board.now.state.calls n.0)) }
+    ensures some { IfSome result (λ found. next_unawaited_of who board.now.state
+        ≡ call_at board.now.state.calls found.number.0) }
+    ensures live { IfSome result (λ found. IsSome (call_at board.now.state.calls found.number.0)) }
 {
     match board.front(Place::Answers(who)) {
-        Some(number) if board.get(number).unwrap().discard => Some(number),
+        Some(found) if board.read(found).discard => Some(found),
         _ => None,
     }
 }
@@ -52,7 +53,7 @@ fn drop_unawaited(board: &mut Switchboard, who: TaskNo, out: &mut Trace)
 {
     for _ in 0..board.calls_at(Place::Answers(who)) {
         match next_unawaited(board, who) {
-            Some(number) => board.drop_answer(number, who, out),
+            Some(found) => board.drop_answer(found, who, out),
             None => return,
         }
     }
@@ -65,42 +66,42 @@ fn receive_now(board: &mut Switchboard, who: TaskNo, out: &mut Trace) -> Outcome
     ensures served { Serves board.new result out.old out.new (receive_now_of who board.old.state) }
     ensures room { UsesRoom board.old board.new out.old out.new 0 1 2 }
 {
-    if let Some(number) = board.front(Place::Answers(who)) {
-        return give_answer(board, number, who, out);
+    if let Some(found) = board.front(Place::Answers(who)) {
+        return give_answer(board, found, who, out);
     }
     match board.front(Place::Incoming(who)) {
-        Some(number) => give_call(board, number, who, out),
+        Some(found) => give_call(board, found, who, out),
         None => Outcome::Empty,
     }
 }
 
 /// Delivers the answer to the task.
-fn give_answer(board: &mut Switchboard, number: CallNo, who: TaskNo, out: &mut Trace) -> Outcome
-    requires live { IsSome (call_at board.old.state.calls number.0) }
+fn give_answer(board: &mut Switchboard, found: Found, who: TaskNo, out: &mut Trace) -> Outcome
+    requires live { IsSome (call_at board.old.state.calls found.number.0) }
     requires added { IsAdded board.old.state who }
     requires room { HasRoom board.old out.old 0 0 2 }
     ensures served { Serves board.new result out.old out.new
-        (receive_first board.old.state who (call_at board.old.state.calls number.0) None) }
+        (receive_first board.old.state who (call_at board.old.state.calls found.number.0) None) }
     ensures room { UsesRoom board.old board.new out.old out.new 0 0 2 }
 {
-    let call = board.get(number).unwrap();
+    let call = board.read(found);
     if brings_bytes(call) {
-        return board.deliver_read(number, who, out);
+        return board.deliver_read(found, who, out);
     }
     let reply = on_delivery(call);
-    board.deliver(number, reply, who, out)
+    board.deliver(found, reply, who, out)
 }
 
 /// Hands the call over to the task.
-fn give_call(board: &mut Switchboard, number: CallNo, who: TaskNo, out: &mut Trace) -> Outcome
-    requires live { IsSome (call_at board.old.state.calls number.0) }
-    requires incoming { IsAt board.old.state.calls number.0 (Incoming who) }
+fn give_call(board: &mut Switchboard, found: Found, who: TaskNo, out: &mut Trace) -> Outcome
+    requires live { IsSome (call_at board.old.state.calls found.number.0) }
+    requires incoming { IsAt board.old.state.calls found.number.0 (Incoming who) }
     requires added { IsAdded board.old.state who }
     requires room { HasRoom board.old out.old 0 1 2 }
     ensures served { Serves board.new result out.old out.new
-        (receive_first board.old.state who None (call_at board.old.state.calls number.0)) }
+        (receive_first board.old.state who None (call_at board.old.state.calls found.number.0)) }
     ensures room { UsesRoom board.old board.new out.old out.new 0 1 2 }
 {
-    let arrival = on_receive(board, number, who);
-    board.hand_over(number, arrival, who, out)
+    let arrival = on_receive(board, found, who);
+    board.hand_over(found, arrival, who, out)
 }

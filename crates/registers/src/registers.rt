@@ -81,6 +81,7 @@ impl Registers {
 
     /// What an operation asks that bodies of every kind have: on a held call, or on memory. The
     /// others ask nothing.
+    #[inline(always)]
     pub fn request(&self, op: &Op) -> Request
         ensures { result ≡ request_in self.now op.now }
     {
@@ -140,6 +141,7 @@ impl Registers {
     }
 
     /// Does the operation at a place, whose request had this outcome, and gives the place after it.
+    #[inline(always)]
     pub fn step(&mut self, place: usize, op: &Op, got: &Outcome) -> usize
         ensures registers { self.new ≡ registers_after self.old op.now got.now }
         ensures place { result ≡ place_after self.old place op.now got.now }

@@ -1,6 +1,5 @@
 //! The tasks, their phones, their calls and their areas, with room for more calls.
-ghost use Rattle.std.specs.Prelude.{◌≡◌, ℕ, ◌+◌, ◌-◌, ◌^◌, ◌<◌, ◌≤◌, ◌++◌, ◌∷◌, [], replicate, true, Some, None, IsSome, IfSome, IfNone, IfOk, OnOk, OnErr, length};
-ghost use Rattle.std.specs.Option.{option_copied};
+ghost use Rattle.std.specs.Prelude.{◌≡◌, ◌+◌, ◌-◌, ◌^◌, ◌<◌, ◌≤◌, ◌++◌, ◌∷◌, [], replicate, true, Some, None, IsSome, IfSome, IfNone, IfOk, OnOk, OnErr, length};
 ghost use Rattle.ipc_ids.specs.Tables.{most_buffered};
 ghost use Rattle.address_space.specs.Memory.{with_task as with_areas, Tells};
 ghost use Rattle.share_hooks.specs.ShareMoments.{out_before_send};
@@ -26,7 +25,7 @@ use crate::phones::{
 };
 use crate::sharing::Share;
 use address_space::{SpaceFault, Spaces};
-use answerbox::Boxes;
+use answerbox::{Boxes, Found};
 use call_slab::{Call, Change, Place};
 use data_hooks::{read_accept, read_deliver, write_accept, write_before_send};
 use ipc_ids::{
@@ -252,24 +251,36 @@ impl Switchboard {
         let _next = self.boxes.next_number();
     }
 
-    /// The live call with this number.
-    pub fn get(&self, call: CallNo) -> Option<&Call>
-        ensures call { option_copied result ≡ call_at self.now.state.calls call.0 }
-        ensures number { IfSome result (λ c. c.now.number ≡ call) }
+    /// Finds the live call with this number; `None` exactly where no live call has it.
+    pub fn find(&self, call: CallNo) -> Option<Found>
+        ensures live { IfSome result
+            (λ found. IsSome (call_at self.now.state.calls found.number.0)) }
+        ensures number { IfSome result (λ found. found.number ≡ call) }
+        ensures none { IfNone result (call_at self.now.state.calls call.0 ≡ None) }
     {
-        self.boxes.get(call)
+        self.boxes.find(call)
+    }
+
+    /// The record of the call.
+    #[inline(always)]
+    pub fn read(&self, found: Found) -> &Call
+        requires live { IsSome (call_at self.now.state.calls found.number.0) }
+        ensures call { call_at self.now.state.calls found.number.0 ≡ Some result.now }
+        ensures number { result.now.number ≡ found.number }
+    {
+        self.boxes.read(found)
     }
 
     /// The call that came first to this place.
-    pub fn front(&self, place: Place) -> Option<CallNo>
+    pub fn front(&self, place: Place) -> Option<Found>
         requires { task_of place ≤ length self.now.state.tasks.alive }
         ensures none { IfNone result (front self.now.state.calls place ≡ None) }
-        ensures some { IfSome result (λ n. front self.now.state.calls place
-            ≡ call_at self.now.state.calls n.0) }
-        ensures live { IfSome result (λ n. IsSome (call_at self.now.state.calls n.0)) }
-        ensures there { IfSome result (λ n. IsAt self.now.state.calls n.0 place) }
+        ensures some { IfSome result (λ found. front self.now.state.calls place
+            ≡ call_at self.now.state.calls found.number.0) }
+        ensures live { IfSome result (λ found. IsSome (call_at self.now.state.calls found.number.0)) }
+        ensures there { IfSome result (λ found. IsAt self.now.state.calls found.number.0 place) }
     {
-        self.boxes.front_uncounted(place)
+        self.boxes.first(place)
     }
 
     /// How many live calls stand at this place.
@@ -287,15 +298,15 @@ impl Switchboard {
         self.boxes.calls_by(caller)
     }
 
-    /// The least number of a live call of that caller.
-    pub fn calls_of(&self, caller: TaskNo) -> Option<CallNo>
+    /// The live call of that caller with the least number.
+    pub fn calls_of(&self, caller: TaskNo) -> Option<Found>
         requires { caller.0 ≤ length self.now.state.tasks.alive }
         ensures none { IfNone result (calls_of self.now.state.calls caller ≡ None) }
-        ensures some { IfSome result (λ n. calls_of self.now.state.calls caller
-            ≡ call_at self.now.state.calls n.0) }
-        ensures live { IfSome result (λ n. IsSome (call_at self.now.state.calls n.0)) }
+        ensures some { IfSome result (λ found. calls_of self.now.state.calls caller
+            ≡ call_at self.now.state.calls found.number.0) }
+        ensures live { IfSome result (λ found. IsSome (call_at self.now.state.calls found.number.0)) }
     {
-        self.boxes.calls_of(caller)
+        self.boxes.first_of(caller)
     }
 
     /// A new call over that phone, which is bound for a place.
@@ -337,31 +348,32 @@ impl Switchboard {
 
     /// The call is over.
     #[inline(always)]
-    pub(crate) fn leave(&mut self, call: CallNo) -> Call
-        requires live { IsSome (call_at self.old.state.calls call.0) }
-        ensures call { call_at self.old.state.calls call.0 ≡ Some result }
-        ensures number { result.number ≡ call }
+    pub(crate) fn leave(&mut self, found: Found) -> Call
+        requires live { IsSome (call_at self.old.state.calls found.number.0) }
+        ensures call { call_at self.old.state.calls found.number.0 ≡ Some result }
+        ensures number { result.number ≡ found.number }
         ensures loose { IsLoose self.new.state (kept_phone result) }
         ensures state { self.new.state
-            ≡ with_calls self.old.state (without_call self.old.state.calls call.0) }
+            ≡ with_calls self.old.state (without_call self.old.state.calls found.number.0) }
         ensures room { KeepsRoom self.old self.new 0 }
     {
-        let call = self.boxes.leave_uncounted(call);
+        let call = self.boxes.leave_uncounted(found);
         count_out(&mut self.phones, call.caller, call.from);
         call
     }
 
     /// The caller of the call has ended.
-    pub(crate) fn lose_caller(&mut self, call: CallNo)
-        requires live { IsSome (call_at self.old.state.calls call.0) }
+    pub(crate) fn lose_caller(&mut self, found: Found)
+        requires live { IsSome (call_at self.old.state.calls found.number.0) }
         ensures state { self.new.state
-            ≡ with_calls self.old.state (without_caller self.old.state.calls call.0) }
-        ensures number { IfSome (call_at self.old.state.calls call.0) (λ c. c.number ≡ call) }
+            ≡ with_calls self.old.state (without_caller self.old.state.calls found.number.0) }
+        ensures number { IfSome (call_at self.old.state.calls found.number.0)
+            (λ c. c.number ≡ found.number) }
         ensures room { KeepsRoom self.old self.new 0 }
     {
-        let record = self.boxes.get(call).unwrap();
+        let record = self.boxes.read(found);
         let (caller, from) = (record.caller, record.from);
-        self.boxes.forget(call);
+        self.boxes.lose_caller(found);
         count_out(&mut self.phones, caller, from);
     }
 
@@ -369,41 +381,44 @@ impl Switchboard {
     /// label that the task sees.
     pub(crate) fn dispatch(
         &mut self,
-        call: CallNo,
+        found: Found,
         msg: Msg,
         reserved: Option<Label>,
         by: TaskNo,
     ) -> Label
-        requires live { IsSome (call_at self.old.state.calls call.0) }
+        requires live { IsSome (call_at self.old.state.calls found.number.0) }
         requires added { IsAdded self.old.state by }
-        requires reserved { MayReserve self.old.state (call_at self.old.state.calls call.0)
+        requires reserved { MayReserve self.old.state (call_at self.old.state.calls found.number.0)
             reserved by }
         requires few_stamps { self.old.state.calls.next_stamp < 2 ^ 63 }
-        ensures number { IfSome (call_at self.old.state.calls call.0) (λ c. c.number ≡ call) }
-        ensures label { IfSome (call_at self.old.state.calls call.0) (λ c. c.label ≡ result) }
+        ensures number { IfSome (call_at self.old.state.calls found.number.0)
+            (λ c. c.number ≡ found.number) }
+        ensures label { IfSome (call_at self.old.state.calls found.number.0)
+            (λ c. c.label ≡ result) }
         ensures state { self.new.state ≡ with_calls self.old.state
-            (received self.old.state.calls call.0 msg reserved (Dispatched by)) }
+            (received self.old.state.calls found.number.0 msg reserved (Dispatched by)) }
         ensures room { KeepsRoom self.old self.new 0 }
     {
-        self.boxes.go_by(call, Place::Dispatched(by), |record| {
+        self.boxes.go_by(found, Place::Dispatched(by), |record| {
             (Change::Receipt(msg, reserved), record.label)
         })
     }
 
     /// The call takes a reply that does not accept to the answers of its caller. Returns the phone
     /// that its holder kept for it, which no call keeps any more.
-    pub(crate) fn decline(&mut self, call: CallNo, reply: Reply, caller: TaskNo) -> Option<Label>
-        requires pending { IsPending (call_at self.old.state.calls call.0) }
-        requires called { IsCallOf (call_at self.old.state.calls call.0) caller }
+    pub(crate) fn decline(&mut self, found: Found, reply: Reply, caller: TaskNo) -> Option<Label>
+        requires pending { IsPending (call_at self.old.state.calls found.number.0) }
+        requires called { IsCallOf (call_at self.old.state.calls found.number.0) caller }
         requires alive { is_alive self.old.state caller ≡ true }
         requires few_stamps { self.old.state.calls.next_stamp < 2 ^ 63 }
-        ensures lent { IfSome (call_at self.old.state.calls call.0) (λ c. lent_phone c ≡ result) }
+        ensures lent { IfSome (call_at self.old.state.calls found.number.0)
+            (λ c. lent_phone c ≡ result) }
         ensures loose { IsLoose self.new.state result }
-        ensures state { self.new.state
-            ≡ with_calls self.old.state (with_declined self.old.state.calls call.0 reply caller) }
+        ensures state { self.new.state ≡ with_calls self.old.state
+            (with_declined self.old.state.calls found.number.0 reply caller) }
         ensures room { KeepsRoom self.old self.new 0 }
     {
-        self.boxes.go_by(call, Place::Answers(caller), |record| {
+        self.boxes.go_by(found, Place::Answers(caller), |record| {
             let lent = lent_phone(record);
             let left = unless_freed(lent, record.reserved);
             (Change::Answer(reply, left), lent)
@@ -475,21 +490,22 @@ impl Switchboard {
     /// its holder kept for it, which no call keeps any more.
     pub(crate) fn readdress(
         &mut self,
-        call: CallNo,
+        found: Found,
         msg: Msg,
         label: Label,
         to: TaskNo,
     ) -> Option<Label>
-        requires pending { IsPending (call_at self.old.state.calls call.0) }
+        requires pending { IsPending (call_at self.old.state.calls found.number.0) }
         requires added { to.0 ≤ length self.old.state.tasks.alive }
         requires few_stamps { self.old.state.calls.next_stamp < 2 ^ 63 }
-        ensures lent { IfSome (call_at self.old.state.calls call.0) (λ c. lent_phone c ≡ result) }
+        ensures lent { IfSome (call_at self.old.state.calls found.number.0)
+            (λ c. lent_phone c ≡ result) }
         ensures loose { IsLoose self.new.state result }
-        ensures state { self.new.state
-            ≡ with_calls self.old.state (with_passed self.old.state.calls call.0 msg label to) }
+        ensures state { self.new.state ≡ with_calls self.old.state
+            (with_passed self.old.state.calls found.number.0 msg label to) }
         ensures room { KeepsRoom self.old self.new 0 }
     {
-        self.boxes.go_by(call, Place::Incoming(to), |record| {
+        self.boxes.go_by(found, Place::Incoming(to), |record| {
             let lent = lent_phone(record);
             let left = unless_freed(lent, record.reserved);
             (Change::Address(msg, label, left), lent)
@@ -529,30 +545,30 @@ impl Switchboard {
     /// and the phone that it keeps leads there. Returns that phone and the code of the answer.
     pub(crate) fn connect_to_caller(
         &mut self,
-        call: CallNo,
+        found: Found,
         reply: &Reply,
         t: TaskNo,
         caller: TaskNo,
     ) -> (Option<Label>, Code)
-        requires held { IsHeldBy (call_at self.old.state.calls call.0)
+        requires held { IsHeldBy (call_at self.old.state.calls found.number.0)
             MethodKind.ConnectToMe t caller }
         requires added { IsAdded self.old.state t }
         requires alive { is_alive self.old.state caller ≡ true }
         requires few_stamps { self.old.state.calls.next_stamp < 2 ^ 63 }
-        ensures kept { IfSome (call_at self.old.state.calls call.0)
+        ensures kept { IfSome (call_at self.old.state.calls found.number.0)
             (λ c. kept_phone c ≡ result.0) }
         ensures code { result.1 ≡ code_of result.0 }
         ensures state { self.new.state ≡ with_calls
             (with_kept self.old.state result.0 (PhoneState.Connected caller))
-            (with_reply self.old.state.calls call.0
+            (with_reply self.old.state.calls found.number.0
             (record { code = result.1; args = reply.now.args }) caller) }
         ensures room { KeepsRoom self.old self.new 0 }
     {
-        let kept = kept_phone(self.boxes.get(call).unwrap());
+        let kept = kept_phone(self.boxes.read(found));
         let code = connect_to_caller(t, kept, caller, &mut self.phones);
         let (args, place) = (reply.args, Place::Answers(caller));
         let change = Change::Reply(Reply { code, args });
-        self.boxes.go_uncounted(call, change, place);
+        self.boxes.go_uncounted(found, change, place);
         (kept, code)
     }
 
@@ -560,24 +576,25 @@ impl Switchboard {
     /// and the phone that it keeps leads to `t`. Returns that phone.
     pub(crate) fn connect_to_answerer(
         &mut self,
-        call: CallNo,
+        found: Found,
         reply: &Reply,
         t: TaskNo,
         caller: TaskNo,
     ) -> Option<Label>
-        requires held { IsHeldBy (call_at self.old.state.calls call.0)
+        requires held { IsHeldBy (call_at self.old.state.calls found.number.0)
             MethodKind.ConnectMeTo t caller }
         requires added { IsAdded self.old.state t }
         requires accepts { accepts reply.now.code ≡ true }
         requires alive { is_alive self.old.state caller ≡ true }
         requires few_stamps { self.old.state.calls.next_stamp < 2 ^ 63 }
-        ensures kept { IfSome (call_at self.old.state.calls call.0) (λ c. kept_phone c ≡ result) }
+        ensures kept { IfSome (call_at self.old.state.calls found.number.0)
+            (λ c. kept_phone c ≡ result) }
         ensures state { self.new.state ≡ with_calls
             (with_kept self.old.state result (PhoneState.Connected t))
-            (with_reply self.old.state.calls call.0 reply.now caller) }
+            (with_reply self.old.state.calls found.number.0 reply.now caller) }
         ensures room { KeepsRoom self.old self.new 0 }
     {
-        let kept = self.boxes.go_by(call, Place::Answers(caller), |record| {
+        let kept = self.boxes.go_by(found, Place::Answers(caller), |record| {
             (Change::Reply(*reply), kept_phone(record))
         });
         connect_to_answerer(kept, t, &mut self.phones);
@@ -585,18 +602,18 @@ impl Switchboard {
     }
 
     /// The call takes the reply to the answers of its caller, and what it reserves stays.
-    pub(crate) fn answer(&mut self, call: CallNo, reply: &Reply, caller: TaskNo)
-        requires called { IsCallOf (call_at self.old.state.calls call.0) caller }
-        requires unkept { IfSome (call_at self.old.state.calls call.0)
+    pub(crate) fn answer(&mut self, found: Found, reply: &Reply, caller: TaskNo)
+        requires called { IsCallOf (call_at self.old.state.calls found.number.0) caller }
+        requires unkept { IfSome (call_at self.old.state.calls found.number.0)
             (λ c. kept_phone (record c { reply = reply.now; place = Answers caller }) ≡ None) }
         requires alive { is_alive self.old.state caller ≡ true }
         requires few_stamps { self.old.state.calls.next_stamp < 2 ^ 63 }
-        ensures state { self.new.state
-            ≡ with_calls self.old.state (with_reply self.old.state.calls call.0 reply.now caller) }
+        ensures state { self.new.state ≡ with_calls self.old.state
+            (with_reply self.old.state.calls found.number.0 reply.now caller) }
         ensures room { KeepsRoom self.old self.new 0 }
     {
         let place = Place::Answers(caller);
-        self.boxes.go_uncounted(call, Change::Reply(*reply), place);
+        self.boxes.go_uncounted(found, Change::Reply(*reply), place);
     }
 
     /// The bytes of the caller that a DATA_WRITE with these arguments carries.
@@ -622,20 +639,20 @@ impl Switchboard {
     /// The code of the refusal; then nothing has changed.
     pub(crate) fn write_held(
         &mut self,
-        call: CallNo,
+        found: Found,
         reply: &Reply,
         t: TaskNo,
     ) -> Result<Option<StoreNo>, Code>
-        requires live { IsSome (call_at self.old.state.calls call.0) }
+        requires live { IsSome (call_at self.old.state.calls found.number.0) }
         requires added { IsAdded self.old.state t }
-        ensures told { IfSome (call_at self.old.state.calls call.0) (λ c. result
+        ensures told { IfSome (call_at self.old.state.calls found.number.0) (λ c. result
             ≡ (write_accept self.old.state.memory t c.buffer reply.now).told) }
-        ensures state { IfSome (call_at self.old.state.calls call.0) (λ c. self.new.state
+        ensures state { IfSome (call_at self.old.state.calls found.number.0) (λ c. self.new.state
             ≡ with_memory self.old.state
             (write_accept self.old.state.memory t c.buffer reply.now).memory) }
         ensures keeps { KeepsCalls self.old self.new }
     {
-        let record = self.boxes.get(call).unwrap();
+        let record = self.boxes.read(found);
         write_accept(&mut self.spaces, t, &record.buffer, reply)
     }
 
@@ -646,19 +663,19 @@ impl Switchboard {
     /// `Refused` with the code of the answer; `NoMemory`.
     pub(crate) fn read_held(
         &self,
-        call: CallNo,
+        found: Found,
         reply: &Reply,
         t: TaskNo,
     ) -> Result<Buffer, SpaceFault>
-        requires live { IsSome (call_at self.now.state.calls call.0) }
+        requires live { IsSome (call_at self.now.state.calls found.number.0) }
         requires added { IsAdded self.now.state t }
-        ensures told { IfSome (call_at self.now.state.calls call.0) (λ c. Tells result
+        ensures told { IfSome (call_at self.now.state.calls found.number.0) (λ c. Tells result
             (read_accept self.now.state.memory t c.request.args reply.now
             (used self.now.state.calls))) }
         ensures fits { IfOk result (λ bytes. used self.now.state.calls + length bytes
             ≤ most_buffered) }
     {
-        let record = self.boxes.get(call).unwrap();
+        let record = self.boxes.read(found);
         read_accept(
             self.boxes.alloc(),
             &self.spaces,
@@ -727,19 +744,19 @@ impl Switchboard {
 
     /// The call takes the reply and these bytes to the answers of its caller, and what it reserves
     /// stays.
-    pub(crate) fn answer_with(&mut self, call: CallNo, reply: Reply, bytes: Buffer, caller: TaskNo)
-        requires called { IsCallOf (call_at self.old.state.calls call.0) caller }
-        requires unkept { IfSome (call_at self.old.state.calls call.0)
+    pub(crate) fn answer_with(&mut self, found: Found, reply: Reply, bytes: Buffer, caller: TaskNo)
+        requires called { IsCallOf (call_at self.old.state.calls found.number.0) caller }
+        requires unkept { IfSome (call_at self.old.state.calls found.number.0)
             (λ c. kept_phone (record c { reply = reply; place = Answers caller }) ≡ None) }
         requires alive { is_alive self.old.state caller ≡ true }
         requires room { used self.old.state.calls + length bytes ≤ most_buffered }
         requires few_stamps { self.old.state.calls.next_stamp < 2 ^ 63 }
         ensures state { self.new.state ≡ with_calls self.old.state
-            (with_bytes self.old.state.calls call.0 reply bytes caller) }
+            (with_bytes self.old.state.calls found.number.0 reply bytes caller) }
         ensures room { KeepsRoom self.old self.new 0 }
     {
         let (change, place) = (Change::AnswerWith(reply, bytes), Place::Answers(caller));
-        self.boxes.go_uncounted(call, change, place);
+        self.boxes.go_uncounted(found, change, place);
     }
 
     /// The phone, where there is one, is free. No call keeps it.

@@ -1,5 +1,5 @@
 //! The counts of active calls at the phones.
-ghost use Rattle.std.specs.Prelude.{◌≡◌, ℕ, ◌+◌, ◌-◌, ◌^◌, ◌<◌, ◌≤◌, true, Some, IsSome, IsSomeAnd};
+ghost use Rattle.std.specs.Prelude.{◌≡◌, ◌+◌, ◌-◌, ◌^◌, ◌<◌, true, Some, IsSome, IsSomeAnd};
 ghost use Rattle.answerbox.specs.Calls.{is_caller};
 ghost use Rattle.phone_table.specs.Phones.{state_at, count_at};
 ghost use Rattle.switchboard.specs.State.{label_of};

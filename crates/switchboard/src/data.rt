@@ -11,7 +11,8 @@ ghost use Rattle.switchboard.specs.Serving.{Does, DoesOrLeaves, Serves};
 use crate::board::Switchboard;
 use crate::joins::tell;
 use address_space::SpaceFault;
-use ipc_ids::{CallNo, Code, Entry, MethodKind, NoMemory, Outcome, Reply, StoreNo, TaskNo, Trace};
+use answerbox::Found;
+use ipc_ids::{Code, Entry, MethodKind, NoMemory, Outcome, Reply, StoreNo, TaskNo, Trace};
 
 impl Switchboard {
     /// Accepts the DATA_WRITE that the task holds: the first bytes that it carries are written
@@ -19,22 +20,23 @@ impl Switchboard {
     #[inline(never)]
     pub fn accept_write(
         &mut self,
-        number: CallNo,
+        found: Found,
         reply: &Reply,
         who: TaskNo,
         caller: TaskNo,
         out: &mut Trace,
     )
-        requires accepting { MayAccept self.old out.old number MethodKind.DataWrite who caller }
+        requires accepting { MayAccept self.old out.old found.number
+            MethodKind.DataWrite who caller }
         ensures step { Does self.new out.old out.new
             (on_call (λ k c. answer_to (accepted_write k c reply.now who) (Some who) caller)
-            self.old.state number.0) }
+            self.old.state found.number.0) }
         ensures room { UsesRoom self.old self.new out.old out.new 0 1 2 }
     {
-        let told = self.write_held(number, reply, who);
+        let told = self.write_held(found, reply, who);
         let (code, args) = (code_told(&told), reply.args);
         let note = wrote_note(who, args[0], args[1], &told);
-        self.finish_telling(number, &Reply { code, args }, note, who, caller, out);
+        self.finish_telling(found, &Reply { code, args }, note, who, caller, out);
     }
 
     /// Accepts the DATA_READ that the task holds: the call takes the bytes with it that the reply
@@ -46,35 +48,35 @@ impl Switchboard {
     #[inline(never)]
     pub fn accept_read(
         &mut self,
-        number: CallNo,
+        found: Found,
         reply: &Reply,
         who: TaskNo,
         caller: TaskNo,
         out: &mut Trace,
     ) -> Result<(), NoMemory>
-        requires accepting { MayAccept self.old out.old number MethodKind.DataRead who caller }
+        requires accepting { MayAccept self.old out.old found.number MethodKind.DataRead who caller }
         ensures step { DoesOrLeaves result self.old self.new out.old out.new
             (on_call (λ k c. answer_to (accepted_read k c reply.now who) (Some who) caller)
-            self.old.state number.0) }
+            self.old.state found.number.0) }
         ensures room { UsesRoom self.old self.new out.old out.new 0 1 2 }
     {
         let args = reply.args;
-        match self.read_held(number, reply, who) {
+        match self.read_held(found, reply, who) {
             Ok(bytes) => {
                 let answer = Reply {
                     code: Code::EOK,
                     args,
                 };
-                self.answer_with(number, answer, bytes, caller);
+                self.answer_with(found, answer, bytes, caller);
                 out.push(Entry::Answered {
-                    call: number,
+                    call: found.number,
                     reply: answer,
                     by: Some(who),
                 });
                 Ok(())
             }
             Err(SpaceFault::Refused(code)) => {
-                self.finish(number, &Reply { code, args }, who, caller, out);
+                self.finish(found, &Reply { code, args }, who, caller, out);
                 Ok(())
             }
             Err(SpaceFault::NoMemory) => Err(NoMemory),
@@ -85,15 +87,15 @@ impl Switchboard {
     /// bytes that the call brings are written where the task asked. Where they are not, the code
     /// of the reply says why.
     #[inline(never)]
-    pub fn deliver_read(&mut self, number: CallNo, who: TaskNo, out: &mut Trace) -> Outcome
-        requires live { IsSome (call_at self.old.state.calls number.0) }
+    pub fn deliver_read(&mut self, found: Found, who: TaskNo, out: &mut Trace) -> Outcome
+        requires live { IsSome (call_at self.old.state.calls found.number.0) }
         requires added { IsAdded self.old.state who }
         requires room { HasRoom self.old out.old 0 0 2 }
         ensures served { Serves self.new result out.old out.new
-            (read_delivery_live who self.old.state (call_at self.old.state.calls number.0)) }
+            (read_delivery_live who self.old.state (call_at self.old.state.calls found.number.0)) }
         ensures room { UsesRoom self.old self.new out.old out.new 0 0 2 }
     {
-        let call = self.leave(number);
+        let call = self.leave(found);
         let told = self.write_back(&call, who);
         out.push(Entry::Delivered {
             call: call.number,

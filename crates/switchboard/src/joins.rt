@@ -12,11 +12,10 @@ ghost use Rattle.switchboard.specs.Serving.{Does, Serves, as_it_is, with_note};
 
 use crate::board::Switchboard;
 use crate::kept::{kept_note, kept_phone};
+use answerbox::Found;
 use call_slab::{Call, Place};
 use ipc_ids::methods::PHONE_HUNGUP;
-use ipc_ids::{
-    CallNo, Code, Entry, Label, MethodKind, Msg, Outcome, PhoneState, Reply, TaskNo, Trace,
-};
+use ipc_ids::{Code, Entry, Label, MethodKind, Msg, Outcome, PhoneState, Reply, TaskNo, Trace};
 use phone_table::Hung;
 
 /// What a call takes with it as a task receives it.
@@ -89,24 +88,25 @@ impl Switchboard {
     /// holder kept for it is free.
     pub fn pass_on(
         &mut self,
-        number: CallNo,
+        found: Found,
         msg: Msg,
         label: Label,
         by: TaskNo,
         to: TaskNo,
         out: &mut Trace,
     )
-        requires number { IfSome (call_at self.old.state.calls number.0) (λ c. c.number ≡ number) }
-        requires pending { IsPending (call_at self.old.state.calls number.0) }
+        requires number { IfSome (call_at self.old.state.calls found.number.0)
+            (λ c. c.number ≡ found.number) }
+        requires pending { IsPending (call_at self.old.state.calls found.number.0) }
         requires added { to.0 ≤ length self.old.state.tasks.alive }
         requires room { HasRoom self.old out.old 0 1 2 }
         ensures step { Does self.new out.old out.new
-            (on_call (passage msg label by to) self.old.state number.0) }
+            (on_call (passage msg label by to) self.old.state found.number.0) }
         ensures room { UsesRoom self.old self.new out.old out.new 0 1 2 }
     {
-        let lent = self.readdress(number, msg, label, to);
+        let lent = self.readdress(found, msg, label, to);
         out.push(Entry::Forwarded {
-            call: number,
+            call: found.number,
             by,
             to,
             label,
@@ -117,19 +117,19 @@ impl Switchboard {
     /// Hands the call over to the task, which holds it from then on.
     pub fn hand_over(
         &mut self,
-        number: CallNo,
+        found: Found,
         arrival: Arrival,
         who: TaskNo,
         out: &mut Trace,
     ) -> Outcome
-        requires live { IsSome (call_at self.old.state.calls number.0) }
+        requires live { IsSome (call_at self.old.state.calls found.number.0) }
         requires added { IsAdded self.old.state who }
-        requires reserved { MayReserve self.old.state (call_at self.old.state.calls number.0)
+        requires reserved { MayReserve self.old.state (call_at self.old.state.calls found.number.0)
             arrival.reserved who }
         requires room { HasRoom self.old out.old 0 1 2 }
         ensures served { Serves self.new result out.old out.new
             (reception_live who arrival self.old.state
-            (call_at self.old.state.calls number.0)) }
+            (call_at self.old.state.calls found.number.0)) }
         ensures room { UsesRoom self.old self.new out.old out.new 0 1 2 }
     {
         let Arrival {
@@ -137,28 +137,28 @@ impl Switchboard {
             reserved,
             note,
         } = arrival;
-        let label = self.dispatch(number, msg, reserved, who);
+        let label = self.dispatch(found, msg, reserved, who);
         out.push(Entry::Received {
-            call: number,
+            call: found.number,
             by: who,
         });
         tell(note, out);
         Outcome::Received {
-            call: number,
+            call: found.number,
             msg,
             label,
         }
     }
 
     /// Delivers this reply to the task, and ends the call. A phone that it kept is free.
-    pub fn deliver(&mut self, number: CallNo, reply: Reply, who: TaskNo, out: &mut Trace) -> Outcome
-        requires live { IsSome (call_at self.old.state.calls number.0) }
+    pub fn deliver(&mut self, found: Found, reply: Reply, who: TaskNo, out: &mut Trace) -> Outcome
+        requires live { IsSome (call_at self.old.state.calls found.number.0) }
         requires room { HasRoom self.old out.old 0 0 2 }
         ensures served { Serves self.new result out.old out.new
-            (delivery_live who reply self.old.state (call_at self.old.state.calls number.0)) }
+            (delivery_live who reply self.old.state (call_at self.old.state.calls found.number.0)) }
         ensures room { UsesRoom self.old self.new out.old out.new 0 0 2 }
     {
-        let call = self.leave(number);
+        let call = self.leave(found);
         out.push(Entry::Delivered {
             call: call.number,
             to: who,
@@ -171,14 +171,14 @@ impl Switchboard {
     }
 
     /// Drops the answer at the task, and ends the call. A phone that it kept is free.
-    pub fn drop_answer(&mut self, number: CallNo, at: TaskNo, out: &mut Trace)
-        requires live { IsSome (call_at self.old.state.calls number.0) }
+    pub fn drop_answer(&mut self, found: Found, at: TaskNo, out: &mut Trace)
+        requires live { IsSome (call_at self.old.state.calls found.number.0) }
         requires room { HasRoom self.old out.old 0 0 2 }
         ensures step { Does self.new out.old out.new
-            (on_call (drop_answer at) self.old.state number.0) }
+            (on_call (drop_answer at) self.old.state found.number.0) }
         ensures room { UsesRoom self.old self.new out.old out.new 0 0 2 }
     {
-        let call = self.leave(number);
+        let call = self.leave(found);
         out.push(Entry::Dropped {
             call: call.number,
             at,
@@ -187,25 +187,27 @@ impl Switchboard {
     }
 
     /// Ends the call without an answer. A phone that it kept is free.
-    pub fn vanish(&mut self, number: CallNo, out: &mut Trace)
-        requires live { IsSome (call_at self.old.state.calls number.0) }
+    pub fn vanish(&mut self, found: Found, out: &mut Trace)
+        requires live { IsSome (call_at self.old.state.calls found.number.0) }
         requires room { HasRoom self.old out.old 0 0 2 }
-        ensures step { Does self.new out.old out.new (on_call vanishing self.old.state number.0) }
+        ensures step { Does self.new out.old out.new
+            (on_call vanishing self.old.state found.number.0) }
         ensures room { UsesRoom self.old self.new out.old out.new 0 0 2 }
     {
-        self.vanish_exactly(number, out);
+        self.vanish_exactly(found, out);
     }
 
     /// The same, with room for a second entry only where the call keeps a phone.
-    fn vanish_exactly(&mut self, number: CallNo, out: &mut Trace)
-        requires live { IsSome (call_at self.old.state.calls number.0) }
+    fn vanish_exactly(&mut self, found: Found, out: &mut Trace)
+        requires live { IsSome (call_at self.old.state.calls found.number.0) }
         requires room { HasRoom self.old out.old 0 0
-            (vanish_entries (call_at self.old.state.calls number.0)) }
-        ensures step { Does self.new out.old out.new (on_call vanishing self.old.state number.0) }
+            (vanish_entries (call_at self.old.state.calls found.number.0)) }
+        ensures step { Does self.new out.old out.new
+            (on_call vanishing self.old.state found.number.0) }
         ensures room { UsesRoom self.old self.new out.old out.new 0 0
-            (vanish_entries (call_at self.old.state.calls number.0)) }
+            (vanish_entries (call_at self.old.state.calls found.number.0)) }
     {
-        let call = self.leave(number);
+        let call = self.leave(found);
         out.push(Entry::Vanished(call.number));
         match kept_phone(&call) {
             Some(phone) => self.free(Some(phone), out),
@@ -225,38 +227,41 @@ impl Switchboard {
     }
 
     /// Forgets the caller of the call, which has ended.
-    pub fn forget(&mut self, number: CallNo, out: &mut Trace)
-        requires live { IsSome (call_at self.old.state.calls number.0) }
+    pub fn forget(&mut self, found: Found, out: &mut Trace)
+        requires live { IsSome (call_at self.old.state.calls found.number.0) }
         requires room { HasRoom self.old out.old 0 0 1 }
-        ensures step { Does self.new out.old out.new (on_call forget_call self.old.state number.0) }
+        ensures step { Does self.new out.old out.new
+            (on_call forget_call self.old.state found.number.0) }
         ensures room { UsesRoom self.old self.new out.old out.new 0 0 1 }
     {
-        self.lose_caller(number);
-        out.push(Entry::Forgotten(number));
+        self.lose_caller(found);
+        out.push(Entry::Forgotten(found.number));
     }
 
     /// Moves the call with a reply that does not accept to the answers of its caller. A phone that
     /// its holder kept for it is free.
     fn refuse(
         &mut self,
-        number: CallNo,
+        found: Found,
         reply: Reply,
         by: Option<TaskNo>,
         caller: TaskNo,
         out: &mut Trace,
     )
-        requires pending { IsPending (call_at self.old.state.calls number.0) }
-        requires number { IfSome (call_at self.old.state.calls number.0) (λ c. c.number ≡ number) }
-        requires called { IsCallOf (call_at self.old.state.calls number.0) caller }
+        requires pending { IsPending (call_at self.old.state.calls found.number.0) }
+        requires number { IfSome (call_at self.old.state.calls found.number.0)
+            (λ c. c.number ≡ found.number) }
+        requires called { IsCallOf (call_at self.old.state.calls found.number.0) caller }
         requires alive { is_alive self.old.state caller ≡ true }
         requires room { HasRoom self.old out.old 0 1 2 }
         ensures step { Does self.new out.old out.new
-            (on_call (λ k c. answer_to (declined k c reply) by caller) self.old.state number.0) }
+            (on_call (λ k c. answer_to (declined k c reply) by caller) self.old.state
+            found.number.0) }
         ensures room { UsesRoom self.old self.new out.old out.new 0 1 2 }
     {
-        let lent = self.decline(number, reply, caller);
+        let lent = self.decline(found, reply, caller);
         out.push(Entry::Answered {
-            call: number,
+            call: found.number,
             reply,
             by,
         });
@@ -268,22 +273,23 @@ impl Switchboard {
     #[inline(never)]
     pub fn accept_to_me(
         &mut self,
-        number: CallNo,
+        found: Found,
         reply: &Reply,
         who: TaskNo,
         caller: TaskNo,
         out: &mut Trace,
     )
-        requires accepting { MayAccept self.old out.old number MethodKind.ConnectToMe who caller }
+        requires accepting { MayAccept self.old out.old found.number
+            MethodKind.ConnectToMe who caller }
         ensures step { Does self.new out.old out.new
             (on_call (λ k c. answer_to (accepted_to_me k c reply.now caller) (Some who) caller)
-            self.old.state number.0) }
+            self.old.state found.number.0) }
         ensures room { UsesRoom self.old self.new out.old out.new 0 1 2 }
     {
-        let (kept, code) = self.connect_to_caller(number, reply, who, caller);
+        let (kept, code) = self.connect_to_caller(found, reply, who, caller);
         let args = reply.args;
         out.push(Entry::Answered {
-            call: number,
+            call: found.number,
             reply: Reply { code, args },
             by: Some(who),
         });
@@ -295,22 +301,23 @@ impl Switchboard {
     #[inline(never)]
     pub fn accept_me_to(
         &mut self,
-        number: CallNo,
+        found: Found,
         reply: &Reply,
         who: TaskNo,
         caller: TaskNo,
         out: &mut Trace,
     )
-        requires accepting { MayAccept self.old out.old number MethodKind.ConnectMeTo who caller }
+        requires accepting { MayAccept self.old out.old found.number
+            MethodKind.ConnectMeTo who caller }
         requires accepts { accepts reply.now.code ≡ true }
         ensures step { Does self.new out.old out.new
             (on_call (λ k c. answer_to (accepted_me_to k c reply.now who) (Some who) caller)
-            self.old.state number.0) }
+            self.old.state found.number.0) }
         ensures room { UsesRoom self.old self.new out.old out.new 0 1 2 }
     {
-        let kept = self.connect_to_answerer(number, reply, who, caller);
+        let kept = self.connect_to_answerer(found, reply, who, caller);
         out.push(Entry::Answered {
-            call: number,
+            call: found.number,
             reply: *reply,
             by: Some(who),
         });
@@ -320,24 +327,25 @@ impl Switchboard {
     /// Moves the call, for which no phone is kept, with the reply to the answers of its caller.
     pub fn finish(
         &mut self,
-        number: CallNo,
+        found: Found,
         reply: &Reply,
         who: TaskNo,
         caller: TaskNo,
         out: &mut Trace,
     )
-        requires number { IfSome (call_at self.old.state.calls number.0) (λ c. c.number ≡ number) }
-        requires called { IsCallOf (call_at self.old.state.calls number.0) caller }
-        requires unkept { IfSome (call_at self.old.state.calls number.0)
+        requires number { IfSome (call_at self.old.state.calls found.number.0)
+            (λ c. c.number ≡ found.number) }
+        requires called { IsCallOf (call_at self.old.state.calls found.number.0) caller }
+        requires unkept { IfSome (call_at self.old.state.calls found.number.0)
             (λ c. kept_phone (record c { reply = reply.now; place = Answers caller }) ≡ None) }
         requires alive { is_alive self.old.state caller ≡ true }
         requires room { HasRoom self.old out.old 0 1 2 }
         ensures step { Does self.new out.old out.new (on_call
             (λ k c. answer_to (as_it_is k (record c { reply = reply.now })) (Some who) caller)
-            self.old.state number.0) }
+            self.old.state found.number.0) }
         ensures room { UsesRoom self.old self.new out.old out.new 0 1 2 }
     {
-        self.finish_telling(number, reply, None, who, caller, out);
+        self.finish_telling(found, reply, None, who, caller, out);
     }
 
     /// Moves the call, for which no phone is kept, with the reply to the answers of its caller, and
@@ -345,27 +353,28 @@ impl Switchboard {
     #[inline(always)]
     pub(crate) fn finish_telling(
         &mut self,
-        number: CallNo,
+        found: Found,
         reply: &Reply,
         note: Option<Entry>,
         who: TaskNo,
         caller: TaskNo,
         out: &mut Trace,
     )
-        requires number { IfSome (call_at self.old.state.calls number.0) (λ c. c.number ≡ number) }
-        requires called { IsCallOf (call_at self.old.state.calls number.0) caller }
-        requires unkept { IfSome (call_at self.old.state.calls number.0)
+        requires number { IfSome (call_at self.old.state.calls found.number.0)
+            (λ c. c.number ≡ found.number) }
+        requires called { IsCallOf (call_at self.old.state.calls found.number.0) caller }
+        requires unkept { IfSome (call_at self.old.state.calls found.number.0)
             (λ c. kept_phone (record c { reply = reply.now; place = Answers caller }) ≡ None) }
         requires alive { is_alive self.old.state caller ≡ true }
         requires room { HasRoom self.old out.old 0 1 2 }
         ensures step { Does self.new out.old out.new (on_call
             (λ k c. answer_to (with_note k (record c { reply = reply.now }) note) (Some who) caller)
-            self.old.state number.0) }
+            self.old.state found.number.0) }
         ensures room { UsesRoom self.old self.new out.old out.new 0 1 2 }
     {
-        self.answer(number, reply, caller);
+        self.answer(found, reply, caller);
         out.push(Entry::Answered {
-            call: number,
+            call: found.number,
             reply: *reply,
             by: Some(who),
         });
@@ -374,39 +383,41 @@ impl Switchboard {
 
     /// Answers the call with a reply that does not accept, in the name of a task or of the kernel
     /// where `by` is `None`. Where its caller has ended the call vanishes.
-    pub fn settle(&mut self, number: CallNo, reply: &Reply, by: Option<TaskNo>, out: &mut Trace)
-        requires pending { IsPending (call_at self.old.state.calls number.0) }
+    pub fn settle(&mut self, found: Found, reply: &Reply, by: Option<TaskNo>, out: &mut Trace)
+        requires pending { IsPending (call_at self.old.state.calls found.number.0) }
         requires room { HasRoom self.old out.old 0
-            (settle_moves self.old.state (call_at self.old.state.calls number.0))
-            (settle_entries self.old.state (call_at self.old.state.calls number.0)) }
+            (settle_moves self.old.state (call_at self.old.state.calls found.number.0))
+            (settle_entries self.old.state (call_at self.old.state.calls found.number.0)) }
         ensures step { Does self.new out.old out.new
-            (settle_live self.old.state reply.now by (call_at self.old.state.calls number.0)) }
+            (settle_live self.old.state reply.now by (call_at self.old.state.calls found.number.0)) }
         ensures room { UsesRoom self.old self.new out.old out.new 0
-            (settle_moves self.old.state (call_at self.old.state.calls number.0))
-            (settle_entries self.old.state (call_at self.old.state.calls number.0)) }
+            (settle_moves self.old.state (call_at self.old.state.calls found.number.0))
+            (settle_entries self.old.state (call_at self.old.state.calls found.number.0)) }
     {
-        let caller = self.get(number).unwrap().caller;
-        self.settle_exactly(number, caller, reply, by, out);
+        let caller = self.read(found).caller;
+        self.settle_exactly(found, caller, reply, by, out);
     }
 
     /// Settles the call of this caller, whose record was looked up before.
     pub fn settle_for(
         &mut self,
-        number: CallNo,
+        found: Found,
         caller: Option<TaskNo>,
         reply: &Reply,
         by: Option<TaskNo>,
         out: &mut Trace,
     )
-        requires pending { IsPending (call_at self.old.state.calls number.0) }
-        requires number { IfSome (call_at self.old.state.calls number.0) (λ c. c.number ≡ number) }
-        requires caller { IfSome (call_at self.old.state.calls number.0) (λ c. c.caller ≡ caller) }
+        requires pending { IsPending (call_at self.old.state.calls found.number.0) }
+        requires number { IfSome (call_at self.old.state.calls found.number.0)
+            (λ c. c.number ≡ found.number) }
+        requires caller { IfSome (call_at self.old.state.calls found.number.0)
+            (λ c. c.caller ≡ caller) }
         requires room { HasRoom self.old out.old 0 1 2 }
         ensures step { Does self.new out.old out.new
-            (settle_live self.old.state reply.now by (call_at self.old.state.calls number.0)) }
+            (settle_live self.old.state reply.now by (call_at self.old.state.calls found.number.0)) }
         ensures room { UsesRoom self.old self.new out.old out.new 0 1 2 }
     {
-        self.settle_exactly(number, caller, reply, by, out);
+        self.settle_exactly(found, caller, reply, by, out);
     }
 
     /// The same, with room for a move only where the caller is alive, and for a second entry only
@@ -414,27 +425,29 @@ impl Switchboard {
     #[inline(always)]
     fn settle_exactly(
         &mut self,
-        number: CallNo,
+        found: Found,
         caller: Option<TaskNo>,
         reply: &Reply,
         by: Option<TaskNo>,
         out: &mut Trace,
     )
-        requires pending { IsPending (call_at self.old.state.calls number.0) }
-        requires number { IfSome (call_at self.old.state.calls number.0) (λ c. c.number ≡ number) }
-        requires caller { IfSome (call_at self.old.state.calls number.0) (λ c. c.caller ≡ caller) }
+        requires pending { IsPending (call_at self.old.state.calls found.number.0) }
+        requires number { IfSome (call_at self.old.state.calls found.number.0)
+            (λ c. c.number ≡ found.number) }
+        requires caller { IfSome (call_at self.old.state.calls found.number.0)
+            (λ c. c.caller ≡ caller) }
         requires room { HasRoom self.old out.old 0
-            (settle_moves self.old.state (call_at self.old.state.calls number.0))
-            (settle_entries self.old.state (call_at self.old.state.calls number.0)) }
+            (settle_moves self.old.state (call_at self.old.state.calls found.number.0))
+            (settle_entries self.old.state (call_at self.old.state.calls found.number.0)) }
         ensures step { Does self.new out.old out.new
-            (settle_live self.old.state reply.now by (call_at self.old.state.calls number.0)) }
+            (settle_live self.old.state reply.now by (call_at self.old.state.calls found.number.0)) }
         ensures room { UsesRoom self.old self.new out.old out.new 0
-            (settle_moves self.old.state (call_at self.old.state.calls number.0))
-            (settle_entries self.old.state (call_at self.old.state.calls number.0)) }
+            (settle_moves self.old.state (call_at self.old.state.calls found.number.0))
+            (settle_entries self.old.state (call_at self.old.state.calls found.number.0)) }
     {
         match caller {
-            Some(caller) if self.is_alive(caller) => self.refuse(number, *reply, by, caller, out),
-            _ => self.vanish_exactly(number, out),
+            Some(caller) if self.is_alive(caller) => self.refuse(found, *reply, by, caller, out),
+            _ => self.vanish_exactly(found, out),
         }
     }
 

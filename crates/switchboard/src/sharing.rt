@@ -7,7 +7,8 @@ ghost use Rattle.switchboard.specs.Rooms.{MayAccept, UsesRoom};
 ghost use Rattle.switchboard.specs.Serving.{Does};
 
 use crate::board::Switchboard;
-use ipc_ids::{CallNo, Code, Entry, Reply, StoreNo, TaskNo, Trace};
+use answerbox::Found;
+use ipc_ids::{Code, Entry, Reply, StoreNo, TaskNo, Trace};
 
 /// The two ways in which an area is shared.
 #[derive(Clone, Copy)]
@@ -47,24 +48,24 @@ impl Switchboard {
     pub fn accept_share(
         &mut self,
         way: Share,
-        number: CallNo,
+        found: Found,
         reply: &Reply,
         who: TaskNo,
         caller: TaskNo,
         out: &mut Trace,
     )
-        requires accepting { MayAccept self.old out.old number (kind_of_share way) who caller }
+        requires accepting { MayAccept self.old out.old found.number (kind_of_share way) who caller }
         ensures step { Does self.new out.old out.new (on_call
             (λ k c. answer_to (accepted_share way k c reply.now who caller) (Some who) caller)
-            self.old.state number.0) }
+            self.old.state found.number.0) }
         ensures room { UsesRoom self.old self.new out.old out.new 0 1 2 }
     {
-        let asked = self.get(number).unwrap().request.args;
+        let asked = self.read(found).request.args;
         let told = self.share(way, &asked, reply, who, caller);
         let (code, args) = (code_told(&told), reply.args);
         let (task, base) = (way.taker(who, caller), way.base(&asked, &args));
         let note = shared_note(task, base, asked[1], asked[2], &told);
-        self.finish_telling(number, &Reply { code, args }, note, who, caller, out);
+        self.finish_telling(found, &Reply { code, args }, note, who, caller, out);
     }
 }
 

@@ -1,19 +1,70 @@
 //! The calls of `Boxes` that the program does not make, for who uses the answerboxes alone.
 ghost use Rattle.std.specs.Prelude.{◌≡◌, length, ◌+◌, ◌^◌, ◌<◌, ◌≤◌, IsSome, IfSome, IfNone, None};
-ghost use Rattle.answerbox.specs.Calls.{used, call_at, IsNumberOf, task_of, with_place, received, answered, answered_with, readdressed, with_change, next_of};
+ghost use Rattle.answerbox.specs.Calls.{used, call_at, IsNumberOf, task_of, front, calls_of, without_call, without_caller, with_place, received, answered, answered_with, readdressed, with_change, next_of};
 ghost use Rattle.call_slab.specs.Change.{changed};
-ghost use Rattle.answerbox.specs.Change.{MayBring};
-ghost use Rattle.answerbox.specs.Places.{IsFound};
+ghost use Rattle.answerbox.specs.Change.{MayBring, gone};
+ghost use Rattle.answerbox.specs.Places.{IsFound, IsFrontOf, HasNoCalls};
 ghost use Rattle.answerbox.specs.Blanks.{Opens};
 
 use crate::boxes::{Boxes, used_after};
 use crate::chains::Chain;
-use call_slab::{Change, Place};
-use ipc_ids::{Buffer, CallNo, Label, Msg, Reply, Steps};
+use crate::found::Found;
+use call_slab::{Call, Change, Place};
+use ipc_ids::{Buffer, CallNo, Label, Msg, Reply, Steps, TaskNo};
 use std::marker::Brand;
 use std::sync::ledger::{Blank, Ledger};
 
 impl Boxes {
+    /// The live call with this number.
+    fn found<L: Ledger>(&self, call: CallNo, steps: &mut Steps<L>) -> Found
+        requires live { IsSome (call_at self.now.calls call.0) }
+        ensures number { result.number ≡ call }
+        ensures steps { steps.new ≡ steps.old + 1 }
+    {
+        let key = self.calls.key_of(call, steps).unwrap();
+        Found {
+            number: call,
+            kept: key.kept(),
+        }
+    }
+
+    /// The call that came first to this place; `None` where no call stands there.
+    pub fn front<L: Ledger>(&self, place: Place, steps: &mut Steps<L>) -> Option<CallNo>
+        requires task { task_of place ≤ self.now.tasks }
+        ensures none { IfNone result (front self.now.calls place ≡ None) }
+        ensures some { IfSome result (IsNumberOf self.now.calls (front self.now.calls place)) }
+        ensures live { IfSome result (λ n. IsSome (call_at self.now.calls n.0)) }
+        ensures least { IfSome result (λ n. IsFrontOf self.now.calls n.0 place) }
+        ensures empty { IfNone result (HasNoCalls self.now.calls place) }
+        ensures steps { steps.new ≤ steps.old + 2 }
+    {
+        match self.first_counted(place, steps) {
+            Some(found) => Some(found.number),
+            None => None,
+        }
+    }
+
+    /// Gives the call what is in `change` and moves it to the end of that place.
+    pub fn go<L: Ledger>(
+        &mut self,
+        call: CallNo,
+        change: Change,
+        place: Place,
+        steps: &mut Steps<L>,
+    )
+        requires live { IsSome (call_at self.old.calls call.0) }
+        requires task { task_of place ≤ self.old.tasks }
+        requires few_bytes { MayBring (used self.old.calls) change }
+        requires few_stamps { self.old.calls.next_stamp < 2 ^ 63 }
+        ensures calls { self.new.calls ≡ gone self.old.calls call.0 (changed change) place }
+        ensures tasks { self.new.tasks ≡ self.old.tasks }
+        ensures spare { self.new.spare ≡ self.old.spare }
+        ensures steps { steps.new ≤ steps.old + 16 }
+    {
+        let found = self.found(call, steps);
+        self.go_by_counted(found, place, |_| (change, ()), steps);
+    }
+
     /// Moves the call to the end of that place.
     pub fn move_to<L: Ledger>(&mut self, call: CallNo, place: Place, steps: &mut Steps<L>)
         requires live { IsSome (call_at self.old.calls call.0) }
@@ -25,8 +76,9 @@ impl Boxes {
         ensures steps { steps.new ≤ steps.old + 16 }
     {
         // It keeps the reply that it has.
+        let found = self.found(call, steps);
         self.go_by_counted(
-            call,
+            found,
             place,
             |record| (Change::Reply(record.reply), ()),
             steps,
@@ -118,6 +170,20 @@ impl Boxes {
         self.go(call, Change::Address(msg, label, reserved), place, steps);
     }
 
+    /// Removes the call and returns its record.
+    pub fn leave<L: Ledger>(&mut self, call: CallNo, steps: &mut Steps<L>) -> Call
+        requires live { IsSome (call_at self.old.calls call.0) }
+        ensures call { call_at self.old.calls call.0 ≡ Some result }
+        ensures number { result.number ≡ call }
+        ensures calls { self.new.calls ≡ without_call self.old.calls call.0 }
+        ensures tasks { self.new.tasks ≡ self.old.tasks }
+        ensures spare { self.old.spare ≤ self.new.spare }
+        ensures steps { steps.new ≤ steps.old + 16 }
+    {
+        let found = self.found(call, steps);
+        self.leave_counted(found, steps)
+    }
+
     /// Gives the call what is in `change` where it stands.
     fn give<L: Ledger>(&mut self, call: CallNo, change: Change, blank: Blank)
         requires blank { Opens L.name L.parts blank.name blank.parts }
@@ -188,6 +254,30 @@ impl Boxes {
         ensures spare { self.new.spare ≡ self.old.spare }
     {
         self.give::<Brand>(call, Change::Bytes(bytes), Blank::new(1));
+    }
+
+    /// Clears the caller of the call, which has ended.
+    pub fn forget(&mut self, call: CallNo)
+        requires live { IsSome (call_at self.old.calls call.0) }
+        ensures calls { self.new.calls ≡ without_caller self.old.calls call.0 }
+        ensures tasks { self.new.tasks ≡ self.old.tasks }
+        ensures spare { self.new.spare ≡ self.old.spare }
+    {
+        let found = self.find(call).unwrap();
+        self.lose_caller(found);
+    }
+
+    /// The least number of a live call of that caller; `None` where it has no live call.
+    pub fn calls_of(&self, caller: TaskNo) -> Option<CallNo>
+        requires task { caller.0 ≤ self.now.tasks }
+        ensures none { IfNone result (calls_of self.now.calls caller ≡ None) }
+        ensures some { IfSome result (IsNumberOf self.now.calls (calls_of self.now.calls caller)) }
+        ensures live { IfSome result (λ n. IsSome (call_at self.now.calls n.0)) }
+    {
+        match self.first_of(caller) {
+            Some(found) => Some(found.number),
+            None => None,
+        }
     }
 
     /// The least greater number of a live call of the same caller; `None` where there is none.

@@ -8,7 +8,7 @@ use Rattle.cleanup.proofs.kill.forget_calls_elsewhere.Goals as goal
 
 pub loop-preserved : goal.loop-preserved
 loop-preserved c =
-    let found = record_of (call_at c.loop.board.state.calls c.in-Some.number.0) c.in-Some.ensures.live in
+    let found = record_of (call_at c.loop.board.state.calls c.in-Some.found.number.0) c.in-Some.ensures.live in
     record {
       step = drained (first_call_of c.args.who) forget_call found.0 (omega arith) (c.in-Some.ensures.some ∙ found.1) (rw found.1 at c.forget.ensures.step) c.loop.invariant.step;
       room = uses_both c.loop.invariant.room c.forget.ensures.room;

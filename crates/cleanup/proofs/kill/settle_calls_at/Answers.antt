@@ -8,14 +8,14 @@ use Rattle.cleanup.proofs.kill.settle_calls_at.Goals as goal
 
 pub settle-requires-clause-room : goal.settle-requires-clause-room
 settle-requires-clause-room c =
-    let found = record_of (call_at c.loop.board.state.calls c.in-Some.number.0) c.in-Some.ensures.live in
+    let found = record_of (call_at c.loop.board.state.calls c.in-Some.found.number.0) c.in-Some.ensures.live in
     let moves = settled_moves c.loop.board.state c.args.place found.0 c.requires.pending c.check_numbers.ensures.numbered (c.in-Some.ensures.some ∙ found.1) in
     let entries = settled_entries c.loop.board.state c.args.place found.0 c.requires.pending c.check_numbers.ensures.numbered (c.in-Some.ensures.some ∙ found.1) in
     rw found.1 (room_left c.requires.room c.loop.invariant.room (omega arith) (omega (arith, moves, c.loop.invariant.moves)) (omega (arith, entries, c.loop.invariant.entries)))
 
 pub loop-preserved : goal.loop-preserved
 loop-preserved c =
-    let found = record_of (call_at c.loop.board.state.calls c.in-Some.number.0) c.in-Some.ensures.live in
+    let found = record_of (call_at c.loop.board.state.calls c.in-Some.found.number.0) c.in-Some.ensures.live in
     let moves = settled_moves c.loop.board.state c.args.place found.0 c.requires.pending c.check_numbers.ensures.numbered (c.in-Some.ensures.some ∙ found.1) in
     let entries = settled_entries c.loop.board.state c.args.place found.0 c.requires.pending c.check_numbers.ensures.numbered (c.in-Some.ensures.some ∙ found.1) in
     let did = rw (found.1, c.bare.ensures) at c.settle.ensures.step in

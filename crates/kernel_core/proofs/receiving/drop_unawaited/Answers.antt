@@ -8,7 +8,7 @@ use Rattle.kernel_core.proofs.receiving.drop_unawaited.Goals as goal
 
 pub loop-preserved : goal.loop-preserved
 loop-preserved c =
-    let found = record_of (call_at c.loop.board.state.calls c.in-Some.number.0) c.in-Some.ensures.live in
+    let found = record_of (call_at c.loop.board.state.calls c.in-Some.found.number.0) c.in-Some.ensures.live in
     record {
       step = drained (next_unawaited c.args.who) (drop_answer c.args.who) found.0 (omega arith) (c.in-Some.ensures.some ∙ found.1) (rw found.1 at c.drop_answer.ensures.step) c.loop.invariant.step;
       room = uses_less (uses_both c.loop.invariant.room c.drop_answer.ensures.room) (omega arith) (omega arith) (omega arith);

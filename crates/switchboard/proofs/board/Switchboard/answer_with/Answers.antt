@@ -12,17 +12,17 @@ use Rattle.switchboard.proofs.board.Switchboard.answer_with.Goals as goal
 pub invariant_of-self : goal.invariant_of-self
 invariant_of-self c =
     let i = c.self.inside in
-    let found = called (call_at i.boxes.calls c.args.call.0) c.args.caller (rw (← c.self.view_is) at c.requires.called) in
+    let found = called (call_at i.boxes.calls c.args.found.number.0) c.args.caller (rw (← c.self.view_is) at c.requires.called) in
     let r : Call = found.0 in
-    let is : call_at i.boxes.calls c.args.call.0 ≡ Some r = found.1 in
+    let is : call_at i.boxes.calls c.args.found.number.0 ≡ Some r = found.1 in
     let none : kept_phone (record r { reply = c.args.reply; place = Answers c.args.caller }) ≡ None = rw is at (rw (← c.self.view_is) at c.requires.unkept) in
     rw (c.go_uncounted.ensures.calls, c.go_uncounted.ensures.tasks, is)
-    (switched_bytes c.args.call.0 r (record r { reply = c.args.reply; buffer = c.args.bytes }) (Answers c.args.caller) c.self.invariant.0 is refl refl refl (rw (← c.self.view_is) at c.requires.room) (kept_put (inner i) c.args.call.0 r (record r { reply = c.args.reply; buffer = c.args.bytes }) (Answers c.args.caller) c.self.invariant.0.kept is (c.self.invariant.0.has_counts.numbered c.args.call.0 r is) (inr (rw none tt))), c.self.invariant.1)
+    (switched_bytes c.args.found.number.0 r (record r { reply = c.args.reply; buffer = c.args.bytes }) (Answers c.args.caller) c.self.invariant.0 is refl refl refl (rw (← c.self.view_is) at c.requires.room) (kept_put (inner i) c.args.found.number.0 r (record r { reply = c.args.reply; buffer = c.args.bytes }) (Answers c.args.caller) c.self.invariant.0.kept is (c.self.invariant.0.has_counts.numbered c.args.found.number.0 r is) (inr (rw none tt))), c.self.invariant.1)
 
 pub returns-clause-room : goal.returns-clause-room
 returns-clause-room c =
     let i = c.self.inside in
-    let found = called (call_at i.boxes.calls c.args.call.0) c.args.caller (rw (← c.self.view_is) at c.requires.called) in
-    let is : call_at i.boxes.calls c.args.call.0 ≡ Some found.0 = found.1 in
-    let l = live_bytes i.phones.states i.phones.counts i.boxes.calls c.args.call.0 c.self.invariant.0.has_counts (rw is refl) c.args.reply c.args.bytes c.args.caller in
+    let found = called (call_at i.boxes.calls c.args.found.number.0) c.args.caller (rw (← c.self.view_is) at c.requires.called) in
+    let is : call_at i.boxes.calls c.args.found.number.0 ≡ Some found.0 = found.1 in
+    let l = live_bytes i.phones.states i.phones.counts i.boxes.calls c.args.found.number.0 c.self.invariant.0.has_counts (rw is refl) c.args.reply c.args.bytes c.args.caller in
     rw (← c.self.view_is, c.go_uncounted.ensures.calls, is) (record { live = omega (arith, rw is at l); calls = omega (arith, c.go_uncounted.ensures.spare); places = c.go_uncounted.ensures.tasks })

@@ -1,5 +1,4 @@
-use Rattle.std.proofs.Common.{◌≡◌, Some, arith, refl, sym, ap, ◌∙◌, inr, length}
-use Rattle.std.specs.Option.{option_copied}
+use Rattle.std.proofs.Common.{◌≡◌, Some, arith, refl, inr, length}
 use Rattle.ipc_ids.specs.declared.message.PhoneState.TheVariants.{Connected}
 use Rattle.ipc_ids.specs.declared.methods.MethodKind.TheVariants.{ConnectToMe}
 use Rattle.call_slab.specs.declared.call.Place.TheVariants.{Answers}
@@ -18,49 +17,49 @@ use Rattle.switchboard.proofs.SoundMemory.{mark_within}
 pub connect_to_caller-code-requires-clause-own : goal.connect_to_caller-code-requires-clause-own
 connect_to_caller-code-requires-clause-own c =
     let i = c.self.inside in
-    let r = c.unwrap.result.now in
-    let is : call_at i.boxes.calls c.args.call.0 ≡ Some r = sym c.get.ensures.call ∙ ap option_copied c.unwrap.ensures in
+    let r = c.read.result.now in
+    let is : call_at i.boxes.calls c.args.found.number.0 ≡ Some r = c.read.ensures.call in
     let held : IsHeldCall r ConnectToMe c.args.t c.args.caller = rw is at (rw (← c.self.view_is) at c.requires.held) in
     rw c.kept_phone-kept.ensures (held_own r c.args.t c.args.caller held)
 
 pub connect_to_caller-code-requires-clause-waits : goal.connect_to_caller-code-requires-clause-waits
 connect_to_caller-code-requires-clause-waits c =
     let i = c.self.inside in
-    let r = c.unwrap.result.now in
-    let is : call_at i.boxes.calls c.args.call.0 ≡ Some r = sym c.get.ensures.call ∙ ap option_copied c.unwrap.ensures in
-    rw c.kept_phone-kept.ensures (kept_waits i.phones.states i.boxes.calls c.args.call.0 r c.self.invariant.0.kept is)
+    let r = c.read.result.now in
+    let is : call_at i.boxes.calls c.args.found.number.0 ≡ Some r = c.read.ensures.call in
+    rw c.kept_phone-kept.ensures (kept_waits i.phones.states i.boxes.calls c.args.found.number.0 r c.self.invariant.0.kept is)
 
 pub invariant_of-self : goal.invariant_of-self
 invariant_of-self c =
     let i = c.self.inside in
-    let r = c.unwrap.result.now in
-    let is : call_at i.boxes.calls c.args.call.0 ≡ Some r = sym c.get.ensures.call ∙ ap option_copied c.unwrap.ensures in
+    let r = c.read.result.now in
+    let is : call_at i.boxes.calls c.args.found.number.0 ≡ Some r = c.read.ensures.call in
     let held : IsHeldCall r ConnectToMe c.args.t c.args.caller = rw is at (rw (← c.self.view_is) at c.requires.held) in
     let added = mark_within i.alive.items c.args.caller.0 (rw (← c.self.view_is) at c.requires.alive) in
-    let number = c.self.invariant.0.has_counts.numbered c.args.call.0 r is in
+    let number = c.self.invariant.0.has_counts.numbered c.args.found.number.0 r is in
     let reply = record c.args.reply.now { code = c.connect_to_caller-code.result } in
     let none = caller_keeps r c.args.t c.args.caller reply held in
-    let kept = kept_put (inner i) c.args.call.0 r (record r { reply = reply }) (Answers c.args.caller) c.self.invariant.0.kept is number (inr (rw none tt)) in
+    let kept = kept_put (inner i) c.args.found.number.0 r (record r { reply = reply }) (Answers c.args.caller) c.self.invariant.0.kept is number (inr (rw none tt)) in
     rw (c.go_uncounted.ensures.calls, c.go_uncounted.ensures.tasks, is, c.connect_to_caller-code.ensures.states, c.connect_to_caller-code.ensures.counts, c.kept_phone-kept.ensures) (
       switched_kept (kept_phone r) (Connected c.args.caller)
-          (switched_put c.args.call.0 r (record r { reply = reply }) (Answers c.args.caller) c.self.invariant.0 is refl refl refl refl kept)
-          (waiting_there i.phones.states (kept_phone r) (kept_waits i.phones.states i.boxes.calls c.args.call.0 r c.self.invariant.0.kept is))
+          (switched_put c.args.found.number.0 r (record r { reply = reply }) (Answers c.args.caller) c.self.invariant.0 is refl refl refl refl kept)
+          (waiting_there i.phones.states (kept_phone r) (kept_waits i.phones.states i.boxes.calls c.args.found.number.0 r c.self.invariant.0.kept is))
           (leads_here c.args.caller (length i.alive.items) added)
-          (put_unkept (inner i) c.args.call.0 r (record r { reply = reply }) (Answers c.args.caller) c.self.invariant.0.kept is number none),
+          (put_unkept (inner i) c.args.found.number.0 r (record r { reply = reply }) (Answers c.args.caller) c.self.invariant.0.kept is number none),
       c.self.invariant.1,
     )
 
 pub returns-clause-state : goal.returns-clause-state
 returns-clause-state c =
     let i = c.self.inside in
-    let r = c.unwrap.result.now in
-    let is : call_at i.boxes.calls c.args.call.0 ≡ Some r = sym c.get.ensures.call ∙ ap option_copied c.unwrap.ensures in
+    let r = c.read.result.now in
+    let is : call_at i.boxes.calls c.args.found.number.0 ≡ Some r = c.read.ensures.call in
     rw (← c.self.view_is, c.go_uncounted.ensures.calls, is, c.connect_to_caller-code.ensures.states, c.kept_phone-kept.ensures) refl
 
 pub returns-clause-room : goal.returns-clause-room
 returns-clause-room c =
     let i = c.self.inside in
-    let r = c.unwrap.result.now in
-    let is : call_at i.boxes.calls c.args.call.0 ≡ Some r = sym c.get.ensures.call ∙ ap option_copied c.unwrap.ensures in
-    let l = live_reply i.phones.states i.phones.counts i.boxes.calls c.args.call.0 c.self.invariant.0.has_counts (rw is refl) (record c.args.reply.now { code = c.connect_to_caller-code.result }) c.args.caller in
+    let r = c.read.result.now in
+    let is : call_at i.boxes.calls c.args.found.number.0 ≡ Some r = c.read.ensures.call in
+    let l = live_reply i.phones.states i.phones.counts i.boxes.calls c.args.found.number.0 c.self.invariant.0.has_counts (rw is refl) (record c.args.reply.now { code = c.connect_to_caller-code.result }) c.args.caller in
     rw (← c.self.view_is, c.go_uncounted.ensures.calls, is) (record { live = omega (arith, rw is at l); calls = omega (arith, c.go_uncounted.ensures.spare); places = c.go_uncounted.ensures.tasks })

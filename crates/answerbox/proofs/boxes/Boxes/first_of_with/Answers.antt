@@ -3,7 +3,7 @@ use Rattle.answerbox.specs.declared.chains.Ends.{Ends}
 use Rattle.answerbox.specs.Chain.{first_of}
 use Rattle.answerbox.proofs.Finding.{caller_empty, caller_found}
 use Rattle.answerbox.proofs.Moving.{call_is_core}
-use Rattle.answerbox.proofs.boxes.Boxes.calls_of_with.Goals as goal
+use Rattle.answerbox.proofs.boxes.Boxes.first_of_with.Goals as goal
 
 pub returns : goal.returns
 returns g c = rw (← c.self.view_is) (caller_empty c.self.inside.calls c.args.caller 0 c.self.invariant.0.named (rw (ap (λ (es : List Ends). first_of es c.args.caller.0) (sym c.deref.ensures.value) ∙ sym c.in-None.ensures) at (c.self.invariant.0.listed.firsts c.args.caller.0)))

@@ -1,0 +1,4 @@
+use Rattle.answerbox.proofs.boxes.Boxes.first.Given as goal
+
+abbrev pub ghosts-first_with : goal.ghosts-first_with
+ghosts-first_with a = record { name = a.blank.name; parts = a.blank.parts }
