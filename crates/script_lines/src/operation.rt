@@ -9,6 +9,16 @@ use crate::plan::Kind;
 use crate::word::{OpVerb, bytes_of, exchange_mode_of, mode_of, number_below, register, value};
 use ipc_ids::{Op, Value};
 
+/// The part of an operation that a word was read as; a word that is not of its kind is at fault.
+macro_rules! needed {
+    ($part:expr) => {
+        match $part {
+            Some(part) => part,
+            None => return Err(Reason::BadWord),
+        }
+    };
+}
+
 const SLOTS: u32 = 8;
 
 const HANDLES: u32 = 8;
@@ -39,9 +49,9 @@ pub fn two_and_arguments(words: &[&[u8]]) -> Result<(Value, Value, [Value; 5]), 
 {
     match words {
         [first, second, args @ ..] if args.len() <= 5 => {
-            let first = value(*first).ok_or(Reason::BadWord)?;
-            let second = value(*second).ok_or(Reason::BadWord)?;
-            let args = arguments(args).ok_or(Reason::BadWord)?;
+            let first = needed!(value(*first));
+            let second = needed!(value(*second));
+            let args = needed!(arguments(args));
             Ok((first, second, args))
         }
         _ => Err(Reason::WrongCount),
@@ -92,17 +102,17 @@ fn forward_op(words: &[&[u8]]) -> Result<Op, Reason>
 {
     match words {
         [call, phone, mode] => {
-            let call = value(*call).ok_or(Reason::BadWord)?;
-            let phone = value(*phone).ok_or(Reason::BadWord)?;
-            let mode = mode_of(*mode).ok_or(Reason::BadWord)?;
+            let call = needed!(value(*call));
+            let phone = needed!(value(*phone));
+            let mode = needed!(mode_of(*mode));
             Ok(Op::Forward { call, phone, mode })
         }
         [call, phone, mode, method, args @ ..] if args.len() <= 5 => {
-            let call = value(*call).ok_or(Reason::BadWord)?;
-            let phone = value(*phone).ok_or(Reason::BadWord)?;
-            let mode = mode_of(*mode).ok_or(Reason::BadWord)?;
-            let method = value(*method).ok_or(Reason::BadWord)?;
-            let args = arguments(args).ok_or(Reason::BadWord)?;
+            let call = needed!(value(*call));
+            let phone = needed!(value(*phone));
+            let mode = needed!(mode_of(*mode));
+            let method = needed!(value(*method));
+            let args = needed!(arguments(args));
             Ok(Op::ForwardWith {
                 call,
                 phone,
@@ -121,7 +131,7 @@ fn hangup_op(words: &[&[u8]]) -> Result<Op, Reason>
     ensures raw { IfOk result IsRawOp }
 {
     match words {
-        [phone] => Ok(Op::Hangup(value(*phone).ok_or(Reason::BadWord)?)),
+        [phone] => Ok(Op::Hangup(needed!(value(*phone)))),
         _ => Err(Reason::WrongCount),
     }
 }
@@ -134,9 +144,9 @@ fn area_op(words: &[&[u8]]) -> Result<Op, Reason>
 {
     match words {
         [base, pages, rights] => {
-            let base = value(*base).ok_or(Reason::BadWord)?;
-            let pages = value(*pages).ok_or(Reason::BadWord)?;
-            let rights = value(*rights).ok_or(Reason::BadWord)?;
+            let base = needed!(value(*base));
+            let pages = needed!(value(*pages));
+            let rights = needed!(value(*rights));
             Ok(Op::Area {
                 base,
                 pages,
@@ -154,7 +164,7 @@ fn unarea_op(words: &[&[u8]]) -> Result<Op, Reason>
     ensures fibrils { IfOk result IsAsyncOp }
 {
     match words {
-        [base] => Ok(Op::Unarea(value(*base).ok_or(Reason::BadWord)?)),
+        [base] => Ok(Op::Unarea(needed!(value(*base)))),
         _ => Err(Reason::WrongCount),
     }
 }
@@ -167,8 +177,8 @@ fn poke_op(words: &[&[u8]]) -> Result<Op, Reason>
 {
     match words {
         [at, bytes] => {
-            let at = value(*at).ok_or(Reason::BadWord)?;
-            let bytes = bytes_of(*bytes).ok_or(Reason::BadWord)?;
+            let at = needed!(value(*at));
+            let bytes = needed!(bytes_of(*bytes));
             Ok(Op::Poke { at, bytes })
         }
         _ => Err(Reason::WrongCount),
@@ -183,8 +193,8 @@ fn peek_op(words: &[&[u8]]) -> Result<Op, Reason>
 {
     match words {
         [at, count] => {
-            let at = value(*at).ok_or(Reason::BadWord)?;
-            let count = value(*count).ok_or(Reason::BadWord)?;
+            let at = needed!(value(*at));
+            let count = needed!(value(*count));
             Ok(Op::Peek { at, count })
         }
         _ => Err(Reason::WrongCount),
@@ -199,8 +209,8 @@ fn set_op(words: &[&[u8]]) -> Result<Op, Reason>
 {
     match words {
         [target, source] => {
-            let target = register(*target).ok_or(Reason::BadWord)?;
-            let source = value(*source).ok_or(Reason::BadWord)?;
+            let target = needed!(register(*target));
+            let source = needed!(value(*source));
             Ok(Op::Set {
                 register: target,
                 value: source,
@@ -217,7 +227,7 @@ fn jump_op(words: &[&[u8]]) -> Result<Op, Reason>
     ensures fibrils { IfOk result IsAsyncOp }
 {
     match words {
-        [to] => Ok(Op::Jump(number_below(65536, *to).ok_or(Reason::BadWord)?)),
+        [to] => Ok(Op::Jump(needed!(number_below(65536, *to)))),
         _ => Err(Reason::WrongCount),
     }
 }
@@ -230,9 +240,9 @@ fn two_and_place(words: &[&[u8]]) -> Result<(Value, Value, u32), Reason>
 {
     match words {
         [left, right, to] => {
-            let left = value(*left).ok_or(Reason::BadWord)?;
-            let right = value(*right).ok_or(Reason::BadWord)?;
-            let to = number_below(65536, *to).ok_or(Reason::BadWord)?;
+            let left = needed!(value(*left));
+            let right = needed!(value(*right));
+            let to = needed!(number_below(65536, *to));
             Ok((left, right, to))
         }
         _ => Err(Reason::WrongCount),
@@ -293,10 +303,10 @@ fn call_slot_op(words: &[&[u8]]) -> Result<Op, Reason>
 {
     match words {
         [slot, phone, method, args @ ..] if args.len() <= 5 => {
-            let slot = slot_of(*slot).ok_or(Reason::BadWord)?;
-            let phone = value(*phone).ok_or(Reason::BadWord)?;
-            let method = value(*method).ok_or(Reason::BadWord)?;
-            let args = arguments(args).ok_or(Reason::BadWord)?;
+            let slot = needed!(slot_of(*slot));
+            let phone = needed!(value(*phone));
+            let method = needed!(value(*method));
+            let args = needed!(arguments(args));
             Ok(Op::CallSlot {
                 slot,
                 phone,
@@ -316,10 +326,10 @@ fn send_op(words: &[&[u8]]) -> Result<Op, Reason>
 {
     match words {
         [slot, handle, method, args @ ..] if args.len() <= 5 => {
-            let slot = slot_of(*slot).ok_or(Reason::BadWord)?;
-            let handle = handle_of(*handle).ok_or(Reason::BadWord)?;
-            let method = value(*method).ok_or(Reason::BadWord)?;
-            let args = arguments(args).ok_or(Reason::BadWord)?;
+            let slot = needed!(slot_of(*slot));
+            let handle = needed!(handle_of(*handle));
+            let method = needed!(value(*method));
+            let args = needed!(arguments(args));
             Ok(Op::Send {
                 slot,
                 handle,
@@ -337,7 +347,7 @@ fn wait_op(words: &[&[u8]]) -> Result<Op, Reason>
     ensures fibrils { IfOk result IsAsyncOp }
 {
     match words {
-        [slot] => Ok(Op::Wait(slot_of(*slot).ok_or(Reason::BadWord)?)),
+        [slot] => Ok(Op::Wait(needed!(slot_of(*slot)))),
         _ => Err(Reason::WrongCount),
     }
 }
@@ -371,9 +381,9 @@ fn open_op(words: &[&[u8]]) -> Result<Op, Reason>
 {
     match words {
         [session, phone, mode] => {
-            let session = session_of(*session).ok_or(Reason::BadWord)?;
-            let phone = value(*phone).ok_or(Reason::BadWord)?;
-            let mode = exchange_mode_of(*mode).ok_or(Reason::BadWord)?;
+            let session = needed!(session_of(*session));
+            let phone = needed!(value(*phone));
+            let mode = needed!(exchange_mode_of(*mode));
             Ok(Op::OpenSession {
                 session,
                 phone,
@@ -391,8 +401,8 @@ fn begin_op(words: &[&[u8]]) -> Result<Op, Reason>
 {
     match words {
         [handle, session] => {
-            let handle = handle_of(*handle).ok_or(Reason::BadWord)?;
-            let session = session_of(*session).ok_or(Reason::BadWord)?;
+            let handle = needed!(handle_of(*handle));
+            let session = needed!(session_of(*session));
             Ok(Op::Begin { handle, session })
         }
         _ => Err(Reason::WrongCount),
@@ -405,7 +415,7 @@ fn end_op(words: &[&[u8]]) -> Result<Op, Reason>
     ensures fibrils { IfOk result IsAsyncOp }
 {
     match words {
-        [handle] => Ok(Op::End(handle_of(*handle).ok_or(Reason::BadWord)?)),
+        [handle] => Ok(Op::End(needed!(handle_of(*handle)))),
         _ => Err(Reason::WrongCount),
     }
 }
@@ -416,7 +426,7 @@ fn close_op(words: &[&[u8]]) -> Result<Op, Reason>
     ensures fibrils { IfOk result IsAsyncOp }
 {
     match words {
-        [session] => Ok(Op::Close(session_of(*session).ok_or(Reason::BadWord)?)),
+        [session] => Ok(Op::Close(needed!(session_of(*session)))),
         _ => Err(Reason::WrongCount),
     }
 }
