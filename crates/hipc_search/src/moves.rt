@@ -43,7 +43,7 @@ fn dot_at(word: &[u8]) -> Option<usize>
 }
 
 /// Where `.` stands in a word; its length where it has none.
-#[tactic(auto, using(search_goals::proofs::GoalWords::none_found, search_goals::proofs::GoalWords::found_at))]
+#[tactic(auto, using(script_reader::proofs::StepLines::no_end, search_goals::proofs::GoalWords::found_at))]
 fn dot_place(word: &[u8]) -> usize
     ensures value { result ≡ dot_place word.now }
     ensures within { result ≤ length word.now }
@@ -167,7 +167,7 @@ fn colon_at(word: &[u8]) -> Option<usize>
 }
 
 /// Where `:` stands in a word; its length where it has none.
-#[tactic(auto, using(search_goals::proofs::GoalWords::none_found, search_goals::proofs::GoalWords::found_at))]
+#[tactic(auto, using(script_reader::proofs::StepLines::no_end, search_goals::proofs::GoalWords::found_at))]
 fn colon_place(word: &[u8]) -> usize
     ensures value { result ≡ colon_place word.now }
     ensures within { result ≤ length word.now }

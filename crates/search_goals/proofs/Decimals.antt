@@ -43,9 +43,6 @@ pub number_decimal : (n : ℕ) → n < 2 ^ 64 → number (decimal n) ≡ Some n
 number_decimal n fits = spelled (decimal n) n (are_digits n fits) (decimal_nonempty n fits) (length_20 n fits)
     (decimal_is_IsNumeral n fits).1 fits
 
-unfolding count_of
-count_is ds n e lo hi = rw e (rw (le-leb 1 n lo, le-leb n 65536 hi) refl)
-
 pub count_decimal : (n : ℕ) → 1 ≤ n → n ≤ 65536 → count_of (codes "x") (decimal n) ≡ Some n
 count_decimal n lo hi = count_is (decimal n) n (number_decimal n (omega (arith, hi))) lo hi
 

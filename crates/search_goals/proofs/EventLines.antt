@@ -70,9 +70,6 @@ hangup_is : (names : List (List ℕ)) (name digits : List ℕ) (task : TaskNo) (
 unfolding hangup_of name_of
 hangup_is names name digits task phone good found spelled = rw good (rw spelled (rw found cc))
 
-unfolding event_verb_of
-step_says templates before others = refl
-
 kill_says : (templates : List (List ℕ)) (before : EventsAndNames) (others : List (List ℕ)) →
     after_event_words templates before (codes "kill" ∷ others) ≡ (kill_of before.names others >>= with_repeated
     before)

@@ -35,7 +35,7 @@ fn equals_sign(word: &[u8]) -> Option<usize>
 }
 
 /// Where `=` stands in a word; its length where it has none.
-#[tactic(auto, using(crate::proofs::GoalWords::none_found, crate::proofs::GoalWords::found_at))]
+#[tactic(auto, using(script_reader::proofs::StepLines::no_end, crate::proofs::GoalWords::found_at))]
 fn equals_place(word: &[u8]) -> usize
     ensures value { result ≡ equals_place word.now }
     ensures within { result ≤ length word.now }

@@ -98,7 +98,7 @@ fn name_end(word: &[u8]) -> Option<usize>
 }
 
 /// How many bytes at the front may stand in a name.
-#[tactic(auto, using(crate::proofs::GoalWords::none_found, crate::proofs::GoalWords::found_at))]
+#[tactic(auto, using(script_reader::proofs::StepLines::no_end, crate::proofs::GoalWords::found_at))]
 pub(crate) fn name_len(word: &[u8]) -> usize
     ensures value { result ≡ name_len word.now }
     ensures within { result ≤ length word.now }

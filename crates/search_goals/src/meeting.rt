@@ -28,7 +28,7 @@ fn word_place(text: &[u8]) -> Option<usize>
 }
 
 /// How many bytes at the front belong to a word.
-#[tactic(auto, using(crate::proofs::GoalWords::none_found, crate::proofs::GoalWords::found_at))]
+#[tactic(auto, using(script_reader::proofs::StepLines::no_end, crate::proofs::GoalWords::found_at))]
 fn word_len(text: &[u8]) -> usize
     ensures value { result ≡ position_or_len is_gap text.now }
     ensures within { result ≤ length text.now }
@@ -40,7 +40,7 @@ fn word_len(text: &[u8]) -> usize
 }
 
 /// How many bytes at the front belong to none.
-#[tactic(auto, using(crate::proofs::GoalWords::none_found, crate::proofs::GoalWords::found_at))]
+#[tactic(auto, using(script_reader::proofs::StepLines::no_end, crate::proofs::GoalWords::found_at))]
 fn gap_len(text: &[u8]) -> usize
     ensures value { result ≡ position_or_len (λ b. not (is_gap b)) text.now }
     ensures within { result ≤ length text.now }
