@@ -202,6 +202,7 @@ impl Calls {
     }
 
     /// Gives the call what is in `change`.
+    #[inline(always)]
     pub fn change<L: Ledger>(&mut self, key: CallKey, change: Change, steps: &mut Steps<L>)
         requires live { IsSome (get self.old.slots key) }
         ensures calls { self.new ≡ change_call self.old key (changed change) }

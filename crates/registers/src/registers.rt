@@ -112,6 +112,7 @@ impl Registers {
         }
     }
 
+    #[inline(always)]
     fn memory_request(&self, op: &Op) -> Request
         ensures { result ≡ memory_request_in self.now op.now }
     {
