@@ -379,8 +379,12 @@ impl Draft {
             (λ plan. with_wire plan from.now phone to.now) }
         ensures whole { OnOk result (IsWhole self.new) }
     {
-        let from = self.names.place_of(from).ok_or(Reason::UnknownName)?;
-        let to = self.names.place_of(to).ok_or(Reason::UnknownName)?;
+        let Some(from) = self.names.place_of(from) else {
+            return Err(LineFault::Bad(Reason::UnknownName));
+        };
+        let Some(to) = self.names.place_of(to) else {
+            return Err(LineFault::Bad(Reason::UnknownName));
+        };
         let limit = self.limit_at(from);
         let number = from as u64 + 1;
         let is_wired = is_wired(self.wires.as_slice(), number, phone);

@@ -6,6 +6,16 @@
 //! `add_line` adds what one line says to the `Drafts` of a script, or answers why it is at fault.
 #![tactic(auto)]
 
+/// What a word of a line was read as; a word that is not of its kind is at fault.
+macro_rules! needed {
+    ($part:expr) => {
+        match $part {
+            Some(part) => part,
+            None => return Err(Reason::BadWord),
+        }
+    };
+}
+
 mod draft;
 mod fault;
 mod line;

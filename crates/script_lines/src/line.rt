@@ -4,7 +4,7 @@ ghost use Rattle.ipc_ids.specs.declared.op.Op.{Op};
 ghost use Rattle.std.specs.Option.{ForSome, option_map};
 ghost use Rattle.script_lines.specs.declared.plan.Kind.TheVariants.{Naming, Raw};
 ghost use Rattle.script_lines.specs.Text.{texts, first_line, behind};
-ghost use Rattle.script_lines.specs.Line.{kind_of, counted_kind_of, service_kind_of, number_up_to, most_behind, head, plain_task, counted_task, service_task, task_of, template_of, wire_of, ns, task, template, body, wire, operation, body_of_last, operation_of_last, after_words, after_line};
+ghost use Rattle.script_lines.specs.Line.{kind_of, counted_kind_of, service_kind_of, number_up_to, most_behind, head, plain_task, counted_task, service_task, task_of, template_of, wire_of, ns, task, template, body, wire, operation, body_of_last, operation_of_last, after_verb, after_words, after_line};
 ghost use Rattle.script_lines.specs.Draft.{IsStep, IsWhole, Follows, with_new, plan_of, taker, present};
 ghost use Rattle.script_lines.specs.LastLine.{last_op, SaysLastOp, TakesLastOp, KeepsLastOp, IsFirstLine, Keeps, last_draft, op_of_last};
 ghost use Rattle.script_lines.specs.Ranges.{IsOpOf};
@@ -119,8 +119,8 @@ fn plain_task(name: &[u8], kind: &[u8]) -> Result<TaskHead, Reason>
     ensures not_naming { IfOk result (λ head. head.kind ≢ Naming) }
     ensures fits { IfOk result (λ head. HeadFits head.kind head) }
 {
-    let name = Name::from_slice(name).ok_or(Reason::BadWord)?;
-    let kind = kind_of(kind).ok_or(Reason::BadWord)?;
+    let name = needed!(Name::from_slice(name));
+    let kind = needed!(kind_of(kind));
     Ok(head(name, kind, MOST_PHONES, None))
 }
 
@@ -132,9 +132,9 @@ fn counted_task(name: &[u8], found: Option<Kind>, count: &[u8]) -> Result<TaskHe
     ensures not_naming { IfOk result (λ head. head.kind ≢ Naming) }
     ensures fits { IfOk result (λ head. HeadFits head.kind head) }
 {
-    let name = Name::from_slice(name).ok_or(Reason::BadWord)?;
-    let kind = found.ok_or(Reason::BadWord)?;
-    let count = number_up_to(most_behind(kind), count).ok_or(Reason::BadWord)?;
+    let name = needed!(Name::from_slice(name));
+    let kind = needed!(found);
+    let count = needed!(number_up_to(most_behind(kind), count));
     Ok(head(name, kind, count, None))
 }
 
@@ -145,10 +145,10 @@ fn service_task(name: &[u8], kind: &[u8], count: &[u8], service: &[u8]) -> Resul
     ensures not_naming { IfOk result (λ head. head.kind ≢ Naming) }
     ensures fits { IfOk result (λ head. HeadFits head.kind head) }
 {
-    let name = Name::from_slice(name).ok_or(Reason::BadWord)?;
-    let kind = service_kind_of(kind).ok_or(Reason::BadWord)?;
-    let count = number_up_to(most_behind(kind), count).ok_or(Reason::BadWord)?;
-    let service = number(service).ok_or(Reason::BadWord)?;
+    let name = needed!(Name::from_slice(name));
+    let kind = needed!(service_kind_of(kind));
+    let count = needed!(number_up_to(most_behind(kind), count));
+    let service = needed!(number(service));
     Ok(head(name, kind, count, Some(service)))
 }
 
@@ -188,9 +188,9 @@ fn wire_of(words: &[&[u8]]) -> Result<(Name, u64, Name), Reason>
 {
     match words {
         [from, phone, to] => {
-            let from = Name::from_slice(*from).ok_or(Reason::BadWord)?;
-            let phone = number(*phone).ok_or(Reason::BadWord)?;
-            let to = Name::from_slice(*to).ok_or(Reason::BadWord)?;
+            let from = needed!(Name::from_slice(*from));
+            let phone = needed!(number(*phone));
+            let to = needed!(Name::from_slice(*to));
             Ok((from, phone, to))
         }
         _ => Err(Reason::WrongCount),
@@ -384,6 +384,54 @@ fn add_operation_to_last(
     }
 }
 
+/// Adds what a first word and the words behind it say, and tells whether that is an operation.
+fn add_by_verb(
+    drafts: &mut Drafts,
+    alloc: Global,
+    verb: Verb,
+    words: &[&[u8]],
+) -> Result<bool, LineFault>
+    requires { AreWhole drafts.old }
+    ensures value { Follows result (parts_of drafts.new)
+        (after_verb (parts_of drafts.old) (Some verb) (texts words.now)) }
+    ensures whole { IfOk result (λ is_op. AreWhole drafts.new × (is_op ≡ true
+        → SaysLastOp (last_draft drafts.new) (λ w. after_verb w (Some verb) (texts words.now)))) }
+{
+    match verb {
+        Verb::Ns => {
+            add_service(drafts, alloc, words)?;
+            drafts.on_template = false;
+            Ok(false)
+        }
+        Verb::Task => {
+            add_task(&mut drafts.tasks, alloc, &drafts.templates.names, words)?;
+            drafts.on_template = false;
+            Ok(false)
+        }
+        Verb::Template => {
+            add_template(&mut drafts.templates, alloc, &drafts.tasks.names, words)?;
+            drafts.on_template = true;
+            Ok(false)
+        }
+        Verb::Fibril => {
+            add_body_to_last(drafts, alloc, false, words)?;
+            Ok(false)
+        }
+        Verb::Connection => {
+            add_body_to_last(drafts, alloc, true, words)?;
+            Ok(false)
+        }
+        Verb::Wire => {
+            add_wire(&mut drafts.tasks, words)?;
+            Ok(false)
+        }
+        Verb::Op(verb) => {
+            add_operation_to_last(drafts, verb, words)?;
+            Ok(true)
+        }
+    }
+}
+
 /// Adds what the words of a line say, and tells whether that is an operation.
 fn add_words(drafts: &mut Drafts, alloc: Global, words: &[&[u8]]) -> Result<bool, LineFault>
     requires { AreWhole drafts.old }
@@ -397,37 +445,7 @@ fn add_words(drafts: &mut Drafts, alloc: Global, words: &[&[u8]]) -> Result<bool
     };
     match verb_of(*first) {
         None => Err(LineFault::Bad(Reason::UnknownOperation)),
-        Some(Verb::Ns) => {
-            add_service(drafts, alloc, others)?;
-            drafts.on_template = false;
-            Ok(false)
-        }
-        Some(Verb::Task) => {
-            add_task(&mut drafts.tasks, alloc, &drafts.templates.names, others)?;
-            drafts.on_template = false;
-            Ok(false)
-        }
-        Some(Verb::Template) => {
-            add_template(&mut drafts.templates, alloc, &drafts.tasks.names, others)?;
-            drafts.on_template = true;
-            Ok(false)
-        }
-        Some(Verb::Fibril) => {
-            add_body_to_last(drafts, alloc, false, others)?;
-            Ok(false)
-        }
-        Some(Verb::Connection) => {
-            add_body_to_last(drafts, alloc, true, others)?;
-            Ok(false)
-        }
-        Some(Verb::Wire) => {
-            add_wire(&mut drafts.tasks, others)?;
-            Ok(false)
-        }
-        Some(Verb::Op(verb)) => {
-            add_operation_to_last(drafts, verb, others)?;
-            Ok(true)
-        }
+        Some(verb) => add_by_verb(drafts, alloc, verb, others),
     }
 }
 

@@ -9,16 +9,6 @@ use crate::plan::Kind;
 use crate::word::{OpVerb, bytes_of, exchange_mode_of, mode_of, number_below, register, value};
 use ipc_ids::{Op, Value};
 
-/// The part of an operation that a word was read as; a word that is not of its kind is at fault.
-macro_rules! needed {
-    ($part:expr) => {
-        match $part {
-            Some(part) => part,
-            None => return Err(Reason::BadWord),
-        }
-    };
-}
-
 const SLOTS: u32 = 8;
 
 const HANDLES: u32 = 8;
