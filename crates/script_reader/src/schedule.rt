@@ -25,6 +25,16 @@ use script_lines::{
 };
 use std::alloc::Global;
 
+/// What a word was read or found as; where it is nothing, the line is at fault for this reason.
+macro_rules! needed {
+    ($part:expr, $reason:expr) => {
+        match $part {
+            Some(part) => part,
+            None => return Err($reason),
+        }
+    };
+}
+
 const MOST_EVENTS: u64 = 65_536;
 
 /// The first word of a line.
@@ -81,8 +91,8 @@ fn step_with(names: &Names, name: &[u8], count: Option<u64>) -> Result<(Event, u
     if !is_name(name) {
         return Err(Reason::BadWord);
     }
-    let count = count.ok_or(Reason::BadWord)?;
-    let task = names.task_named(name).ok_or(Reason::UnknownName)?;
+    let count = needed!(count, Reason::BadWord);
+    let task = needed!(names.task_named(name), Reason::UnknownName);
     Ok((Event::Step(task), count))
 }
 
@@ -108,7 +118,7 @@ fn kill_of(names: &Names, words: &[&[u8]]) -> Result<(Event, u64), Reason>
             if !is_name(*name) {
                 return Err(Reason::BadWord);
             }
-            let task = names.task_named(*name).ok_or(Reason::UnknownName)?;
+            let task = needed!(names.task_named(*name), Reason::UnknownName);
             Ok((Event::Kill(task), 1))
         }
         _ => Err(Reason::WrongCount),
@@ -125,8 +135,8 @@ fn hangup_of(names: &Names, words: &[&[u8]]) -> Result<(Event, u64), Reason>
             if !is_name(*name) {
                 return Err(Reason::BadWord);
             }
-            let phone = number(*phone).ok_or(Reason::BadWord)?;
-            let task = names.task_named(*name).ok_or(Reason::UnknownName)?;
+            let phone = needed!(number(*phone), Reason::BadWord);
+            let task = needed!(names.task_named(*name), Reason::UnknownName);
             Ok((Event::Hangup(task, phone), 1))
         }
         _ => Err(Reason::WrongCount),
@@ -160,7 +170,7 @@ fn spawn_place(
     if !is_name(name) {
         return Err(Reason::BadWord);
     }
-    let place = templates.place_of(template).ok_or(Reason::UnknownName)?;
+    let place = needed!(templates.place_of(template), Reason::UnknownName);
     if is_taken(templates, names, name) {
         return Err(Reason::NameTaken);
     }
@@ -282,9 +292,9 @@ fn add_named_steps<'a>(
         (with_steps (record { events = events.old; names = names.now }) name.now count) }
     ensures known { IfOk result (λ _. KnowsBoth names.now recent.new) }
 {
-    let task = names
-        .task_near(next_place(events), name)
-        .ok_or(Reason::UnknownName)?;
+    let Some(task) = names.task_near(next_place(events), name) else {
+        return Err(LineFault::Bad(Reason::UnknownName));
+    };
     recent.push(name, task);
     add_events(events, Event::Step(task), count)
 }
