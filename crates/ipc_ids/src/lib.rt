@@ -18,6 +18,7 @@ mod op;
 mod program;
 mod short;
 mod steps;
+mod tables;
 mod trace;
 
 pub use buffer::Buffer;
@@ -31,4 +32,5 @@ pub use op::{Bodies, Body, Op, Ops, Value};
 pub use program::Program;
 pub use short::Short;
 pub use steps::Steps;
+pub use tables::{CODE_NAMES, METHOD_NAMES, code_named, look_up, method_named};
 pub use trace::{NoMemory, Trace};
