@@ -11,9 +11,9 @@ use Rattle.std.proofs.lemmas.List.{append-nil}
 use Rattle.ipc_ids.specs.declared.numbers.TaskNo.{TaskNo}
 use Rattle.ipc_ids.specs.declared.numbers.Label.{Label}
 use Rattle.ipc_ids.specs.declared.numbers.Code.{Code}
-use Rattle.ipc_ids.specs.Tables.{code_names, name_of}
+use Rattle.ipc_ids.specs.Tables.{code_names, name_of, named_in}
 use Rattle.trace_print.specs.Text.{task_text, label_text, code_text, digit_text, digits_text, bytes_text, fibril_text}
-use Rattle.trace_reader.specs.Words.{part, before, digit_on, number_after, number_of, small_of, task_of, label_of, named, code_or, code_of, digit_of, bytes_from, bytes_of, owner_of, fibril_of}
+use Rattle.trace_reader.specs.Words.{part, before, digit_on, number_after, number_of, small_of, task_of, label_of, code_or, code_of, digit_of, bytes_from, bytes_of, owner_of, fibril_of}
 use Rattle.trace_reader.specs.Words.{lacks}
 use Rattle.trace_reader.specs.Line.{AreBytes}
 use Rattle.ipc_ids.specs.declared.numbers.FibrilNo.{FibrilNo}
@@ -106,7 +106,7 @@ code_small : (n : ℕ) → n < 10 → CodeAgain n
 code_small =
     (one_more CodeAgain 9 (one_more CodeAgain 8 (one_more CodeAgain 7 (one_more CodeAgain 6 (one_more CodeAgain 5 (one_more CodeAgain 4 (one_more CodeAgain 3 (one_more CodeAgain 2 (one_more CodeAgain 1 (one_more CodeAgain 0 (λ k h. absurd (omega (arith, h))) refl) refl) refl) refl) refl) refl) refl) refl) refl) refl)
 
-not_named : (w : List ℕ) → 0 < length w → AllDigits 10 w → named w ≡ None
+not_named : (w : List ℕ) → 0 < length w → AllDigits 10 w → named_in code_names w ≡ None
 not_named [] some h = absurd (omega (arith, some))
 not_named (d ∷ w) some h = grind (arith, common_steps, h.0)
 

@@ -2,10 +2,9 @@
 use Rattle.std.proofs.Common.{ℕ, zero, suc, ◌≡◌, ◌<◌, ◌≤◌, ◌+◌, ◌-◌, ◌*◌, ◌%◌, ◌^◌, Bool, true, false, cond, List, [], ◌∷◌, length, Option, Some, None, refl, ap, arith, nat_lt}
 use Rattle.std.proofs.lemmas.Bool.{ltb-true}
 use Rattle.std.proofs.Math.Nat.{mod-lt}
-use Rattle.std.specs.Prelude.{⊤, codes, slice_index}
-use Rattle.std.specs.Cmp.Lexicographic.{pointwise}
-use Rattle.std.specs.Prelude.{nat_eq}
-use Rattle.ipc_ids.specs.Tables.{Names, code_names}
+use Rattle.std.specs.Prelude.{⊤, codes, slice_index, find, option_map}
+use Rattle.std.specs.Str.{bytes_eq}
+use Rattle.ipc_ids.specs.Tables.{Names, code_names, named_in}
 use Rattle.ipc_ids.specs.declared.numbers.TaskNo.{TaskNo}
 use Rattle.ipc_ids.specs.declared.message.Mode.TheVariants.{Plain, Route}
 use Rattle.ipc_ids.specs.declared.message.PhoneState.{PhoneState}
@@ -15,7 +14,7 @@ use Rattle.ipc_ids.specs.declared.message.Outcome.{Outcome}
 use Rattle.ipc_ids.specs.declared.message.Outcome.TheVariants as got
 use Rattle.ipc_ids.specs.declared.entry.Entry.{Entry}
 use Rattle.ipc_ids.specs.declared.entry.Entry.TheVariants as entry
-use Rattle.trace_reader.specs.Words.{part, digit_on, number_after, number_of, small_of, task_of, label_of, find, code_or, code_of, digit_of, bytes_from, owner_of, fibril_of}
+use Rattle.trace_reader.specs.Words.{part, digit_on, number_after, number_of, small_of, task_of, label_of, code_or, code_of, digit_of, bytes_from, owner_of, fibril_of}
 use Rattle.trace_reader.specs.Line.{AreArgs, AreBytes, IsBuilt}
 use Rattle.trace_reader.specs.Read.{is, args_in, msg_in, reply_in, state_in, change_in, request_in, outcome_in, call_effect_in, gets_in, fibril_effect_in, effect_in, head_in, entry_in, nth, parts, read, IsPlain}
 
@@ -52,9 +51,10 @@ AreNames (n ∷ names) = (n.1 < 2 ^ 64) × AreNames names
 abbrev IsCode : List ℕ → Option ℕ → Type 0
 IsCode w o = (code_or o w).0 < 2 ^ 64
 
-find_fits : (names : Names) (w v : List ℕ) → AreNames names → IsCode v (find names w)
+find_fits : (names : Names) (w v : List ℕ) → AreNames names → IsCode v (named_in names w)
 find_fits [] w v h = number_fits v
-find_fits (n ∷ names) w v h = pick (IsCode v) (pointwise nat_eq n.0 w) (Some n.1) (find names w) h.0 (find_fits names w v h.1)
+find_fits (n ∷ names) w v h =
+    pick (λ (o : Option (List ℕ × ℕ)). IsCode v (option_map (λ entry. entry.1) o)) (bytes_eq n.0 w) (Some n) (find (λ entry. bytes_eq entry.0 w) names) h.0 (find_fits names w v h.1)
 
 code_fits : (w : List ℕ) → (code_of w).0 < 2 ^ 64
 code_fits w = find_fits code_names w w (omega arith, (omega arith, (omega arith, (omega arith, (omega arith, (omega arith, (omega arith, (omega arith, (omega arith, (omega arith, tt))))))))))

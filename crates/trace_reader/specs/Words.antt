@@ -1,12 +1,10 @@
 -- What is read in a word of a line. Each reader gives something for any bytes.
-use Rattle.std.specs.Prelude.{Bool, true, false, ℕ, zero, suc, map, ◌+◌, ◌*◌, ◌-◌, ◌%◌, ◌^◌, ◌==◌, nat_lt, nat_eq, if◌then◌else◌, List, [], ◌∷◌, Option, Some, None}
-use Rattle.std.specs.Borrow.{Bor}
-use Rattle.std.specs.Cmp.Lexicographic.{pointwise}
+use Rattle.std.specs.Prelude.{Bool, true, false, ℕ, zero, suc, ◌+◌, ◌*◌, ◌-◌, ◌%◌, ◌^◌, ◌==◌, nat_lt, if◌then◌else◌, List, [], ◌∷◌, Option, Some, None}
 use Rattle.ipc_ids.specs.declared.numbers.TaskNo.{TaskNo}
 use Rattle.ipc_ids.specs.declared.numbers.Label.{Label}
 use Rattle.ipc_ids.specs.declared.numbers.Code.{Code}
 use Rattle.ipc_ids.specs.declared.numbers.FibrilNo.{FibrilNo}
-use Rattle.ipc_ids.specs.Tables.{Names, code_names}
+use Rattle.ipc_ids.specs.Tables.{code_names, named_in}
 
 -- what stands before the first mark, or all
 abbrev pub before : ℕ → List ℕ → List ℕ
@@ -54,19 +52,6 @@ task_of (b ∷ digits) = record { 0 = number_of digits }
 abbrev pub label_of : List ℕ → Label
 label_of word = record { task = task_of (part 46 0 word); phone = record { 0 = small_of (part 46 1 word) } }
 
--- the number of a name in a table
-abbrev pub find : Names → List ℕ → Option ℕ
-find [] word = None
-find (entry ∷ names) word = if pointwise nat_eq entry.0 word then Some entry.1 else find names word
-
--- a table as it is read
-abbrev pub rows : List (Bor (List ℕ) × ℕ) → List (List ℕ × ℕ)
-rows table = map (λ entry. (entry.0.now, entry.1)) table
-
--- the number of a name of a code
-abbrev pub named : List ℕ → Option ℕ
-named word = find code_names word
-
 -- the code with this name, or else with the number that the word is
 abbrev pub code_or : Option ℕ → List ℕ → Code
 code_or (Some n) word = record { 0 = n }
@@ -74,7 +59,7 @@ code_or None word = record { 0 = number_of word }
 
 -- a code, by its name or its number
 abbrev pub code_of : List ℕ → Code
-code_of word = code_or (named word) word
+code_of word = code_or (named_in code_names word) word
 
 -- the task of a fibril, before the stroke
 abbrev pub owner_of : List ℕ → TaskNo

@@ -1,12 +1,12 @@
 //! The parts of a line. Each reader gives something for any bytes; what it gives counts only where
 //! the entry's own text is the line.
 ghost use Rattle.std.specs.Prelude.{◌≡◌, ◌≤◌, ◌<◌, ◌==◌, ◌+◌, ◌*◌, ℕ, [], length, drop};
-ghost use Rattle.trace_reader.specs.Words.{number_after, number_of, small_of, task_of, label_of, code_of, named, find, rows, before, behind, owner_of, fibril_of, digit_of, bytes_of};
+ghost use Rattle.trace_reader.specs.Words.{number_after, number_of, small_of, task_of, label_of, code_of, before, behind, owner_of, fibril_of, digit_of, bytes_of};
 ghost use Rattle.trace_reader.specs.Read.{HasWords, is, args_in, msg_in, reply_in, nth, texts};
 
 use crate::first_words::Words;
 use arrayvec::ArrayVec;
-use ipc_ids::{Code, FibrilNo, Label, Msg, PhoneNo, Reply, Short, TaskNo};
+use ipc_ids::{Code, FibrilNo, Label, Msg, PhoneNo, Reply, Short, TaskNo, code_named};
 
 /// How many bytes stand before the first mark.
 fn length_before(text: &[u8], mark: u8) -> usize
@@ -200,40 +200,10 @@ pub fn label_of(word: &[u8]) -> Label
     }
 }
 
-const NAMES: [(&[u8], u64); 10] = [
-    (b"EOK", 0),
-    (b"ENOENT", 1),
-    (b"EPERM", 2),
-    (b"EEXIST", 3),
-    (b"EINVAL", 4),
-    (b"ELIMIT", 5),
-    (b"EHANGUP", 6),
-    (b"EFORWARD", 7),
-    (b"EBUSY", 8),
-    (b"ENOMEM", 9),
-];
-
-fn look_up(table: &[(&[u8], u64)], word: &[u8]) -> Option<u64>
-    ensures { result ≡ find (rows table.now) word.now }
-{
-    for (name, value) in table {
-        if is(name, word) {
-            return Some(*value);
-        }
-    }
-    None
-}
-
-fn named(word: &[u8]) -> Option<u64>
-    ensures { result ≡ named word.now }
-{
-    look_up(&NAMES, word)
-}
-
 pub fn code_of(word: &[u8]) -> Code
     ensures { result ≡ code_of word.now }
 {
-    match named(word) {
+    match code_named(word) {
         Some(number) => Code(number),
         None => Code(number_of(word)),
     }
