@@ -1,6 +1,7 @@
 pub mod Arguments
 pub mod DraftSteps
 pub mod Lines
+pub mod NumberNames
 pub mod Places
 pub mod Soundness
 pub mod TaskKinds

@@ -10,7 +10,7 @@ use Rattle.std.proofs.lemmas.List.Sums.{fails_before_first}
 use Rattle.std.proofs.lemmas.Slice.Eq.{bytes_eq-Decides}
 use Rattle.ipc_ids.specs.declared.op.Op.{Op}
 use Rattle.ipc_ids.specs.declared.op.Body.{Body}
-use Rattle.ipc_ids.specs.Tables.{most_tasks, most_phones}
+use Rattle.ipc_ids.specs.Tables.{named_in, most_tasks, most_phones}
 use Rattle.script_lines.specs.declared.draft.Draft.{Draft}
 use Rattle.script_lines.specs.declared.draft.TaskHead.{TaskHead}
 use Rattle.script_lines.specs.declared.fault.Reason.{Reason}
@@ -23,7 +23,7 @@ use Rattle.script_lines.specs.declared.word.Verb.{Verb}
 use Rattle.script_lines.specs.declared.word.Verb.TheVariants as first
 use Rattle.script_lines.specs.declared.word.OpVerb.{OpVerb}
 use Rattle.script_lines.specs.Text.{is_allowed, words}
-use Rattle.script_lines.specs.Word.{look_up, verb_of, name_of}
+use Rattle.script_lines.specs.Word.{verb_of, name_of}
 use Rattle.script_lines.specs.Names.{task_names, place_of, ns_name, is_ns}
 use Rattle.script_lines.specs.Operation.{◌>>=◌, needed, op_in}
 use Rattle.script_lines.specs.Plan.{Plan}
@@ -118,7 +118,7 @@ record IsOneMore (IsSuch : Kind → Type 0) (names : List (List ℕ)) (p q : Pla
 
 kind_found : (word : List ℕ) (kind : Kind) → needed (kind_of word) ≡ Ok kind → IsRawOrAsync kind
 unfolding kind_of
-kind_found word kind e = by_found (look_up kinds word) (each_is_raw_or_async word) e where
+kind_found word kind e = by_found (named_in kinds word) (each_is_raw_or_async word) e where
   by_found : (o : Option Kind) → IfSome o IsRawOrAsync → needed o ≡ Ok kind → IsRawOrAsync kind
   by_found (Some k) is f = subst IsRawOrAsync (made_is k kind f) is
   by_found None is f = absurd cc

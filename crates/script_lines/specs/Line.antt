@@ -2,7 +2,7 @@
 use Rattle.std.specs.Prelude.{ℕ, Bool, true, false, List, [], ◌∷◌, ◌&&◌, nat_le, Option, Some, None, Result, Ok, Err, if◌then◌else◌, codes}
 use Rattle.std.specs.List.{list_all}
 use Rattle.std.specs.Option.{option_and_then}
-use Rattle.ipc_ids.specs.Tables.{most_phones}
+use Rattle.ipc_ids.specs.Tables.{named_in, most_phones}
 use Rattle.script_lines.specs.declared.fault.Reason.{Reason}
 use Rattle.script_lines.specs.declared.fault.Reason.TheVariants.{BadByte, UnknownOperation, OutOfPlace, WrongCount}
 use Rattle.script_lines.specs.declared.word.Verb.{Verb}
@@ -12,7 +12,7 @@ use Rattle.script_lines.specs.declared.plan.Kind.{Kind}
 use Rattle.script_lines.specs.declared.plan.Kind.TheVariants.{Naming, Raw, Async, Block}
 use Rattle.script_lines.specs.declared.draft.TaskHead.{TaskHead}
 use Rattle.script_lines.specs.Text.{is_allowed, words}
-use Rattle.script_lines.specs.Word.{look_up, verb_of, number, name_of}
+use Rattle.script_lines.specs.Word.{verb_of, number, name_of}
 use Rattle.script_lines.specs.Operation.{◌>>=◌, needed, op_in}
 use Rattle.script_lines.specs.Plan.{Plan}
 use Rattle.script_lines.specs.Sound.{most_blocks}
@@ -31,13 +31,13 @@ abbrev pub service_kinds : List (List ℕ × Kind)
 service_kinds = (codes "block", Block) ∷ []
 
 unfoldable pub kind_of : List ℕ → Option Kind
-kind_of word = look_up kinds word
+kind_of word = named_in kinds word
 
 unfoldable pub counted_kind_of : List ℕ → Option Kind
-counted_kind_of word = look_up counted_kinds word
+counted_kind_of word = named_in counted_kinds word
 
 unfoldable pub service_kind_of : List ℕ → Option Kind
-service_kind_of word = look_up service_kinds word
+service_kind_of word = named_in service_kinds word
 
 -- a number from 1 up to a limit
 unfoldable pub number_up_to : ℕ → List ℕ → Option ℕ

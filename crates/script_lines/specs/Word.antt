@@ -1,12 +1,10 @@
 -- What one word can be: a number, a register, a name, or a word of a table.
-use Rattle.std.specs.Prelude.{ℕ, ◌+◌, ◌*◌, List, [], ◌∷◌, ◌++◌, length, drop, map, find, Bool, ◌&&◌, ◌||◌, Option, Some, None, option_map, ◌==◌, nat_lt, nat_le, nat_eq, if◌then◌else◌, codes, slice_index}
-use Rattle.std.specs.Borrow.{Bor}
+use Rattle.std.specs.Prelude.{ℕ, ◌+◌, ◌*◌, List, [], ◌∷◌, ◌++◌, length, drop, Bool, ◌&&◌, ◌||◌, Option, Some, None, option_map, ◌==◌, nat_lt, nat_le, nat_eq, if◌then◌else◌, codes, slice_index}
 use Rattle.std.specs.List.{list_all, starts_with}
 use Rattle.std.specs.Char.{is_digit, digit_value, is_ascii_digit, is_ascii_lowercase}
 use Rattle.std.specs.Option.{option_or, option_and_then}
-use Rattle.std.specs.Str.{bytes_eq}
 use Rattle.ipc_ids.specs.Digits.{in_base}
-use Rattle.ipc_ids.specs.Tables.{Names, method_names, code_names, right_names, restrict_names, most_short}
+use Rattle.ipc_ids.specs.Tables.{Names, method_names, code_names, right_names, restrict_names, named_in, most_short}
 use Rattle.ipc_ids.specs.declared.message.Mode.{Mode}
 use Rattle.ipc_ids.specs.declared.message.Mode.TheVariants.{Plain, Route}
 use Rattle.ipc_ids.specs.declared.message.ExchangeMode.{ExchangeMode}
@@ -16,14 +14,6 @@ use Rattle.ipc_ids.specs.declared.op.Value.TheVariants.{Number, Register}
 use Rattle.script_lines.specs.declared.word.Verb.{Verb}
 use Rattle.script_lines.specs.declared.word.Verb.TheVariants.{Ns, Task, Template, Fibril, Connection, Wire, Op}
 use Rattle.script_lines.specs.declared.word.OpVerb.TheVariants.{Call, Receive, Answer, Forward, Hangup, Area, Unarea, Poke, Peek, Set, Jump, JumpEqual, JumpDiffer, Wait, Next, Yield, Send, Open, Begin, End, Close}
-
--- what stands beside a word in a table
-abbrev pub look_up : {A : Type 0} → List (List ℕ × A) → List ℕ → Option A
-look_up table word = option_map (λ entry. entry.1) (find (λ entry. bytes_eq entry.0 word) table)
-
--- a table as a slice keeps it
-abbrev pub rows : {A : Type 0} → List (Bor (List ℕ) × A) → List (List ℕ × A)
-rows table = map (λ entry. (entry.0.now, entry.1)) table
 
 -- the first words of a script's lines
 abbrev pub verbs : List (List ℕ × Verb)
@@ -39,7 +29,7 @@ verbs =
     ∷ (codes "end", Op End) ∷ (codes "close", Op Close) ∷ []
 
 unfoldable pub verb_of : List ℕ → Option Verb
-verb_of word = look_up verbs word
+verb_of word = named_in verbs word
 
 -- up to 20 decimal digits, or 0x and up to 16 hexadecimal ones
 unfoldable pub number : List ℕ → Option ℕ
@@ -56,7 +46,7 @@ abbrev pub number_names : Names
 number_names = method_names ++ code_names ++ right_names ++ restrict_names
 
 unfoldable pub named : List ℕ → Option ℕ
-named word = look_up number_names word
+named word = named_in number_names word
 
 -- below 32, and without leading zeros
 unfoldable pub register_number : List ℕ → Option ℕ
@@ -113,7 +103,7 @@ abbrev pub modes : List (List ℕ × Mode)
 modes = (codes "plain", Plain) ∷ (codes "route", Route) ∷ []
 
 unfoldable pub mode_of : List ℕ → Option Mode
-mode_of word = look_up modes word
+mode_of word = named_in modes word
 
 -- how a session gives its phone to exchanges
 abbrev pub exchange_modes : List (List ℕ × ExchangeMode)
@@ -121,4 +111,4 @@ exchange_modes =
     (codes "atomic", Atomic) ∷ (codes "serialize", Serialize) ∷ (codes "parallel", Parallel) ∷ []
 
 unfoldable pub exchange_mode_of : List ℕ → Option ExchangeMode
-exchange_mode_of word = look_up exchange_modes word
+exchange_mode_of word = named_in exchange_modes word

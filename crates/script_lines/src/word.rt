@@ -1,10 +1,11 @@
 //! What one word can be.
 ghost use Rattle.std.specs.Prelude.{◌≡◌, ◌≤◌, ◌<◌, IfSome};
 ghost use Rattle.script_lines.specs.Ranges.{IsInRange};
-ghost use Rattle.script_lines.specs.Word.{number, verb_of, named, look_up, rows, register, register_number, value, mode_of, exchange_mode_of, number_below, hex_digit, bytes_of};
+ghost use Rattle.script_lines.specs.Word.{number, verb_of, named, register, register_number, value, mode_of, exchange_mode_of, number_below, hex_digit, bytes_of};
 
 use arrayvec::ArrayVec;
-use ipc_ids::{ExchangeMode, Mode, Short, Value, in_base, methods};
+pub use ipc_ids::look_up;
+use ipc_ids::{ExchangeMode, Mode, Short, Value, code_named, in_base, method_named};
 
 /// An operation's first word.
 #[derive(Clone, Copy, PartialEq, Eq)]
@@ -74,30 +75,8 @@ const VERBS: [(&[u8], Verb); 27] = [
     (b"close", Verb::Op(OpVerb::Close)),
 ];
 
-/// The words that stand for numbers: methods, codes and rights.
-const NAMED: [(&[u8], u64); 21] = [
-    (b"PHONE_HUNGUP", methods::PHONE_HUNGUP),
-    (b"CONNECT_TO_ME", methods::CONNECT_TO_ME),
-    (b"CONNECT_ME_TO", methods::CONNECT_ME_TO),
-    (b"DATA_WRITE", methods::DATA_WRITE),
-    (b"DATA_READ", methods::DATA_READ),
-    (b"SHARE_OUT", methods::SHARE_OUT),
-    (b"SHARE_IN", methods::SHARE_IN),
-    (b"EOK", 0),
-    (b"ENOENT", 1),
-    (b"EPERM", 2),
-    (b"EEXIST", 3),
-    (b"EINVAL", 4),
-    (b"ELIMIT", 5),
-    (b"EHANGUP", 6),
-    (b"EFORWARD", 7),
-    (b"EBUSY", 8),
-    (b"ENOMEM", 9),
-    (b"R", 1),
-    (b"W", 2),
-    (b"RW", 3),
-    (b"RESTRICT", 1),
-];
+/// The other words that stand for numbers: rights, and that a data call asks to be cut down.
+const RIGHTS_AND_FLAGS: [(&[u8], u64); 4] = [(b"R", 1), (b"W", 2), (b"RW", 3), (b"RESTRICT", 1)];
 
 const MODES: [(&[u8], Mode); 2] = [(b"plain", Mode::Plain), (b"route", Mode::Route)];
 
@@ -106,18 +85,6 @@ const EXCHANGE_MODES: [(&[u8], ExchangeMode); 3] = [
     (b"serialize", ExchangeMode::Serialize),
     (b"parallel", ExchangeMode::Parallel),
 ];
-
-/// What stands beside a word in a table.
-pub fn look_up<T: Copy>(table: &[(&[u8], T)], word: &[u8]) -> Option<T>
-    ensures { result ≡ look_up (rows table.now) word.now }
-{
-    for (name, value) in table {
-        if *name == word {
-            return Some(*value);
-        }
-    }
-    None
-}
 
 fn verb_in_table(word: &[u8]) -> Option<Verb>
     ensures { result ≡ verb_of word.now }
@@ -137,10 +104,18 @@ pub fn verb_of(word: &[u8]) -> Option<Verb>
     }
 }
 
+/// The number that a word stands for: that of a method, of a code, or of a right or flag.
+#[tactic(auto, using(crate::proofs::NumberNames::named_by_tables))]
 fn named(word: &[u8]) -> Option<u64>
     ensures { result ≡ named word.now }
 {
-    look_up(&NAMED, word)
+    if let Some(method) = method_named(word) {
+        return Some(method);
+    }
+    if let Some(code) = code_named(word) {
+        return Some(code);
+    }
+    look_up(&RIGHTS_AND_FLAGS, word)
 }
 
 pub fn mode_of(word: &[u8]) -> Option<Mode>

@@ -2,7 +2,7 @@
 use Rattle.std.specs.Prelude.{ℕ, ◌+◌, ◌<◌, ⊤, List, [], ◌∷◌, ◌++◌, length, ◌&&◌, nat_le, nat_lt, Option, Some, None, Result, Ok, Err, replicate, if◌then◌else◌, codes}
 use Rattle.std.specs.Option.{option_and_then, ok_or}
 use Rattle.std.specs.Str.{bytes_eq}
-use Rattle.ipc_ids.specs.Tables.{most_tasks, most_events}
+use Rattle.ipc_ids.specs.Tables.{named_in, most_tasks, most_events}
 use Rattle.ipc_ids.specs.declared.numbers.TaskNo.{TaskNo}
 use Rattle.ipc_ids.specs.declared.message.Event.{Event}
 use Rattle.ipc_ids.specs.declared.message.Event.TheVariants as events
@@ -10,7 +10,7 @@ use Rattle.script_lines.specs.declared.fault.Reason.{Reason}
 use Rattle.script_lines.specs.declared.fault.Reason.TheVariants.{WrongCount, UnknownName, TooManyEvents}
 use Rattle.script_reader.specs.declared.schedule.EventVerb.{EventVerb}
 use Rattle.script_reader.specs.declared.schedule.EventVerb.TheVariants.{Step, Kill, Hangup, Spawn}
-use Rattle.script_lines.specs.Word.{look_up, number, name_of}
+use Rattle.script_lines.specs.Word.{number, name_of}
 use Rattle.script_lines.specs.Operation.{◌>>=◌, needed}
 use Rattle.script_lines.specs.Plan.{Plan}
 use Rattle.script_lines.specs.Sound.{IsTask}
@@ -51,7 +51,7 @@ abbrev pub event_verbs : List (List ℕ × EventVerb)
 event_verbs = (codes "step", Step) ∷ (codes "kill", Kill) ∷ (codes "hangup", Hangup) ∷ (codes "spawn", Spawn) ∷ []
 
 unfoldable pub event_verb_of : List ℕ → Option EventVerb
-event_verb_of word = look_up event_verbs word
+event_verb_of word = named_in event_verbs word
 
 -- x N, where N is from 1 to 65,536
 unfoldable pub count_of : List ℕ → List ℕ → Option ℕ
