@@ -1,9 +1,9 @@
 -- Which lines a trace can have: the shape of each kind of line, word by word.
-use Rattle.std.specs.Prelude.{ℕ, Bool, true, false, ◌||◌, ◌&&◌, ◌==◌, List, [], ◌∷◌, length, take, drop, codes, nat_eq, nat_lt, if◌then◌else◌}
+use Rattle.std.specs.Prelude.{ℕ, Bool, true, false, ◌||◌, ◌&&◌, ◌==◌, List, [], ◌∷◌, length, take, drop, is_some, codes, nat_eq, nat_lt, if◌then◌else◌}
 use Rattle.std.specs.Char.{is_ascii_digit}
 use Rattle.std.specs.List.{list_all, list_any, starts_with, position_or_len}
 use Rattle.std.specs.Str.{bytes_eq}
-use Rattle.ipc_ids.specs.Tables.{code_names}
+use Rattle.ipc_ids.specs.Tables.{code_names, named_in}
 use Rattle.search_goals.specs.Goals.{text_words}
 
 -- ---- kinds of words
@@ -27,7 +27,7 @@ is_numbered mark word =
 
 -- the name of a code, or a number
 abbrev pub is_code : List ℕ → Bool
-is_code word = is_number word || list_any (λ row. bytes_eq row.0 word) code_names
+is_code word = is_number word || is_some (named_in code_names word)
 
 -- what a word of a shape stands for: N for a number, T for a task, P for a phone, F for a fibril, C for a code, B for
 -- any word, and each other word for itself

@@ -2,8 +2,7 @@
 //! number, T a task, P a phone, F a fibril, C a code and B any word; each other word is itself.
 ghost use Rattle.std.specs.Prelude.{◌≡◌, ◌≤◌, ◌==◌, length, position};
 ghost use Rattle.std.specs.Char.{is_ascii_digit};
-ghost use Rattle.std.specs.List.{list_all, list_any};
-ghost use Rattle.std.specs.Str.{bytes_eq};
+ghost use Rattle.std.specs.List.{list_all};
 ghost use Rattle.script_lines.specs.Text.{texts};
 ghost use Rattle.search_goals.specs.Goals.{text_words, listed};
 ghost use Rattle.search_goals.specs.LineShapes.{is_number, is_task, mark_place, is_numbered, is_code, is_of_kind};
@@ -11,6 +10,7 @@ ghost use Rattle.search_goals.specs.LineShapes.{head_shapes, outcome_shapes, eff
 ghost use Rattle.search_goals.specs.LineShapes.{may_be, begins_as, begins_one, may_begin};
 
 use crate::meeting::next_word;
+use ipc_ids::code_named;
 
 /// Heads of events.
 const HEADS: [&[u8]; 16] = [
@@ -85,19 +85,6 @@ const FIBRILS: [&[u8]; 16] = [
     b"F drops exchange N",
 ];
 
-const CODES: [&[u8]; 10] = [
-    b"EOK",
-    b"ENOENT",
-    b"EPERM",
-    b"EEXIST",
-    b"EINVAL",
-    b"ELIMIT",
-    b"EHANGUP",
-    b"EFORWARD",
-    b"EBUSY",
-    b"ENOMEM",
-];
-
 fn all_digits(word: &[u8]) -> bool
     ensures { result ≡ list_all is_ascii_digit word.now }
 {
@@ -151,23 +138,11 @@ fn is_numbered(byte: u8, word: &[u8]) -> bool
     }
 }
 
-/// Whether a word is one of these.
-fn is_one_of(names: &[&[u8]], word: &[u8]) -> bool
-    ensures { result ≡ list_any (λ name. bytes_eq name word.now) (texts names.now) }
-{
-    for name in names {
-        if *name == word {
-            return true;
-        }
-    }
-    false
-}
-
 /// Whether a word is the name of a code, or a number.
 fn is_code(word: &[u8]) -> bool
     ensures { result ≡ is_code word.now }
 {
-    is_number(word) || is_one_of(&CODES, word)
+    is_number(word) || code_named(word).is_some()
 }
 
 /// Whether a word is what a word of a shape stands for.
