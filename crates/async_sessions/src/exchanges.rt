@@ -126,6 +126,7 @@ impl Exchanges {
     }
 
     /// The exchange with this number, if there is one, is held so from now on, and has this stamp.
+    #[inline(always)]
     pub(crate) fn change(&mut self, e: ExchangeNo, held: Held, stamp: u64)
         ensures { self.new.now ≡ with_changed e held stamp self.old.now }
     {

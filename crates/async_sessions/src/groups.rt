@@ -39,6 +39,7 @@ impl Groups {
     }
 
     /// An exchange comes: it is counted if it is begun, and listed if it is idle.
+    #[inline(always)]
     pub(crate) fn enter(&mut self, x: Exchange)
         requires { CanEnter x self.old.begun self.old.idle.items (vec_capacity self.old.idle) }
         ensures begun { self.new.begun ≡ counted_with x self.old.begun }
@@ -52,6 +53,7 @@ impl Groups {
     }
 
     /// An exchange goes: it is counted or listed no longer.
+    #[inline(always)]
     pub(crate) fn leave(&mut self, x: &Exchange)
         requires { CanLeave x.now self.old.begun self.old.idle.items }
         ensures begun { self.new.begun ≡ counted_without x.now self.old.begun }

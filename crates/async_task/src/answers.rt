@@ -142,6 +142,7 @@ impl Machine {
     }
 
     /// The call is awaited no more, and the fibril is ready where it was blocked on its answer.
+    #[inline(always)]
     fn end_wait(&mut self, awaited: Awaited, call: CallNo, reply: &Reply, out: &mut Trace)
         requires entry { 0 < out.old.spare }
         requires bounds { IsWithinBounds self.old.state.order }

@@ -58,6 +58,7 @@ impl Machine {
     /// # Errors
     ///
     /// `NoMemory` where no memory was found. Nothing has changed then.
+    #[inline(always)]
     pub(crate) fn call_slot(
         &mut self,
         f: FibrilNo,
@@ -158,6 +159,7 @@ impl Machine {
     }
 
     /// Waits for the answer in a slot. `f` is the present fibril.
+    #[inline(always)]
     pub(crate) fn wait_slot(&mut self, f: FibrilNo, slot: u32, out: &mut Trace)
         requires ready { IsReady self.old out.old }
         requires present { current self.old.state.order ≡ Some f }
@@ -175,6 +177,7 @@ impl Machine {
     }
 
     /// Asks the connection for its next call. `f` is the present fibril.
+    #[inline(always)]
     pub(crate) fn next_call(&mut self, f: FibrilNo, out: &mut Trace)
         requires ready { IsReady self.old out.old }
         requires present { current self.old.state.order ≡ Some f }

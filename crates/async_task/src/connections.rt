@@ -161,6 +161,7 @@ impl Machine {
     }
 
     /// A call came that goes to the connection to which its label leads.
+    #[inline(always)]
     fn route_call(&mut self, call: CallNo, msg: &Msg, label: Label) -> Result<(), NoMemory>
         requires work { 0 < self.old.room.work }
         requires bounds { IsWithinBounds self.old.state.order }
@@ -190,6 +191,7 @@ impl Machine {
     }
 
     /// Where the fibril waits for the next call of its connection, it takes that.
+    #[inline(always)]
     fn reach(&mut self, f: FibrilNo)
         requires bounds { IsWithinBounds self.old.state.order }
         ensures state { self.new.state ≡ reach self.old.state f }

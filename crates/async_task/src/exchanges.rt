@@ -95,6 +95,7 @@ impl Machine {
     }
 
     /// A begin ends with an exchange.
+    #[inline(always)]
     pub(crate) fn finish_begin(
         &mut self,
         f: FibrilNo,
@@ -200,6 +201,7 @@ impl Machine {
     }
 
     /// Ends the exchange that the handle names.
+    #[inline(always)]
     pub(crate) fn end_op(
         &mut self,
         f: FibrilNo,
@@ -220,6 +222,7 @@ impl Machine {
         }
     }
 
+    #[inline(always)]
     fn end_outcome(
         &mut self,
         f: FibrilNo,

@@ -197,6 +197,7 @@ impl Machine {
     }
 
     /// The fibril takes the answer from its slot.
+    #[inline(always)]
     pub(crate) fn answered_at(&mut self, f: FibrilNo, slot: u32, call: CallNo, reply: &Reply)
         ensures state { self.new.state
             ≡ with_context self.old.state f
@@ -293,7 +294,23 @@ impl Machine {
     }
 
     /// Makes room for so many answers.
+    #[inline(always)]
     pub(crate) fn reserve_work(&mut self, more: usize) -> Result<(), NoMemory>
+        ensures state { self.new.state ≡ self.old.state }
+        ensures room { OnOk result (more ≤ self.new.room.work) }
+        ensures exchanges { self.new.room.exchanges ≡ self.old.room.exchanges }
+        ensures awaited { self.new.room.awaited ≡ self.old.room.awaited }
+    {
+        if more <= self.work.capacity() - self.work.len() {
+            return Ok(());
+        }
+        self.grow_work(more)
+    }
+
+    /// Takes memory for so many answers.
+    #[cold]
+    #[inline(never)]
+    fn grow_work(&mut self, more: usize) -> Result<(), NoMemory>
         ensures state { self.new.state ≡ self.old.state }
         ensures room { OnOk result (more ≤ self.new.room.work) }
         ensures exchanges { self.new.room.exchanges ≡ self.old.room.exchanges }

@@ -94,6 +94,7 @@ impl Machine {
     }
 
     /// The manager received something, or nothing.
+    #[inline(always)]
     fn manage(&mut self, got: &Outcome, out: &mut Trace) -> Result<(), NoMemory>
         requires ready { IsReady self.old out.old }
         ensures ok { OnOk result (Does self.new out.old out.new (manage self.old.state got.now)) }

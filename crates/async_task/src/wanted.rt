@@ -94,6 +94,7 @@ impl Machine {
     }
 
     /// What a begin of the session under a handle comes to.
+    #[inline(always)]
     pub(crate) fn plan_begin(&self, f: FibrilNo, t: &Context, handle: u32, session: u32) -> Begin
         ensures { result ≡ plan_begin self.now.state f t.now handle session }
     {

@@ -30,6 +30,7 @@ pub enum Change {
 }
 
 /// Gives the call what is in `change`.
+#[inline(always)]
 pub fn give(call: &mut Call, change: Change)
     ensures { call.new ≡ changed change call.old }
 {

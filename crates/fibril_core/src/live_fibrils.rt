@@ -158,6 +158,7 @@ impl LiveFibrils {
     }
 
     /// The fibril, which has not ended, has this status from now on.
+    #[inline(always)]
     pub(crate) fn stamp(&mut self, f: FibrilNo, status: Status)
         requires few_stamps { self.old.order.next_stamp < 2 ^ 63 }
         requires goes_on { GoesOn (fibril_at self.old.order f.0) }

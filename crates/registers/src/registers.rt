@@ -48,6 +48,7 @@ impl Registers {
         }
     }
 
+    #[inline(always)]
     fn values(&self, args: &[Value; 5]) -> [u64; 5]
         ensures { result ≡ values_in self.now args.now }
     {
@@ -168,6 +169,7 @@ impl Registers {
     }
 
     /// What an outcome says is in them from now on.
+    #[inline(always)]
     pub fn tell(&mut self, got: &Outcome)
         ensures { self.new ≡ told self.old got.now }
     {

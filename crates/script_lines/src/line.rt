@@ -20,8 +20,8 @@ use crate::operation::{op_in, two_and_arguments};
 use crate::plan::Kind;
 use crate::same::are_same;
 use crate::text::split_line;
-use crate::word::{OpVerb, Verb, look_up, number, verb_of};
-use ipc_ids::Op;
+use crate::word::{OpVerb, Verb, number, verb_of};
+use ipc_ids::{Op, look_up};
 use std::alloc::Global;
 
 const MOST_BLOCKS: u32 = 64;

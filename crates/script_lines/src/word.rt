@@ -4,8 +4,7 @@ ghost use Rattle.script_lines.specs.Ranges.{IsInRange};
 ghost use Rattle.script_lines.specs.Word.{number, verb_of, named, register, register_number, value, mode_of, exchange_mode_of, number_below, hex_digit, bytes_of};
 
 use arrayvec::ArrayVec;
-pub use ipc_ids::look_up;
-use ipc_ids::{ExchangeMode, Mode, Short, Value, code_named, in_base, method_named};
+use ipc_ids::{ExchangeMode, Mode, Short, Value, code_named, in_base, look_up, method_named};
 
 /// An operation's first word.
 #[derive(Clone, Copy, PartialEq, Eq)]

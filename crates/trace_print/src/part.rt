@@ -106,6 +106,7 @@ fn push_args<P: Pen>(pen: &mut P, args: &[u64; 5])
 }
 
 #[tactic(auto, using(crate::proofs::Marks::map_append))]
+#[inline(always)]
 pub fn push_msg<P: Pen>(pen: &mut P, msg: &Msg)
     requires room { P.count pen.old + 125 ≤ P.capacity pen.old }
     ensures text { P.seen pen.new ≡ P.seen pen.old ++ map P.mark (msg_text msg.now) }
@@ -117,6 +118,7 @@ pub fn push_msg<P: Pen>(pen: &mut P, msg: &Msg)
 }
 
 #[tactic(auto, using(crate::proofs::Marks::map_append))]
+#[inline(always)]
 pub fn push_reply<P: Pen>(pen: &mut P, reply: &Reply)
     requires room { P.count pen.old + 125 ≤ P.capacity pen.old }
     ensures text { P.seen pen.new ≡ P.seen pen.old ++ map P.mark (reply_text reply.now) }
