@@ -1,0 +1,3 @@
+mod TableStamps
+mod KillStamps
+mod RequestStamps
