@@ -46,7 +46,7 @@ module _ (f : Place → ℕ → ℕ) (d n : ℕ) where
       let c : Comes f d n (g (with_stamps f d s.state)) (g s.state) = h s.state e.late in
       record {
         same = ap (λ (z : Transition). then_do z g) e.same
-          ∙ ap (λ (z : Transition). record { state = z.state; entries = s.entries ++ z.entries }) c.same;
+            ∙ ap (λ (z : Transition). record { state = z.state; entries = s.entries ++ z.entries }) c.same;
         late = c.late;
       }
 

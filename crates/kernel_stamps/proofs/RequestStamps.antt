@@ -1,5 +1,5 @@
 -- A request, a kill and a spawn come to the same with other stamps of the calls.
-use Rattle.std.proofs.Common.{◌≡◌, ◌≤◌, ℕ, ◌+◌, Bool, true, false, List, [], ◌∷◌, ◌++◌, refl, ◌∙◌, ap, Option, None, Some, option_map, option_and_then, Result, Ok, Err, cond, not, nat_le, if◌then◌else◌}
+use Rattle.std.proofs.Common.{◌≡◌, ◌≤◌, ℕ, ◌+◌, Bool, true, false, List, [], ◌∷◌, ◌++◌, refl, ◌∙◌, ap, Option, None, Some, option_map, option_and_then, Result, Ok, Err, cond, not, nat_le}
 use Rattle.std.specs.Prelude.{⊤}
 use Rattle.std.specs.Option.{option_map_or}
 use Rattle.ipc_ids.specs.declared.numbers.TaskNo.{TaskNo}
@@ -173,7 +173,7 @@ module _ (f : Place → ℕ → ℕ) (d n : ℕ) where
     through_at k t p msg (Connected u) l =
         let c : Call = new_call k t p msg (Incoming u) in
         let sent : Sends f d n (before_send_of (kind_of msg.method) (with_stamps f d k) c) (before_send k c) =
-            send_of_at (kind_of msg.method) k c l in
+        send_of_at (kind_of msg.method) k c l in
         ap (sent_to u (with_stamps f d k) c) sent.same ∙ sent_at u k c (before_send k c) sent.late l
 
     tested_at : (k : KernelState) (t : TaskNo) (p : ℕ) (msg : Msg) (state : PhoneState) → n ≤ k.calls.next_stamp
@@ -266,7 +266,7 @@ module _ (f : Place → ℕ → ℕ) (d n : ℕ) where
     first_at_all k t (Some c) i l = ap (delivery t) (delivery_at k c t) ∙ delivered_at t (on_delivery k c t)
     first_at_all k t None (Some c) l =
         let h : Hands f d n (on_receive (with_stamps f d k) (restamp f c) t) (on_receive k c t) =
-            receive_of_at (kind_of c.request.method) k c t l in
+        receive_of_at (kind_of c.request.method) k c t l in
         ap (reception t) h.same ∙ received_at t (on_receive k c t) h.late
     first_at_all k t None None l = refl
 
@@ -311,9 +311,9 @@ module _ (f : Place → ℕ → ℕ) (d n : ℕ) where
   accept_of_at DataRead k c reply t u l =
       record {
         same = ap
-          (λ (m : ℕ). read_at_answer (with_stamps f d k) (restamp f c) reply
-          (read_accept k.memory t c.request.args reply m))
-          (used_at f d k.calls);
+            (λ (m : ℕ). read_at_answer (with_stamps f d k) (restamp f c) reply
+            (read_accept k.memory t c.request.args reply m))
+            (used_at f d k.calls);
         late = l;
       }
   accept_of_at ShareOut k c reply t u l = record { same = refl; late = l }
@@ -366,7 +366,7 @@ module _ (f : Place → ℕ → ℕ) (d n : ℕ) where
         by_table f d n (accept_for k t reply c (Some u) false) _ (left f d k.calls c.number.0) l
     accepted_at k t reply c (Some u) true l =
         let h : Hands f d n (on_accept (with_stamps f d k) (restamp f c) reply t u) (on_accept k c reply t u) =
-            accept_of_at (kind_of c.request.method) k c reply t u l in
+        accept_of_at (kind_of c.request.method) k c reply t u l in
         from_same f d n _ _ _ (ap (λ (x : Handed). answer_to x (Some t) u) h.same)
         (answering_at (on_accept k c reply t u) (Some t) u h.late)
 
@@ -376,8 +376,8 @@ module _ (f : Place → ℕ → ℕ) (d n : ℕ) where
     answered_at k t reply None l = refl
     answered_at k t reply (Some c) l =
         let answered : Comes f d n _ _ =
-            if_at f d n (accepts reply.code) _ _ _ _
-            (accepted_at k t reply c c.caller (lives k c.caller) l) (settle_at f d n shifts reply (Some t) k c l) in
+        if_at f d n (accepts reply.code) _ _ _ _
+        (accepted_at k t reply c c.caller (lives k c.caller) l) (settle_at f d n shifts reply (Some t) k c l) in
         ap (λ (z : Transition). telling z Done) answered.same
 
     live_at : (k : KernelState) (reply : Reply) (by : Option TaskNo) (o : Option Call) → n ≤ k.calls.next_stamp

@@ -190,8 +190,8 @@ module _ (f : Place → ℕ → ℕ) where
       sooner_at place None c h e = refl
       sooner_at place (Some b) c h e =
           let test : nat_lt (f c.place c.stamp) (f b.place b.stamp) ≡ nat_lt c.stamp b.stamp =
-              ap (λ (p : Place). nat_lt (f p c.stamp) (f b.place b.stamp)) (e ∙ sym h)
-              ∙ sym (rises b.place c.stamp b.stamp) in
+          ap (λ (p : Place). nat_lt (f p c.stamp) (f b.place b.stamp)) (e ∙ sym h)
+          ∙ sym (rises b.place c.stamp b.stamp) in
           ap (λ (x : Bool). cond x (Some (restamp f c)) (Some (restamp f b))) test
           ∙ chosen (nat_lt c.stamp b.stamp) (Some c) (Some b)
 
