@@ -1,4 +1,5 @@
 pub mod Words
+pub mod Order
 pub mod CallWords
 pub mod MemoryWords
 pub mod KernelWords

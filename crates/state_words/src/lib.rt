@@ -8,6 +8,7 @@ mod laws;
 mod memory;
 mod parts;
 mod phones;
+mod stands;
 
 pub use calls::push_calls;
 pub use kernel::{push_kernel, push_marks};
