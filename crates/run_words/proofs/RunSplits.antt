@@ -7,9 +7,9 @@ use Rattle.task_system.specs.declared.any.AnyProgram.TheVariants as any
 use Rattle.task_system.specs.Run.{RunState}
 use Rattle.turn_counts.specs.Alike.{uncounted_program, uncounted_programs, AreAlikePrograms}
 use Rattle.turn_counts.specs.Constants.{constant, Constants, constants}
-use Rattle.switchboard.specs.State.{KernelState}
-use Rattle.kernel_words.specs.Kernel.{kernel_words, AreAlikeKernels}
+use Rattle.kernel_words.specs.Kernel.{kernel_words}
 use Rattle.kernel_words.proofs.KernelSplits.{kernel_split}
+use Rattle.kernel_words.proofs.GoingOn.{words_again}
 use Rattle.program_words.proofs.ProgramSplits.{raw_split, naming_split, block_split}
 use Rattle.async_words.proofs.AsyncSplits.{async_split}
 use Rattle.run_words.specs.RunWords.{any_words, run_words}
@@ -102,11 +102,7 @@ all_again (p ∷ ps) =
 programs_again : (ps qs : List AnyProgram) → uncounted_programs ps ≡ uncounted_programs qs → all_words ps ≡ all_words qs
 programs_again ps qs h = sym (all_again ps) ∙ ap all_words h ∙ all_again qs
 
--- STAND-IN
-kernel_again : (a b : KernelState) → AreAlikeKernels a b → kernel_words a ≡ kernel_words b
-kernel_again a b h = ap kernel_words h
-
 pub alike_words : (a b : RunState) → AreAlikeRuns a b → run_words a ≡ run_words b
 alike_words a b h =
-    ap (λ (z : List ℕ). z ++ all_words a.programs) (kernel_again a.kernel b.kernel h.kernel)
+    ap (λ (z : List ℕ). z ++ all_words a.programs) (words_again a.kernel b.kernel h.kernel)
     ∙ ap (λ (z : List ℕ). kernel_words b.kernel ++ z) (programs_again a.programs b.programs h.programs)

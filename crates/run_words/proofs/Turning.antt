@@ -21,65 +21,8 @@ use Rattle.task_system.specs.Any.{wanted, after, entries}
 use Rattle.task_system.specs.Run.{RunState, RunTransition, gone, step_by, step_served, program_at, program_of, request, request_served, kill, killed, spawn_by, spawned, turn}
 use Rattle.turn_counts.specs.Alike.{uncounted_program, uncounted_programs, AreAlikePrograms}
 use Rattle.turn_counts.proofs.ProgramCounts.{alike_wanted, alike_entries, alike_after}
-use Rattle.kernel_words.specs.Kernel.{AreAlikeKernels}
-use Rattle.kernel_counts.specs.Counted.{step_with_count, served_with_count}
-use Rattle.kernel_counts.proofs.RequestCounts.{serve_counts, kill_counts, spawn_counts}
+use Rattle.kernel_words.proofs.GoingOn.{GoOnAlike, ServeOnAlike, served_on, killed_on, spawned_on}
 use Rattle.run_words.specs.Alike.{AreAlikeRuns}
-
--- ---- what the kernel does (STAND-IN)
-
-same_tasks : (a b : KernelState) → AreAlikeKernels a b → a.tasks ≡ b.tasks
-same_tasks a b h = ap (λ (z : KernelState). z.tasks) h
-
-record ServedOn (x y : Served) : Type 0 where
-  outcome : x.outcome ≡ y.outcome
-  entries : x.entries ≡ y.entries
-  state : AreAlikeKernels x.state y.state
-
-record SteppedOn (x y : Transition) : Type 0 where
-  entries : x.entries ≡ y.entries
-  state : AreAlikeKernels x.state y.state
-
-from_served : (x y : Served) → served_with_count 1 x ≡ served_with_count 1 y → ServedOn x y
-from_served x y e =
-    record {
-      outcome = ap (λ (z : Served). z.outcome) e;
-      entries = ap (λ (z : Served). z.entries) e;
-      state = ap (λ (z : Served). record { tasks = z.state.tasks; calls = z.state.calls; memory = z.state.memory; events = 0 }) e;
-    }
-
-from_step : (x y : Transition) → step_with_count 1 x ≡ step_with_count 1 y → SteppedOn x y
-from_step x y e =
-    record {
-      entries = ap (λ (z : Transition). z.entries) e;
-      state = ap (λ (z : Transition). record { tasks = z.state.tasks; calls = z.state.calls; memory = z.state.memory; events = 0 }) e;
-    }
-
-served_on : (a b : KernelState) (t : TaskNo) (asked : Request) → IsSound a → IsSound b
-    → AreAlikeKernels a b → ServedOn (serve a t asked) (serve b t asked)
-served_on a b t asked h k e =
-    from_served (serve a t asked) (serve b t asked)
-    (sym (serve_counts 0 a t asked)
-    ∙ ap (λ (z : KernelState). serve z t asked) e
-    ∙ serve_counts 0 b t asked)
-
-killed_on : (a b : KernelState) (t : TaskNo) → IsSound a → IsSound b
-    → AreAlikeKernels a b → SteppedOn (kill_event a t) (kill_event b t)
-killed_on a b t h k e =
-    from_step (kill_event a t) (kill_event b t)
-    (sym (kill_counts 0 a t)
-    ∙ ap (λ (z : KernelState). kill_event z t) e
-    ∙ kill_counts 0 b t)
-
-spawned_on : (a b : KernelState) (limit : ℕ) (names : Option TaskNo) → IsSound a → IsSound b
-    → AreAlikeKernels a b → SteppedOn (spawn_event a limit names) (spawn_event b limit names)
-spawned_on a b limit names h k e =
-    from_step (spawn_event a limit names) (spawn_event b limit names)
-    (sym (spawn_counts 0 a limit names)
-    ∙ ap (λ (z : KernelState). spawn_event z limit names) e
-    ∙ spawn_counts 0 b limit names)
-
--- ---- (END OF STAND-IN)
 
 -- the events have the same entries, and leave states that are alike
 abbrev AreAlikeTurns : RunTransition → RunTransition → Type 0
@@ -114,24 +57,27 @@ after_alike p q o o' h k = alike_after p q o h ∙ ap (λ (z : Outcome). uncount
 
 -- ---- what is told of a request
 
+-- the entries of a request of this outcome
 abbrev told_of : TaskNo → Request → List Entry → Outcome → List Entry
 told_of task asked es o = entry.Head task asked ∷ es ++ entry.Outcome o ∷ []
 
-told_alike : (task : TaskNo) (asked asked' : Request) (x y : Served) → asked ≡ asked' → ServedOn x y
+told_alike : (task : TaskNo) (asked asked' : Request) (x y : Served) → asked ≡ asked' → ServeOnAlike x y
     → told_of task asked x.entries x.outcome ≡ told_of task asked' y.entries y.outcome
 told_alike task asked asked' x y h k =
     ap (λ (z : Request). told_of task z x.entries x.outcome) h
     ∙ ap (λ (z : List Entry). told_of task asked' z x.outcome) k.entries
     ∙ ap (λ (z : Outcome). told_of task asked' y.entries z) k.outcome
 
+-- and what the program itself tells of the outcome
 own_alike : (p q : AnyProgram) (o o' : Outcome) → AreAlikePrograms p q → o ≡ o' → entries p o ≡ entries q o'
 own_alike p q o o' h k = alike_entries p q o h ∙ ap (λ (z : Outcome). entries q z) k
 
+-- the same request is served
 same_request : (k : KernelState) (t : TaskNo) (x : Served) (asked asked' : Request) → asked ≡ asked'
-    → ServedOn x (serve k t asked) → ServedOn x (serve k t asked')
-same_request k t x asked asked' e h = subst (λ (z : Request). ServedOn x (serve k t z)) e h
+    → ServeOnAlike x (serve k t asked) → ServeOnAlike x (serve k t asked')
+same_request k t x asked asked' e h = subst (λ (z : Request). ServeOnAlike x (serve k t z)) e h
 
--- ---- two states of sound kernels that are alike
+-- ---- which tasks are alive, and their programs
 
 if_alike : (p q : Bool) (x y x' y' : RunTransition) → p ≡ q → AreAlikeTurns x x' → AreAlikeTurns y y'
     → AreAlikeTurns (cond p x y) (cond q x' y')
@@ -141,7 +87,7 @@ if_alike false true x y x' y' e h k = absurd (cc)
 if_alike false false x y x' y' e h k = k
 
 alive_alike : (a b : RunState) (task : TaskNo) → AreAlikeRuns a b → is_alive a.kernel task ≡ is_alive b.kernel task
-alive_alike a b task h = ap (λ (z : Tasks). alive_in z.alive task.0) (same_tasks a.kernel b.kernel h.kernel)
+alive_alike a b task h = ap (λ (z : Tasks). alive_in z.alive task.0) h.kernel.tasks
 
 found_alike : (p q : Bool) (x y : Option AnyProgram) → p ≡ q → option_map uncounted_program x ≡ option_map uncounted_program y
     → option_map uncounted_program (cond p x None) ≡ option_map uncounted_program (cond q y None)
@@ -160,13 +106,15 @@ program_alike a b task h =
     ∙ ap (λ (z : List AnyProgram). slice_get z (task.0 - 1)) h.programs
     ∙ slice_get-map uncounted_program b.programs (task.0 - 1))
 
+-- ---- what an event makes of two states that are alike
+
 module _ (a b : RunState) (sound : IsSound a.kernel) (likewise : IsSound b.kernel) (h : AreAlikeRuns a b) where
   gone_alike : (task : TaskNo) → AreAlikeTurns (gone a task) (gone b task)
   gone_alike task = (refl, h)
 
   -- ---- a step
 
-  step_served_alike : (task : TaskNo) (p q : AnyProgram) (x y : Served) → AreAlikePrograms p q → ServedOn x y
+  step_served_alike : (task : TaskNo) (p q : AnyProgram) (x y : Served) → AreAlikePrograms p q → ServeOnAlike x y
       → AreAlikeTurns (step_served a task p x) (step_served b task q y)
   step_served_alike task p q x y same s =
       let told = told_alike task (wanted p) (wanted q) x y (alike_wanted p q same) s in
@@ -174,7 +122,7 @@ module _ (a b : RunState) (sound : IsSound a.kernel) (likewise : IsSound b.kerne
         ap (λ (z : List Entry). z ++ entries p x.outcome) told
             ∙ ap (λ (z : List Entry). told_of task (wanted q) y.entries y.outcome ++ z) own,
         record {
-          kernel = s.state;
+          kernel = s.states;
           programs = set_alike a.programs b.programs (task.0 - 1) (after p x.outcome) (after q y.outcome) h.programs
               (after_alike p q x.outcome y.outcome same s.outcome);
           templates = h.templates;
@@ -199,12 +147,12 @@ module _ (a b : RunState) (sound : IsSound a.kernel) (likewise : IsSound b.kerne
   request_alike task asked =
       let x : Served = serve a.kernel task asked in
       let y : Served = serve b.kernel task asked in
-      let s : ServedOn x y = served_on a.kernel b.kernel task asked sound likewise h.kernel in
+      let s : ServeOnAlike x y = served_on a.kernel b.kernel task asked sound likewise h.kernel in
       if_alike (is_alive a.kernel task) (is_alive b.kernel task)
       (request_served a task asked x) (gone a task) (request_served b task asked y) (gone b task)
       (alive_alike a b task h) (
         told_alike task asked asked x y refl s,
-        record { kernel = s.state; programs = h.programs; templates = h.templates; names = h.names },
+        record { kernel = s.states; programs = h.programs; templates = h.templates; names = h.names },
       )
       (gone_alike task)
 
@@ -212,24 +160,24 @@ module _ (a b : RunState) (sound : IsSound a.kernel) (likewise : IsSound b.kerne
   kill_alike task =
       let x : Transition = kill_event a.kernel task in
       let y : Transition = kill_event b.kernel task in
-      let s : SteppedOn x y = killed_on a.kernel b.kernel task sound likewise h.kernel in
+      let s : GoOnAlike x y = killed_on a.kernel b.kernel task sound likewise h.kernel in
       if_alike (is_alive a.kernel task) (is_alive b.kernel task)
       (killed a task x) (gone a task) (killed b task y) (gone b task)
       (alive_alike a b task h) (
         ap (λ (z : List Entry). entry.Kill task ∷ z) s.entries,
-        record { kernel = s.state; programs = h.programs; templates = h.templates; names = h.names },
+        record { kernel = s.states; programs = h.programs; templates = h.templates; names = h.names },
       )
       (gone_alike task)
 
   -- both make a task of the same program
   made_alike : (plan : TaskPlan) → program_of (next_task a.kernel).0 plan ≡ program_of (next_task b.kernel).0 plan
-  made_alike plan = ap (λ (z : Tasks). program_of (length z.alive + 1) plan) (same_tasks a.kernel b.kernel h.kernel)
+  made_alike plan = ap (λ (z : Tasks). program_of (length z.alive + 1) plan) h.kernel.tasks
 
-  spawned_alike : (plan : TaskPlan) (x y : Transition) → SteppedOn x y → AreAlikeTurns (spawned a plan x) (spawned b plan y)
+  spawned_alike : (plan : TaskPlan) (x y : Transition) → GoOnAlike x y → AreAlikeTurns (spawned a plan x) (spawned b plan y)
   spawned_alike plan x y s = (
     s.entries,
     record {
-      kernel = s.state;
+      kernel = s.states;
       programs = more_alike a.programs b.programs
           (program_of (next_task a.kernel).0 plan) (program_of (next_task b.kernel).0 plan) h.programs (made_alike plan);
       templates = h.templates;
@@ -242,7 +190,7 @@ module _ (a b : RunState) (sound : IsSound a.kernel) (likewise : IsSound b.kerne
   spawn_alike (Some plan) =
       let x : Transition = spawn_event a.kernel plan.limit a.names in
       spawned_alike plan x (spawn_event b.kernel plan.limit b.names)
-      (subst (λ (z : Option TaskNo). SteppedOn x (spawn_event b.kernel plan.limit z)) h.names
+      (subst (λ (z : Option TaskNo). GoOnAlike x (spawn_event b.kernel plan.limit z)) h.names
       (spawned_on a.kernel b.kernel plan.limit a.names sound likewise h.kernel))
 
   -- ---- each event
