@@ -1,3 +1,3 @@
-mod TableStamps
+pub mod TableStamps
 mod KillStamps
-mod RequestStamps
+pub mod RequestStamps

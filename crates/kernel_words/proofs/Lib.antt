@@ -1,2 +1,4 @@
+pub mod Ranks
+pub mod Renaming
 pub mod KernelSplits
-mod GoingOn
+pub mod GoingOn

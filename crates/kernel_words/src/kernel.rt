@@ -6,8 +6,8 @@ use kernel_core::Kernel;
 use state_words::push_kernel;
 use std::alloc::AllocError;
 
-/// The words of the kernel: who is alive, the phones, the live calls and the memory. Where it fails,
-/// some of them may have been put there.
+/// The words of the kernel: who is alive, the phones, the live calls with their order within each
+/// place, and the memory. Where it fails, some of them may have been put there.
 ///
 /// # Errors
 ///

@@ -8,7 +8,8 @@ ghost use Rattle.kernel_core.specs.Kernel.{serve, kill_event, spawn_event};
 ghost use Rattle.kernel_words.specs.Kernel.{kernel_words, AreAlikeKernels, AreAlikeSteps, AreServedAlike};
 
 /// Sound kernels whose words are the same, whatever comes behind them, differ in how many events
-/// there were alone, and what comes behind is the same.
+/// there were and in the stamps of calls alone, and these stand in one order within each place; and
+/// what comes behind is the same.
 pub fn words_tell_sound_kernels_apart()
     ensures { (a b : KernelState) (s t : List ℕ) → IsSound a → IsSound b
         → kernel_words a ++ s ≡ kernel_words b ++ t → AreAlikeKernels a b × (s ≡ t) }

@@ -1,5 +1,6 @@
 //! The state of the kernel as words, by which states are told apart: all but how many events there
-//! were, on which nothing rests that the kernel does.
+//! were, and of the stamps of calls all but their order within each place; on neither rests
+//! anything that the kernel does.
 #![tactic(auto)]
 
 mod kernel;

@@ -1,3 +1,4 @@
 pub mod RunSplits
 pub mod Reaching
+pub mod Turning
 pub mod GoingOn

@@ -1,18 +1,19 @@
--- A state of a run is read again from its words, but for what is constant and for its counts.
+-- A state of a run is read again from its words, but for what is constant, for its counts and for the stamps of calls.
 use Rattle.std.proofs.Common.{ℕ, ◌≡◌, List, [], ◌∷◌, ◌++◌, map, refl, sym, ◌∙◌, ap, append_assoc}
 use Rattle.std.specs.List.{flat_map}
 use Rattle.switchboard.specs.Sound.{IsSound}
 use Rattle.task_system.specs.declared.any.AnyProgram.{AnyProgram}
 use Rattle.task_system.specs.declared.any.AnyProgram.TheVariants as any
 use Rattle.task_system.specs.Run.{RunState}
-use Rattle.kernel_counts.specs.Counted.{with_count}
-use Rattle.turn_counts.specs.Alike.{uncounted_program, uncounted_programs, uncounted, AreAlikePrograms, AreAlikeStates}
+use Rattle.turn_counts.specs.Alike.{uncounted_program, uncounted_programs, AreAlikePrograms}
 use Rattle.turn_counts.specs.Constants.{constant, Constants, constants}
 use Rattle.kernel_words.specs.Kernel.{kernel_words}
 use Rattle.kernel_words.proofs.KernelSplits.{kernel_split}
+use Rattle.kernel_words.proofs.GoingOn.{words_again}
 use Rattle.program_words.proofs.ProgramSplits.{raw_split, naming_split, block_split}
 use Rattle.async_words.proofs.AsyncSplits.{async_split}
 use Rattle.run_words.specs.RunWords.{any_words, run_words}
+use Rattle.run_words.specs.Alike.{AreAlikeRuns}
 
 -- ---- one program
 
@@ -68,7 +69,7 @@ programs_split (p ∷ ps) (q ∷ qs) s t c e =
 -- ---- the whole state, of sound kernels of which the same is constant
 
 pub run_split : (a b : RunState) (s t : List ℕ) → IsSound a.kernel → IsSound b.kernel → constants a ≡ constants b
-    → run_words a ++ s ≡ run_words b ++ t → AreAlikeStates a b × (s ≡ t)
+    → run_words a ++ s ≡ run_words b ++ t → AreAlikeRuns a b × (s ≡ t)
 run_split a b s t h k c e =
     let f : kernel_words a.kernel ++ (all_words a.programs ++ s) ≡ kernel_words b.kernel ++ (all_words b.programs ++ t) =
     sym (append_assoc (kernel_words a.kernel) (all_words a.programs) s)
@@ -76,13 +77,16 @@ run_split a b s t h k c e =
     ∙ append_assoc (kernel_words b.kernel) (all_words b.programs) t in
     let kernels = kernel_split a.kernel b.kernel (all_words a.programs ++ s) (all_words b.programs ++ t) h k f in
     let programs = programs_split a.programs b.programs s t (ap (λ (z : Constants). z.programs) c) kernels.1 in (
-      ap (λ z. record { kernel = z; programs = uncounted_programs a.programs; templates = a.templates; names = a.names }) kernels.0
-          ∙ ap (λ z. record { kernel = with_count 0 b.kernel; programs = z; templates = a.templates; names = a.names }) programs.0
-          ∙ ap (λ (z : Constants). record { kernel = with_count 0 b.kernel; programs = uncounted_programs b.programs; templates = z.templates; names = z.names }) c,
+      record {
+        kernel = kernels.0;
+        programs = programs.0;
+        templates = ap (λ (z : Constants). z.templates) c;
+        names = ap (λ (z : Constants). z.names) c;
+      },
       programs.1,
     )
 
--- ---- and states that differ in counts alone have the same words
+-- ---- and states that are alike have the same words
 
 one_again : (p : AnyProgram) → any_words (uncounted_program p) ≡ any_words p
 one_again (any.Raw p) = refl
@@ -95,8 +99,10 @@ all_again [] = refl
 all_again (p ∷ ps) =
     ap (λ z. z ++ all_words (uncounted_programs ps)) (one_again p) ∙ ap (λ z. any_words p ++ z) (all_again ps)
 
-words_again : (now : RunState) → run_words (uncounted now) ≡ run_words now
-words_again now = ap (λ z. kernel_words now.kernel ++ z) (all_again now.programs)
+programs_again : (ps qs : List AnyProgram) → uncounted_programs ps ≡ uncounted_programs qs → all_words ps ≡ all_words qs
+programs_again ps qs h = sym (all_again ps) ∙ ap all_words h ∙ all_again qs
 
-pub alike_words : (a b : RunState) → AreAlikeStates a b → run_words a ≡ run_words b
-alike_words a b e = sym (words_again a) ∙ ap run_words e ∙ words_again b
+pub alike_words : (a b : RunState) → AreAlikeRuns a b → run_words a ≡ run_words b
+alike_words a b h =
+    ap (λ (z : List ℕ). z ++ all_words a.programs) (words_again a.kernel b.kernel h.kernel)
+    ∙ ap (λ (z : List ℕ). kernel_words b.kernel ++ z) (programs_again a.programs b.programs h.programs)

@@ -1,2 +1,3 @@
 pub mod RunWords
 pub mod Reached
+pub mod Alike

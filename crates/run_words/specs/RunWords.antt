@@ -1,5 +1,6 @@
 -- What is written of the state of a run: its kernel and its programs. Nothing is written of what no event changes, as
--- of which kind a program is, nor of how many events there were and how many outcomes each program took.
+-- of which kind a program is, nor of how many events there were and how many outcomes each program took, nor of the
+-- stamps of calls but their order within each place.
 use Rattle.std.specs.Prelude.{ℕ, List, ◌++◌}
 use Rattle.std.specs.List.{flat_map}
 use Rattle.task_system.specs.declared.any.AnyProgram.{AnyProgram}

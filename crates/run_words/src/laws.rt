@@ -4,7 +4,7 @@ ghost use Rattle.ipc_ids.specs.declared.message.Event.{Event};
 ghost use Rattle.script_lines.specs.Plan.{Plan};
 ghost use Rattle.script_lines.specs.Sound.{IsSound};
 ghost use Rattle.task_system.specs.Run.{RunState, start, turn, MayHappen};
-ghost use Rattle.turn_counts.specs.Alike.{AreAlikeStates};
+ghost use Rattle.run_words.specs.Alike.{AreAlikeRuns};
 ghost use Rattle.run_words.specs.Reached.{IsReached, spawn_of};
 ghost use Rattle.run_words.specs.RunWords.{run_words};
 
@@ -23,11 +23,12 @@ pub fn events_lead_on()
 {}
 
 /// States of one script that are reached by spawns of the same templates, and have the same words,
-/// whatever comes behind these, differ in counts alone, and what comes behind is the same.
+/// whatever comes behind these, differ in counts alone, and in stamps of calls that stand in one order
+/// within each place; and what comes behind is the same.
 pub fn words_tell_runs_apart()
     ensures { (plan : Plan) (spawned : List ℕ) (a b : RunState) (s t : List ℕ) → IsSound plan
         → IsReached plan spawned a → IsReached plan spawned b
-        → run_words a ++ s ≡ run_words b ++ t → AreAlikeStates a b × (s ≡ t) }
+        → run_words a ++ s ≡ run_words b ++ t → AreAlikeRuns a b × (s ≡ t) }
 {}
 
 /// So they go on alike: each event tells the same at both, and leads to states of the same words.

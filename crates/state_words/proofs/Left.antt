@@ -6,6 +6,8 @@ use Rattle.phone_table.specs.Phones.{row_at}
 use Rattle.answerbox.specs.Calls.{CallTable, call_at}
 use Rattle.state_words.specs.Words.{at_words, list_words, number_words, option_words}
 use Rattle.state_words.specs.CallWords.{call_words, table_from}
+use Rattle.state_words.specs.declared.stands.Stand.{Stand}
+use Rattle.state_words.specs.Order.{found_stand, stands_from}
 
 left_next : {A : Type 0} (words : A → List ℕ) (xs : List A) (p : ℕ) → flat_map words (drop p xs) ≡ at_words words (slice_get xs p) ++ flat_map words (drop (suc p) xs)
 left_next words [] zero = refl
@@ -24,15 +26,20 @@ left_words {A} words xs p x h = left_at words xs p ∙ ap (λ (z : Option A). at
 pub row_at_next : {A : Type 0} (rows : List A) (t : ℕ) (x : A) → row_at rows (t + 1) ≡ Some x → slice_get rows t ≡ Some x
 row_at_next rows t x h = grind (arith, nat_tests)
 
--- what was written and what is left, after one more
-pub one_more : (whole out new now rest left : List ℕ) → out ++ left ≡ whole → left ≡ now ++ rest → new ≡ out ++ now → new ++ rest ≡ whole
-one_more whole out new now rest left a b c =
-    ap (λ (z : List ℕ). z ++ rest) c ∙ append_assoc out now rest ∙ ap (λ (z : List ℕ). out ++ z) (sym b) ∙ a
+-- what was put there and what is left, after one more
+pub one_more : {A : Type 0} (whole out new now rest left : List A) → out ++ left ≡ whole → left ≡ now ++ rest → new ≡ out ++ now → new ++ rest ≡ whole
+one_more {A} whole out new now rest left a b c =
+    ap (λ (z : List A). z ++ rest) c ∙ append_assoc out now rest ∙ ap (λ (z : List A). out ++ z) (sym b) ∙ a
 
-pub left_calls : (calls : CallTable) (n m : ℕ) → n < m → table_from calls n (m - n) ≡ option_words call_words (call_at calls n) ++ table_from calls (n + 1) (m - (n + 1))
-left_calls calls n m l =
+pub left_calls : (among : List Stand) (calls : CallTable) (n m : ℕ) → n < m → table_from among calls n (m - n) ≡ option_words (call_words among) (call_at calls n) ++ table_from among calls (n + 1) (m - (n + 1))
+left_calls among calls n m l =
     let a : m - n ≡ suc (m - (n + 1)) = omega arith in
-    ap (λ (z : ℕ). table_from calls n z) a
+    ap (λ (z : ℕ). table_from among calls n z) a
+
+pub left_stands : (calls : CallTable) (n m : ℕ) → n < m → stands_from calls n (m - n) ≡ found_stand (call_at calls n) ++ stands_from calls (n + 1) (m - (n + 1))
+left_stands calls n m l =
+    let a : m - n ≡ suc (m - (n + 1)) = omega arith in
+    ap (λ (z : ℕ). stands_from calls n z) a
 
 number_by_number : (xs : List ℕ) → flat_map number_words xs ≡ xs
 number_by_number [] = refl

@@ -1,4 +1,4 @@
--- The memory is read again from its words, and so is all of the kernel's state but the count of events.
+-- The memory is read again from its words, and so is all of the kernel's state but the count of events and the stamps of calls.
 use Rattle.std.proofs.Common.{ℕ, ◌≡◌, Bool, List, ◌++◌, refl, sym, ◌∙◌, ap, subst, append_assoc}
 use Rattle.ipc_ids.specs.declared.message.PhoneState.{PhoneState}
 use Rattle.answerbox.specs.Calls.{CallTable}
