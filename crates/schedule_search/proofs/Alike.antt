@@ -9,7 +9,6 @@ use Rattle.ipc_ids.specs.declared.entry.Entry.{Entry}
 use Rattle.ipc_ids.specs.declared.numbers.TaskNo.{TaskNo}
 use Rattle.ipc_ids.specs.declared.message.Event.{Event}
 use Rattle.ipc_ids.specs.declared.message.Event.TheVariants.{Step}
-use Rattle.answerbox.specs.Calls.{CallTable}
 use Rattle.script_lines.specs.Plan.{Plan}
 use Rattle.task_system.specs.Run.{RunState, turn}
 use Rattle.search_core.specs.Moves.{AreMoves}
@@ -23,6 +22,7 @@ use Rattle.schedule_search.specs.OpenCalls.{has_open_call}
 use Rattle.schedule_search.specs.Meeting.{changes_nothing, is_at_rest, IsMet, Meets, Finds}
 use Rattle.schedule_search.specs.Left.{is_met, Left, left_here, left_behind, IsOver}
 use Rattle.schedule_search.specs.Code.{counted, words_behind, goals_left, code_behind, rest_words, Fits}
+use Rattle.schedule_search.proofs.Orders.{has_open_alike}
 use Rattle.schedule_search.proofs.Words.{WordsTell, words_tell}
 use Rattle.schedule_search.proofs.Tries.{kills_more, stays_untried, spawns_alike, tries_alike}
 use Rattle.schedule_search.proofs.Behind.{moves_are_of, spawned_by, reached, reached_alike}
@@ -50,7 +50,7 @@ module _ (plan : Plan) (spawned : List ℕ) (tell : WordsTell plan spawned) (a b
   stuck_alike : (task : Option TaskNo)
       → (has_open_call task a.kernel.calls && is_at_rest a) ≡ (has_open_call task b.kernel.calls && is_at_rest b)
   stuck_alike task =
-      ap (λ (z : CallTable). has_open_call task z && is_at_rest a) (tell.calls a b h k same)
+      ap (λ (z : Bool). z && is_at_rest a) (has_open_alike task a.kernel.calls b.kernel.calls (tell.calls a b h k same))
       ∙ ap (λ (z : Bool). has_open_call task b.kernel.calls && z) rest_alike
 
   pub met_alike : (asked : Asked) (told other : List Entry) → told ≡ other → IsMet asked a told → IsMet asked b other

@@ -1,3 +1,4 @@
+pub mod Orders
 pub mod Words
 pub mod Behind
 pub mod Fronts

@@ -1,4 +1,4 @@
--- A state is at rest where no step of a task changes anything but counts.
+-- A state is at rest where no step of a task changes anything but counts, and stamps whose order it keeps.
 use Rattle.std.proofs.Common.{ℕ, zero, suc, ◌≡◌, ◌⊎◌, inl, inr, ◌≤◌, ◌<◌, ◌+◌, Bool, true, ◌&&◌, List, [], ◌++◌, length, refl, ◌∙◌, ap, subst, arith}
 use Rattle.std.specs.List.{list_all, range_with_len}
 use Rattle.std.proofs.lemmas.Bool.{cases_lt, and_parts}
@@ -8,7 +8,7 @@ use Rattle.ipc_ids.specs.declared.message.Event.TheVariants.{Step}
 use Rattle.script_lines.specs.Plan.{Plan}
 use Rattle.script_lines.specs.Sound.{IsSound, IsTask}
 use Rattle.task_system.specs.Run.{RunState, turn}
-use Rattle.turn_counts.specs.Alike.{AreAlikeStates}
+use Rattle.run_words.specs.Alike.{AreAlikeRuns}
 use Rattle.run_words.specs.Reached.{IsReached}
 use Rattle.run_words.specs.RunWords.{run_words}
 use Rattle.run_words.proofs.Reaching.{goes_on}
@@ -44,7 +44,7 @@ words_stay now t e is =
 
 pub rests : (plan : Plan) (spawned : List ℕ) (now : RunState) (t : ℕ) → IsSound plan → IsReached plan spawned now
     → is_at_rest now ≡ true → IsTask (length now.kernel.tasks.alive) t
-    → AreAlikeStates (turn now (Step (record { 0 = t }))).state now
+    → AreAlikeRuns (turn now (Step (record { 0 = t }))).state now
 rests plan spawned now t sound h e is =
     let next : RunState = (turn now (Step (record { 0 = t }))).state in
     let same : run_words next ≡ run_words now = words_stay now t e is in
@@ -52,7 +52,7 @@ rests plan spawned now t sound h e is =
     (told_apart plan spawned next now [] [] sound there h (ap (λ (z : List ℕ). z ++ []) same)).0
 
 pub at_rest : (now : RunState)
-    → ((t : ℕ) → IsTask (length now.kernel.tasks.alive) t → AreAlikeStates (turn now (Step (record { 0 = t }))).state now)
+    → ((t : ℕ) → IsTask (length now.kernel.tasks.alive) t → AreAlikeRuns (turn now (Step (record { 0 = t }))).state now)
     → is_at_rest now ≡ true
 at_rest now h =
     let n : ℕ = length now.kernel.tasks.alive in

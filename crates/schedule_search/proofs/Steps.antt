@@ -7,11 +7,12 @@ use Rattle.std.proofs.lemmas.Nat.{mod_below}
 use Rattle.schedule_replay.proofs.UnderWay.{after_append}
 use Rattle.ipc_ids.specs.declared.message.Event.{Event}
 use Rattle.ipc_ids.specs.declared.message.Event.TheVariants.{Step, Kill, Hangup, Spawn}
-use Rattle.answerbox.specs.Calls.{CallTable, call_at}
+use Rattle.answerbox.specs.Calls.{call_at}
 use Rattle.script_lines.specs.Plan.{Plan}
 use Rattle.script_lines.specs.Sound.{IsTask}
 use Rattle.script_reader.specs.Schedule.{MayAllCome}
 use Rattle.task_system.specs.Run.{RunState, turn, state_after, MayAllHappen}
+use Rattle.state_words.specs.Order.{AreOfOneOrder}
 use Rattle.run_words.specs.Reached.{IsReached}
 use Rattle.run_words.specs.RunWords.{run_words}
 use Rattle.run_words.proofs.Reaching.{goes_on}
@@ -20,6 +21,7 @@ use Rattle.schedule_search.specs.OpenCalls.{is_open}
 use Rattle.schedule_search.specs.Meeting.{is_at_rest}
 use Rattle.schedule_search.specs.Lost.{AreSteps, IsLost, HasLostCall}
 use Rattle.schedule_search.specs.Ahead.{steps_of, ahead, IsClosed}
+use Rattle.schedule_search.proofs.Orders.{open_alike}
 use Rattle.schedule_search.proofs.Words.{WordsTell}
 use Rattle.schedule_search.proofs.Paths.{oldest_is, taken_more}
 use Rattle.schedule_search.proofs.Resting.{words_stay}
@@ -181,15 +183,15 @@ module _ (plan : Plan) (spawned : List ℕ) (tell : WordsTell plan spawned) wher
       → run_words a ≡ run_words b → HasLostCall a → HasLostCall b
   lost_alike a b r s e lost =
       let n : ℕ = lost.0 in
-      let calls : a.kernel.calls ≡ b.kernel.calls = tell.calls a b r s e in (
+      let calls : AreOfOneOrder a.kernel.calls b.kernel.calls = tell.calls a b r s e in (
         n,
-        subst (λ (z : CallTable). n < z.next_number) calls lost.1,
+        subst (λ (z : ℕ). n < z) calls.next lost.1,
         λ (steps : List Event) (h : AreSteps (tasks_of b) steps).
             (let k : AreSteps (tasks_of a) steps = steps_on b a steps s r h in
-            let same : (state_after a steps).kernel.calls ≡ (state_after b steps).kernel.calls =
+            let same : AreOfOneOrder (state_after a steps).kernel.calls (state_after b steps).kernel.calls =
             tell.calls (state_after a steps) (state_after b steps) (steps_reach steps a r k) (steps_reach steps b s h)
             (words_along steps a b r s e k) in
-            ap (λ (z : CallTable). is_open None (call_at z n)) (sym same) ∙ lost.2 steps k),
+            sym (open_alike None (state_after a steps).kernel.calls (state_after b steps).kernel.calls same n) ∙ lost.2 steps k),
       )
 
   -- from a state at rest steps lead to states of its words
@@ -212,9 +214,9 @@ module _ (plan : Plan) (spawned : List ℕ) (tell : WordsTell plan spawned) wher
   pub open_at_rest : (now : RunState) (n : ℕ) → IsReached plan spawned now → is_at_rest now ≡ true
       → is_open None (call_at now.kernel.calls n) ≡ true → IsLost now n
   open_at_rest now n r rests waits steps h =
-      let same : (state_after now steps).kernel.calls ≡ now.kernel.calls =
+      let same : AreOfOneOrder (state_after now steps).kernel.calls now.kernel.calls =
       tell.calls (state_after now steps) now (steps_reach steps now r h) r (at_rest_along steps now now r r refl rests h) in
-      ap (λ (z : CallTable). is_open None (call_at z n)) same ∙ waits
+      open_alike None (state_after now steps).kernel.calls now.kernel.calls same n ∙ waits
 
   -- ---- one step more behind steps by their numbers
   module _ (base : RunState) (reached : IsReached plan spawned base) (tasks : ℕ) (count : tasks ≡ tasks_of base) where
@@ -238,10 +240,10 @@ module _ (plan : Plan) (spawned : List ℕ) (tell : WordsTell plan spawned) wher
     pub closed_alike : (n : ℕ) (p q : List ℕ) (m : ℕ) → AreMoves tasks (m ∷ p) → AreMoves tasks (m ∷ q)
         → run_words (ahead base p) ≡ run_words (ahead base q) → IsClosed base n (m ∷ p) → IsClosed base n (m ∷ q)
     closed_alike n p q m h k e closed =
-        let same : (ahead base (m ∷ p)).kernel.calls ≡ (ahead base (m ∷ q)).kernel.calls =
+        let same : AreOfOneOrder (ahead base (m ∷ p)).kernel.calls (ahead base (m ∷ q)).kernel.calls =
         tell.calls (ahead base (m ∷ p)) (ahead base (m ∷ q)) (ahead_reached (m ∷ p) h) (ahead_reached (m ∷ q) k)
         (words_go_on p q m h k e) in
-        ap (λ (z : CallTable). is_open None (call_at z n)) (sym same) ∙ closed
+        sym (open_alike None (ahead base (m ∷ p)).kernel.calls (ahead base (m ∷ q)).kernel.calls same n) ∙ closed
 
     -- ---- what a search for steps that close a call tells
     pub closed_not_lost : (n : ℕ) (p : List ℕ) → AreMoves tasks p → IsClosed base n p → IsLost base n → ⊥

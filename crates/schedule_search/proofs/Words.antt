@@ -4,7 +4,8 @@ use Rattle.ipc_ids.specs.declared.message.Event.{Event}
 use Rattle.script_lines.specs.Plan.{Plan}
 use Rattle.script_lines.specs.Sound.{IsSound}
 use Rattle.task_system.specs.Run.{RunState, turn}
-use Rattle.turn_counts.specs.Alike.{AreAlikeStates}
+use Rattle.state_words.specs.Order.{AreOfOneOrder}
+use Rattle.run_words.specs.Alike.{AreAlikeRuns}
 use Rattle.run_words.specs.Reached.{IsReached}
 use Rattle.run_words.specs.RunWords.{run_words}
 use Rattle.run_words.proofs.Reaching.{reached_tasks}
@@ -15,9 +16,9 @@ pub record WordsTell (plan : Plan) (spawned : List ℕ) : Type 0 where
   pub tasks : (a b : RunState) → IsReached plan spawned a → IsReached plan spawned b
       → length a.kernel.tasks.alive ≡ length b.kernel.tasks.alive
   pub alike : (a b : RunState) → IsReached plan spawned a → IsReached plan spawned b → run_words a ≡ run_words b
-      → AreAlikeStates a b
+      → AreAlikeRuns a b
   pub calls : (a b : RunState) → IsReached plan spawned a → IsReached plan spawned b → run_words a ≡ run_words b
-      → a.kernel.calls ≡ b.kernel.calls
+      → AreOfOneOrder a.kernel.calls b.kernel.calls
   pub entries : (a b : RunState) (e : Event) → IsReached plan spawned a → IsReached plan spawned b
       → run_words a ≡ run_words b → (turn a e).entries ≡ (turn b e).entries
   pub words : (a b : RunState) (e : Event) → IsReached plan spawned a → IsReached plan spawned b
@@ -31,7 +32,7 @@ words_tell plan spawned sound =
       alike = λ (a b : RunState) (h : IsReached plan spawned a) (k : IsReached plan spawned b) (e : run_words a ≡ run_words b).
           (told_apart plan spawned a b [] [] sound h k (ap (λ (z : List ℕ). z ++ []) e)).0;
       calls = λ (a b : RunState) (h : IsReached plan spawned a) (k : IsReached plan spawned b) (e : run_words a ≡ run_words b).
-          ap (λ (z : RunState). z.kernel.calls) (told_apart plan spawned a b [] [] sound h k (ap (λ (z : List ℕ). z ++ []) e)).0;
+          (told_apart plan spawned a b [] [] sound h k (ap (λ (z : List ℕ). z ++ []) e)).0.kernel.calls;
       entries = λ (a b : RunState) (x : Event) (h : IsReached plan spawned a) (k : IsReached plan spawned b) (e : run_words a ≡ run_words b).
           same_entries plan spawned a b x sound h k e;
       words = λ (a b : RunState) (x : Event) (h : IsReached plan spawned a) (k : IsReached plan spawned b) (e : run_words a ≡ run_words b).

@@ -7,7 +7,7 @@ ghost use Rattle.ipc_ids.specs.declared.message.Event.TheVariants.{Step};
 ghost use Rattle.script_lines.specs.Plan.{Plan};
 ghost use Rattle.script_lines.specs.Sound.{IsSound, IsTask};
 ghost use Rattle.task_system.specs.Run.{RunState, turn};
-ghost use Rattle.turn_counts.specs.Alike.{AreAlikeStates};
+ghost use Rattle.run_words.specs.Alike.{AreAlikeRuns};
 ghost use Rattle.run_words.specs.Reached.{IsReached};
 ghost use Rattle.search_goals.specs.GoalText.{LosesCall, IsStuck};
 ghost use Rattle.search_goals.specs.GoalList.{all_precede};
@@ -18,15 +18,15 @@ ghost use Rattle.schedule_search.specs.Left.{IsOver, left_behind};
 ghost use Rattle.schedule_search.specs.Code.{Fits};
 
 /// A state of a script is at rest where each step of each task leaves a state that differs from it in
-/// counts alone, and there only.
+/// counts, and in stamps of calls that stand in one order, alone, and there only.
 pub fn nothing_moves_at_rest()
     ensures rests { (plan : Plan) (spawned : List ℕ) (now : RunState) (t : ℕ) → IsSound plan
         → IsReached plan spawned now → is_at_rest now ≡ true
         → IsTask (length now.kernel.tasks.alive) t
-        → AreAlikeStates (turn now (Step (record { 0 = t }))).state now }
+        → AreAlikeRuns (turn now (Step (record { 0 = t }))).state now }
     ensures at_rest { (now : RunState)
         → ((t : ℕ) → IsTask (length now.kernel.tasks.alive) t
-        → AreAlikeStates (turn now (Step (record { 0 = t }))).state now)
+        → AreAlikeRuns (turn now (Step (record { 0 = t }))).state now)
         → is_at_rest now ≡ true }
 {}
 

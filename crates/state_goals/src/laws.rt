@@ -1,19 +1,19 @@
-//! That conditions are about no counts, and hold at no operation that no body has.
+//! That conditions are about no counts and no stamps, and hold at no operation that no body has.
 ghost use Rattle.std.specs.Prelude.{◌≡◌, ℕ, false, List, length};
 ghost use Rattle.script_lines.specs.Plan.{Plan};
 ghost use Rattle.script_lines.specs.Sound.{IsTask};
 ghost use Rattle.search_goals.specs.declared.conditions.Condition.{Condition};
 ghost use Rattle.search_goals.specs.Places.{bodies_of, is_known};
+ghost use Rattle.run_words.specs.Alike.{AreAlikeRuns};
 ghost use Rattle.run_words.specs.Reached.{IsReached};
 ghost use Rattle.task_system.specs.Run.{RunState};
-ghost use Rattle.turn_counts.specs.Alike.{AreAlikeStates};
 ghost use Rattle.state_goals.specs.Holding.{task_of, holds, all_hold};
 
-/// Of two states that differ in counts alone, a condition holds in both or in neither, and so do all
-/// of some conditions.
+/// Of two states that differ in counts, and in stamps of calls that stand in one order, alone, a
+/// condition holds in both or in neither, and so do all of some conditions.
 pub fn alike_states_hold_alike()
-    ensures one { (a b : RunState) → AreAlikeStates a b → (c : Condition) → holds c a ≡ holds c b }
-    ensures all { (a b : RunState) → AreAlikeStates a b → (cs : List Condition)
+    ensures one { (a b : RunState) → AreAlikeRuns a b → (c : Condition) → holds c a ≡ holds c b }
+    ensures all { (a b : RunState) → AreAlikeRuns a b → (cs : List Condition)
         → all_hold cs a ≡ all_hold cs b }
 {}
 
