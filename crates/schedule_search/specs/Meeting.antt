@@ -14,7 +14,7 @@ use Rattle.schedule_search.specs.Search.{Search, Made, first_state, last_told}
 use Rattle.schedule_search.specs.OpenCalls.{has_open_call}
 use Rattle.schedule_search.specs.Lost.{HasLostCall}
 
--- a step of this task changes nothing but counters: the words of the state are the same
+-- a step of this task changes nothing but counters, and stamps of one order: the words of the state are the same
 abbrev pub changes_nothing : RunState → ℕ → Bool
 changes_nothing now t = pointwise nat_eq (run_words (turn now (Step (record { 0 = t }))).state) (run_words now)
 

@@ -12,8 +12,9 @@ use ipc_ids::Event;
 use search_core::{Survey, survey};
 use std::alloc::{AllocError, Global};
 
-/// The states at rest to which schedules of a script lead, which differ in more than counts: to each
-/// the first of the shortest schedules, without the events that come before all.
+/// The states at rest to which schedules of a script lead, which differ in more than counts and
+/// stamps of calls that stand in one order: to each the first of the shortest schedules, without the
+/// events that come before all.
 #[derive(Drop)]
 pub enum RestingStates {
     /// All to which any schedule leads; so many states were seen, and there are no more.
