@@ -201,6 +201,7 @@ impl Sessions {
     }
 
     /// What a begin of session `s` would come to, want of memory aside. Takes no memory.
+    #[inline(always)]
     pub fn plan_begin(&self, _f: FibrilNo, s: u32, short: bool) -> Begin
         ensures { result ≡ begin_answer self.now.now s short (session_at self.now.now s) }
     {
@@ -318,6 +319,7 @@ impl Sessions {
     /// # Errors
     ///
     /// `ENOENT` where `f` has not begun it. Nothing has changed then.
+    #[inline(always)]
     pub fn end(&mut self, f: FibrilNo, e: ExchangeNo) -> Result<Ended, Code>
         requires bounds { IsWithinBounds self.old.now }
         ensures answer { result ≡ end_answer (held_by f e self.old.now.exchanges) }

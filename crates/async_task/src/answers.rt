@@ -19,6 +19,7 @@ impl Machine {
     /// # Errors
     ///
     /// `NoMemory` where no memory was found. Nothing has changed then.
+    #[inline(always)]
     pub(crate) fn take_answer(
         &mut self,
         call: CallNo,

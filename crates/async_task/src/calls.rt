@@ -29,6 +29,7 @@ impl Machine {
     }
 
     /// The present fibril, which is `f`, blocks.
+    #[inline(always)]
     pub(crate) fn block(&mut self, f: FibrilNo, why: Why, out: &mut Trace)
         requires entry { 0 < out.old.spare }
         requires bounds { IsWithinBounds self.old.state.order }
@@ -44,6 +45,7 @@ impl Machine {
     }
 
     /// What a slot of a fibril holds.
+    #[inline(always)]
     fn slot_at(&self, f: FibrilNo, slot: u32) -> Slot
         ensures { result ≡ slot_at (context_or_new self.now.state f) slot }
     {
@@ -109,6 +111,7 @@ impl Machine {
         }
     }
 
+    #[inline(always)]
     fn call_outcome(
         &mut self,
         f: FibrilNo,

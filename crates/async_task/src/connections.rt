@@ -26,6 +26,7 @@ impl Machine {
     /// # Errors
     ///
     /// `NoMemory` where no memory was found. Nothing has changed then.
+    #[inline(always)]
     pub(crate) fn receive_call(
         &mut self,
         call: CallNo,
@@ -134,6 +135,7 @@ impl Machine {
     }
 
     /// A new fibril, which keeps that.
+    #[inline(always)]
     pub(crate) fn add_fibril(&mut self, t: Context)
         requires fibrils { 0 < self.old.room.fibrils }
         requires contexts { 0 < self.old.room.contexts }
@@ -207,6 +209,7 @@ impl Machine {
         }
     }
 
+    #[inline(always)]
     fn wake_reader(&mut self, f: FibrilNo)
         requires blocked { IsSome (why_of self.old.state.order f) }
         requires bounds { IsWithinBounds self.old.state.order }

@@ -35,6 +35,7 @@ impl Machine {
     }
 
     /// Begins an exchange of the session, which comes to `plan`. `f` is the present fibril.
+    #[inline(always)]
     pub(crate) fn begin_op(
         &mut self,
         f: FibrilNo,

@@ -44,6 +44,7 @@ pub fn cut_args(args: &[u64; 5]) -> [u64; 5]
 /// `EPERM` where the task may not read them all; `ENOMEM` where all calls would carry more than
 /// 67,108,864 bytes; `NoMemory`.
 #[tactic(auto, using(crate::proofs::Pooled::full_pooled, crate::proofs::Pooled::refused_pooled, crate::proofs::Pooled::room_pooled))]
+#[inline(always)]
 pub(crate) fn read_pooled(
     alloc: Global,
     spaces: &Spaces,

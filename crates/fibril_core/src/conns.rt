@@ -132,6 +132,7 @@ impl Conns {
     /// # Errors
     ///
     /// `NoMemory` where no memory was found. Nothing has changed then.
+    #[inline(always)]
     pub fn route(&mut self, label: Label, call: CallNo, msg: Msg) -> Result<Routed, NoMemory>
         ensures told { IfOk result (λ r. r
             ≡ route_answer msg.method (conn_of_label label self.old.conns)) }
@@ -149,6 +150,7 @@ impl Conns {
     }
 
     /// Takes the first queued call of the fibril's connection. Takes no memory.
+    #[inline(always)]
     pub fn take_next(&mut self, f: FibrilNo) -> Taken
         ensures told { result ≡ take_answer (conn_of_fibril f self.old.conns) }
         ensures conns { self.new.conns ≡ take_next f self.old.conns }

@@ -159,6 +159,7 @@ impl Fibrils {
     }
 
     /// The present fibril blocks.
+    #[inline(always)]
     pub fn block_on(&mut self, why: Why)
         requires current { IsSome (current self.old.order) }
         requires bounds { IsWithinBounds self.old.order }
@@ -241,6 +242,7 @@ impl Fibrils {
     }
 
     /// A blocked fibril is ready behind the others.
+    #[inline(always)]
     fn make_ready(&mut self, f: FibrilNo)
         requires blocked { IsSome (why_of self.old.order f) }
         requires few_stamps { self.old.order.next_stamp < 2 ^ 63 }

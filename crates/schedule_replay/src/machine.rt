@@ -75,6 +75,7 @@ impl Replay {
     ///
     /// `NoMemory` where no memory was found. A first part of the event's entries was added then,
     /// and every later event answers `NoMemory` and adds nothing.
+    #[inline(always)]
     pub fn step(&mut self, event: &Event, out: &mut Trace) -> Result<(), NoMemory>
         requires few_events { self.old.state.kernel.events < 2 ^ 24 }
         requires may { MayHappen self.old.state event.now }

@@ -602,6 +602,7 @@ impl Switchboard {
     }
 
     /// The call takes the reply to the answers of its caller, and what it reserves stays.
+    #[inline(always)]
     pub(crate) fn answer(&mut self, found: Found, reply: &Reply, caller: TaskNo)
         requires called { IsCallOf (call_at self.old.state.calls found.number.0) caller }
         requires unkept { IfSome (call_at self.old.state.calls found.number.0)

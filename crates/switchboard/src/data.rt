@@ -17,7 +17,7 @@ use ipc_ids::{Code, Entry, MethodKind, NoMemory, Outcome, Reply, StoreNo, TaskNo
 impl Switchboard {
     /// Accepts the DATA_WRITE that the task holds: the first bytes that it carries are written
     /// where the reply says. Where they are not, the code of the answer says why.
-    #[inline(never)]
+    #[inline(always)]
     pub fn accept_write(
         &mut self,
         found: Found,
