@@ -3,7 +3,7 @@
 use ipc_ids::TaskNo;
 
 /// Whom a hangup is told.
-#[derive(Clone, Copy, PartialEq, Eq)]
+#[derive(Clone, Copy)]
 pub enum Hung {
     /// The task at the other end gets a `PHONE_HUNGUP` call.
     Sent(TaskNo),

@@ -1,6 +1,8 @@
 //! The phones of all tasks.
 ghost use Rattle.std.specs.Prelude.{◌≡◌, ◌≤◌, length, Some, OnOk, OnErr};
-ghost use Rattle.phone_table.specs.Phones.{AreCounted, row_at, and_row, no_rows};
+ghost use Rattle.phone_table.specs.Phones.{row_at, and_row, no_rows};
+
+mod beside;
 
 use crate::phones::Phones;
 use ipc_ids::{NoMemory, TaskNo};
@@ -25,7 +27,7 @@ impl Model for PhoneRows {
 impl PhoneRows {
     ghost use Rattle.std.specs.Prelude.{◌≡◌, ◌≤◌, length, Some, OnOk, OnErr};
     ghost use Rattle.std.specs.Borrow.{sem};
-    ghost use Rattle.phone_table.specs.Phones.{AreCounted, row_at, and_row, no_rows};
+    ghost use Rattle.phone_table.specs.Phones.{row_at, and_row, no_rows};
     ghost use Rattle.phone_table.specs.Lends.{lends_row};
 
     /// No tasks.
@@ -58,15 +60,6 @@ impl PhoneRows {
         ensures counts { length self.now.counts ≡ length self.now.states }
     {
         self.rows.len() as u64
-    }
-
-    /// Reads each row, so that a proof learns that each phone has its count.
-    pub fn check_counts(&self)
-        ensures { AreCounted self.now }
-    {
-        for i in 0..self.tasks() {
-            let _phones = self.row(TaskNo(i + 1)).len();
-        }
     }
 
     /// The phones of a task.

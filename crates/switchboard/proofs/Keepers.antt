@@ -92,14 +92,6 @@ pub waiting_there : (rows : List (List PhoneState)) (kept : Option Label) → Wa
 waiting_there rows None waits = tt
 waiting_there rows (Some l) waits = is_some (state_at rows l.task.0 l.phone.0) Connecting waits
 
-pub loose_waits : (k : KernelState) (kept : Option Label) → IsLoose k kept → WaitsIn k.tasks.phones kept
-loose_waits k None loose = tt
-loose_waits k (Some l) loose = loose.waits
-
-pub loose_are_unkept : (k : KernelState) (kept : Option Label) → IsLoose k kept → AreUnkept k.calls kept
-loose_are_unkept k None loose = tt
-loose_are_unkept k (Some l) loose = loose_unkept k l loose
-
 pub not_waiting : {rows : List (List PhoneState)} {q : CallTable} (a b : ℕ) → AreKept rows q → (state_at rows a b ≡ Some Connecting → ⊥) → IsUnkept q a b
 not_waiting {rows} a b s not n l is e = not (rw (← e.0, ← e.1) (s.waits n l is))
 

@@ -1,57 +1,27 @@
 -- The rows of phones after a phone of one of them was kept, connected or freed.
 use Rattle.std.proofs.Common.{◌≡◌, ℕ, ◌+◌, ◌-◌, Bool, true, false, Option, None, Some, List, [], ◌∷◌, refl, ap, sym, subst, ◌∙◌, arith, set, suc}
-use Rattle.std.specs.Prelude.{if◌then◌else◌, IsSome, slice_get, option_and_then}
+use Rattle.std.specs.Prelude.{if◌then◌else◌, IsSome, slice_get, option_and_then, Result, Ok, Err}
+use Rattle.std.specs.Option.{IsSomeAnd, MatchOption}
+use Rattle.std.specs.Result.{IsOkAnd, MatchResult}
 use Rattle.std.proofs.lemmas.Option.{same_Some}
 use Rattle.ipc_ids.specs.declared.numbers.TaskNo.{TaskNo}
 use Rattle.ipc_ids.specs.declared.numbers.Label.{Label}
+use Rattle.ipc_ids.specs.declared.numbers.Code.{Code}
+use Rattle.ipc_ids.specs.declared.numbers.PhoneNo.{PhoneNo}
 use Rattle.ipc_ids.specs.declared.message.PhoneState.{PhoneState}
 use Rattle.ipc_ids.specs.declared.message.PhoneState.TheVariants.{Free, Connecting, Connected, HungUp, Slammed}
 use Rattle.ipc_ids.proofs.Common.{is_some}
 use Rattle.answerbox.specs.Calls.{CallTable, active_calls}
-use Rattle.phone_table.specs.Phones.{Row, Rows, row_at, state_at, count_at, is_usable, first_usable, first_usable_from as first_in}
+use Rattle.phone_table.specs.Phones.{Row, row_at, state_at, count_at, is_usable, first_usable, first_usable_from as first_in}
 use Rattle.phone_table.proofs.Lookups.{same_row}
 use Rattle.connect_hooks.specs.Connecting.{IsKept, send_over, receive_over, before_send, on_receive, accept_to_me}
 use Rattle.switchboard.specs.State.{KernelState, label_of, phone_at}
 use Rattle.switchboard.specs.Counts.{HasCounts}
-use Rattle.switchboard.specs.Kept.{AreKept, IsLoose, first_usable_from, first_usable_in, first_usable_of, kept_rows, with_kept, label_in, phone_in, IsOf, WaitsIn}
+use Rattle.switchboard.specs.Kept.{AreKept, IsLoose, first_usable_from, first_usable_of, kept_rows, or_refused, with_kept, label_in, phone_in, IsOf, WaitsIn}
 use Rattle.switchboard.specs.Joins.{code_of}
 use Rattle.switchboard.proofs.Endings.{slammed_states}
 use Rattle.switchboard.proofs.Keepers.{AreUnkept, IsThere, not_waiting, state_here}
 use Rattle.switchboard.proofs.Usable.{usable_is}
-
--- the first usable phone of a row that was looked up
-pub first_of_row : (rows : Rows) (t : TaskNo) (row : Row) → row_at rows.states t.0 ≡ Some row.states → row_at rows.counts t.0 ≡ Some row.counts → first_usable_in rows t ≡ label_in t (first_usable row)
-first_of_row rows t row states counts = rw (states, counts) refl
-
--- a phone was kept before a call was sent, or as it was received
-module _ (rows : Rows) (t : TaskNo) (row : Row) (states : row_at rows.states t.0 ≡ Some row.states) (counts : row_at rows.counts t.0 ≡ Some row.counts) where
-  sent_over : (o : Option ℕ) → set rows.states (t.0 - 1) (send_over row o).phones.states ≡ kept_rows rows.states (label_in t o) Connecting
-  sent_over None = same_row rows.states t.0 row.states states
-  sent_over (Some p) = slammed_states rows.states t.0 p row.states Connecting states
-
-  pub sent_states : set rows.states (t.0 - 1) (before_send row).phones.states ≡ kept_rows rows.states (first_usable_in rows t) Connecting
-  sent_states = rw (first_of_row rows t row states counts) (sent_over (first_usable row))
-
-  sent_over_counts : (o : Option ℕ) → set rows.counts (t.0 - 1) (send_over row o).phones.counts ≡ rows.counts
-  sent_over_counts None = same_row rows.counts t.0 row.counts counts
-  sent_over_counts (Some p) = same_row rows.counts t.0 row.counts counts
-
-  pub sent_counts : set rows.counts (t.0 - 1) (before_send row).phones.counts ≡ rows.counts
-  sent_counts = sent_over_counts (first_usable row)
-
-  received_over : (o : Option ℕ) → set rows.states (t.0 - 1) (receive_over row o).phones.states ≡ kept_rows rows.states (label_in t o) Connecting
-  received_over None = same_row rows.states t.0 row.states states
-  received_over (Some p) = slammed_states rows.states t.0 p row.states Connecting states
-
-  pub received_states : set rows.states (t.0 - 1) (on_receive row).phones.states ≡ kept_rows rows.states (first_usable_in rows t) Connecting
-  received_states = rw (first_of_row rows t row states counts) (received_over (first_usable row))
-
-  received_over_counts : (o : Option ℕ) → set rows.counts (t.0 - 1) (receive_over row o).phones.counts ≡ rows.counts
-  received_over_counts None = same_row rows.counts t.0 row.counts counts
-  received_over_counts (Some p) = same_row rows.counts t.0 row.counts counts
-
-  pub received_counts : set rows.counts (t.0 - 1) (on_receive row).phones.counts ≡ rows.counts
-  received_counts = received_over_counts (first_usable row)
 
 -- by the counts of the phones the first usable one is that of the definition
 module _ (calls : CallTable) (t : TaskNo) where
@@ -68,22 +38,58 @@ module _ (calls : CallTable) (t : TaskNo) where
         by_test true is rest = rw is refl
         by_test false is rest = rw is rest
 
-pub first_is : (k : KernelState) (rows : Rows) (t : TaskNo) → rows.states ≡ k.tasks.phones → HasCounts rows.states rows.counts k.calls → first_usable_in rows t ≡ first_usable_of k t
-first_is k rows t same s =
-    by_row (row_at rows.states t.0) refl (row_at rows.counts t.0) refl
-    ∙ ap (option_and_then (first_usable_from k.calls t 0)) (ap (λ r. row_at r t.0) same) where
-      count_there : (o : Option ℕ) → IsSome o → o ≡ None → ⊥
-      count_there None h e = absurd (cc h)
-      count_there (Some n) h e = cc e
+-- a task's first usable phone was kept before a call was sent, or as it was received
+module _ (k : KernelState) (counts : List (List ℕ)) (t : TaskNo) (row : Row) (s : HasCounts k.tasks.phones counts k.calls) (states : row_at k.tasks.phones t.0 ≡ Some row.states) (counted : row_at counts t.0 ≡ Some row.counts) where
+  first_is : label_in t (first_usable row) ≡ first_usable_of k t
+  first_is =
+      first_from k.calls t 0 row.states row.counts
+      (λ q h. let there : IsSome (count_at counts t.0 q) = s.shaped t.0 q (rw states h) in rw counted at there)
+      (λ q n h. let z : 0 + q ≡ q = omega arith in s.counted t.0 q n (rw counted h) ∙ ap (λ i. active_calls k.calls (label_of t i)) (sym z))
+      ∙ sym (ap (option_and_then (first_usable_from k.calls t 0)) states)
 
-      by_row : (o : Option (List PhoneState)) → row_at rows.states t.0 ≡ o → (n : Option (List ℕ)) → row_at rows.counts t.0 ≡ n → label_in t (option_and_then (λ states. option_and_then (λ counts. first_usable (record { states = states; counts = counts })) n) o) ≡ option_and_then (first_usable_from k.calls t 0) o
-      by_row None is n has = refl
-      by_row (Some []) is None has = refl
-      by_row (Some (state ∷ states)) is None has = absurd (count_there (count_at rows.counts t.0 0) (s.shaped t.0 0 (rw is refl)) (rw has refl))
-      by_row (Some states) is (Some counts) has =
-          first_from k.calls t 0 states counts
-          (λ q h. let there : IsSome (count_at rows.counts t.0 q) = s.shaped t.0 q (rw is h) in rw has at there)
-          (λ q n h. let z : 0 + q ≡ q = omega arith in s.counted t.0 q n (rw has h) ∙ ap (λ i. active_calls k.calls (label_of t i)) (sym z))
+  sent_over : (o : Option ℕ) → set k.tasks.phones (t.0 - 1) (send_over row o).phones.states ≡ kept_rows k.tasks.phones (label_in t o) Connecting
+  sent_over None = same_row k.tasks.phones t.0 row.states states
+  sent_over (Some p) = slammed_states k.tasks.phones t.0 p row.states Connecting states
+
+  pub sent_states : set k.tasks.phones (t.0 - 1) (before_send row).phones.states ≡ kept_rows k.tasks.phones (first_usable_of k t) Connecting
+  sent_states = sent_over (first_usable row) ∙ ap (λ o. kept_rows k.tasks.phones o Connecting) first_is
+
+  sent_over_counts : (o : Option ℕ) → set counts (t.0 - 1) (send_over row o).phones.counts ≡ counts
+  sent_over_counts None = same_row counts t.0 row.counts counted
+  sent_over_counts (Some p) = same_row counts t.0 row.counts counted
+
+  pub sent_counts : set counts (t.0 - 1) (before_send row).phones.counts ≡ counts
+  sent_counts = sent_over_counts (first_usable row)
+
+  sent_over_told : (o : Option ℕ) (now : Result Label Code) (P : PhoneNo → Label → Type 0) → ((x : PhoneNo) (l : Label) → P x l → l ≡ record { task = t; phone = x }) → MatchResult (send_over row o).told (λ x. IsOkAnd now (P x)) (λ e. now ≡ Err e) → now ≡ or_refused (label_in t o)
+  sent_over_told None now P h cases = cases
+  sent_over_told (Some p) (Ok l) P h cases = ap Ok (h (record { 0 = p }) l cases)
+  sent_over_told (Some p) (Err e) P h cases = absurd cases
+
+  pub sent_told : (was : Result PhoneNo Code) (now : Result Label Code) (P : PhoneNo → Label → Type 0) → ((x : PhoneNo) (l : Label) → P x l → l ≡ record { task = t; phone = x }) → was ≡ (before_send row).told → MatchResult was (λ x. IsOkAnd now (P x)) (λ e. now ≡ Err e) → now ≡ or_refused (first_usable_of k t)
+  sent_told was now P h is cases = sent_over_told (first_usable row) now P h (rw is at cases) ∙ ap or_refused first_is
+
+  received_over : (o : Option ℕ) → set k.tasks.phones (t.0 - 1) (receive_over row o).phones.states ≡ kept_rows k.tasks.phones (label_in t o) Connecting
+  received_over None = same_row k.tasks.phones t.0 row.states states
+  received_over (Some p) = slammed_states k.tasks.phones t.0 p row.states Connecting states
+
+  pub received_states : set k.tasks.phones (t.0 - 1) (on_receive row).phones.states ≡ kept_rows k.tasks.phones (first_usable_of k t) Connecting
+  received_states = received_over (first_usable row) ∙ ap (λ o. kept_rows k.tasks.phones o Connecting) first_is
+
+  received_over_counts : (o : Option ℕ) → set counts (t.0 - 1) (receive_over row o).phones.counts ≡ counts
+  received_over_counts None = same_row counts t.0 row.counts counted
+  received_over_counts (Some p) = same_row counts t.0 row.counts counted
+
+  pub received_counts : set counts (t.0 - 1) (on_receive row).phones.counts ≡ counts
+  received_counts = received_over_counts (first_usable row)
+
+  received_over_told : (o : Option ℕ) (now : Option Label) (P : PhoneNo → Label → Type 0) → ((x : PhoneNo) (l : Label) → P x l → l ≡ record { task = t; phone = x }) → MatchOption (receive_over row o).told (now ≡ None) (λ x. IsSomeAnd now (P x)) → now ≡ label_in t o
+  received_over_told None now P h cases = cases
+  received_over_told (Some p) (Some l) P h cases = ap Some (h (record { 0 = p }) l cases)
+  received_over_told (Some p) None P h cases = absurd cases
+
+  pub received_told : (was : Option PhoneNo) (now : Option Label) (P : PhoneNo → Label → Type 0) → ((x : PhoneNo) (l : Label) → P x l → l ≡ record { task = t; phone = x }) → was ≡ (on_receive row).told → MatchOption was (now ≡ None) (λ x. IsSomeAnd now (P x)) → now ≡ first_usable_of k t
+  received_told was now P h is cases = received_over_told (first_usable row) now P h (rw is at cases) ∙ first_is
 
 -- the first usable phone of a task does not wait, so that no call keeps it, and it may be kept
 pub first_unkept : (k : KernelState) (t : TaskNo) → AreKept k.tasks.phones k.calls → AreUnkept k.calls (first_usable_of k t)

@@ -16,7 +16,7 @@ use Rattle.call_slab.specs.declared.call.Call.{Call}
 use Rattle.call_slab.specs.declared.call.Place.{Place}
 use Rattle.call_slab.specs.declared.call.Place.TheVariants.{Incoming, Dispatched, Answers}
 use Rattle.answerbox.specs.Calls.{CallTable, call_at, active_calls}
-use Rattle.phone_table.specs.Phones.{Rows, row_at, state_at, is_usable, first_usable}
+use Rattle.phone_table.specs.Phones.{row_at, state_at, is_usable}
 use Rattle.switchboard.specs.declared.kept.Keeper.{Keeper}
 use Rattle.switchboard.specs.declared.kept.Keeper.TheVariants.{Nobody, Receiver, Caller}
 use Rattle.switchboard.specs.State.{KernelState, phone_at, label_of, with_state_at}
@@ -105,13 +105,10 @@ first_usable_from calls t p (state ∷ states) = if is_usable state (active_call
 abbrev pub first_usable_of : KernelState → TaskNo → Option Label
 first_usable_of k t = option_and_then (first_usable_from k.calls t 0) (row_at k.tasks.phones t.0)
 
--- the same by the counts of the phones
+-- the phone of task t with this number, where there is one
 abbrev pub label_in : TaskNo → Option ℕ → Option Label
 label_in t None = None
 label_in t (Some p) = Some (label_of t p)
-
-abbrev pub first_usable_in : Rows → TaskNo → Option Label
-first_usable_in rows t = label_in t (option_and_then (λ states. option_and_then (λ counts. first_usable (record { states = states; counts = counts })) (row_at rows.counts t.0)) (row_at rows.states t.0))
 
 -- the number of the phone, where there is one
 abbrev pub phone_in : Option Label → Option PhoneNo

@@ -8,25 +8,25 @@ ghost use Rattle.data_hooks.specs.DataMoments.{write_before_send, write_accept, 
 ghost use Rattle.answerbox.specs.Places.{IsAt};
 ghost use Rattle.answerbox.specs.Calls.{used, call_at, task_of, enqueue, without_call, received, without_caller, active_calls, front, calls_of, calls_at, calls_by};
 ghost use Rattle.phone_table.specs.Phones.{hangup_answer};
-ghost use Rattle.switchboard.specs.State.{state_from, start, is_alive, phone_at, live_calls, with_calls, with_memory, with_phone, with_task, with_event, width, mark_ended};
+ghost use Rattle.switchboard.specs.State.{start, is_alive, phone_at, live_calls, with_calls, with_memory, with_phone, with_task, with_event, width, mark_ended};
 ghost use Rattle.call_slab.specs.declared.call.Place.TheVariants.{Dispatched, Answers};
 ghost use Rattle.switchboard.specs.Joins.{new_call, code_of};
 ghost use Rattle.switchboard.specs.Kept.{IsLoose, MayReserve, accepts, kept_phone, lent_phone, with_kept, first_usable_of, or_refused};
-ghost use Rattle.switchboard.specs.Counts.{HasCounts, AreNumbered};
-ghost use Rattle.switchboard.specs.Board.{IsPending, IsCallOf, IsLimit, IsSwitched, IsAdded, IsHeldBy, IsNewCall, HasPlaces, LeadsToAdded, TellsAdded, with_hung, with_bytes, with_declined, with_passed, with_reply};
+ghost use Rattle.switchboard.specs.Counts.{AreNumbered};
+ghost use Rattle.switchboard.specs.Board.{IsPending, IsCallOf, IsLimit, IsAdded, IsHeldBy, IsNewCall, HasPlaces, LeadsToAdded, TellsAdded, with_hung, with_bytes, with_declined, with_passed, with_reply};
 ghost use Rattle.phone_table.specs.Usable.{IsConnected};
 ghost use Rattle.switchboard.specs.Rooms.{KeepsCalls, KeepsRoom};
 
+mod beside;
+
 use crate::counts::{count_out, count_up};
-use crate::kept::{kept_phone, lent_phone, unless_freed};
-use crate::phones::{
-    connect_to_answerer, connect_to_caller, hang_phone, keep_to_receive, keep_to_send,
-    release_kept, slam_phone, width,
-};
+use crate::kept::{kept_phone, lent_phone, phone_in, unless_freed};
+use crate::phones::{connect_to_answerer, hang_phone, slam_phone, width};
 use crate::sharing::Share;
 use address_space::{SpaceFault, Spaces};
 use answerbox::{Boxes, Found};
 use call_slab::{Call, Change, Place};
+use connect_hooks::{accept_to_me, before_send, on_receive, release};
 use data_hooks::{read_accept, read_deliver, write_accept, write_before_send};
 use ipc_ids::{
     Buffer, CallNo, Code, Label, MethodKind, Msg, NoMemory, PhoneNo, PhoneState, Reply, StoreNo,
@@ -86,44 +86,6 @@ impl Switchboard {
             places: 0,
             events: 0,
         }
-    }
-
-    /// These tasks, with these phones, calls and areas.
-    pub fn of(alive: Vec<bool>, phones: PhoneRows, boxes: Boxes, spaces: Spaces) -> Switchboard
-        requires switched { IsSwitched alive.items phones.states phones.counts boxes.calls
-            boxes.tasks }
-        requires areas { length spaces.areas ≡ length alive.items }
-        ensures state { result.state
-            ≡ state_from alive.items phones.states boxes.calls spaces 0 }
-        ensures spare { result.spare ≡ boxes.spare }
-        ensures places { result.places ≡ boxes.tasks }
-    {
-        let places = alive.len() as u64;
-        Switchboard {
-            alive,
-            phones,
-            boxes,
-            spaces,
-            places,
-            events: 0,
-        }
-    }
-
-    /// The phones, the calls and the areas.
-    pub fn into_parts(self) -> (PhoneRows, Boxes, Spaces)
-        ensures phones { result.0.states ≡ self.state.tasks.phones }
-        ensures calls { result.1.calls ≡ self.state.calls }
-        ensures counts { HasCounts result.0.states result.0.counts result.1.calls }
-        ensures areas { result.2 ≡ self.state.memory }
-        ensures places { result.1.tasks ≡ self.places }
-    {
-        let Switchboard {
-            phones,
-            boxes,
-            spaces,
-            ..
-        } = self;
-        (phones, boxes, spaces)
     }
 
     /// Who is alive, from the first task on.
@@ -525,7 +487,7 @@ impl Switchboard {
             (first_usable_of self.old.state t) PhoneState.Connecting }
         ensures keeps { KeepsCalls self.old self.new }
     {
-        keep_to_send(t, &mut self.phones)
+        before_send(self.phones.row_mut(t)).map(|phone| Label { task: t, phone })
     }
 
     /// Keeps the receiver's first usable phone, as a CONNECT_TO_ME is received; `None` where no
@@ -538,7 +500,7 @@ impl Switchboard {
             (first_usable_of self.old.state t) PhoneState.Connecting }
         ensures keeps { KeepsCalls self.old self.new }
     {
-        keep_to_receive(t, &mut self.phones)
+        on_receive(self.phones.row_mut(t)).map(|phone| Label { task: t, phone })
     }
 
     /// The CONNECT_TO_ME that task `t` holds takes an accepting reply to the answers of its caller,
@@ -565,7 +527,7 @@ impl Switchboard {
         ensures room { KeepsRoom self.old self.new 0 }
     {
         let kept = kept_phone(self.boxes.read(found));
-        let code = connect_to_caller(t, kept, caller, &mut self.phones);
+        let code = accept_to_me(self.phones.row_mut(t), phone_in(kept), caller);
         let (args, place) = (reply.args, Place::Answers(caller));
         let change = Change::Reply(Reply { code, args });
         self.boxes.go_uncounted(found, change, place);
@@ -766,7 +728,9 @@ impl Switchboard {
         ensures state { self.new.state ≡ with_kept self.old.state kept PhoneState.Free }
         ensures room { KeepsRoom self.old self.new 0 }
     {
-        release_kept(kept, &mut self.phones);
+        if let Some(label) = kept {
+            release(self.phones.row_mut(label.task), label.phone);
+        }
     }
 }
 

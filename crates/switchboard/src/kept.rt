@@ -1,9 +1,9 @@
 //! The phones that connect calls keep for their connections.
 ghost use Rattle.std.specs.Prelude.{◌≡◌};
-ghost use Rattle.switchboard.specs.Kept.{keeper_of, phone_of, held_phone, asked_phone, kept_phone, lent_phone, unless_freed, kept_note};
+ghost use Rattle.switchboard.specs.Kept.{keeper_of, phone_of, held_phone, asked_phone, kept_phone, lent_phone, phone_in, unless_freed, kept_note};
 
 use call_slab::{Call, Place};
-use ipc_ids::{Code, Entry, Label, MethodKind, PhoneState, TaskNo};
+use ipc_ids::{Code, Entry, Label, MethodKind, PhoneNo, PhoneState, TaskNo};
 
 /// Who keeps a phone for a call.
 #[derive(Clone, Copy)]
@@ -85,6 +85,16 @@ fn phone_of(task: TaskNo, phone: Option<Label>) -> Option<Label>
     match phone {
         Some(label) if label.task.0 == task.0 => Some(label),
         _ => None,
+    }
+}
+
+/// The number of the phone, where there is one.
+pub(crate) fn phone_in(kept: Option<Label>) -> Option<PhoneNo>
+    ensures { result ≡ phone_in kept }
+{
+    match kept {
+        Some(label) => Some(label.phone),
+        None => None,
     }
 }
 
