@@ -13,10 +13,9 @@ fn digit(value: u8) -> u8
 
 fn push_digits<T: Text>(text: &mut T, bytes: &[u8])
     requires few { length bytes.now ≤ 64 }
-    requires room { T.count text.old + 128 ≤ T.capacity text.old }
+    requires room { 128 ≤ T.left text.old }
     ensures text { T.bytes text.new ≡ T.bytes text.old ++ digits_text bytes.now }
-    ensures len { T.count text.new ≤ T.count text.old + 128 }
-    ensures capacity { T.capacity text.old ≤ T.capacity text.new }
+    ensures left { T.left text.old ≤ T.left text.new + 128 }
 {
     for byte in bytes {
         text.push(digit(*byte / 16));
@@ -28,10 +27,9 @@ fn push_digits<T: Text>(text: &mut T, bytes: &[u8])
 #[inline(never)]
 pub fn push_bytes<T: Text>(text: &mut T, bytes: &[u8])
     requires few { length bytes.now ≤ 64 }
-    requires room { T.count text.old + 128 ≤ T.capacity text.old }
+    requires room { 128 ≤ T.left text.old }
     ensures text { T.bytes text.new ≡ T.bytes text.old ++ bytes_text bytes.now }
-    ensures len { T.count text.new ≤ T.count text.old + 128 }
-    ensures capacity { T.capacity text.old ≤ T.capacity text.new }
+    ensures left { T.left text.old ≤ T.left text.new + 128 }
 {
     if bytes.is_empty() {
         text.push(b'-');

@@ -1,5 +1,5 @@
 //! A line that is compared with a text as that is written, which takes no memory.
-ghost use Rattle.std.specs.Prelude.{◌≡◌, ◌↔◌, ◌+◌, ◌≤◌, ◌++◌, [], ◌∷◌, length, take, IsTrue};
+ghost use Rattle.std.specs.Prelude.{◌≡◌, ◌↔◌, ◌+◌, ◌-◌, ◌≤◌, ◌++◌, [], ◌∷◌, length, take, IsTrue};
 ghost use Rattle.trace_print.specs.Comparison.{compared};
 
 use crate::page::Page;
@@ -71,9 +71,7 @@ impl<'a> Comparison<'a> {
 impl<'a> Text for Comparison<'a> {
     ghost bytes = { λ c. compared c.line.now c.same c.other };
 
-    ghost count = { λ c. c.same + length c.other };
-
-    ghost capacity = { λ _. 256 };
+    ghost left = { λ c. 256 - (c.same + length c.other) };
 
     #[inline(always)]
     fn push(&mut self, byte: u8) {

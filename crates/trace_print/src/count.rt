@@ -1,5 +1,5 @@
 //! A count of bytes in place of a text.
-ghost use Rattle.std.specs.Prelude.{◌≡◌, ◌+◌, ◌≤◌, length, decimal, replicate};
+ghost use Rattle.std.specs.Prelude.{◌≡◌, ◌+◌, ◌-◌, ◌≤◌, length, decimal, replicate};
 ghost use Rattle.trace_print.specs.Text.{bytes_text};
 
 use crate::pen::Pen;
@@ -63,9 +63,7 @@ fn bytes_length(bytes: &[u8]) -> u64
 impl Pen for Count {
     ghost seen = { λ count. replicate count.length 0 };
 
-    ghost count = { λ count. count.length };
-
-    ghost capacity = { λ _. 18446744073709551615 };
+    ghost left = { λ count. 18446744073709551615 - count.length };
 
     ghost mark = { λ _. 0 };
 

@@ -13,11 +13,10 @@ use ipc_ids::{CallNo, Entry, Label, PhoneState, StoreNo, TaskNo};
 #[tactic(auto, using(crate::proofs::Marks::map_append), unfolding(crate::specs::Text::call_text))]
 #[inline(always)]
 fn push_call<P: Pen>(pen: &mut P, call: CallNo, what: &[u8])
-    requires room { P.count pen.old + (27 + length what.now) ≤ P.capacity pen.old }
+    requires room { 27 + length what.now ≤ P.left pen.old }
     ensures text { P.seen pen.new ≡ P.seen pen.old
         ++ map P.mark (codes "  " ++ call_text call ++ what.now) }
-    ensures len { P.count pen.new ≤ P.count pen.old + (27 + length what.now) }
-    ensures capacity { P.capacity pen.old ≤ P.capacity pen.new }
+    ensures left { P.left pen.old ≤ P.left pen.new + (27 + length what.now) }
 {
     pen.word(b"  call ");
     pen.number(call.0);
@@ -27,10 +26,9 @@ fn push_call<P: Pen>(pen: &mut P, call: CallNo, what: &[u8])
 #[tactic(auto, using(crate::proofs::Marks::map_append), unfolding(crate::specs::Text::way_text))]
 #[inline(always)]
 fn push_way<P: Pen>(pen: &mut P, way: Option<TaskNo>)
-    requires room { P.count pen.old + 25 ≤ P.capacity pen.old }
+    requires room { 25 ≤ P.left pen.old }
     ensures text { P.seen pen.new ≡ P.seen pen.old ++ map P.mark (way_text way) }
-    ensures len { P.count pen.new ≤ P.count pen.old + 25 }
-    ensures capacity { P.capacity pen.old ≤ P.capacity pen.new }
+    ensures left { P.left pen.old ≤ P.left pen.new + 25 }
 {
     match way {
         None => pen.word(b" back"),
@@ -43,10 +41,9 @@ fn push_way<P: Pen>(pen: &mut P, way: Option<TaskNo>)
 
 #[tactic(auto, using(crate::proofs::Marks::map_append), unfolding(crate::specs::Text::answerer_text))]
 fn push_answerer<P: Pen>(pen: &mut P, by: Option<TaskNo>)
-    requires room { P.count pen.old + 25 ≤ P.capacity pen.old }
+    requires room { 25 ≤ P.left pen.old }
     ensures text { P.seen pen.new ≡ P.seen pen.old ++ map P.mark (answerer_text by) }
-    ensures len { P.count pen.new ≤ P.count pen.old + 25 }
-    ensures capacity { P.capacity pen.old ≤ P.capacity pen.new }
+    ensures left { P.left pen.old ≤ P.left pen.new + 25 }
 {
     match by {
         None => pen.word(b" by kernel"),
@@ -59,10 +56,9 @@ fn push_answerer<P: Pen>(pen: &mut P, by: Option<TaskNo>)
 
 #[tactic(auto, using(crate::proofs::Marks::map_append))]
 fn push_state<P: Pen>(pen: &mut P, state: PhoneState)
-    requires room { P.count pen.old + 31 ≤ P.capacity pen.old }
+    requires room { 31 ≤ P.left pen.old }
     ensures text { P.seen pen.new ≡ P.seen pen.old ++ map P.mark (phone_state_text state) }
-    ensures len { P.count pen.new ≤ P.count pen.old + 31 }
-    ensures capacity { P.capacity pen.old ≤ P.capacity pen.new }
+    ensures left { P.left pen.old ≤ P.left pen.new + 31 }
 {
     match state {
         PhoneState::Free => pen.word(b"free"),
@@ -78,10 +74,9 @@ fn push_state<P: Pen>(pen: &mut P, state: PhoneState)
 
 #[tactic(auto, using(crate::proofs::Marks::map_append), unfolding(crate::specs::Text::store_text))]
 fn push_store<P: Pen>(pen: &mut P, store: StoreNo)
-    requires room { P.count pen.old + 27 ≤ P.capacity pen.old }
+    requires room { 27 ≤ P.left pen.old }
     ensures text { P.seen pen.new ≡ P.seen pen.old ++ map P.mark (store_text store) }
-    ensures len { P.count pen.new ≤ P.count pen.old + 27 }
-    ensures capacity { P.capacity pen.old ≤ P.capacity pen.new }
+    ensures left { P.left pen.old ≤ P.left pen.new + 27 }
 {
     push_numbered(pen, b" store ", store.0);
 }
@@ -89,10 +84,9 @@ fn push_store<P: Pen>(pen: &mut P, store: StoreNo)
 #[tactic(auto, using(crate::proofs::Marks::map_append))]
 #[inline(never)]
 fn push_task_effect<P: Pen>(pen: &mut P, effect: &Entry)
-    requires room { P.count pen.old + 220 ≤ P.capacity pen.old }
+    requires room { 220 ≤ P.left pen.old }
     ensures text { P.seen pen.new ≡ P.seen pen.old ++ map P.mark (task_effect_text effect.now) }
-    ensures len { P.count pen.new ≤ P.count pen.old + 220 }
-    ensures capacity { P.capacity pen.old ≤ P.capacity pen.new }
+    ensures left { P.left pen.old ≤ P.left pen.new + 220 }
 {
     match effect {
         Entry::PhoneIs { phone, state } => {
@@ -138,11 +132,10 @@ fn push_task_effect<P: Pen>(pen: &mut P, effect: &Entry)
 
 #[tactic(auto, using(crate::proofs::Marks::map_append))]
 fn push_accepted<P: Pen>(pen: &mut P, call: CallNo, from: Label, method: u64, to: Option<TaskNo>)
-    requires room { P.count pen.old + 132 ≤ P.capacity pen.old }
+    requires room { 132 ≤ P.left pen.old }
     ensures text { P.seen pen.new ≡ P.seen pen.old
         ++ map P.mark (codes "  " ++ effect_text (entry.Accepted call from method to)) }
-    ensures len { P.count pen.new ≤ P.count pen.old + 132 }
-    ensures capacity { P.capacity pen.old ≤ P.capacity pen.new }
+    ensures left { P.left pen.old ≤ P.left pen.new + 132 }
 {
     push_call(pen, call, b" accepted ");
     push_label(pen, from);
@@ -153,11 +146,10 @@ fn push_accepted<P: Pen>(pen: &mut P, call: CallNo, from: Label, method: u64, to
 /// Two spaces and an effect.
 #[tactic(auto, using(crate::proofs::Marks::map_append))]
 pub fn push_effect<P: Pen>(pen: &mut P, effect: &Entry)
-    requires room { P.count pen.old + 222 ≤ P.capacity pen.old }
+    requires room { 222 ≤ P.left pen.old }
     ensures text { P.seen pen.new ≡ P.seen pen.old
         ++ map P.mark (codes "  " ++ effect_text effect.now) }
-    ensures len { P.count pen.new ≤ P.count pen.old + 222 }
-    ensures capacity { P.capacity pen.old ≤ P.capacity pen.new }
+    ensures left { P.left pen.old ≤ P.left pen.new + 222 }
 {
     match effect {
         Entry::Accepted {

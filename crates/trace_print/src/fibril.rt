@@ -11,11 +11,10 @@ use ipc_ids::{CallNo, Entry, ExchangeMode, ExchangeNo, FibrilNo, Reply, TaskNo, 
 #[tactic(auto, using(crate::proofs::Marks::map_append), unfolding(crate::specs::Text::fibril_text))]
 #[inline(always)]
 fn push_fibril<P: Pen>(pen: &mut P, task: TaskNo, fibril: FibrilNo, what: &[u8])
-    requires room { P.count pen.old + (42 + length what.now) ≤ P.capacity pen.old }
+    requires room { 42 + length what.now ≤ P.left pen.old }
     ensures text { P.seen pen.new ≡ P.seen pen.old
         ++ map P.mark (fibril_text task fibril ++ what.now) }
-    ensures len { P.count pen.new ≤ P.count pen.old + (42 + length what.now) }
-    ensures capacity { P.capacity pen.old ≤ P.capacity pen.new }
+    ensures left { P.left pen.old ≤ P.left pen.new + (42 + length what.now) }
 {
     push_task(pen, task);
     pen.byte(b'/');
@@ -25,10 +24,9 @@ fn push_fibril<P: Pen>(pen: &mut P, task: TaskNo, fibril: FibrilNo, what: &[u8])
 
 #[tactic(auto, using(crate::proofs::Marks::map_append), unfolding(crate::specs::Text::slot_text))]
 fn push_slot<P: Pen>(pen: &mut P, slot: Option<u32>)
-    requires room { P.count pen.old + 26 ≤ P.capacity pen.old }
+    requires room { 26 ≤ P.left pen.old }
     ensures text { P.seen pen.new ≡ P.seen pen.old ++ map P.mark (slot_text slot) }
-    ensures len { P.count pen.new ≤ P.count pen.old + 26 }
-    ensures capacity { P.capacity pen.old ≤ P.capacity pen.new }
+    ensures left { P.left pen.old ≤ P.left pen.new + 26 }
 {
     match slot {
         None => pen.word(b" begin"),
@@ -38,10 +36,9 @@ fn push_slot<P: Pen>(pen: &mut P, slot: Option<u32>)
 
 #[tactic(auto, using(crate::proofs::Marks::map_append))]
 fn push_why<P: Pen>(pen: &mut P, why: Why)
-    requires room { P.count pen.old + 27 ≤ P.capacity pen.old }
+    requires room { 27 ≤ P.left pen.old }
     ensures text { P.seen pen.new ≡ P.seen pen.old ++ map P.mark (why_text why) }
-    ensures len { P.count pen.new ≤ P.count pen.old + 27 }
-    ensures capacity { P.capacity pen.old ≤ P.capacity pen.new }
+    ensures left { P.left pen.old ≤ P.left pen.new + 27 }
 {
     match why {
         Why::Answer(CallNo(call)) => push_numbered(pen, b"answer ", call),
@@ -53,20 +50,18 @@ fn push_why<P: Pen>(pen: &mut P, why: Why)
 
 #[tactic(auto, using(crate::proofs::Marks::map_append), unfolding(crate::specs::Text::exchange_text))]
 fn push_exchange<P: Pen>(pen: &mut P, exchange: ExchangeNo)
-    requires room { P.count pen.old + 30 ≤ P.capacity pen.old }
+    requires room { 30 ≤ P.left pen.old }
     ensures text { P.seen pen.new ≡ P.seen pen.old ++ map P.mark (exchange_text exchange) }
-    ensures len { P.count pen.new ≤ P.count pen.old + 30 }
-    ensures capacity { P.capacity pen.old ≤ P.capacity pen.new }
+    ensures left { P.left pen.old ≤ P.left pen.new + 30 }
 {
     push_numbered(pen, b" exchange ", exchange.0);
 }
 
 #[tactic(auto, using(crate::proofs::Marks::map_append))]
 fn push_exchange_mode<P: Pen>(pen: &mut P, mode: ExchangeMode)
-    requires room { P.count pen.old + 9 ≤ P.capacity pen.old }
+    requires room { 9 ≤ P.left pen.old }
     ensures text { P.seen pen.new ≡ P.seen pen.old ++ map P.mark (exchange_mode_text mode) }
-    ensures len { P.count pen.new ≤ P.count pen.old + 9 }
-    ensures capacity { P.capacity pen.old ≤ P.capacity pen.new }
+    ensures left { P.left pen.old ≤ P.left pen.new + 9 }
 {
     match mode {
         ExchangeMode::Atomic => pen.word(b"atomic"),
@@ -77,10 +72,9 @@ fn push_exchange_mode<P: Pen>(pen: &mut P, mode: ExchangeMode)
 
 #[tactic(auto, using(crate::proofs::Marks::map_append), unfolding(crate::specs::Text::terms_text))]
 fn push_terms<P: Pen>(pen: &mut P, mode: ExchangeMode, session: u32, phone: u64)
-    requires room { P.count pen.old + 66 ≤ P.capacity pen.old }
+    requires room { 66 ≤ P.left pen.old }
     ensures text { P.seen pen.new ≡ P.seen pen.old ++ map P.mark (terms_text mode session phone) }
-    ensures len { P.count pen.new ≤ P.count pen.old + 66 }
-    ensures capacity { P.capacity pen.old ≤ P.capacity pen.new }
+    ensures left { P.left pen.old ≤ P.left pen.new + 66 }
 {
     pen.byte(b' ');
     push_exchange_mode(pen, mode);
@@ -90,10 +84,9 @@ fn push_terms<P: Pen>(pen: &mut P, mode: ExchangeMode, session: u32, phone: u64)
 
 #[tactic(auto, using(crate::proofs::Marks::map_append))]
 fn push_exchange_effect<P: Pen>(pen: &mut P, effect: &Entry)
-    requires room { P.count pen.old + 145 ≤ P.capacity pen.old }
+    requires room { 145 ≤ P.left pen.old }
     ensures text { P.seen pen.new ≡ P.seen pen.old ++ map P.mark (exchange_effect_text effect.now) }
-    ensures len { P.count pen.new ≤ P.count pen.old + 145 }
-    ensures capacity { P.capacity pen.old ≤ P.capacity pen.new }
+    ensures left { P.left pen.old ≤ P.left pen.new + 145 }
 {
     match effect {
         Entry::Begins {
@@ -137,11 +130,10 @@ fn push_gets<P: Pen>(
     slot: Option<u32>,
     reply: &Reply,
 )
-    requires room { P.count pen.old + 220 ≤ P.capacity pen.old }
+    requires room { 220 ≤ P.left pen.old }
     ensures text { P.seen pen.new ≡ P.seen pen.old
         ++ map P.mark (fibril_effect_text (entry.Gets task fibril call slot reply.now)) }
-    ensures len { P.count pen.new ≤ P.count pen.old + 220 }
-    ensures capacity { P.capacity pen.old ≤ P.capacity pen.new }
+    ensures left { P.left pen.old ≤ P.left pen.new + 220 }
 {
     push_fibril(pen, task, fibril, b" gets ");
     pen.number(call.0);
@@ -152,10 +144,9 @@ fn push_gets<P: Pen>(
 
 #[tactic(auto, using(crate::proofs::Marks::map_append))]
 pub fn push_fibril_effect<P: Pen>(pen: &mut P, effect: &Entry)
-    requires room { P.count pen.old + 220 ≤ P.capacity pen.old }
+    requires room { 220 ≤ P.left pen.old }
     ensures text { P.seen pen.new ≡ P.seen pen.old ++ map P.mark (fibril_effect_text effect.now) }
-    ensures len { P.count pen.new ≤ P.count pen.old + 220 }
-    ensures capacity { P.capacity pen.old ≤ P.capacity pen.new }
+    ensures left { P.left pen.old ≤ P.left pen.new + 220 }
 {
     match effect {
         Entry::Sent {

@@ -9,10 +9,9 @@ use ipc_ids::{CallNo, Mode, Msg, Outcome, Request};
 
 #[tactic(auto, using(crate::proofs::Marks::map_append))]
 fn push_mode<P: Pen>(pen: &mut P, mode: Mode)
-    requires room { P.count pen.old + 5 ≤ P.capacity pen.old }
+    requires room { 5 ≤ P.left pen.old }
     ensures text { P.seen pen.new ≡ P.seen pen.old ++ map P.mark (mode_text mode) }
-    ensures len { P.count pen.new ≤ P.count pen.old + 5 }
-    ensures capacity { P.capacity pen.old ≤ P.capacity pen.new }
+    ensures left { P.left pen.old ≤ P.left pen.new + 5 }
 {
     match mode {
         Mode::Plain => pen.word(b"plain"),
@@ -22,10 +21,9 @@ fn push_mode<P: Pen>(pen: &mut P, mode: Mode)
 
 #[tactic(auto, using(crate::proofs::Marks::map_append))]
 fn push_change<P: Pen>(pen: &mut P, change: &Option<Msg>)
-    requires room { P.count pen.old + 126 ≤ P.capacity pen.old }
+    requires room { 126 ≤ P.left pen.old }
     ensures text { P.seen pen.new ≡ P.seen pen.old ++ map P.mark (change_text change.now) }
-    ensures len { P.count pen.new ≤ P.count pen.old + 126 }
-    ensures capacity { P.capacity pen.old ≤ P.capacity pen.new }
+    ensures left { P.left pen.old ≤ P.left pen.new + 126 }
 {
     match change {
         None => {}
@@ -38,11 +36,10 @@ fn push_change<P: Pen>(pen: &mut P, change: &Option<Msg>)
 
 #[tactic(auto, using(crate::proofs::Marks::map_append))]
 fn push_forward<P: Pen>(pen: &mut P, call: u64, phone: u64, mode: Mode, change: &Option<Msg>)
-    requires room { P.count pen.old + 181 ≤ P.capacity pen.old }
+    requires room { 181 ≤ P.left pen.old }
     ensures text { P.seen pen.new ≡ P.seen pen.old
         ++ map P.mark (request_text (ask.Forward call phone mode change.now)) }
-    ensures len { P.count pen.new ≤ P.count pen.old + 181 }
-    ensures capacity { P.capacity pen.old ≤ P.capacity pen.new }
+    ensures left { P.left pen.old ≤ P.left pen.new + 181 }
 {
     push_numbered(pen, b"forward ", call);
     push_spaced(pen, phone);
@@ -53,11 +50,10 @@ fn push_forward<P: Pen>(pen: &mut P, call: u64, phone: u64, mode: Mode, change: 
 
 #[tactic(auto, using(crate::proofs::Marks::map_append))]
 fn push_area<P: Pen>(pen: &mut P, base: u64, pages: u64, rights: u64)
-    requires room { P.count pen.old + 67 ≤ P.capacity pen.old }
+    requires room { 67 ≤ P.left pen.old }
     ensures text { P.seen pen.new ≡ P.seen pen.old
         ++ map P.mark (request_text (ask.AreaMake base pages rights)) }
-    ensures len { P.count pen.new ≤ P.count pen.old + 67 }
-    ensures capacity { P.capacity pen.old ≤ P.capacity pen.new }
+    ensures left { P.left pen.old ≤ P.left pen.new + 67 }
 {
     push_numbered(pen, b"area ", base);
     push_spaced(pen, pages);
@@ -66,10 +62,9 @@ fn push_area<P: Pen>(pen: &mut P, base: u64, pages: u64, rights: u64)
 
 #[tactic(auto, using(crate::proofs::Marks::map_append))]
 pub fn push_request<P: Pen>(pen: &mut P, request: &Request)
-    requires room { P.count pen.old + 181 ≤ P.capacity pen.old }
+    requires room { 181 ≤ P.left pen.old }
     ensures text { P.seen pen.new ≡ P.seen pen.old ++ map P.mark (request_text request.now) }
-    ensures len { P.count pen.new ≤ P.count pen.old + 181 }
-    ensures capacity { P.capacity pen.old ≤ P.capacity pen.new }
+    ensures left { P.left pen.old ≤ P.left pen.new + 181 }
 {
     match request {
         Request::Call { phone, msg } => {
@@ -111,10 +106,9 @@ pub fn push_request<P: Pen>(pen: &mut P, request: &Request)
 
 #[tactic(auto, using(crate::proofs::Marks::map_append))]
 pub fn push_outcome<P: Pen>(pen: &mut P, outcome: &Outcome)
-    requires room { P.count pen.old + 203 ≤ P.capacity pen.old }
+    requires room { 203 ≤ P.left pen.old }
     ensures text { P.seen pen.new ≡ P.seen pen.old ++ map P.mark (outcome_text outcome.now) }
-    ensures len { P.count pen.new ≤ P.count pen.old + 203 }
-    ensures capacity { P.capacity pen.old ≤ P.capacity pen.new }
+    ensures left { P.left pen.old ≤ P.left pen.new + 203 }
 {
     match outcome {
         Outcome::Done => pen.word(b"EOK"),

@@ -13,10 +13,9 @@ use ipc_ids::{CallNo, Entry, NoMemory, Outcome};
 
 #[tactic(auto, using(crate::proofs::Marks::map_append))]
 fn push_line<P: Pen>(pen: &mut P, entry: &Entry)
-    requires room { P.count pen.old + 256 ≤ P.capacity pen.old }
+    requires room { 256 ≤ P.left pen.old }
     ensures text { P.seen pen.new ≡ P.seen pen.old ++ map P.mark (text_of_entry entry.now) }
-    ensures len { P.count pen.new ≤ P.count pen.old + 256 }
-    ensures capacity { P.capacity pen.old ≤ P.capacity pen.new }
+    ensures left { P.left pen.old ≤ P.left pen.new + 256 }
 {
     match entry {
         Entry::Head(task, request) => {

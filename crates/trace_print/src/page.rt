@@ -1,5 +1,5 @@
 //! Text in room for so many bytes.
-ghost use Rattle.std.specs.Prelude.{◌≡◌, ◌+◌, ◌≤◌, ◌==◌, [], length};
+ghost use Rattle.std.specs.Prelude.{◌≡◌, ◌+◌, ◌-◌, ◌≤◌, ◌==◌, [], length};
 
 use crate::text::Text;
 use std::marker::Model;
@@ -66,9 +66,7 @@ impl<const SIZE: usize> Page<SIZE> {
 impl<const SIZE: usize> Text for Page<SIZE> {
     ghost bytes = { λ page. page };
 
-    ghost count = { λ page. length page };
-
-    ghost capacity = { λ _. SIZE };
+    ghost left = { λ page. SIZE - length page };
 
     #[inline(always)]
     fn push(&mut self, byte: u8) {

@@ -8,10 +8,9 @@ use ipc_ids::{Code, Label, Msg, Reply, TaskNo};
 #[tactic(auto, using(crate::proofs::Marks::map_append))]
 #[inline(always)]
 pub fn push_numbered<P: Pen>(pen: &mut P, word: &[u8], number: u64)
-    requires room { P.count pen.old + length word.now + 20 ≤ P.capacity pen.old }
+    requires room { length word.now + 20 ≤ P.left pen.old }
     ensures text { P.seen pen.new ≡ P.seen pen.old ++ map P.mark (word.now ++ decimal number) }
-    ensures len { P.count pen.new ≤ P.count pen.old + length word.now + 20 }
-    ensures capacity { P.capacity pen.old ≤ P.capacity pen.new }
+    ensures left { P.left pen.old ≤ P.left pen.new + length word.now + 20 }
 {
     pen.word(word);
     pen.number(number);
@@ -20,10 +19,9 @@ pub fn push_numbered<P: Pen>(pen: &mut P, word: &[u8], number: u64)
 #[tactic(auto, using(crate::proofs::Marks::map_append))]
 #[inline(always)]
 pub fn push_task<P: Pen>(pen: &mut P, task: TaskNo)
-    requires room { P.count pen.old + 21 ≤ P.capacity pen.old }
+    requires room { 21 ≤ P.left pen.old }
     ensures text { P.seen pen.new ≡ P.seen pen.old ++ map P.mark (task_text task) }
-    ensures len { P.count pen.new ≤ P.count pen.old + 21 }
-    ensures capacity { P.capacity pen.old ≤ P.capacity pen.new }
+    ensures left { P.left pen.old ≤ P.left pen.new + 21 }
 {
     pen.byte(b't');
     pen.number(task.0);
@@ -32,10 +30,9 @@ pub fn push_task<P: Pen>(pen: &mut P, task: TaskNo)
 #[tactic(auto, using(crate::proofs::Marks::map_append))]
 #[inline(always)]
 pub fn push_label<P: Pen>(pen: &mut P, label: Label)
-    requires room { P.count pen.old + 42 ≤ P.capacity pen.old }
+    requires room { 42 ≤ P.left pen.old }
     ensures text { P.seen pen.new ≡ P.seen pen.old ++ map P.mark (label_text label) }
-    ensures len { P.count pen.new ≤ P.count pen.old + 42 }
-    ensures capacity { P.capacity pen.old ≤ P.capacity pen.new }
+    ensures left { P.left pen.old ≤ P.left pen.new + 42 }
 {
     push_task(pen, label.task);
     pen.byte(b'.');
@@ -45,10 +42,9 @@ pub fn push_label<P: Pen>(pen: &mut P, label: Label)
 #[tactic(auto, using(crate::proofs::Marks::map_append))]
 #[inline(always)]
 pub fn push_code<P: Pen>(pen: &mut P, code: Code)
-    requires room { P.count pen.old + 20 ≤ P.capacity pen.old }
+    requires room { 20 ≤ P.left pen.old }
     ensures text { P.seen pen.new ≡ P.seen pen.old ++ map P.mark (code_text code) }
-    ensures len { P.count pen.new ≤ P.count pen.old + 20 }
-    ensures capacity { P.capacity pen.old ≤ P.capacity pen.new }
+    ensures left { P.left pen.old ≤ P.left pen.new + 20 }
 {
     match code.0 {
         0 => pen.word(b"EOK"),
@@ -68,10 +64,9 @@ pub fn push_code<P: Pen>(pen: &mut P, code: Code)
 #[tactic(auto, using(crate::proofs::Marks::map_append))]
 #[inline(always)]
 pub fn push_spaced<P: Pen>(pen: &mut P, number: u64)
-    requires room { P.count pen.old + 21 ≤ P.capacity pen.old }
+    requires room { 21 ≤ P.left pen.old }
     ensures text { P.seen pen.new ≡ P.seen pen.old ++ map P.mark (spaced_text number) }
-    ensures len { P.count pen.new ≤ P.count pen.old + 21 }
-    ensures capacity { P.capacity pen.old ≤ P.capacity pen.new }
+    ensures left { P.left pen.old ≤ P.left pen.new + 21 }
 {
     pen.byte(b' ');
     pen.number(number);
@@ -89,10 +84,9 @@ fn ends_in_zeros(args: &[u64; 5]) -> bool
 #[tactic(auto, using(crate::proofs::Marks::map_append))]
 #[inline(always)]
 fn push_args<P: Pen>(pen: &mut P, args: &[u64; 5])
-    requires room { P.count pen.old + 105 ≤ P.capacity pen.old }
+    requires room { 105 ≤ P.left pen.old }
     ensures text { P.seen pen.new ≡ P.seen pen.old ++ map P.mark (args_text args.now) }
-    ensures len { P.count pen.new ≤ P.count pen.old + 105 }
-    ensures capacity { P.capacity pen.old ≤ P.capacity pen.new }
+    ensures left { P.left pen.old ≤ P.left pen.new + 105 }
 {
     push_spaced(pen, args[0]);
     if ends_in_zeros(args) {
@@ -108,10 +102,9 @@ fn push_args<P: Pen>(pen: &mut P, args: &[u64; 5])
 #[tactic(auto, using(crate::proofs::Marks::map_append))]
 #[inline(always)]
 pub fn push_msg<P: Pen>(pen: &mut P, msg: &Msg)
-    requires room { P.count pen.old + 125 ≤ P.capacity pen.old }
+    requires room { 125 ≤ P.left pen.old }
     ensures text { P.seen pen.new ≡ P.seen pen.old ++ map P.mark (msg_text msg.now) }
-    ensures len { P.count pen.new ≤ P.count pen.old + 125 }
-    ensures capacity { P.capacity pen.old ≤ P.capacity pen.new }
+    ensures left { P.left pen.old ≤ P.left pen.new + 125 }
 {
     pen.number(msg.method);
     push_args(pen, &msg.args);
@@ -120,10 +113,9 @@ pub fn push_msg<P: Pen>(pen: &mut P, msg: &Msg)
 #[tactic(auto, using(crate::proofs::Marks::map_append))]
 #[inline(always)]
 pub fn push_reply<P: Pen>(pen: &mut P, reply: &Reply)
-    requires room { P.count pen.old + 125 ≤ P.capacity pen.old }
+    requires room { 125 ≤ P.left pen.old }
     ensures text { P.seen pen.new ≡ P.seen pen.old ++ map P.mark (reply_text reply.now) }
-    ensures len { P.count pen.new ≤ P.count pen.old + 125 }
-    ensures capacity { P.capacity pen.old ≤ P.capacity pen.new }
+    ensures left { P.left pen.old ≤ P.left pen.new + 125 }
 {
     push_code(pen, reply.code);
     push_args(pen, &reply.args);

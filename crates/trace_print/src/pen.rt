@@ -12,41 +12,34 @@ pub trait Pen {
     /// What was written, as far as the pen keeps it.
     ghost seen: { Self → List ℕ };
 
-    /// How many bytes were written.
-    ghost count: { Self → ℕ };
-
-    /// How many bytes can be written in all.
-    ghost capacity: { Self → ℕ };
+    /// For how many bytes more there is room.
+    ghost left: { Self → ℕ };
 
     /// What the pen keeps of a byte.
     ghost mark: { ℕ → ℕ };
 
     fn byte(&mut self, byte: u8)
-        requires room { count self.old + 1 ≤ capacity self.old }
+        requires room { 1 ≤ left self.old }
         ensures text { seen self.new ≡ seen self.old ++ mark byte ∷ [] }
-        ensures len { count self.new ≤ count self.old + 1 }
-        ensures capacity { capacity self.old ≤ capacity self.new };
+        ensures left { left self.old ≤ left self.new + 1 };
 
     fn word(&mut self, word: &[u8])
-        requires room { count self.old + length word.now ≤ capacity self.old }
+        requires room { length word.now ≤ left self.old }
         ensures text { seen self.new ≡ seen self.old ++ map mark word.now }
-        ensures len { count self.new ≤ count self.old + length word.now }
-        ensures capacity { capacity self.old ≤ capacity self.new };
+        ensures left { left self.old ≤ left self.new + length word.now };
 
     /// A number in decimal, of at most 20 digits.
     fn number(&mut self, number: u64)
-        requires room { count self.old + 20 ≤ capacity self.old }
+        requires room { 20 ≤ left self.old }
         ensures text { seen self.new ≡ seen self.old ++ map mark (decimal number) }
-        ensures len { count self.new ≤ count self.old + 20 }
-        ensures capacity { capacity self.old ≤ capacity self.new };
+        ensures left { left self.old ≤ left self.new + 20 };
 
     /// Bytes as digits in lower case, two for each, or `-` for none.
     fn bytes(&mut self, bytes: &[u8])
         requires few { length bytes.now ≤ 64 }
-        requires room { count self.old + 128 ≤ capacity self.old }
+        requires room { 128 ≤ left self.old }
         ensures text { seen self.new ≡ seen self.old ++ map mark (bytes_text bytes.now) }
-        ensures len { count self.new ≤ count self.old + 128 }
-        ensures capacity { capacity self.old ≤ capacity self.new };
+        ensures left { left self.old ≤ left self.new + 128 };
 }
 
 // Text keeps each byte as it is.
@@ -54,9 +47,7 @@ pub trait Pen {
 impl<T: Text> Pen for T {
     ghost seen = { T.bytes };
 
-    ghost count = { T.count };
-
-    ghost capacity = { T.capacity };
+    ghost left = { T.left };
 
     ghost mark = { λ byte. byte };
 

@@ -6,21 +6,16 @@ pub trait Text {
     /// Its bytes.
     ghost bytes: { Self → List ℕ };
 
-    /// How many bytes were added.
-    ghost count: { Self → ℕ };
-
-    /// How many bytes can be added in all.
-    ghost capacity: { Self → ℕ };
+    /// For how many bytes more there is room.
+    ghost left: { Self → ℕ };
 
     fn push(&mut self, byte: u8)
-        requires room { count self.old + 1 ≤ capacity self.old }
+        requires room { 1 ≤ left self.old }
         ensures text { bytes self.new ≡ bytes self.old ++ byte ∷ [] }
-        ensures len { count self.new ≤ count self.old + 1 }
-        ensures capacity { capacity self.old ≤ capacity self.new };
+        ensures left { left self.old ≤ left self.new + 1 };
 
     fn extend(&mut self, more: &[u8])
-        requires room { count self.old + length more.now ≤ capacity self.old }
+        requires room { length more.now ≤ left self.old }
         ensures text { bytes self.new ≡ bytes self.old ++ more.now }
-        ensures len { count self.new ≤ count self.old + length more.now }
-        ensures capacity { capacity self.old ≤ capacity self.new };
+        ensures left { left self.old ≤ left self.new + length more.now };
 }

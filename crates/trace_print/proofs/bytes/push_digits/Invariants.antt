@@ -7,6 +7,5 @@ abbrev pub invariant-loop-byte : goal.invariant-loop-byte
 invariant-loop-byte g l = record {
   text : g.T.Text.bytes l.text ++ digits_text (drop l.byte-index l.bytes)
       ≡ g.T.Text.bytes l.fn.text ++ digits_text l.bytes;
-  len : g.T.Text.count l.text ≤ g.T.Text.count l.fn.text + l.byte-index * 2;
-  capacity : g.T.Text.capacity l.fn.text ≤ g.T.Text.capacity l.text;
+  left : g.T.Text.left l.fn.text ≤ g.T.Text.left l.text + l.byte-index * 2;
 }
