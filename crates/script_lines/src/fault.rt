@@ -1,5 +1,6 @@
 //! Why a script or a schedule is not read.
 ghost use Rattle.std.specs.Prelude.{◌≡◌};
+ghost use Rattle.script_lines.specs.Text.{text_of_reason};
 ghost use Rattle.script_lines.specs.declared.fault.LineFault.TheVariants.{Bad, NoMemory as LineNoMemory};
 ghost use Rattle.script_lines.specs.declared.fault.ScriptFault.TheVariants as scripts;
 ghost use Rattle.script_lines.specs.declared.fault.ScheduleFault.TheVariants as schedules;
@@ -37,6 +38,27 @@ pub enum Reason {
     TooManyEvents,
 }
 
+impl Reason {
+    /// The words that say this reason.
+    fn text(&self) -> &'static str
+        ensures { result.now ≡ text_of_reason self.now }
+    {
+        match self {
+            Reason::TooLong => "too long",
+            Reason::BadByte => "bad byte",
+            Reason::UnknownOperation => "unknown operation",
+            Reason::OutOfPlace => "out of place",
+            Reason::WrongCount => "wrong number of words",
+            Reason::BadWord => "bad word",
+            Reason::UnknownName => "unknown name",
+            Reason::NameTaken => "name taken",
+            Reason::BadPhone => "bad phone",
+            Reason::TooMany => "too many",
+            Reason::TooManyEvents => "too many events",
+        }
+    }
+}
+
 impl fmt::Display for Reason {
     ghost use Rattle.std.specs.Prelude.{Some};
     ghost use Rattle.script_lines.specs.Text.{text_of_reason};
@@ -44,19 +66,7 @@ impl fmt::Display for Reason {
     ghost output = { λ reason. Some (text_of_reason reason) };
 
     fn fmt<W: fmt::Write>(&self, f: &mut fmt::Formatter<W>) -> fmt::Result {
-        match self {
-            Reason::TooLong => f.write_str("too long"),
-            Reason::BadByte => f.write_str("bad byte"),
-            Reason::UnknownOperation => f.write_str("unknown operation"),
-            Reason::OutOfPlace => f.write_str("out of place"),
-            Reason::WrongCount => f.write_str("wrong number of words"),
-            Reason::BadWord => f.write_str("bad word"),
-            Reason::UnknownName => f.write_str("unknown name"),
-            Reason::NameTaken => f.write_str("name taken"),
-            Reason::BadPhone => f.write_str("bad phone"),
-            Reason::TooMany => f.write_str("too many"),
-            Reason::TooManyEvents => f.write_str("too many events"),
-        }
+        f.write_str(self.text())
     }
 }
 

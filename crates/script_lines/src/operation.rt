@@ -1,7 +1,8 @@
 //! A line that is an operation.
-ghost use Rattle.std.specs.Prelude.{◌≡◌, ◌≤◌, ◌<◌, length, IfOk, IfSome, All};
+ghost use Rattle.std.specs.Prelude.{◌≡◌, ◌≤◌, ◌<◌, [], ◌∷◌, length, IfOk, IfSome, All};
 ghost use Rattle.script_lines.specs.Ranges.{IsInRange, IsRawOp, IsAsyncOp, IsOpOf};
 ghost use Rattle.script_lines.specs.Text.{texts};
+ghost use Rattle.script_lines.specs.Word.{number_below};
 ghost use Rattle.script_lines.specs.Operation.{arguments, two_and_arguments, call_op, answer_op, forward_op, receive_op, set_op, jump_op, hangup_op, area_op, unarea_op, poke_op, peek_op, two_and_place, jump_equal_op, jump_differ_op, slot_of, handle_of, session_of, call_slot_op, send_op, wait_op, next_op, yield_op, open_op, begin_op, end_op, close_op, raw_op_of, async_op_of, op_in};
 
 use crate::fault::Reason;
@@ -14,6 +15,31 @@ const SLOTS: u32 = 8;
 const HANDLES: u32 = 8;
 
 const SESSIONS: u32 = 16;
+
+/// What words of these kinds spell, one word each, and up to five arguments behind them where a
+/// name stands for these. Any other number of words is at fault, and then the first word that is
+/// not of its kind.
+macro_rules! spelled {
+    ($words:ident, [$($word:ident: $kind:ident),*] => $spelled:expr) => {
+        match $words {
+            [$($word),*] => {
+                $(let $word = needed!($kind(*$word));)*
+                Ok($spelled)
+            }
+            _ => Err(Reason::WrongCount),
+        }
+    };
+    ($words:ident, [$($word:ident: $kind:ident),*; $args:ident] => $spelled:expr) => {
+        match $words {
+            [$($word,)* $args @ ..] if $args.len() <= 5 => {
+                $(let $word = needed!($kind(*$word));)*
+                let $args = needed!(arguments($args));
+                Ok($spelled)
+            }
+            _ => Err(Reason::WrongCount),
+        }
+    };
+}
 
 /// Up to five arguments, with 0 for those that are left out.
 #[inline(always)]
@@ -37,15 +63,7 @@ pub fn two_and_arguments(words: &[&[u8]]) -> Result<(Value, Value, [Value; 5]), 
     ensures value { result ≡ two_and_arguments (texts words.now) }
     ensures ranges { IfOk result (λ x. IsInRange x.0 × IsInRange x.1 × All IsInRange x.2) }
 {
-    match words {
-        [first, second, args @ ..] if args.len() <= 5 => {
-            let first = needed!(value(*first));
-            let second = needed!(value(*second));
-            let args = needed!(arguments(args));
-            Ok((first, second, args))
-        }
-        _ => Err(Reason::WrongCount),
-    }
+    spelled!(words, [first: value, second: value; args] => (first, second, args))
 }
 
 #[inline(always)]
@@ -77,10 +95,49 @@ fn receive_op(words: &[&[u8]]) -> Result<Op, Reason>
     ensures value { result ≡ receive_op (texts words.now) }
     ensures raw { IfOk result IsRawOp }
 {
-    match words {
-        [] => Ok(Op::Receive),
-        _ => Err(Reason::WrongCount),
-    }
+    spelled!(words, [] => Op::Receive)
+}
+
+/// A call, a phone and a mode.
+#[tactic(auto, unfolding(crate::specs::Operation::forward_op))]
+fn forward_alone(call: &[u8], phone: &[u8], mode: &[u8]) -> Result<Op, Reason>
+    ensures value { result ≡ forward_op (call.now ∷ phone.now ∷ mode.now ∷ []) }
+    ensures raw { IfOk result IsRawOp }
+    ensures fibrils { IfOk result IsAsyncOp }
+{
+    let call = needed!(value(call));
+    let phone = needed!(value(phone));
+    let mode = needed!(mode_of(mode));
+    Ok(Op::Forward { call, phone, mode })
+}
+
+/// A call, a phone, a mode, a method, and up to five arguments.
+#[tactic(auto, unfolding(crate::specs::Operation::forward_op))]
+fn forward_with(
+    call: &[u8],
+    phone: &[u8],
+    mode: &[u8],
+    method: &[u8],
+    args: &[&[u8]],
+) -> Result<Op, Reason>
+    requires { length args.now ≤ 5 }
+    ensures value { result
+        ≡ forward_op (call.now ∷ phone.now ∷ mode.now ∷ method.now ∷ texts args.now) }
+    ensures raw { IfOk result IsRawOp }
+    ensures fibrils { IfOk result IsAsyncOp }
+{
+    let call = needed!(value(call));
+    let phone = needed!(value(phone));
+    let mode = needed!(mode_of(mode));
+    let method = needed!(value(method));
+    let args = needed!(arguments(args));
+    Ok(Op::ForwardWith {
+        call,
+        phone,
+        mode,
+        method,
+        args,
+    })
 }
 
 /// Without a change, or with a method and up to five arguments.
@@ -91,25 +148,9 @@ fn forward_op(words: &[&[u8]]) -> Result<Op, Reason>
     ensures fibrils { IfOk result IsAsyncOp }
 {
     match words {
-        [call, phone, mode] => {
-            let call = needed!(value(*call));
-            let phone = needed!(value(*phone));
-            let mode = needed!(mode_of(*mode));
-            Ok(Op::Forward { call, phone, mode })
-        }
+        [call, phone, mode] => forward_alone(*call, *phone, *mode),
         [call, phone, mode, method, args @ ..] if args.len() <= 5 => {
-            let call = needed!(value(*call));
-            let phone = needed!(value(*phone));
-            let mode = needed!(mode_of(*mode));
-            let method = needed!(value(*method));
-            let args = needed!(arguments(args));
-            Ok(Op::ForwardWith {
-                call,
-                phone,
-                mode,
-                method,
-                args,
-            })
+            forward_with(*call, *phone, *mode, *method, args)
         }
         _ => Err(Reason::WrongCount),
     }
@@ -120,10 +161,7 @@ fn hangup_op(words: &[&[u8]]) -> Result<Op, Reason>
     ensures value { result ≡ hangup_op (texts words.now) }
     ensures raw { IfOk result IsRawOp }
 {
-    match words {
-        [phone] => Ok(Op::Hangup(needed!(value(*phone)))),
-        _ => Err(Reason::WrongCount),
-    }
+    spelled!(words, [phone: value] => Op::Hangup(phone))
 }
 
 #[tactic(auto, unfolding(crate::specs::Operation::area_op))]
@@ -132,19 +170,7 @@ fn area_op(words: &[&[u8]]) -> Result<Op, Reason>
     ensures raw { IfOk result IsRawOp }
     ensures fibrils { IfOk result IsAsyncOp }
 {
-    match words {
-        [base, pages, rights] => {
-            let base = needed!(value(*base));
-            let pages = needed!(value(*pages));
-            let rights = needed!(value(*rights));
-            Ok(Op::Area {
-                base,
-                pages,
-                rights,
-            })
-        }
-        _ => Err(Reason::WrongCount),
-    }
+    spelled!(words, [base: value, pages: value, rights: value] => Op::Area { base, pages, rights })
 }
 
 #[tactic(auto, unfolding(crate::specs::Operation::unarea_op))]
@@ -153,10 +179,7 @@ fn unarea_op(words: &[&[u8]]) -> Result<Op, Reason>
     ensures raw { IfOk result IsRawOp }
     ensures fibrils { IfOk result IsAsyncOp }
 {
-    match words {
-        [base] => Ok(Op::Unarea(needed!(value(*base)))),
-        _ => Err(Reason::WrongCount),
-    }
+    spelled!(words, [base: value] => Op::Unarea(base))
 }
 
 #[tactic(auto, unfolding(crate::specs::Operation::poke_op))]
@@ -165,14 +188,7 @@ fn poke_op(words: &[&[u8]]) -> Result<Op, Reason>
     ensures raw { IfOk result IsRawOp }
     ensures fibrils { IfOk result IsAsyncOp }
 {
-    match words {
-        [at, bytes] => {
-            let at = needed!(value(*at));
-            let bytes = needed!(bytes_of(*bytes));
-            Ok(Op::Poke { at, bytes })
-        }
-        _ => Err(Reason::WrongCount),
-    }
+    spelled!(words, [at: value, bytes: bytes_of] => Op::Poke { at, bytes })
 }
 
 #[tactic(auto, unfolding(crate::specs::Operation::peek_op))]
@@ -181,14 +197,7 @@ fn peek_op(words: &[&[u8]]) -> Result<Op, Reason>
     ensures raw { IfOk result IsRawOp }
     ensures fibrils { IfOk result IsAsyncOp }
 {
-    match words {
-        [at, count] => {
-            let at = needed!(value(*at));
-            let count = needed!(value(*count));
-            Ok(Op::Peek { at, count })
-        }
-        _ => Err(Reason::WrongCount),
-    }
+    spelled!(words, [at: value, count: value] => Op::Peek { at, count })
 }
 
 #[tactic(auto, unfolding(crate::specs::Operation::set_op))]
@@ -197,17 +206,7 @@ fn set_op(words: &[&[u8]]) -> Result<Op, Reason>
     ensures raw { IfOk result IsRawOp }
     ensures fibrils { IfOk result IsAsyncOp }
 {
-    match words {
-        [target, source] => {
-            let target = needed!(register(*target));
-            let source = needed!(value(*source));
-            Ok(Op::Set {
-                register: target,
-                value: source,
-            })
-        }
-        _ => Err(Reason::WrongCount),
-    }
+    spelled!(words, [target: register, source: value] => Op::Set { register: target, value: source })
 }
 
 #[tactic(auto, unfolding(crate::specs::Operation::jump_op))]
@@ -216,10 +215,15 @@ fn jump_op(words: &[&[u8]]) -> Result<Op, Reason>
     ensures raw { IfOk result IsRawOp }
     ensures fibrils { IfOk result IsAsyncOp }
 {
-    match words {
-        [to] => Ok(Op::Jump(needed!(number_below(65536, *to)))),
-        _ => Err(Reason::WrongCount),
-    }
+    spelled!(words, [to: place_of] => Op::Jump(to))
+}
+
+/// The number of an operation.
+fn place_of(word: &[u8]) -> Option<u32>
+    ensures value { result ≡ number_below 65536 word.now }
+    ensures small { IfSome result (λ place. place < 65536) }
+{
+    number_below(65536, word)
 }
 
 /// Two values, and a place.
@@ -228,15 +232,7 @@ fn two_and_place(words: &[&[u8]]) -> Result<(Value, Value, u32), Reason>
     ensures value { result ≡ two_and_place (texts words.now) }
     ensures ranges { IfOk result (λ x. IsInRange x.0 × IsInRange x.1 × (x.2 < 65536)) }
 {
-    match words {
-        [left, right, to] => {
-            let left = needed!(value(*left));
-            let right = needed!(value(*right));
-            let to = needed!(number_below(65536, *to));
-            Ok((left, right, to))
-        }
-        _ => Err(Reason::WrongCount),
-    }
+    spelled!(words, [left: value, right: value, to: place_of] => (left, right, to))
 }
 
 #[tactic(auto, unfolding(crate::specs::Operation::jump_equal_op))]
@@ -291,21 +287,7 @@ fn call_slot_op(words: &[&[u8]]) -> Result<Op, Reason>
     ensures value { result ≡ call_slot_op (texts words.now) }
     ensures fibrils { IfOk result IsAsyncOp }
 {
-    match words {
-        [slot, phone, method, args @ ..] if args.len() <= 5 => {
-            let slot = needed!(slot_of(*slot));
-            let phone = needed!(value(*phone));
-            let method = needed!(value(*method));
-            let args = needed!(arguments(args));
-            Ok(Op::CallSlot {
-                slot,
-                phone,
-                method,
-                args,
-            })
-        }
-        _ => Err(Reason::WrongCount),
-    }
+    spelled!(words, [slot: slot_of, phone: value, method: value; args] => Op::CallSlot { slot, phone, method, args })
 }
 
 /// A slot, a handle, a value, and up to five arguments.
@@ -314,21 +296,7 @@ fn send_op(words: &[&[u8]]) -> Result<Op, Reason>
     ensures value { result ≡ send_op (texts words.now) }
     ensures fibrils { IfOk result IsAsyncOp }
 {
-    match words {
-        [slot, handle, method, args @ ..] if args.len() <= 5 => {
-            let slot = needed!(slot_of(*slot));
-            let handle = needed!(handle_of(*handle));
-            let method = needed!(value(*method));
-            let args = needed!(arguments(args));
-            Ok(Op::Send {
-                slot,
-                handle,
-                method,
-                args,
-            })
-        }
-        _ => Err(Reason::WrongCount),
-    }
+    spelled!(words, [slot: slot_of, handle: handle_of, method: value; args] => Op::Send { slot, handle, method, args })
 }
 
 #[tactic(auto, unfolding(crate::specs::Operation::wait_op))]
@@ -336,10 +304,7 @@ fn wait_op(words: &[&[u8]]) -> Result<Op, Reason>
     ensures value { result ≡ wait_op (texts words.now) }
     ensures fibrils { IfOk result IsAsyncOp }
 {
-    match words {
-        [slot] => Ok(Op::Wait(needed!(slot_of(*slot)))),
-        _ => Err(Reason::WrongCount),
-    }
+    spelled!(words, [slot: slot_of] => Op::Wait(slot))
 }
 
 #[tactic(auto, unfolding(crate::specs::Operation::next_op))]
@@ -347,10 +312,7 @@ fn next_op(words: &[&[u8]]) -> Result<Op, Reason>
     ensures value { result ≡ next_op (texts words.now) }
     ensures fibrils { IfOk result IsAsyncOp }
 {
-    match words {
-        [] => Ok(Op::Next),
-        _ => Err(Reason::WrongCount),
-    }
+    spelled!(words, [] => Op::Next)
 }
 
 #[tactic(auto, unfolding(crate::specs::Operation::yield_op))]
@@ -358,10 +320,7 @@ fn yield_op(words: &[&[u8]]) -> Result<Op, Reason>
     ensures value { result ≡ yield_op (texts words.now) }
     ensures fibrils { IfOk result IsAsyncOp }
 {
-    match words {
-        [] => Ok(Op::Yield),
-        _ => Err(Reason::WrongCount),
-    }
+    spelled!(words, [] => Op::Yield)
 }
 
 #[tactic(auto, unfolding(crate::specs::Operation::open_op))]
@@ -369,19 +328,7 @@ fn open_op(words: &[&[u8]]) -> Result<Op, Reason>
     ensures value { result ≡ open_op (texts words.now) }
     ensures fibrils { IfOk result IsAsyncOp }
 {
-    match words {
-        [session, phone, mode] => {
-            let session = needed!(session_of(*session));
-            let phone = needed!(value(*phone));
-            let mode = needed!(exchange_mode_of(*mode));
-            Ok(Op::OpenSession {
-                session,
-                phone,
-                mode,
-            })
-        }
-        _ => Err(Reason::WrongCount),
-    }
+    spelled!(words, [session: session_of, phone: value, mode: exchange_mode_of] => Op::OpenSession { session, phone, mode })
 }
 
 #[tactic(auto, unfolding(crate::specs::Operation::begin_op))]
@@ -389,14 +336,7 @@ fn begin_op(words: &[&[u8]]) -> Result<Op, Reason>
     ensures value { result ≡ begin_op (texts words.now) }
     ensures fibrils { IfOk result IsAsyncOp }
 {
-    match words {
-        [handle, session] => {
-            let handle = needed!(handle_of(*handle));
-            let session = needed!(session_of(*session));
-            Ok(Op::Begin { handle, session })
-        }
-        _ => Err(Reason::WrongCount),
-    }
+    spelled!(words, [handle: handle_of, session: session_of] => Op::Begin { handle, session })
 }
 
 #[tactic(auto, unfolding(crate::specs::Operation::end_op))]
@@ -404,10 +344,7 @@ fn end_op(words: &[&[u8]]) -> Result<Op, Reason>
     ensures value { result ≡ end_op (texts words.now) }
     ensures fibrils { IfOk result IsAsyncOp }
 {
-    match words {
-        [handle] => Ok(Op::End(needed!(handle_of(*handle)))),
-        _ => Err(Reason::WrongCount),
-    }
+    spelled!(words, [handle: handle_of] => Op::End(handle))
 }
 
 #[tactic(auto, unfolding(crate::specs::Operation::close_op))]
@@ -415,10 +352,7 @@ fn close_op(words: &[&[u8]]) -> Result<Op, Reason>
     ensures value { result ≡ close_op (texts words.now) }
     ensures fibrils { IfOk result IsAsyncOp }
 {
-    match words {
-        [session] => Ok(Op::Close(needed!(session_of(*session)))),
-        _ => Err(Reason::WrongCount),
-    }
+    spelled!(words, [session: session_of] => Op::Close(session))
 }
 
 /// The operation of a raw task that a first word and the words behind it spell.

@@ -1,7 +1,7 @@
 //! What one word can be.
 ghost use Rattle.std.specs.Prelude.{◌≡◌, ◌≤◌, ◌<◌, IfSome};
 ghost use Rattle.script_lines.specs.Ranges.{IsInRange};
-ghost use Rattle.script_lines.specs.Word.{number, verb_of, named, register, register_number, value, mode_of, exchange_mode_of, number_below, hex_digit, bytes_of};
+ghost use Rattle.script_lines.specs.Word.{number, verb_of, named, register, register_number, value, mode_of, exchange_mode_of, number_below, hex_digit, hex_byte, bytes_of};
 
 use arrayvec::ArrayVec;
 use ipc_ids::{ExchangeMode, Mode, Short, Value, code_named, in_base, look_up, method_named};
@@ -209,6 +209,16 @@ fn hex_digit(byte: u8) -> Option<u8>
     Some(digit as u8)
 }
 
+/// The byte of two hexadecimal digits.
+#[tactic(auto, unfolding(crate::specs::Word::hex_digit))]
+fn hex_byte(high: u8, low: u8) -> Option<u8>
+    ensures { result ≡ hex_byte high low }
+{
+    let high = hex_digit(high)?;
+    let low = hex_digit(low)?;
+    Some(high * 16 + low)
+}
+
 /// Up to 64 bytes, two hexadecimal digits for each.
 #[tactic(auto, unfolding(crate::specs::Word::bytes_of))]
 pub fn bytes_of(word: &[u8]) -> Option<Short>
@@ -220,9 +230,7 @@ pub fn bytes_of(word: &[u8]) -> Option<Short>
     let mut bytes = ArrayVec::<u8, 64>::new();
     let mut rest = word;
     while let [high, low, others @ ..] = rest {
-        let high = hex_digit(*high)?;
-        let low = hex_digit(*low)?;
-        bytes.push(high * 16 + low);
+        bytes.push(hex_byte(*high, *low)?);
         rest = others;
     }
     if rest.is_empty() {
