@@ -73,12 +73,12 @@ fn push_stand(call: Option<&Call>, out: &mut Vec<Stand>) -> Result<(), AllocErro
 
 /// The stands of all live calls, by their numbers.
 pub fn stands_of(boxes: &Boxes) -> Result<Vec<Stand>, AllocError>
-    ensures { IfOk result (λ them. them.items ≡ stands boxes.now.calls) }
+    ensures { IfOk result (λ found. found.items ≡ stands boxes.now.calls) }
 {
-    let mut them = Vec::new(boxes.alloc());
+    let mut found = Vec::new(boxes.alloc());
     let next = boxes.next_number().0;
     for n in 0..next {
-        push_stand(boxes.get(CallNo(n)), &mut them)?;
+        push_stand(boxes.get(CallNo(n)), &mut found)?;
     }
-    Ok(them)
+    Ok(found)
 }

@@ -5,4 +5,4 @@ use Rattle.state_words.proofs.stands.stands_of.Goals as goal
 
 pub loop-n-preserved : goal.loop-n-preserved
 loop-n-preserved c =
-    one_more _ _ _ _ _ _ c.loop-n.invariant (left_stands c.args.boxes.now.calls c.loop-n.n _ c.loop-n-test.true) (c.in_ok-push_stand.ensures ∙ ap (λ z. c.loop-n.them.items ++ found_stand z) c.get.ensures.call)
+    one_more _ _ _ _ _ _ c.loop-n.invariant (left_stands c.args.boxes.now.calls c.loop-n.n _ c.loop-n-test.true) (c.in_ok-push_stand.ensures ∙ ap (λ z. c.loop-n.found.items ++ found_stand z) c.get.ensures.call)
