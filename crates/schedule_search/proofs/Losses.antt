@@ -1,12 +1,11 @@
 -- What the code learns of a call behind events: that it is lost, or not.
-use Rattle.std.proofs.Common.{ℕ, ◌≡◌, ◌⊎◌, ◌≤◌, ◌<◌, ◌+◌, Bool, true, false, List, [], length, refl, sym, ◌∙◌, subst, inl, inr, arith}
+use Rattle.std.proofs.Common.{ℕ, ◌≡◌, ◌⊎◌, ◌≤◌, ◌<◌, ◌+◌, Bool, true, false, List, [], length, refl, sym, subst, inl, inr, arith}
 use Rattle.std.specs.Prelude.{None, Some, not}
 use Rattle.std.proofs.lemmas.Bool.{both_ways, cases_lt, false≢true}
 use Rattle.std.proofs.lemmas.Option.{same_Some}
 use Rattle.ipc_ids.specs.declared.message.Event.{Event}
 use Rattle.answerbox.specs.Calls.{call_at}
 use Rattle.run_words.specs.Reached.{IsReached}
-use Rattle.script_lines.specs.Sound.{IsTask}
 use Rattle.task_system.specs.Run.{RunState}
 use Rattle.search_core.specs.Moves.{AreMoves}
 use Rattle.schedule_search.specs.Search.{Search, state_behind}
@@ -16,7 +15,7 @@ use Rattle.schedule_search.specs.Problem.{CanDo}
 use Rattle.schedule_search.specs.Ahead.{IsClosed, FitsAhead}
 use Rattle.schedule_search.proofs.Words.{WordsTell, words_tell}
 use Rattle.schedule_search.proofs.Behind.{spawned_by, reached}
-use Rattle.schedule_search.proofs.Steps.{IsLed, led_tasks, may_ahead, words_go_on, closed_alike, closed_not_lost, none_closed}
+use Rattle.schedule_search.proofs.Steps.{may_ahead, words_go_on, closed_alike, closed_not_lost, none_closed}
 
 -- ---- a search for steps that close it
 
@@ -51,16 +50,6 @@ module _ (s : Search) (es : List Event) (tasks n : ℕ) (fits : FitsAhead s es t
   none_answers =
       none_closed s.plan (spawned_by s es) (words_tell s.plan (spawned_by s es) fits.can.sound.script)
       (state_behind s es) here tasks fits.count n
-
--- a task is there behind steps too
-pub led_there : (s : Search) (es : List Event) (now : RunState) (tasks t : ℕ) → CanDo s es → IsLed (state_behind s es) now
-    → tasks ≡ length (state_behind s es).kernel.tasks.alive → IsTask tasks t → IsTask (length now.kernel.tasks.alive) t
-led_there s es now tasks t can led count is =
-    subst (λ (n : ℕ). IsTask n t)
-    (count
-    ∙ sym (led_tasks s.plan (spawned_by s es) (words_tell s.plan (spawned_by s es) can.sound.script) (state_behind s es)
-    now (reached s can.sound es can.tried) led))
-    is
 
 -- ---- one call after the other
 

@@ -21,6 +21,7 @@ use Rattle.schedule_search.specs.OpenCalls.{is_open}
 use Rattle.schedule_search.specs.Meeting.{is_at_rest}
 use Rattle.schedule_search.specs.Lost.{AreSteps, IsLost, HasLostCall}
 use Rattle.schedule_search.specs.Ahead.{steps_of, ahead, IsClosed}
+use Rattle.schedule_search.proofs.Behind.{may_behind}
 use Rattle.schedule_search.proofs.Orders.{open_alike}
 use Rattle.schedule_search.proofs.Words.{WordsTell}
 use Rattle.schedule_search.proofs.Paths.{oldest_is, taken_more}
@@ -126,6 +127,17 @@ led_on_by base now next number tasks led count some to =
     led_on base now next (number % tasks + 1) led
     (subst (λ (n : ℕ). IsTask n (number % tasks + 1)) count (omega arith, omega arith)) to
 
+-- one of so many tasks is there still
+pub led_there : (base now : RunState) (tasks t : ℕ) → IsLed base now → tasks ≡ tasks_of base → IsTask tasks t
+    → IsTask (tasks_of now) t
+led_there base now tasks t led count is =
+    let one : List Event = Step (record { 0 = t }) ∷ [] in
+    let here : IsTask (tasks_of base) t = subst (λ (n : ℕ). IsTask n t) count is in
+    let all : MayAllHappen base (led.steps ++ one) =
+    steps_may (tasks_of base) (length base.templates) (led.steps ++ one)
+    (steps_both (tasks_of base) led.steps one led.are_steps ((tt, here), tt)) in
+    subst (λ (z : RunState). IsTask (tasks_of z) t) (sym led.state) (may_behind base led.steps one all).0
+
 -- a call that is closed there is not lost
 pub led_closed : (base now : RunState) (n : ℕ) → IsLed base now → is_open None (call_at now.kernel.calls n) ≡ false
     → IsLost base n → ⊥
@@ -156,12 +168,6 @@ module _ (plan : Plan) (spawned : List ℕ) (tell : WordsTell plan spawned) wher
   steps_reach (Kill task ∷ steps) a r h = absurd h.0.0
   steps_reach (Hangup task phone ∷ steps) a r h = absurd h.0.0
   steps_reach (Spawn place ∷ steps) a r h = absurd h.0.0
-
-  -- so they make no task
-  pub led_tasks : (base now : RunState) → IsReached plan spawned base → IsLed base now → tasks_of now ≡ tasks_of base
-  led_tasks base now r led =
-      ap tasks_of led.state
-      ∙ tell.tasks (state_after base led.steps) base (steps_reach led.steps base r led.are_steps) r
 
   -- from states of the same words steps lead to such
   words_along : (steps : List Event) (a b : RunState) → IsReached plan spawned a → IsReached plan spawned b

@@ -1,7 +1,9 @@
 //! The steps that may come behind events, as a maze.
-ghost use Rattle.std.specs.Prelude.{◌≡◌, ◌<◌, ◌^◌, IfOk, length, reverse};
+ghost use Rattle.std.specs.Prelude.{◌≡◌, ◌<◌, ◌^◌, None, Some, IfOk, length, not, reverse};
+ghost use Rattle.answerbox.specs.Calls.{call_at};
 ghost use Rattle.run_words.specs.RunWords.{run_words};
 ghost use Rattle.search_core.specs.Moves.{AreMoves};
+ghost use Rattle.schedule_search.specs.OpenCalls.{is_open};
 ghost use Rattle.schedule_search.specs.Search.{state_behind};
 ghost use Rattle.schedule_search.specs.Problem.{search_of};
 ghost use Rattle.schedule_search.specs.Ahead.{FitsAhead, IsClosed, ahead, steps_of};
@@ -35,11 +37,16 @@ impl Ahead<'_> {
             ≡ ahead (state_behind (search_of self.now.problem.now) self.now.events.now)
             (reverse path.now)) }
     {
+        let steps = steps_by(alloc, path)?;
         let mut told = Trace::new(alloc);
         let mut replay = replayed(alloc, self.problem, self.events, &mut told)?;
-        let steps = steps_by(alloc, path)?;
-        do_events(&mut replay, &mut told, steps.as_slice())?;
-        Ok(replay)
+        match do_events(&mut replay, &mut told, steps.as_slice()) {
+            Ok(()) => Ok(replay),
+            Err(e) => {
+                drop(replay);
+                Err(e)
+            }
+        }
     }
 }
 
@@ -62,18 +69,31 @@ impl Maze for Ahead<'_> {
 
     fn visit(&self, alloc: Global, path: &[u32]) -> Result<Visit, AllocError> {
         let replay = self.replayed(alloc, path)?;
-        let open = is_open(None, all_calls(&replay).get(self.call));
-        let code = words_of(alloc, &replay)?;
-        Ok(Visit {
-            met: Some(!open),
-            code,
-        })
+        let visit = visit_of(alloc, &replay, self.call);
+        drop(replay);
+        visit
     }
 
     fn code(&self, alloc: Global, path: &[u32]) -> Result<Vec<u64>, AllocError> {
         let replay = self.replayed(alloc, path)?;
-        words_of(alloc, &replay)
+        let words = words_of(alloc, &replay);
+        drop(replay);
+        words
     }
+}
+
+/// Whether the call is closed here, and the words of the state.
+fn visit_of(alloc: Global, replay: &Replay, call: CallNo) -> Result<Visit, AllocError>
+    ensures met { IfOk result (λ visit. visit.met
+        ≡ Some (not (is_open None (call_at replay.now.state.kernel.calls call.0)))) }
+    ensures code { IfOk result (λ visit. visit.code.items ≡ run_words replay.now.state) }
+{
+    let open = is_open(None, all_calls(replay).get(call));
+    let code = words_of(alloc, replay)?;
+    Ok(Visit {
+        met: Some(!open),
+        code,
+    })
 }
 
 /// The steps of these numbers.

@@ -1,7 +1,7 @@
 //! How many of the goals that come before the last are left behind events.
-ghost use Rattle.std.specs.Prelude.{◌≡◌, [], length, IfOk, OnOk};
+ghost use Rattle.std.specs.Prelude.{◌≡◌, ◌≤◌, [], IfOk, OnOk};
 ghost use Rattle.search_goals.specs.GoalList.{said_all};
-ghost use Rattle.schedule_search.specs.Search.{state_behind};
+ghost use Rattle.schedule_search.specs.Search.{first_state, state_behind};
 ghost use Rattle.schedule_search.specs.Left.{left_here, left_behind};
 ghost use Rattle.schedule_search.specs.Code.{goals_left};
 ghost use Rattle.schedule_search.specs.Problem.{search_of, CanDo};
@@ -40,6 +40,33 @@ fn left_here<'a>(
     Ok(&[])
 }
 
+/// How many of the goals before the last are left behind these events, through which `replay` is led
+/// from where it stands before them. What counts for the next goal is told.
+fn goals_left(
+    alloc: Global,
+    problem: &Problem<'_>,
+    events: &[Event],
+    replay: &mut Replay,
+    told: &mut Trace,
+) -> Result<usize, AllocError>
+    requires can { CanDo (search_of problem.now) events.now }
+    requires here { replay.old.state ≡ first_state (search_of problem.now) }
+    requires entries { told.old.entries ≡ [] }
+    requires few { replay.old.state.kernel.events ≤ 65536 }
+    ensures state { OnOk result (replay.new.state
+        ≡ state_behind (search_of problem.now) events.now) }
+    ensures left { IfOk result (λ left. left ≡ goals_left (search_of problem.now) events.now) }
+    ensures entries { OnOk result (told.new.entries
+        ≡ (left_behind (search_of problem.now) events.now).told) }
+{
+    let mut left = left_here(alloc, problem, problem.earlier, &[], replay, told)?;
+    for i in 0..events.len() {
+        do_event(replay, told, &events[i])?;
+        left = left_here(alloc, problem, left, &events[..i + 1], replay, told)?;
+    }
+    Ok(left.len())
+}
+
 /// The tasks behind events, and how many of the goals before the last are left there.
 #[derive(Drop)]
 pub(crate) struct Behind {
@@ -64,13 +91,11 @@ pub(crate) fn followed(
         ≡ (left_behind (search_of problem.now) events.now).told) }
 {
     let mut replay = begun(alloc, problem, told)?;
-    let mut left = left_here(alloc, problem, problem.earlier, &[], &replay, told)?;
-    for i in 0..events.len() {
-        do_event(&mut replay, told, &events[i])?;
-        left = left_here(alloc, problem, left, &events[..i + 1], &replay, told)?;
+    match goals_left(alloc, problem, events, &mut replay, told) {
+        Ok(left) => Ok(Behind { replay, left }),
+        Err(e) => {
+            drop(replay);
+            Err(e)
+        }
     }
-    Ok(Behind {
-        replay,
-        left: left.len(),
-    })
 }

@@ -1,5 +1,5 @@
 //! Whether a call is ever answered, whatever steps of tasks come behind events.
-ghost use Rattle.std.specs.Prelude.{◌≡◌, ◌≤◌, true, false, Some, IfOk, length};
+ghost use Rattle.std.specs.Prelude.{◌≡◌, ◌≤◌, ◌<◌, ◌^◌, true, false, Some, IfOk, length};
 ghost use Rattle.schedule_search.specs.Search.{state_behind};
 ghost use Rattle.schedule_search.specs.Problem.{search_of, CanDo};
 ghost use Rattle.schedule_search.specs.Lost.{IsLost, HasLostCall};
@@ -30,7 +30,35 @@ fn next_number(number: u64) -> u64 {
         .wrapping_add(1_442_695_040_888_963_407)
 }
 
-/// Whether the call is closed behind steps of so many tasks in one order. If not, others may close it.
+/// Whether the call is closed by steps of so many tasks in one order, which come where `replay` stands.
+/// If not, others may close it.
+fn closes_by_steps(
+    replay: &mut Replay,
+    told: &mut Trace,
+    tasks: u64,
+    call: CallNo,
+    order: u64,
+) -> Result<bool, AllocError>
+    requires count { tasks ≡ length replay.old.state.kernel.tasks.alive }
+    requires some { 0 < tasks }
+    requires few { tasks ≤ 4096 }
+    requires room { replay.old.state.kernel.events ≤ 2 ^ 21 }
+    ensures { IfOk result (λ closes. closes ≡ true → IsLost replay.old.state call.0 → ⊥) }
+{
+    let mut number = order;
+    let steps = STEPS * tasks;
+    for i in 0..steps {
+        number = next_number(number);
+        let task = (number >> 33) % tasks + 1;
+        do_event(replay, told, &Event::Step(TaskNo(task)))?;
+        if !is_open(None, all_calls(replay).get(call)) {
+            return Ok(true);
+        }
+    }
+    Ok(false)
+}
+
+/// Whether the call is closed behind these events, and steps of so many tasks in one order.
 fn closes_in_order(
     alloc: Global,
     problem: &Problem<'_>,
@@ -50,17 +78,9 @@ fn closes_in_order(
     }
     let mut told = Trace::new(alloc);
     let mut replay = replayed(alloc, problem, events, &mut told)?;
-    let mut number = order;
-    let steps = STEPS * tasks;
-    for i in 0..steps {
-        number = next_number(number);
-        let task = (number >> 33) % tasks + 1;
-        do_event(&mut replay, &mut told, &Event::Step(TaskNo(task)))?;
-        if !is_open(None, all_calls(&replay).get(call)) {
-            return Ok(true);
-        }
-    }
-    Ok(false)
+    let closes = closes_by_steps(&mut replay, &mut told, tasks, call, order);
+    drop(replay);
+    closes
 }
 
 /// Whether it is in one of some orders.

@@ -1,4 +1,7 @@
 //! The tasks of a problem behind events, made anew each time.
+//!
+//! They are let go by one call of `drop` where no branch and no `?` stands between: else each way out
+//! of a function would let go of all their parts by itself, and to prove that takes long.
 ghost use Rattle.std.specs.Prelude.{◌≡◌, ◌+◌, ◌^◌, ◌<◌, ◌≤◌, [], length, IfOk, OnOk};
 ghost use Rattle.task_system.specs.Run.{start, turn, state_after, MayHappen, MayAllHappen};
 ghost use Rattle.run_words.specs.RunWords.{run_words};
@@ -77,9 +80,16 @@ pub(crate) fn begun(
     ensures count { IfOk result (λ replay. replay.state.kernel.events ≤ 65536) }
 {
     let mut replay = started(alloc, problem.script)?;
-    do_events(&mut replay, told, problem.from)?;
-    told.clear();
-    Ok(replay)
+    match do_events(&mut replay, told, problem.from) {
+        Ok(()) => {
+            told.clear();
+            Ok(replay)
+        }
+        Err(AllocError) => {
+            drop(replay);
+            Err(AllocError)
+        }
+    }
 }
 
 /// The tasks of a problem behind these events, which come behind those that come first.
@@ -96,8 +106,13 @@ pub(crate) fn replayed(
         ≤ 65536 + length events.now) }
 {
     let mut replay = begun(alloc, problem, told)?;
-    do_events(&mut replay, told, events)?;
-    Ok(replay)
+    match do_events(&mut replay, told, events) {
+        Ok(()) => Ok(replay),
+        Err(AllocError) => {
+            drop(replay);
+            Err(AllocError)
+        }
+    }
 }
 
 /// How many tasks there are.

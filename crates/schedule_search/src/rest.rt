@@ -1,5 +1,5 @@
 //! Whether nothing moves behind events.
-ghost use Rattle.std.specs.Prelude.{◌≡◌, ◌&&◌, length, IfOk};
+ghost use Rattle.std.specs.Prelude.{◌≡◌, ◌^◌, ◌<◌, ◌&&◌, length, IfOk};
 ghost use Rattle.script_lines.specs.Sound.{IsTask};
 ghost use Rattle.run_words.specs.RunWords.{run_words};
 ghost use Rattle.schedule_search.specs.Search.{state_behind};
@@ -18,8 +18,26 @@ use ipc_ids::{Event, TaskNo, Trace};
 use schedule_replay::Replay;
 use std::alloc::{AllocError, Global};
 
-/// Whether one more step of a task changes nothing but counters behind these events, where `words`
-/// are those of the state.
+/// Whether one more step of a task changes nothing but counters, where `words` are those of the state
+/// before it. `replay` stands behind the step then.
+fn step_changes_nothing(
+    alloc: Global,
+    replay: &mut Replay,
+    told: &mut Trace,
+    words: &[u64],
+    task: TaskNo,
+) -> Result<bool, AllocError>
+    requires few { replay.old.state.kernel.events < 2 ^ 24 }
+    requires here { words.now ≡ run_words replay.old.state }
+    requires there { IsTask (length replay.old.state.kernel.tasks.alive) task.0 }
+    ensures { IfOk result (λ same. same ≡ changes_nothing replay.old.state task.0) }
+{
+    do_event(replay, told, &Event::Step(task))?;
+    let after = words_of(alloc, replay)?;
+    Ok(after.as_slice() == words)
+}
+
+/// The same behind these events, where `words` are those of the state.
 fn changes_nothing(
     alloc: Global,
     problem: &Problem<'_>,
@@ -36,9 +54,9 @@ fn changes_nothing(
 {
     let mut told = Trace::new(alloc);
     let mut replay = replayed(alloc, problem, events, &mut told)?;
-    do_event(&mut replay, &mut told, &Event::Step(task))?;
-    let after = words_of(alloc, &replay)?;
-    Ok(after.as_slice() == words)
+    let same = step_changes_nothing(alloc, &mut replay, &mut told, words, task);
+    drop(replay);
+    same
 }
 
 /// Whether no step of any task does. `replay` stands behind these events.
@@ -84,6 +102,25 @@ pub(crate) fn is_stuck(
     is_at_rest(alloc, problem, events, replay)
 }
 
+/// What tells the state behind these events apart, where nothing moves there. `replay` stands there.
+fn words_at_rest(
+    alloc: Global,
+    problem: &Problem<'_>,
+    events: &[Event],
+    replay: &Replay,
+) -> Result<Option<Vec<u64>>, AllocError>
+    requires can { CanDo (search_of problem.now) events.now }
+    requires here { replay.now.state ≡ state_behind (search_of problem.now) events.now }
+    ensures { IfOk result (λ o. words_in o ≡ rest_words (search_of problem.now) events.now) }
+{
+    let rests = is_at_rest(alloc, problem, events, replay)?;
+    if !rests {
+        return Ok(None);
+    }
+    let words = words_behind(alloc, events, replay)?;
+    Ok(Some(words))
+}
+
 /// What tells the state behind these events apart, where they may be tried and nothing moves there.
 pub(crate) fn rest_words(
     alloc: Global,
@@ -98,10 +135,7 @@ pub(crate) fn rest_words(
     }
     let mut told = Trace::new(alloc);
     let replay = replayed(alloc, problem, events, &mut told)?;
-    let rests = is_at_rest(alloc, problem, events, &replay)?;
-    if !rests {
-        return Ok(None);
-    }
-    let words = words_behind(alloc, events, &replay)?;
-    Ok(Some(words))
+    let words = words_at_rest(alloc, problem, events, &replay);
+    drop(replay);
+    words
 }

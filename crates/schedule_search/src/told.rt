@@ -40,6 +40,23 @@ fn tell_events(replay: &mut Replay, told: &mut Trace, events: &[Event]) -> Resul
     Ok(())
 }
 
+/// The events that come first, and these behind them.
+fn tell_both(
+    replay: &mut Replay,
+    told: &mut Trace,
+    first: &[Event],
+    events: &[Event],
+) -> Result<(), AllocError>
+    requires few { replay.old.state.kernel.events + length first.now + length events.now ≤ 2 ^ 24 }
+    requires may_first { MayAllHappen replay.old.state first.now }
+    requires may { MayAllHappen (state_after replay.old.state first.now) events.now }
+    ensures { OnOk result (told.new.entries
+        ≡ told.old.entries ++ run_from replay.old.state (first.now ++ events.now)) }
+{
+    tell_events(replay, told, first)?;
+    tell_events(replay, told, events)
+}
+
 /// The entries of a whole run: of the events that come first, and of these behind them.
 ///
 /// # Errors
@@ -52,7 +69,10 @@ pub fn told_by(alloc: Global, problem: &Problem<'_>, events: &[Event]) -> Result
 {
     let mut told = Trace::new(alloc);
     let mut replay = started(alloc, problem.script)?;
-    tell_events(&mut replay, &mut told, problem.from)?;
-    tell_events(&mut replay, &mut told, events)?;
-    Ok(told)
+    let done = tell_both(&mut replay, &mut told, problem.from, events);
+    drop(replay);
+    match done {
+        Ok(()) => Ok(told),
+        Err(AllocError) => Err(AllocError),
+    }
 }

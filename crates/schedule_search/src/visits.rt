@@ -132,6 +132,33 @@ fn code_there(
     code_of(alloc, kills, behind.left as u64, events, &behind.replay)
 }
 
+/// Whether events that may be tried lead to what is looked for, and the code of where they lead.
+fn visit_there(
+    alloc: Global,
+    problem: &Problem<'_>,
+    events: &[Event],
+    behind: &Behind,
+    told: &Trace,
+    room: u32,
+) -> Result<Visit, AllocError>
+    requires can { CanDo (search_of problem.now) events.now }
+    requires tried { may_try (search_of problem.now) events.now ≡ true }
+    requires here { behind.now.replay.state ≡ state_behind (search_of problem.now) events.now }
+    requires left { behind.now.left ≡ goals_left (search_of problem.now) events.now }
+    requires entries { told.now.entries
+        ≡ (left_behind (search_of problem.now) events.now).told }
+    ensures met { IfOk result (λ visit. visit.met ≡ Some true
+        → Finds (search_of problem.now) events.now) }
+    ensures unmet { IfOk result (λ visit. visit.met ≡ Some false
+        → Finds (search_of problem.now) events.now → ⊥) }
+    ensures code { IfOk result (λ visit. visit.code.items
+        ≡ code_behind (search_of problem.now) events.now) }
+{
+    let met = is_found(alloc, problem, events, behind, told, room)?;
+    let code = code_there(alloc, problem, events, behind)?;
+    Ok(Visit { met, code })
+}
+
 /// Whether these events may be tried and lead to what is looked for, and the code of where they lead.
 pub(crate) fn visit_behind(
     alloc: Global,
@@ -155,9 +182,9 @@ pub(crate) fn visit_behind(
     }
     let mut told = Trace::new(alloc);
     let behind = followed(alloc, problem, events, &mut told)?;
-    let met = is_found(alloc, problem, events, &behind, &told, room)?;
-    let code = code_there(alloc, problem, events, &behind)?;
-    Ok(Visit { met, code })
+    let visit = visit_there(alloc, problem, events, &behind, &told, room);
+    drop(behind);
+    visit
 }
 
 /// The code alone.
@@ -174,5 +201,7 @@ pub(crate) fn code_behind(
     }
     let mut told = Trace::new(alloc);
     let behind = followed(alloc, problem, events, &mut told)?;
-    code_there(alloc, problem, events, &behind)
+    let code = code_there(alloc, problem, events, &behind);
+    drop(behind);
+    code
 }

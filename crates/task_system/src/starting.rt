@@ -1,7 +1,7 @@
 //! The tasks of a script before the first event.
 ghost use Rattle.std.specs.Prelude.{◌≡◌, ◌+◌, ◌-◌, ◌≤◌, length, All, IfOk, OnOk};
 ghost use Rattle.script_lines.specs.Sound.{IsSoundTask, has_service};
-ghost use Rattle.task_system.specs.Run.{with_tasks, ops_of, program_of, programs_from, service_of};
+ghost use Rattle.task_system.specs.Run.{start, with_tasks, ops_of, program_of, programs_from, service_of};
 ghost use Rattle.task_system.specs.Wiring.{service_wires, wires_to_service, with_wires, AreOpen};
 
 use crate::any::AnyProgram;
@@ -11,11 +11,31 @@ use ipc_ids::{Body, NoMemory, Op, PhoneNo, TaskNo};
 use kernel_core::Kernel;
 use naming_service::NamingService;
 use raw_program::RawProgram;
-use script_reader::{Kind, TaskPlan, Wire};
+use script_reader::{Kind, Script, TaskPlan, Wire};
 use std::alloc::Global;
 
+/// The kernel with the tasks of a script and their wires, before the first event.
+pub fn kernel_of(alloc: Global, script: &Script) -> Result<Kernel, NoMemory>
+    ensures state { IfOk result (λ kernel. kernel ≡ (start script.now).kernel) }
+    ensures no_event { IfOk result (λ kernel. kernel.events ≡ 0) }
+{
+    let mut kernel = Kernel::new(alloc);
+    let tasks = script.tasks.as_slice();
+    match add_tasks(&mut kernel, tasks) {
+        Ok(()) => {
+            add_service_wires(&mut kernel, tasks);
+            add_wires(&mut kernel, script.wires.as_slice());
+            Ok(kernel)
+        }
+        Err(NoMemory) => {
+            drop(kernel);
+            Err(NoMemory)
+        }
+    }
+}
+
 /// Adds each task with its phones.
-pub fn add_tasks(kernel: &mut Kernel, tasks: &[TaskPlan]) -> Result<(), NoMemory>
+fn add_tasks(kernel: &mut Kernel, tasks: &[TaskPlan]) -> Result<(), NoMemory>
     requires few { length kernel.old.tasks.alive + length tasks.now ≤ 64 }
     requires sound { All IsSoundTask tasks.now }
     requires no_event { kernel.old.events ≡ 0 }
@@ -29,7 +49,7 @@ pub fn add_tasks(kernel: &mut Kernel, tasks: &[TaskPlan]) -> Result<(), NoMemory
 }
 
 /// Where the first task is the naming service, phone 0 of each other task leads to it.
-pub fn add_service_wires(kernel: &mut Kernel, tasks: &[TaskPlan])
+fn add_service_wires(kernel: &mut Kernel, tasks: &[TaskPlan])
     requires few { length tasks.now ≤ 64 }
     requires free { AreOpen kernel.old (wires_to_service tasks.now) }
     requires no_event { kernel.old.events ≡ 0 }
@@ -77,7 +97,7 @@ fn wire_to_service(kernel: &mut Kernel, tasks: u64)
 }
 
 /// Lays each wire.
-pub fn add_wires(kernel: &mut Kernel, wires: &[Wire])
+fn add_wires(kernel: &mut Kernel, wires: &[Wire])
     requires free { AreOpen kernel.old wires.now }
     requires no_event { kernel.old.events ≡ 0 }
     ensures state { kernel.new ≡ with_wires kernel.old wires.now }

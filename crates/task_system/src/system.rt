@@ -1,21 +1,20 @@
 //! The kernel and the programs of a script's tasks.
 ghost use Rattle.std.specs.Prelude.{◌≡◌, ◌+◌, ◌^◌, ◌<◌, ◌≤◌, ◌++◌, ◌∷◌, [], true, Some};
 ghost use Rattle.script_lines.specs.Sound.{IsSoundTask};
-ghost use Rattle.std.specs.Prelude.{IfOk, OnOk, OnErr, option_map, vec_len};
+ghost use Rattle.std.specs.Prelude.{IfOk, OnOk, OnErr, option_map, vec_len, length};
 ghost use Rattle.std.specs.Vec.{vec_capacity};
 ghost use Rattle.std.specs.Option.{option_copied};
 ghost use Rattle.ipc_ids.specs.Program.{fits};
 ghost use Rattle.switchboard.specs.State.{is_alive};
+ghost use Rattle.switchboard.specs.Board.{IsLimit};
 ghost use Rattle.kernel_core.specs.History.{served_entries, killed_entries, gone_entries};
-ghost use Rattle.kernel_core.specs.Kernel.{serve, kill_event};
+ghost use Rattle.kernel_core.specs.Kernel.{serve, kill_event, spawn_event};
 ghost use Rattle.task_system.specs.Any.{wanted};
 ghost use Rattle.task_system.specs.Run.{Tells, TellsPart};
 ghost use Rattle.ipc_ids.specs.declared.entry.Entry.TheVariants as entry;
 
 use crate::any::AnyProgram;
-use crate::starting::{
-    add_service_wires, add_tasks, add_wires, program_of, programs_of, service_of,
-};
+use crate::starting::{kernel_of, program_of, programs_of, service_of};
 use ipc_ids::{Entry, Event, NoMemory, Outcome, Program, Request, TaskNo, Trace};
 use kernel_core::Kernel;
 use script_reader::{Script, TaskPlan, TaskPlans, copies_of_plans};
@@ -73,13 +72,10 @@ impl System {
         ensures state { IfOk result (λ system. system ≡ start script.now) }
         ensures no_event { IfOk result (λ system. system.kernel.events ≡ 0) }
     {
-        let mut kernel = Kernel::new(alloc);
         let tasks = script.tasks.as_slice();
-        add_tasks(&mut kernel, tasks)?;
-        add_service_wires(&mut kernel, tasks);
-        add_wires(&mut kernel, script.wires.as_slice());
         let programs = programs_of(alloc, tasks)?;
         let templates = copies_of_plans(alloc, script.templates.as_slice())?;
+        let kernel = kernel_of(alloc, script)?;
         Ok(System {
             alloc,
             kernel,
@@ -201,15 +197,17 @@ impl System {
         let Some(plan) = self.templates.as_slice().get(place as usize) else {
             return Ok(());
         };
-        let program = program_of(self.alloc, self.kernel.next_task().0, plan)?;
         make_room(&mut self.programs)?;
-        match self.kernel.spawn(plan.limit, self.names, out) {
-            Ok(_) => {
-                self.programs.push_reserved(program);
-                Ok(())
-            }
-            Err(NoMemory) => Err(NoMemory),
-        }
+        let program = program_of(self.alloc, self.kernel.next_task().0, plan)?;
+        add_made(
+            &mut self.kernel,
+            &mut self.programs,
+            program,
+            plan.limit,
+            self.names,
+            out,
+        )?;
+        Ok(())
     }
 
     #[inline(never)]
@@ -238,6 +236,39 @@ fn make_room(programs: &mut Vec<AnyProgram>) -> Result<(), NoMemory>
 {
     programs.reserve(1)?;
     Ok(())
+}
+
+/// Makes the next task, which runs this program, and for which there is room.
+fn add_made(
+    kernel: &mut Kernel,
+    programs: &mut Vec<AnyProgram>,
+    program: AnyProgram,
+    limit: u32,
+    names: Option<TaskNo>,
+    out: &mut Trace,
+) -> Result<(), NoMemory>
+    requires limit { IsLimit limit }
+    requires few_tasks { length kernel.old.tasks.alive < 64 }
+    requires few_events { kernel.old.events < 2 ^ 24 }
+    requires room { vec_len programs.old < vec_capacity programs.old }
+    ensures kernel { OnOk result (kernel.new ≡ (spawn_event kernel.old limit names).state) }
+    ensures programs { OnOk result (programs.new.items ≡ programs.old.items ++ program ∷ []) }
+    ensures entries { OnOk result (Tells out.old out.new (spawn_event kernel.old limit names).entries) }
+    ensures events { OnOk result (kernel.new.events ≡ kernel.old.events + 1) }
+    ensures no_task { OnErr result (kernel.new ≡ kernel.old) }
+    ensures no_program { OnErr result (programs.new.items ≡ programs.old.items) }
+    ensures trace_unchanged { OnErr result (out.new.entries ≡ out.old.entries) }
+{
+    match kernel.spawn(limit, names, out) {
+        Ok(_) => {
+            programs.push_reserved(program);
+            Ok(())
+        }
+        Err(NoMemory) => {
+            drop(program);
+            Err(NoMemory)
+        }
+    }
 }
 
 /// The same request once more.

@@ -1,13 +1,10 @@
-use Rattle.std.proofs.Common.{◌≡◌, Bool, true, false, ◌&&◌, None, Some, ap, sym, ◌∙◌}
+use Rattle.std.proofs.Common.{Bool, ◌&&◌, None, Some, ap, sym, ◌∙◌}
 use Rattle.std.specs.Prelude.{if◌then◌else◌}
-use Rattle.task_system.specs.Run.{RunState}
-use Rattle.schedule_search.specs.Search.{Search, may_try, state_behind}
+use Rattle.schedule_search.specs.Search.{Search, state_behind}
 use Rattle.schedule_search.specs.Meeting.{is_at_rest}
 use Rattle.schedule_search.specs.Code.{words_behind}
 use Rattle.schedule_search.specs.Problem.{search_of}
 use Rattle.schedule_search.proofs.Paths.{done}
-use Rattle.schedule_search.proofs.Resters.{words_of_rest}
-use Rattle.schedule_search.proofs.Visiting.{told_of}
 use Rattle.schedule_search.proofs.rest.rest_words.Goals as goal
 
 pub returns-then-not-may_try : goal.returns-then-not-may_try
@@ -21,26 +18,6 @@ replayed-requires c = record {
   can = done (search_of c.args.problem.now) c.args.events.now c.requires.can (sym c.may_try.ensures ∙ c.if-not-may_try.false);
 }
 
-pub is_at_rest-requires-clause-can : goal.is_at_rest-requires-clause-can
-is_at_rest-requires-clause-can c =
+pub words_at_rest-words-requires-clause-can : goal.words_at_rest-words-requires-clause-can
+words_at_rest-words-requires-clause-can c =
     done (search_of c.args.problem.now) c.args.events.now c.requires.can (sym c.may_try.ensures ∙ c.if-not-may_try.false)
-
-pub returns-then-not-rests : goal.returns-then-not-rests
-returns-then-not-rests c =
-    let s : Search = search_of c.args.problem.now in
-    let now : RunState = state_behind s c.args.events.now in
-    let tried : may_try s c.args.events.now ≡ true = sym c.may_try.ensures ∙ c.if-not-may_try.false in
-    let moves : is_at_rest now ≡ false =
-    ap is_at_rest (sym c.in_ok-replay.ensures.state) ∙ sym c.in_ok-rests.ensures ∙ c.if-not-rests.true in
-    ap (λ (z : Bool). if z then Some (words_behind s c.args.events.now) else None) (sym moves)
-    ∙ ap (λ (z : Bool). if z && is_at_rest now then Some (words_behind s c.args.events.now) else None) (sym tried)
-
-pub returns : goal.returns
-returns c =
-    let s : Search = search_of c.args.problem.now in
-    let now : RunState = state_behind s c.args.events.now in
-    let tried : may_try s c.args.events.now ≡ true = sym c.may_try.ensures ∙ c.if-not-may_try.false in
-    let still : is_at_rest now ≡ true =
-    ap is_at_rest (sym c.in_ok-replay.ensures.state) ∙ sym c.in_ok-rests.ensures ∙ c.if-not-rests.false in
-    ap Some (c.in_ok-words.ensures ∙ ap (told_of s c.args.events.now) c.in_ok-replay.ensures.state)
-    ∙ sym (words_of_rest s c.args.events.now tried still)

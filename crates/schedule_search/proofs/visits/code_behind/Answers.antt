@@ -14,5 +14,5 @@ followed-requires c = record {
   can = done (search_of c.args.problem.now) c.args.events.now c.requires.can (sym c.may_try.ensures ∙ c.if-not-may_try.false);
 }
 
-pub code_there-requires-clause-tried : goal.code_there-requires-clause-tried
-code_there-requires-clause-tried c = sym c.may_try.ensures ∙ c.if-not-may_try.false
+pub code_there-code-requires-clause-tried : goal.code_there-code-requires-clause-tried
+code_there-code-requires-clause-tried c = sym c.may_try.ensures ∙ c.if-not-may_try.false

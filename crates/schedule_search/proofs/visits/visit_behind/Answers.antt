@@ -18,9 +18,9 @@ followed-requires c = record {
   can = done (search_of c.args.problem.now) c.args.events.now c.requires.can (sym c.may_try.ensures ∙ c.if-not-may_try.false);
 }
 
-pub is_found-requires-clause-can : goal.is_found-requires-clause-can
-is_found-requires-clause-can c =
+pub visit_there-visit-requires-clause-can : goal.visit_there-visit-requires-clause-can
+visit_there-visit-requires-clause-can c =
     done (search_of c.args.problem.now) c.args.events.now c.requires.can (sym c.may_try.ensures ∙ c.if-not-may_try.false)
 
-pub code_there-requires-clause-tried : goal.code_there-requires-clause-tried
-code_there-requires-clause-tried c = sym c.may_try.ensures ∙ c.if-not-may_try.false
+pub visit_there-visit-requires-clause-tried : goal.visit_there-visit-requires-clause-tried
+visit_there-visit-requires-clause-tried c = sym c.may_try.ensures ∙ c.if-not-may_try.false

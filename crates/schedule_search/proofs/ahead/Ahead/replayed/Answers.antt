@@ -22,9 +22,9 @@ do_events-requires-clause-may c =
     (subst (λ (z : RunState). MayAllHappen z (steps_of (reverse c.args.path.now))) (sym c.in_ok-replay.ensures.state)
     (c.requires.fits.may (reverse c.args.path.now) c.requires.moves))
 
-pub returns : goal.returns
-returns c =
-    c.in_ok-do_events.ensures.state
+pub returns-in-Ok : goal.returns-in-Ok
+returns-in-Ok c =
+    (rw c.in-Ok.is at c.do_events.ensures.state)
     ∙ ap (λ (z : RunState). state_after z c.as_slice.result.now) c.in_ok-replay.ensures.state
     ∙ ap (state_after (state_behind (search_of c.args.self.now.problem.now) c.args.self.now.events.now))
     (c.as_slice.ensures.value ∙ c.in_ok-steps.ensures)

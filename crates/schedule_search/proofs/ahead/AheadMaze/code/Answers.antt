@@ -6,5 +6,5 @@ use Rattle.schedule_search.proofs.ahead.AheadMaze.code.Goals as goal
 
 pub returns : goal.returns
 returns c =
-    subst (λ (z : RunState). IfOk c.words_of.result (λ words. words.items ≡ run_words z)) c.in_ok-replay.ensures
-    c.words_of.ensures
+    subst (λ (z : RunState). IfOk c.words_of-words.result (λ words. words.items ≡ run_words z)) c.in_ok-replay.ensures
+    c.words_of-words.ensures

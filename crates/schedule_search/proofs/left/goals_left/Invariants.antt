@@ -1,9 +1,9 @@
 use Rattle.std.proofs.Common.{◌≡◌, ◌≤◌, ◌+◌, take}
 use Rattle.search_goals.specs.GoalList.{said_all}
 use Rattle.schedule_search.specs.Search.{state_behind}
-use Rattle.schedule_search.specs.Left.{Left, left_behind}
+use Rattle.schedule_search.specs.Left.{left_behind}
 use Rattle.schedule_search.specs.Problem.{search_of}
-use Rattle.schedule_search.proofs.left.followed.Given as goal
+use Rattle.schedule_search.proofs.left.goals_left.Given as goal
 
 -- the state and what is left are those behind the events so far
 abbrev pub invariant-loop-i : goal.invariant-loop-i

@@ -4,7 +4,7 @@ use Rattle.schedule_search.specs.Search.{Search}
 use Rattle.schedule_search.specs.Left.{Left}
 use Rattle.schedule_search.specs.Problem.{search_of}
 use Rattle.schedule_search.proofs.Following.{can_front, can_none, may_next, state_on, left_on}
-use Rattle.schedule_search.proofs.left.followed.Goals as goal
+use Rattle.schedule_search.proofs.left.goals_left.Goals as goal
 
 pub left_here-requires-clause-can : goal.left_here-requires-clause-can
 left_here-requires-clause-can c = can_none (search_of c.args.problem.now) c.args.events.now c.requires.can

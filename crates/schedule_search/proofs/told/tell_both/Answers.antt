@@ -1,0 +1,16 @@
+use Rattle.std.proofs.Common.{◌≡◌, List, sym, subst}
+use Rattle.std.specs.Prelude.{OnOk}
+use Rattle.ipc_ids.specs.declared.entry.Entry.{Entry}
+use Rattle.task_system.specs.Run.{RunState, MayAllHappen}
+use Rattle.schedule_search.proofs.Runs.{told_both}
+use Rattle.schedule_search.proofs.told.tell_both.Goals as goal
+
+pub tell_events-requires-2-clause-may : goal.tell_events-requires-2-clause-may
+tell_events-requires-2-clause-may c =
+    subst (λ (z : RunState). MayAllHappen z c.args.events.now) (sym c.in_ok-tell_events.ensures.state) c.requires.may
+
+pub returns : goal.returns
+returns c =
+    subst (λ (z : List Entry). OnOk c.tell_events-2.result (c.tell_events-2.new.told.entries ≡ z))
+    (told_both c.args.first.now c.args.events.now _ _ _ _ c.in_ok-tell_events.ensures.entries c.in_ok-tell_events.ensures.state)
+    c.tell_events-2.ensures.entries
