@@ -8,14 +8,14 @@ use ipc_ids::{FibrilNo, TaskNo};
 use script_lines::number;
 
 /// Whose state a condition is about: a task or, where `fibril` is one, that fibril of it.
-#[derive(Clone, Copy, Debug, PartialEq, Eq)]
+#[derive(Clone, Copy)]
 pub struct Subject {
     pub task: TaskNo,
     pub fibril: Option<FibrilNo>,
 }
 
 /// What is asked of one state.
-#[derive(Clone, Copy, Debug, PartialEq, Eq)]
+#[derive(Clone, Copy)]
 pub enum Condition {
     /// The next operation is this one of the body, from 0 on.
     At(Subject, u64),

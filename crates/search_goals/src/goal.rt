@@ -5,7 +5,6 @@ ghost use Rattle.std.specs.Option.{option_map};
 ghost use Rattle.std.specs.Str.{bytes_eq};
 ghost use Rattle.script_lines.specs.Text.{is_allowed};
 ghost use Rattle.script_lines.specs.Word.{is_name_byte};
-ghost use Rattle.script_lines.specs.Names.{task_names};
 ghost use Rattle.search_goals.specs.declared.goal.GoalFault.TheVariants as faults;
 ghost use Rattle.search_goals.specs.Conditions.{name_len};
 ghost use Rattle.search_goals.specs.Goals.{text_words, listed};
@@ -19,8 +18,7 @@ use crate::line_shapes::may_begin;
 use crate::meeting::next_word;
 use crate::places::{is_known_of, plan_of};
 use ipc_ids::{NoMemory, TaskNo};
-use script_lines::{MOST_BYTES, Names, Reason, TaskPlan, is_name_byte, names_of};
-use script_reader::Script;
+use script_lines::{MOST_BYTES, Names, Reason, TaskPlan, is_name_byte};
 use std::alloc::{AllocError, AllocFailed, Global};
 
 /// What a search looks for.
@@ -449,12 +447,23 @@ fn goal_of_words(
     }
 }
 
-/// The goal that a text says, as `read_goal` reads it, for tasks of these names. The first of them are
-/// the tasks of a script, of which the operations are known.
+/// The goal that a text of at most 1,048,576 bytes says for tasks of these names. The first of them
+/// are the tasks of a script, of which the operations are known. The words of the text stand between
+/// spaces, tabs and line feeds:
+///
+/// - `lost` says `Lost`, `rest` says `Rest`, and `stuck` with the name of a task or alone says `Stuck`;
+/// - `when` says `When`; each word behind it is the name of a task, of a fibril of it also `/` and
+///   the number, and then `@N` (it stands at operation N), `.rK=N` (register K holds N) or `$` (it is
+///   at its end), or for a task `!` (it was killed);
+/// - all else says a line, of an event of that task where the first word is its name and `:`. A word
+///   `@NAME` there, with whatever follows the name, stands for the number of that task.
 ///
 /// # Errors
 ///
-/// As those of `read_goal`.
+/// `Bad` where it says none, with its first fault: a text that is too long, a byte that may not
+/// stand in a line, too few or too many words, a name of no task, a condition that is none, an
+/// operation that no body of its task has, or a word with which no line of a trace goes on.
+/// `NoMemory` where no memory was found.
 #[tactic(auto, unfolding(crate::specs::GoalText::goal_of))]
 pub fn read_goal_for(
     alloc: Global,
@@ -477,28 +486,4 @@ pub fn read_goal_for(
         });
     }
     goal_of_words(alloc, names, tasks, text)
-}
-
-/// The goal that a text of at most 1,048,576 bytes says for the tasks of a script. Its words stand
-/// between spaces, tabs and line feeds:
-///
-/// - `lost` says `Lost`, `rest` says `Rest`, and `stuck` with the name of a task or alone says `Stuck`;
-/// - `when` says `When`; each word behind it is the name of a task, of a fibril of it also `/` and
-///   the number, and then `@N` (it stands at operation N), `.rK=N` (register K holds N) or `$` (it is
-///   at its end), or for a task `!` (it was killed);
-/// - all else says a line, of an event of that task where the first word is its name and `:`. A word
-///   `@NAME` there, with whatever follows the name, stands for the number of that task.
-///
-/// # Errors
-///
-/// `Bad` where it says none, with its first fault: a text that is too long, a byte that may not
-/// stand in a line, too few or too many words, a name of no task, a condition that is none, an
-/// operation that no body of its task has, or a word with which no line of a trace goes on.
-/// `NoMemory` where no memory was found.
-pub fn read_goal(alloc: Global, script: &Script, text: &[u8]) -> Result<Goal, GoalFault>
-    ensures { Answers said result (goal_of (task_names script.now.tasks) script.now.tasks text.now) }
-{
-    let tasks = script.tasks.as_slice();
-    let names = names_of(alloc, tasks)?;
-    read_goal_for(alloc, &names, tasks, text)
 }

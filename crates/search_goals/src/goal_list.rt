@@ -139,7 +139,7 @@ fn first_goal(
     }
 }
 
-/// The goals that texts say, each as `read_goal` reads it, for tasks of these names. The first of the
+/// The goals that texts say, each as `read_goal_for` reads it, for tasks of these names. The first of the
 /// tasks are those of a script, of which the operations are known.
 ///
 /// # Errors

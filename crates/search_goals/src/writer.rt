@@ -7,7 +7,7 @@ ghost use Rattle.script_lines.specs.Names.{task_names};
 ghost use Rattle.script_reader.specs.Reading.{schedule_of};
 ghost use Rattle.script_reader.specs.Schedule.{MayCome, MayAllCome};
 ghost use Rattle.search_goals.specs.Lines.{comment_text, times_text, step_text, kill_text, hangup_text, spawn_text};
-ghost use Rattle.search_goals.specs.Writing.{IsStep, AreNamed, IsNamed, Writes, IsFront};
+ghost use Rattle.search_goals.specs.Writing.{IsStep, AreNamed, IsNamed, IsNew, Writes, IsFront};
 
 use crate::names::{TaskNames, next_name};
 use ipc_ids::{Event, NoMemory, TaskNo};
@@ -72,6 +72,14 @@ fn push_spawn(text: &mut Vec<u8>, template: &[u8], name: &[u8]) -> Result<(), No
     Ok(())
 }
 
+/// A name for the next task that is made.
+fn new_name(alloc: Global, script: &Script, names: &TaskNames) -> Result<Vec<u8>, NoMemory>
+    ensures { IfOk result (λ name. IsNew (task_names script.now.templates) names.now name.items) }
+{
+    let templates = names_of(alloc, script.templates.as_slice())?;
+    next_name(alloc, &templates, names)
+}
+
 /// Adds the line by which a task of the template at a place is made, which gets a name of its own.
 fn push_made(
     alloc: Global,
@@ -86,8 +94,7 @@ fn push_made(
     ensures { OnOk result (Writes (task_names script.now.templates) names.old text.old.items
         text.new.items (events.Spawn place ∷ []) names.new) }
 {
-    let templates = names_of(alloc, script.templates.as_slice())?;
-    let name = next_name(alloc, &templates, names)?;
+    let name = new_name(alloc, script, names)?;
     let template = script.templates.as_slice()[place as usize].name.as_slice();
     push_spawn(text, template, name.as_slice())?;
     names.push(alloc, name.as_slice())
