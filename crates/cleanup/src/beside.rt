@@ -1,8 +1,11 @@
 //! The call that the program does not make: the end of a task, for who has its phones, calls and areas alone.
-ghost use Rattle.std.specs.Prelude.{◌≡◌, ◌-◌, ◌≤◌, ◌++◌, Bool, true, List, IfOk, OnOk, OnErr, length, slice_set};
+ghost use Rattle.std.specs.Prelude.{◌≡◌, ◌-◌, ◌<◌, ◌≤◌, ◌^◌, ◌++◌, [], Bool, true, List, IfOk, OnOk, OnErr, length, slice_set};
+ghost use Rattle.std.specs.FinMap.{len};
 ghost use Rattle.switchboard.specs.Sound.{IsSound};
+ghost use Rattle.switchboard.specs.State.{state_from};
 ghost use Rattle.switchboard.specs.Counts.{HasCounts};
 ghost use Rattle.cleanup.specs.Kill.{end_parts};
+ghost use Rattle.cleanup.specs.KillRoom.{kill_entries as kill_entries_of, own_calls};
 ghost use Rattle.cleanup.specs.Ending.{AreUnchanged, IsJustEnded, HasFewActive, HasNumbers, UsesNumbers, state_of, all_alive};
 
 use crate::kill::end_reserved;
@@ -55,13 +58,8 @@ pub fn end_task(
 {
     phones.check_counts();
     let _next = boxes.next_number();
-    let tasks = phones.tasks() as usize;
+    let marks = room_for_end(who, boxes, phones, spaces, out)?;
     let alloc = boxes.alloc();
-    let new_calls = kill_calls(who, phones);
-    let marks = all_alive(alloc, tasks)?;
-    let entries = kill_entries(who, phones, boxes, spaces)?;
-    boxes.reserve(new_calls)?;
-    out.reserve(entries)?;
     let mut board = Switchboard::of(
         marks,
         mem::replace(phones, PhoneRows::new(alloc)),
@@ -74,6 +72,37 @@ pub fn end_task(
     *boxes = calls;
     *spaces = areas;
     Ok(())
+}
+
+/// Takes room for all calls and entries of the end of the task; the result marks every task as
+/// alive.
+fn room_for_end(
+    who: TaskNo,
+    boxes: &mut Boxes,
+    phones: &PhoneRows,
+    spaces: &Spaces,
+    out: &mut Trace,
+) -> Result<Vec<bool>, NoMemory>
+    requires from_one { 1 ≤ who.0 }
+    requires task { who.0 ≤ length phones.now.states }
+    requires areas { who.0 ≤ length spaces.now.areas }
+    requires few_calls { len boxes.old.calls.records < 2 ^ 61 }
+    ensures marks { IfOk result (λ marks. marks.items ≡ all_alive (length phones.now.states)) }
+    ensures few { own_calls phones.now.states who ≤ 64 }
+    ensures calls_room { OnOk result (own_calls phones.now.states who ≤ boxes.new.spare) }
+    ensures entries_room { OnOk result (
+        kill_entries_of (state_from [] phones.now.states boxes.old.calls spaces.now 0) who
+        ≤ out.new.spare) }
+    ensures calls { boxes.new.calls ≡ boxes.old.calls }
+    ensures places { boxes.new.tasks ≡ boxes.old.tasks }
+    ensures entries { out.new.entries ≡ out.old.entries }
+{
+    let new_calls = kill_calls(who, phones);
+    let marks = all_alive(boxes.alloc(), phones.tasks() as usize)?;
+    let entries = kill_entries(who, phones, boxes, spaces)?;
+    boxes.reserve(new_calls)?;
+    out.reserve(entries)?;
+    Ok(marks)
 }
 
 /// So many tasks that are alive.

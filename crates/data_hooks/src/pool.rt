@@ -31,10 +31,11 @@ pub(crate) fn kept_count(args: &[u64; 5]) -> Result<u64, Code>
 pub fn cut_args(args: &[u64; 5]) -> [u64; 5]
     ensures { result ≡ cut_args args.now }
 {
-    if args[1] > MOST_DATA {
-        return [args[0], MOST_DATA, args[2], args[3], args[4]];
+    let mut cut = *args;
+    if cut[1] > MOST_DATA {
+        cut[1] = MOST_DATA;
     }
-    *args
+    cut
 }
 
 /// Copies bytes of a task, where there is room for them.

@@ -194,25 +194,28 @@ pub(crate) fn count_owed(conn: &Conn) -> u64
 pub(crate) fn owed_by(alloc: Global, conn: Option<&Conn>) -> Result<Owed, NoMemory>
     ensures { IfOk result (λ owed. owed ≡ owed_by (option_copied conn.entry)) }
 {
-    match conn {
-        Some(conn) => {
-            let mut owed = hang_up_queued(alloc, &conn.queue)?;
-            answer_close(&mut owed, conn.close_call)?;
-            Ok(owed)
-        }
-        None => Ok(Owed::new(alloc)),
+    let mut owed = Owed::new(alloc);
+    if let Some(conn) = conn {
+        add_owed(&mut owed, conn)?;
     }
+    Ok(owed)
 }
 
-/// `EHANGUP` for each queued call in order.
-fn hang_up_queued(alloc: Global, queue: &Queue) -> Result<Owed, NoMemory>
-    ensures { IfOk result (λ owed. owed ≡ map hung_up queue.now) }
+/// Adds `EHANGUP` for each queued call in order, then `EOK` for the close call, if there is one.
+fn add_owed(owed: &mut Owed, conn: &Conn) -> Result<(), NoMemory>
+    ensures { OnOk result (owed.new ≡ owed.old ++ owed_by (Some conn.now)) }
 {
-    let mut owed = Owed::new(alloc);
+    hang_up_queued(owed, &conn.queue)?;
+    answer_close(owed, conn.close_call)
+}
+
+/// Adds `EHANGUP` for each queued call in order.
+fn hang_up_queued(owed: &mut Owed, queue: &Queue) -> Result<(), NoMemory>
+    ensures { OnOk result (owed.new ≡ owed.old ++ map hung_up queue.now) }
+{
     let (front, back) = queue.as_slices();
-    hang_up_each(&mut owed, front)?;
-    hang_up_each(&mut owed, back)?;
-    Ok(owed)
+    hang_up_each(owed, front)?;
+    hang_up_each(owed, back)
 }
 
 /// Adds `EHANGUP` for each of these calls in order.

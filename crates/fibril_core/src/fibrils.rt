@@ -1,5 +1,6 @@
 //! Fibrils by number, and since when each is ready or blocked.
 ghost use Rattle.std.specs.Prelude.{◌≡◌, ◌+◌, ◌++◌, ◌^◌, ◌<◌, ◌≤◌, ◌==◌, true, length, position, OnOk, OnErr, IsSome};
+ghost use Rattle.std.specs.Prelude.{min};
 ghost use Rattle.std.specs.VecDeque.{deque_capacity, deque_len};
 ghost use Rattle.fibril_core.specs.Fibrils.{no_fibrils, current, first_blocked, next_number, fibril_at};
 ghost use Rattle.fibril_core.specs.Fibrils.{why_of, IsWithinBounds, spawned, block_on, yield_now};
@@ -82,13 +83,10 @@ impl Fibrils {
         ensures full { OnErr result (self.old.spare ≡ 0) }
         ensures spare { self.old.spare ≤ self.new.spare }
     {
-        let live = self.live.len();
-        if reserve_place(&mut self.ready, live).is_err()
-            || reserve_place(&mut self.waiting, live).is_err()
-        {
-            return Err(NoMemory);
+        match reserve_places(&mut self.ready, &mut self.waiting, self.live.len()) {
+            Ok(()) => self.live.reserve(),
+            Err(e) => Err(e),
         }
-        self.live.reserve()
     }
 
     /// How many were ever made. Takes no memory.
@@ -260,6 +258,26 @@ fn waits(why: Why) -> bool
     ensures { result ≡ waits (Status.Blocked why) }
 {
     matches!(why, Why::Mutex(_) | Why::Phone)
+}
+
+/// Gives each of two queues room for more than so many.
+fn reserve_places(
+    ready: &mut VecDeque<FibrilNo>,
+    waiting: &mut VecDeque<FibrilNo>,
+    live: usize,
+) -> Result<(), NoMemory>
+    requires ready { deque_len ready.old ≤ live }
+    requires waiting { deque_len waiting.old ≤ live }
+    requires few { live < 2 ^ 63 }
+    ensures ready { ready.new.items ≡ ready.old.items }
+    ensures waiting { waiting.new.items ≡ waiting.old.items }
+    ensures room { MakesRoom result live (min (deque_capacity ready.old) (deque_capacity waiting.old))
+        (min (deque_capacity ready.new) (deque_capacity waiting.new)) }
+{
+    match reserve_place(ready, live) {
+        Ok(()) => reserve_place(waiting, live),
+        Err(e) => Err(e),
+    }
 }
 
 /// Gives the queue room for more than so many.

@@ -18,7 +18,7 @@ pub enum Value {
 
 /// One operation of a body. An argument that the script leaves out is `Value::Number(0)`. Those from
 /// `CallSlot` on are those of fibrils. Slots and handles have the numbers 0 to 7, sessions 0 to 15.
-#[derive(PartialEq, Eq, Drop)]
+#[derive(Drop)]
 pub enum Op {
     /// Sends a call over the phone.
     Call {

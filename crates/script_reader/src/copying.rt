@@ -15,17 +15,40 @@ fn copies_of_ops(alloc: Global, ops: &[Op]) -> Result<Ops, NoMemory>
     Ok(copies)
 }
 
+/// The same body once more.
+fn copy_of_body(alloc: Global, body: &Body) -> Result<Body, NoMemory>
+    ensures { IfOk result (λ copy. copy ≡ body.now) }
+{
+    let ops = copies_of_ops(alloc, body.ops.as_slice())?;
+    Ok(Body {
+        connection: body.connection,
+        ops,
+    })
+}
+
 fn copies_of_bodies(alloc: Global, bodies: &[Body]) -> Result<Bodies, NoMemory>
     ensures { IfOk result (λ copies. copies ≡ bodies.now) }
 {
     let mut copies = Bodies::new(alloc);
     for body in bodies {
-        copies.push(Body {
-            connection: body.connection,
-            ops: copies_of_ops(alloc, body.ops.as_slice())?,
-        })?;
+        copies.push(copy_of_body(alloc, body)?)?;
     }
     Ok(copies)
+}
+
+/// The same task once more.
+fn copy_of_plan(alloc: Global, plan: &TaskPlan) -> Result<TaskPlan, NoMemory>
+    ensures { IfOk result (λ copy. copy ≡ plan.now) }
+{
+    let bodies = copies_of_bodies(alloc, plan.bodies.as_slice())?;
+    Ok(TaskPlan {
+        name: plan.name.copy(),
+        kind: plan.kind,
+        limit: plan.limit,
+        bodies,
+        blocks: plan.blocks,
+        service: plan.service,
+    })
 }
 
 /// The same tasks once more.
@@ -38,14 +61,7 @@ pub fn copies_of_plans(alloc: Global, plans: &[TaskPlan]) -> Result<TaskPlans, N
 {
     let mut copies = TaskPlans::new(alloc);
     for plan in plans {
-        copies.push(TaskPlan {
-            name: plan.name.copy(),
-            kind: plan.kind,
-            limit: plan.limit,
-            bodies: copies_of_bodies(alloc, plan.bodies.as_slice())?,
-            blocks: plan.blocks,
-            service: plan.service,
-        })?;
+        copies.push(copy_of_plan(alloc, plan)?)?;
     }
     Ok(copies)
 }

@@ -4,11 +4,12 @@ ghost use Rattle.script_lines.specs.declared.fault.Reason.{Reason};
 ghost use Rattle.script_lines.specs.Text.{lines};
 ghost use Rattle.script_lines.specs.Plan.{Plan};
 ghost use Rattle.script_lines.specs.Line.{after_line};
-ghost use Rattle.script_lines.specs.ScriptParts.{no_parts, parts_of, AreWhole};
+ghost use Rattle.script_lines.specs.ScriptParts.{no_parts, script_of_parts, parts_of, AreWhole, PartsFit};
 ghost use Rattle.script_reader.specs.Grammar.{IsFirstFault, SpellsScript};
 ghost use Rattle.script_reader.specs.Reasons.{line_reasons};
 ghost use Rattle.script_reader.specs.Reading.{lines_from, script_of, fault_in_script, Reads, Agrees};
 
+use ipc_ids::NoMemory;
 use script_lines::{Drafts, LineFault, MOST_BYTES, Reason, Script, ScriptFault, add_line};
 use std::alloc::Global;
 
@@ -33,6 +34,18 @@ fn add_lines(drafts: &mut Drafts, alloc: Global, text: &[u8]) -> Result<(), Scri
     Ok(())
 }
 
+/// The script of all the lines.
+fn finish(drafts: Drafts) -> Result<Script, ScriptFault>
+    requires whole { AreWhole drafts }
+    requires fit { PartsFit (parts_of drafts) }
+    ensures { Agrees fault_in_script result (Ok (script_of_parts (parts_of drafts))) }
+{
+    match drafts.into_script() {
+        Ok(script) => Ok(script),
+        Err(NoMemory) => Err(ScriptFault::NoMemory),
+    }
+}
+
 #[tactic(auto, unfolding(crate::specs::Reading::reading))]
 fn read(alloc: Global, bytes: &[u8]) -> Result<Script, ScriptFault>
     ensures { Agrees fault_in_script result (script_of bytes.now) }
@@ -44,9 +57,10 @@ fn read(alloc: Global, bytes: &[u8]) -> Result<Script, ScriptFault>
         });
     }
     let mut drafts = Drafts::new(alloc);
-    add_lines(&mut drafts, alloc, bytes)?;
-    let script = drafts.into_script()?;
-    Ok(script)
+    match add_lines(&mut drafts, alloc, bytes) {
+        Ok(()) => finish(drafts),
+        Err(fault) => Err(fault),
+    }
 }
 
 /// The script that the bytes of a file spell.

@@ -18,7 +18,7 @@ ghost use Rattle.script_reader.specs.Reading.{lines_from, reading, events_alone,
 use crate::recent::RecentTasks;
 use crate::repeated::RepeatedEvents;
 use crate::step_line::step_line;
-use ipc_ids::Event;
+use ipc_ids::{Event, look_up};
 use script_lines::{
     LineFault, MOST_BYTES, MOST_TASKS, Names, Reason, ScheduleFault, Script, is_name, is_ns,
     names_of, number, split_line,
@@ -46,17 +46,18 @@ pub enum EventVerb {
     Spawn,
 }
 
-#[tactic(auto, unfolding(crate::specs::Schedule::event_verb_of))]
+/// The first words of lines.
+const EVENT_VERBS: [(&[u8], EventVerb); 4] = [
+    (b"step", EventVerb::Step),
+    (b"kill", EventVerb::Kill),
+    (b"hangup", EventVerb::Hangup),
+    (b"spawn", EventVerb::Spawn),
+];
+
 fn event_verb_of(word: &[u8]) -> Option<EventVerb>
     ensures { result ≡ event_verb_of word.now }
 {
-    match word {
-        [b's', b't', b'e', b'p'] => Some(EventVerb::Step),
-        [b'k', b'i', b'l', b'l'] => Some(EventVerb::Kill),
-        [b'h', b'a', b'n', b'g', b'u', b'p'] => Some(EventVerb::Hangup),
-        [b's', b'p', b'a', b'w', b'n'] => Some(EventVerb::Spawn),
-        _ => None,
-    }
+    look_up(&EVENT_VERBS, word)
 }
 
 /// Adds an event so many times, if there is room for it.
@@ -400,12 +401,12 @@ fn add_lines(
 fn read(
     alloc: Global,
     bytes: &[u8],
-    names: Names,
+    names: &mut Names,
     templates: &Names,
 ) -> Result<RepeatedEvents, ScheduleFault>
     ensures { Agrees fault_in_schedule result
         (events_alone (reading (after_event_line templates.now)
-        (record { events = []; names = names }) bytes.now)) }
+        (record { events = []; names = names.old }) bytes.now)) }
 {
     if bytes.len() > MOST_BYTES {
         return Err(ScheduleFault::Bad {
@@ -413,18 +414,19 @@ fn read(
             reason: Reason::TooLong,
         });
     }
-    let mut names = names;
     let mut events = RepeatedEvents::new(alloc);
-    add_lines(&mut events, &mut names, alloc, templates, bytes)?;
-    Ok(events)
+    match add_lines(&mut events, names, alloc, templates, bytes) {
+        Ok(()) => Ok(events),
+        Err(fault) => Err(fault),
+    }
 }
 
 fn read_for(alloc: Global, bytes: &[u8], script: &Script) -> Result<RepeatedEvents, ScheduleFault>
     ensures { Agrees fault_in_schedule result (schedule_of script.now bytes.now) }
 {
-    let names = names_of(alloc, script.tasks.as_slice())?;
+    let mut names = names_of(alloc, script.tasks.as_slice())?;
     let templates = names_of(alloc, script.templates.as_slice())?;
-    read(alloc, bytes, names, &templates)
+    read(alloc, bytes, &mut names, &templates)
 }
 
 /// The events that the bytes of a file spell, for the tasks and templates of a script: at most
