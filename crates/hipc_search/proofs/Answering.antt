@@ -13,6 +13,8 @@ use Rattle.script_reader.specs.Schedule.{MayAllCome}
 use Rattle.search_goals.specs.GoalList.{Sought, all_precede}
 use Rattle.schedule_search.specs.declared.problem.MostMade.{MostMade}
 use Rattle.schedule_search.specs.Search.{Search, IsSound}
+use Rattle.hipc_search.specs.declared.lists.ListName.{ListName}
+use Rattle.hipc_search.specs.declared.lists.ListName.TheVariants.{Kill, Hangup, Spawn}
 use Rattle.hipc_search.specs.declared.moves.Listed.TheVariants.{Kills, Hangups}
 use Rattle.hipc_search.specs.declared.status.Status.{Status}
 use Rattle.hipc_search.specs.declared.status.Status.TheVariants as statuses
@@ -20,6 +22,7 @@ use Rattle.hipc_search.specs.Asking.{search_by, search_with}
 use Rattle.hipc_search.specs.Command.{Command}
 use Rattle.hipc_search.specs.Due.{Answers, IsOfText, Whole, Part}
 use Rattle.hipc_search.specs.Line.{fault_line}
+use Rattle.hipc_search.specs.Lists.{list_place, IsListFault}
 use Rattle.hipc_search.specs.Moves.{listed_in, bounds_in, moves_of}
 use Rattle.hipc_search.proofs.Steps.{moves_few}
 
@@ -62,23 +65,29 @@ module _ (c : Command) (plan : Plan) (first : EventsAndNames) (sought : Sought) 
   abbrev bounds_told : Result (List MostMade) (ℕ × Reason)
   bounds_told = bounds_in templates c.spawn
 
-  pub kills_at_fault : (fault : ℕ × Reason) → kills_told ≡ Err fault
+  kills_at_fault : (fault : ℕ × Reason) → kills_told ≡ Err fault
       → search_with c plan first (Ok sought) ≡ Err (fault_line (codes "kill word") fault)
   kills_at_fault fault e = ap (λ k. search_by plan first c.kills sought k hangups_told bounds_told) e
 
-  pub hangups_at_fault : (killed : List Event) (fault : ℕ × Reason) → kills_told ≡ Ok killed → hangups_told ≡ Err fault
+  hangups_at_fault : (killed : List Event) (fault : ℕ × Reason) → kills_told ≡ Ok killed → hangups_told ≡ Err fault
       → search_with c plan first (Ok sought) ≡ Err (fault_line (codes "hangup word") fault)
   hangups_at_fault killed fault e f =
       ap (λ k. search_by plan first c.kills sought k hangups_told bounds_told) e
       ∙ ap (λ h. search_by plan first c.kills sought (Ok killed) h bounds_told) f
 
-  pub bounds_at_fault : (killed hangups : List Event) (fault : ℕ × Reason) → kills_told ≡ Ok killed
+  bounds_at_fault : (killed hangups : List Event) (fault : ℕ × Reason) → kills_told ≡ Ok killed
       → hangups_told ≡ Ok hangups → bounds_told ≡ Err fault
       → search_with c plan first (Ok sought) ≡ Err (fault_line (codes "spawn word") fault)
   bounds_at_fault killed hangups fault e f g =
       ap (λ k. search_by plan first c.kills sought k hangups_told bounds_told) e
       ∙ ap (λ h. search_by plan first c.kills sought (Ok killed) h bounds_told) f
       ∙ ap (λ b. search_by plan first c.kills sought (Ok killed) (Ok hangups) b) g
+
+  pub list_at_fault : (list : ListName) (fault : ℕ × Reason) → IsListFault kills_told hangups_told bounds_told list fault
+      → search_with c plan first (Ok sought) ≡ Err (fault_line (list_place list) fault)
+  list_at_fault Kill fault e = kills_at_fault fault e
+  list_at_fault Hangup fault (killed, e, f) = hangups_at_fault killed fault e f
+  list_at_fault Spawn fault (killed, hangups, e, f, g) = bounds_at_fault killed hangups fault e f g
 
   pub search_is : (killed hangups moves : List Event) (bounds : List MostMade) → kills_told ≡ Ok killed
       → hangups_told ≡ Ok hangups → bounds_told ≡ Ok bounds

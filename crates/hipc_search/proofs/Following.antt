@@ -22,7 +22,7 @@ use Rattle.search_goals.proofs.Adding.{none_added}
 use Rattle.search_goals.proofs.Texts.{comment_adds, ends}
 use Rattle.hipc_search.specs.Asking.{few_first, first_events}
 use Rattle.hipc_search.specs.Schedule.{events_and_names, Precedes}
-use Rattle.hipc_search.proofs.Lists.{line_ok}
+use Rattle.hipc_search.proofs.ListWords.{line_ok}
 use Rattle.hipc_search.proofs.Knowing.{lines_named}
 
 -- ---- the lines of two texts

@@ -26,7 +26,7 @@ use Rattle.script_reader.proofs.KnownTasks.{free_ok}
 use Rattle.search_goals.specs.Writing.{tasks_behind}
 use Rattle.search_goals.proofs.Adding.{tasks_both}
 use Rattle.hipc_search.specs.Known.{is_spawn, made_by}
-use Rattle.hipc_search.proofs.Lists.{line_ok}
+use Rattle.hipc_search.proofs.ListWords.{line_ok}
 use Rattle.hipc_search.proofs.Named.{name_is}
 
 -- ---- what one line does

@@ -1,6 +1,6 @@
 pub mod Numbers
 pub mod Behind
-pub mod Lists
+pub mod ListWords
 pub mod Steps
 pub mod Looking
 pub mod Following

@@ -28,7 +28,7 @@ use Rattle.script_lines.proofs.Soundness.{made_is}
 use Rattle.script_reader.specs.Reading.{lines_from, reading, plan_from_parts, script_of}
 use Rattle.script_reader.proofs.Faults.{head_name}
 use Rattle.search_goals.specs.Writing as writing
-use Rattle.hipc_search.proofs.Lists.{line_ok}
+use Rattle.hipc_search.proofs.ListWords.{line_ok}
 
 abbrev IsNamed : TaskPlan → Type 0
 IsNamed t = is_name t.name ≡ true

@@ -3,6 +3,7 @@ pub mod Command
 pub mod Line
 pub mod Known
 pub mod Moves
+pub mod Lists
 pub mod Asking
 pub mod Schedule
 pub mod Told

@@ -141,7 +141,7 @@ pub(crate) fn search_answer(
     alloc: Global,
     problem: &Problem<'_>,
     command: &Command<'_>,
-    names: TaskNames,
+    names: &mut TaskNames,
     before: &[u8],
     goal: &[u8],
 ) -> Result<Answer, NoMemory>
@@ -151,7 +151,7 @@ pub(crate) fn search_answer(
     requires few_first { length problem.now.from.now ≤ 32768 }
     requires short { length before.now ≤ 524289 }
     requires first { Precedes problem.now.script.now before.now
-        (record { events = problem.now.from.now; names = names }) }
+        (record { events = problem.now.from.now; names = names.old }) }
     requires allowed { list_all is_allowed goal.now ≡ true }
     ensures due { IfOk result (λ answer. DueForSearch (search_of problem.now) command.now.events
         command.now.states before.now goal.now answer.status answer.text.items) }

@@ -3,8 +3,6 @@ ghost use Rattle.std.specs.Prelude.{◌≡◌, ◌≢◌, ◌≤◌, ◌<◌, �
 ghost use Rattle.std.specs.Io.KnownBytes.{Appends, Keeps};
 ghost use Rattle.std.specs.Option.{option_map};
 ghost use Rattle.io_edge.specs.Edge.{AppendsStart, Rose};
-ghost use Rattle.script_lines.specs.Names.{task_names};
-ghost use Rattle.script_lines.specs.Sound.{IsSound};
 ghost use Rattle.script_reader.specs.Schedule.{MayAllCome};
 ghost use Rattle.search_goals.specs.GoalList.{all_precede, said_all, sought_by};
 ghost use Rattle.search_goals.specs.Writing.{IsNamed};
@@ -19,27 +17,19 @@ ghost use Rattle.hipc_search.specs.declared.status.Status.TheVariants.{WriteFail
 use crate::answer::{Answer, cannot_answer, fault_answer, goal_fault_answer, usage_answer};
 use crate::command::{Command, command_of};
 use crate::goal::{asked_for, first_events};
-use crate::moves::{Listed, bounds_in, listed_in, moves_of};
+use crate::lists::{ListsFault, list_place, lists_in};
+use crate::moves::moves_of;
 use crate::status::Status;
 use crate::survey::asks_answer;
 use io_edge::{LoadFault, PutFailed, Shelf, Sink};
 use ipc_ids::{Event, NoMemory};
 use schedule_search::Problem;
-use script_lines::{Names, names_of};
 use script_reader::{ScheduleFault, Script, ScriptFault, read_script};
-use search_goals::{GoalFault, Goals, GoalsFault, TaskNames};
+use search_goals::{Goals, GoalsFault, TaskNames};
 use std::alloc::Global;
 
 // One more byte than a file may have, so that a longer one shows.
 const MOST: usize = 1_048_577;
-
-/// The names of the templates of a script. It is sound, as each is.
-fn templates_in(alloc: Global, script: &Script) -> Result<Names, NoMemory>
-    ensures names { IfOk result (λ names. names ≡ task_names script.now.templates) }
-    ensures sound { IfOk result (λ _. IsSound script.now) }
-{
-    names_of(alloc, script.templates.as_slice())
-}
 
 /// Reads the lists of kills, of hangups and of templates, and searches or surveys.
 fn with_goals(
@@ -47,7 +37,7 @@ fn with_goals(
     command: &Command<'_>,
     script: &Script,
     from: &[Event],
-    names: TaskNames,
+    names: &mut TaskNames,
     before: &[u8],
     goals: &Goals,
 ) -> Result<Answer, NoMemory>
@@ -57,52 +47,35 @@ fn with_goals(
     requires few { length from.now ≤ 32768 }
     requires short { length before.now ≤ 524289 }
     requires first { Precedes script.now before.now
-        (record { events = from.now; names = names }) }
+        (record { events = from.now; names = names.old }) }
     requires allowed { MayStand (said command.now).asks }
     requires precede { all_precede (said_all goals.now.earlier.items) ≡ true }
     ensures due { IfOk result (λ answer. DueForAsked (said command.now) before.now
         (search_with (said command.now) script.now
-        (record { events = from.now; names = names }) (Ok (sought_by goals.now)))
+        (record { events = from.now; names = names.old }) (Ok (sought_by goals.now)))
         answer.status answer.text.items) }
     ensures told { IfOk result (λ answer. IsOfText answer.status) }
 {
-    let table = names.to_table(alloc)?;
-    let killed = match listed_in(alloc, Listed::Kills, &table, command.kill) {
-        Ok(killed) => killed,
-        Err(GoalFault::Bad { word, reason }) => {
-            return fault_answer(alloc, Status::BadGoal, "kill word", word, reason);
+    let lists = match lists_in(alloc, script, names, command) {
+        Ok(lists) => lists,
+        Err(ListsFault::Bad { list, word, reason }) => {
+            return fault_answer(alloc, Status::BadGoal, list_place(list), word, reason);
         }
-        Err(GoalFault::NoMemory) => return Err(NoMemory),
+        Err(ListsFault::NoMemory) => return Err(NoMemory),
     };
-    let hangups = match listed_in(alloc, Listed::Hangups, &table, command.hangup) {
-        Ok(hangups) => hangups,
-        Err(GoalFault::Bad { word, reason }) => {
-            return fault_answer(alloc, Status::BadGoal, "hangup word", word, reason);
-        }
-        Err(GoalFault::NoMemory) => return Err(NoMemory),
-    };
-    let templates = templates_in(alloc, script)?;
-    let bounds = match bounds_in(alloc, &templates, command.spawn) {
-        Ok(bounds) => bounds,
-        Err(GoalFault::Bad { word, reason }) => {
-            return fault_answer(alloc, Status::BadGoal, "spawn word", word, reason);
-        }
-        Err(GoalFault::NoMemory) => return Err(NoMemory),
-    };
-    let tasks = names.len() as u64;
     let moves = moves_of(
         alloc,
-        tasks,
-        killed.as_slice(),
-        hangups.as_slice(),
-        bounds.as_slice(),
+        names.len() as u64,
+        lists.killed.as_slice(),
+        lists.hangups.as_slice(),
+        lists.bounds.as_slice(),
     )?;
     let problem = Problem {
         script,
         from,
         moves: moves.as_slice(),
         kills: command.kills,
-        spawns: bounds.as_slice(),
+        spawns: lists.bounds.as_slice(),
         earlier: goals.earlier.as_slice(),
         goal: &goals.last,
     };
@@ -116,7 +89,7 @@ fn with_events(
     command: &Command<'_>,
     script: &Script,
     from: &[Event],
-    names: TaskNames,
+    names: &mut TaskNames,
     before: &[u8],
 ) -> Result<Answer, NoMemory>
     requires events { command.now.events ≤ 10000 }
@@ -125,13 +98,12 @@ fn with_events(
     requires few { length from.now ≤ 32768 }
     requires short { length before.now ≤ 524289 }
     requires first { Precedes script.now before.now
-        (record { events = from.now; names = names }) }
+        (record { events = from.now; names = names.old }) }
     ensures due { IfOk result (λ answer. DueForEvents (said command.now) script.now before.now
-        (Ok (record { events = from.now; names = names })) answer.status answer.text.items) }
+        (Ok (record { events = from.now; names = names.old })) answer.status answer.text.items) }
     ensures told { IfOk result (λ answer. IsOfText answer.status) }
 {
-    let table = names.to_table(alloc)?;
-    match asked_for(alloc, &table, script, command.asks) {
+    match asked_for(alloc, names, script, command.asks) {
         Ok(goals) => with_goals(alloc, command, script, from, names, before, &goals),
         Err(GoalsFault::Bad { goal, word, reason }) => {
             goal_fault_answer(alloc, goal, word, reason)
@@ -162,7 +134,7 @@ fn with_first(
         answer.status answer.text.items) }
     ensures told { IfOk result (λ answer. IsOfText answer.status) }
 {
-    let (from, names) = match first_events(alloc, script, bytes) {
+    let (from, mut names) = match first_events(alloc, script, bytes) {
         Ok(first) => first,
         Err(ScheduleFault::Bad { line, reason }) => {
             return fault_answer(alloc, Status::BadSchedule, "schedule line", line, reason);
@@ -175,7 +147,7 @@ fn with_first(
         command,
         script,
         from.as_slice(),
-        names,
+        &mut names,
         before.as_slice(),
     )
 }
@@ -188,8 +160,8 @@ fn with_no_events(alloc: Global, command: &Command<'_>, script: &Script) -> Resu
         answer.status answer.text.items) }
     ensures told { IfOk result (λ answer. IsOfText answer.status) }
 {
-    let names = TaskNames::of_script(alloc, script)?;
-    with_events(alloc, command, script, &[], names, &[])
+    let mut names = TaskNames::of_script(alloc, script)?;
+    with_events(alloc, command, script, &[], &mut names, &[])
 }
 
 /// Searches over a script that was read.

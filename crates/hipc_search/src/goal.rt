@@ -36,11 +36,33 @@ fn goal_texts(alloc: Global, words: &[String]) -> Result<Vec<&[u8]>, NoMemory>
     Ok(goals)
 }
 
-/// The goals that texts say, of tasks of these names.
+/// The goals that texts say, of the tasks of a table.
 #[tactic(auto, using(crate::proofs::Looking::are_allowed))]
+fn goals_by(
+    alloc: Global,
+    table: &Names,
+    script: &Script,
+    first: &str,
+    later: &[String],
+) -> Result<Goals, GoalsFault>
+    ensures value { AnswersGoals result
+        (goals_of table.now script.now.tasks first.now (goals_in (texts later.now))) }
+    ensures precede { IfOk result (λ goals. all_precede (said_all goals.earlier.items) ≡ true) }
+    ensures allowed { IfOk result (λ _.
+        list_all is_allowed (goals_text first.now (goals_in (texts later.now))) ≡ true) }
+{
+    let texts = goal_texts(alloc, later)?;
+    let tasks = script.tasks.as_slice();
+    match read_goals_for(alloc, table, tasks, first.as_bytes(), texts.as_slice()) {
+        Ok(goals) => Ok(goals),
+        Err(fault) => Err(fault),
+    }
+}
+
+/// The goals that texts say, of tasks of these names.
 fn goals_for(
     alloc: Global,
-    names: &Names,
+    names: &TaskNames,
     script: &Script,
     first: &str,
     later: &[String],
@@ -51,18 +73,16 @@ fn goals_for(
     ensures allowed { IfOk result (λ _.
         list_all is_allowed (goals_text first.now (goals_in (texts later.now))) ≡ true) }
 {
-    let texts = goal_texts(alloc, later)?;
-    let tasks = script.tasks.as_slice();
-    match read_goals_for(alloc, names, tasks, first.as_bytes(), texts.as_slice()) {
-        Ok(goals) => Ok(goals),
-        Err(fault) => Err(fault),
+    match names.to_table(alloc) {
+        Ok(table) => goals_by(alloc, &table, script, first, later),
+        Err(NoMemory) => Err(GoalsFault::NoMemory),
     }
 }
 
 /// What is looked for, of tasks of these names; for a survey states at rest.
 pub(crate) fn asked_for(
     alloc: Global,
-    names: &Names,
+    names: &TaskNames,
     script: &Script,
     asks: Asks<'_>,
 ) -> Result<Goals, GoalsFault>

@@ -19,6 +19,7 @@ mod due;
 mod goal;
 mod known;
 mod listing;
+mod lists;
 mod moves;
 mod schedule;
 mod status;

@@ -93,7 +93,7 @@ fn comma_at(text: &[u8]) -> Option<usize>
 }
 
 /// The first word of a list, and what stands behind its comma; `None` where it has none.
-#[tactic(auto, using(crate::proofs::Lists::last_piece))]
+#[tactic(auto, using(crate::proofs::ListWords::last_piece))]
 fn first_word(text: &[u8]) -> (&[u8], Option<&[u8]>)
     ensures cut { words_of text.now
         ≡ result.0.now ∷ words_left (option_map (λ others. others.now) result.1) }

@@ -102,7 +102,7 @@ pub(crate) fn found_text(
     problem: &Problem<'_>,
     before: &[u8],
     goal: &[u8],
-    names: TaskNames,
+    names: &mut TaskNames,
     events: &[Event],
 ) -> Result<Vec<u8>, NoMemory>
     requires sound { IsSound (search_of problem.now) }
@@ -110,24 +110,17 @@ pub(crate) fn found_text(
     requires few_first { length problem.now.from.now ≤ 32768 }
     requires short { length before.now ≤ 524289 }
     requires first { Precedes problem.now.script.now before.now
-        (record { events = problem.now.from.now; names = names }) }
+        (record { events = problem.now.from.now; names = names.old }) }
     requires allowed { list_all is_allowed goal.now ≡ true }
     requires tried { may_try (search_of problem.now) events.now ≡ true }
     requires few { length events.now ≤ 10000 }
     ensures { IfOk result (λ text. IsSchedule (search_of problem.now) before.now goal.now events.now
         text.items) }
 {
-    let mut names = names;
     let mut text = Vec::from_slice(alloc, before)?;
     push_comment(alloc, &mut text, goal, events.len())?;
-    push_events(alloc, &mut text, problem.script, &mut names, events)?;
+    push_events(alloc, &mut text, problem.script, names, events)?;
     let steps = closing(alloc, problem, events, names.len() as u64)?;
-    push_events(
-        alloc,
-        &mut text,
-        problem.script,
-        &mut names,
-        steps.as_slice(),
-    )?;
+    push_events(alloc, &mut text, problem.script, names, steps.as_slice())?;
     Ok(text)
 }

@@ -124,7 +124,7 @@ pub(crate) fn asks_answer(
     alloc: Global,
     problem: &Problem<'_>,
     command: &Command<'_>,
-    names: TaskNames,
+    names: &mut TaskNames,
     before: &[u8],
 ) -> Result<Answer, NoMemory>
     requires sound { IsSound (search_of problem.now) }
@@ -133,7 +133,7 @@ pub(crate) fn asks_answer(
     requires few_first { length problem.now.from.now ≤ 32768 }
     requires short { length before.now ≤ 524289 }
     requires first { Precedes problem.now.script.now before.now
-        (record { events = problem.now.from.now; names = names }) }
+        (record { events = problem.now.from.now; names = names.old }) }
     requires allowed { MayStand (said command.now).asks }
     ensures due { IfOk result (λ answer. DueForAsks (search_of problem.now) command.now.events
         command.now.states before.now (said command.now).asks answer.status answer.text.items) }

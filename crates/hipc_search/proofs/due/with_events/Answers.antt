@@ -11,8 +11,8 @@ returns-in-Ok-clause-due c =
     subst
     (λ (r : Result Sought Fault). IfOk c.with_goals.result
     (λ answer. DueForAsked (said c.args.command.now) c.args.before.now (search_with (said c.args.command.now) c.args.script.now
-    (record { events = c.args.from.now; names = c.args.names }) r) answer.status answer.text.items))
-    (sym (rw c.in_ok-table.ensures at c.in-Ok.ensures.value)) c.with_goals.ensures.due
+    (record { events = c.args.from.now; names = c.args.names.now }) r) answer.status answer.text.items))
+    (sym c.in-Ok.ensures.value) c.with_goals.ensures.due
 
 pub returns-in-Err-Bad-clause-due : goal.returns-in-Err-Bad-clause-due
 returns-in-Err-Bad-clause-due c =
@@ -20,5 +20,5 @@ returns-in-Err-Bad-clause-due c =
     subst
     (λ (r : Result Sought Fault). IfOk c.goal_fault_answer.result
     (λ answer. DueForAsked (said c.args.command.now) c.args.before.now (search_with (said c.args.command.now) c.args.script.now
-    (record { events = c.args.from.now; names = c.args.names }) r) answer.status answer.text.items))
-    (sym (rw c.in_ok-table.ensures at fault)) c.goal_fault_answer.ensures.says
+    (record { events = c.args.from.now; names = c.args.names.now }) r) answer.status answer.text.items))
+    (sym fault) c.goal_fault_answer.ensures.says

@@ -1,7 +1,7 @@
 use Rattle.std.proofs.Common.{◌+◌, ◌-◌, ◌∷◌, List, ℕ, length, drop, sym, ap, ◌∙◌, arith}
 use Rattle.std.proofs.lemmas.List.{length-drop, take_all}
 use Rattle.hipc_search.specs.Moves.{words_of}
-use Rattle.hipc_search.proofs.Lists.{first_piece}
+use Rattle.hipc_search.proofs.ListWords.{first_piece}
 use Rattle.hipc_search.proofs.moves.first_word.Goals as goal
 
 pub returns-in-Some-clause-cut : goal.returns-in-Some-clause-cut

@@ -3,7 +3,7 @@ use Rattle.ipc_ids.specs.declared.message.Event.{Event}
 use Rattle.script_lines.proofs.Lines.{here}
 use Rattle.script_reader.specs.Reading.{lines_from}
 use Rattle.hipc_search.specs.Moves.{with_listed, words_of, words_left, listed_of}
-use Rattle.hipc_search.proofs.Lists.{event_listed, fault_listed, one_too_many, less_left, first_of, others_of, cut_is}
+use Rattle.hipc_search.proofs.ListWords.{event_listed, fault_listed, one_too_many, less_left, first_of, others_of, cut_is}
 use Rattle.hipc_search.proofs.moves.listed_of.Goals as goal
 
 pub loop-left-smaller : goal.loop-left-smaller

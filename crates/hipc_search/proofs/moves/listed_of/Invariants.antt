@@ -2,7 +2,7 @@ use Rattle.std.proofs.Common.{◌≡◌, ◌≤◌, ◌+◌, length}
 use Rattle.script_lines.proofs.Lines.{here}
 use Rattle.script_reader.specs.Reading.{lines_from}
 use Rattle.hipc_search.specs.Moves.{with_listed, words_left, listed_of}
-use Rattle.hipc_search.proofs.Lists.{bytes_left}
+use Rattle.hipc_search.proofs.ListWords.{bytes_left}
 use Rattle.hipc_search.proofs.moves.listed_of.Given as goal
 
 -- what was read, and what is left, say what the whole list says

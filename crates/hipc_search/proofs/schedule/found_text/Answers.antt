@@ -42,7 +42,7 @@ pub returns : goal.returns
 returns c =
     let tasks = c.len.ensures.few in
     let count = c.len.ensures.count in
-    is_schedule (search_of c.args.problem.now) c.args.before.now c.args.goal.now c.args.events.now c.args.names
+    is_schedule (search_of c.args.problem.now) c.args.before.now c.args.goal.now c.args.events.now c.args.names.now
     c.push_events.new.names c.push_events-2.new.names c.in_ok-text.text.items
     c.push_comment.new.text.items c.push_events.new.text.items c.push_events-2.new.text.items (omega (arith, tasks, count))
     c.requires.few_first c.requires.short c.requires.first c.requires.allowed c.requires.few c.in_ok-text.ensures.items
