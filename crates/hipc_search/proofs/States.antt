@@ -85,12 +85,12 @@ state_allowed place count fits counted =
     (digits_allowed (decimal count) (are_digits count counted))
 
 module _ (s : Search) (before : List ℕ) (place count : ℕ) (es : List Event) (names known : List (List ℕ))
-    (told lent : List Entry) (none begun first found text : List ℕ) (fits : place < 2 ^ 64) (counted : count < 2 ^ 64)
+    (none begun first found text : List ℕ) (fits : place < 2 ^ 64) (counted : count < 2 ^ 64)
     (few_first : length s.from ≤ 32768) (short : length before ≤ 524289)
     (precedes : Precedes s.plan before (record { events = s.from; names = names })) (few : length es ≤ 10000)
     (is_none : none ≡ []) (is_begun : begun ≡ none ++ heading place count (length es)) (is_first : first ≡ begun ++ before)
-    (wrote : Writes (task_names s.plan.templates) names first found es known) (is_told : told ≡ run s.plan (s.from ++ es))
-    (is_lent : lent ≡ told) (is_text : text ≡ found ++ outcome_lines 1 known lent) where
+    (wrote : Writes (task_names s.plan.templates) names first found es known)
+    (is_text : text ≡ found ++ outcome_lines 1 known (run s.plan (s.from ++ es))) where
   abbrev outcomes : List ℕ
   outcomes = outcome_lines 1 known (run s.plan (s.from ++ es))
 
@@ -118,7 +118,6 @@ module _ (s : Search) (before : List ℕ) (place count : ℕ) (es : List Event) 
         names = known;
         parts =
             is_text
-            ∙ ap (λ (h : List Entry). found ++ outcome_lines 1 known h) (is_lent ∙ is_told)
             ∙ ap (λ (t : List ℕ). t ++ outcomes)
             (wrote.parts
             ∙ ap (λ (t : List ℕ). t ++ wrote.line)

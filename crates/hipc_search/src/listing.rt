@@ -2,9 +2,10 @@
 ghost use Rattle.std.specs.Prelude.{◌≡◌, ◌≤◌, ◌++◌, ℕ, List, Some, IfOk, OnOk, codes, drop, length, slice_get};
 ghost use Rattle.ipc_ids.specs.declared.message.Event.{Event};
 ghost use Rattle.search_goals.specs.Writing.{IsNamed};
+ghost use Rattle.task_system.specs.Run.{run};
 ghost use Rattle.trace_print.specs.Text.{text_of_entry};
 ghost use Rattle.schedule_search.specs.Search.{IsSound, Made};
-ghost use Rattle.schedule_search.specs.Problem.{search_of};
+ghost use Rattle.schedule_search.specs.Problem.{search_of, CanDo};
 ghost use Rattle.schedule_search.specs.Survey.{schedules_of};
 ghost use Rattle.hipc_search.specs.Schedule.{ComesFirst};
 ghost use Rattle.hipc_search.specs.Told.{entry_of, told_text};
@@ -92,6 +93,22 @@ fn push_outcomes(
     Ok(())
 }
 
+/// Adds the line of each task of these names, behind the events of a problem that come first and these.
+fn push_outcomes_behind(
+    alloc: Global,
+    text: &mut Vec<u8>,
+    problem: &Problem<'_>,
+    names: &TaskNames,
+    events: &[Event],
+) -> Result<(), NoMemory>
+    requires can { CanDo (search_of problem.now) events.now }
+    ensures { OnOk result (text.new.items ≡ text.old.items ++ outcome_lines 1 names.now
+        (run problem.now.script.now (problem.now.from.now ++ events.now))) }
+{
+    let told = told_by(alloc, problem, events)?;
+    push_outcomes(alloc, text, names, told.entries())
+}
+
 /// The place of a state, of how many.
 fn state_name(alloc: Global, place: usize, count: usize) -> Result<Vec<u8>, NoMemory>
     ensures { IfOk result (λ name. name.items ≡ state_name place count) }
@@ -134,13 +151,12 @@ fn state_text(
     ensures { IfOk result (λ text. IsState (search_of problem.now) before.now place count events.now
         text.items) }
 {
-    let told = told_by(alloc, problem, events)?;
-    let mut names = names_behind(alloc, problem.script, before)?;
     let mut text = Vec::new(alloc);
     push_heading(alloc, &mut text, place, count, events.len())?;
     text.extend_from_slice(before)?;
+    let mut names = names_behind(alloc, problem.script, before)?;
     push_events(alloc, &mut text, problem.script, &mut names, events)?;
-    push_outcomes(alloc, &mut text, &names, told.entries())?;
+    push_outcomes_behind(alloc, &mut text, problem, &names, events)?;
     Ok(text)
 }
 

@@ -9,8 +9,8 @@ use Rattle.hipc_search.proofs.Following.{names_first}
 use Rattle.hipc_search.proofs.States.{is_state}
 use Rattle.hipc_search.proofs.listing.state_text.Goals as goal
 
-pub told_by-requires : goal.told_by-requires
-told_by-requires c =
+pub push_outcomes_behind-requires : goal.push_outcomes_behind-requires
+push_outcomes_behind-requires c =
     let few = c.requires.few in
     record {
       can = record {
@@ -42,12 +42,12 @@ returns c =
     names_first c.args.problem.now.script.now c.args.before.now first c.in_ok-names.names c.requires.first.1
     (omega (arith, short)) (omega (arith, few)) c.in_ok-names.ensures in
     is_state (search_of c.args.problem.now) c.args.before.now c.args.place c.args.count c.args.events.now first.names
-    c.push_events.new.names c.in_ok-told.told.entries c.entries.result.now c.new-text.result.items
+    c.push_events.new.names c.new-text.result.items
     c.push_heading.new.text.items c.extend_from_slice.new.self.items c.push_events.new.text.items
-    c.push_outcomes.new.text.items c.ranges.place.fits c.ranges.count.fits c.requires.few_first c.requires.short c.requires.first.1
+    c.push_outcomes_behind.new.text.items c.ranges.place.fits c.ranges.count.fits c.requires.few_first c.requires.short c.requires.first.1
     c.requires.few c.new-text.ensures.items c.in_ok-push_heading.ensures c.in_ok-extend_from_slice.ensures.items
     (subst
     (λ (ns : List (List ℕ)). Writes (task_names c.args.problem.now.script.now.templates) ns c.extend_from_slice.new.self.items
     c.push_events.new.text.items c.args.events.now c.push_events.new.names)
     same c.in_ok-push_events.ensures)
-    c.in_ok-told.ensures c.entries.ensures c.in_ok-push_outcomes.ensures
+    c.in_ok-push_outcomes_behind.ensures
