@@ -11,8 +11,8 @@ use Rattle.script_lines.specs.Sound as script
 use Rattle.script_reader.specs.Schedule.{MayAllCome, tasks_after}
 use Rattle.switchboard.specs.Sound.{IsSound}
 use Rattle.task_system.specs.Run.{RunState, program_of, start, turn, state_after, MayHappen, MayAllHappen}
-use Rattle.turn_counts.specs.Constants.{Constant, constant, constants, made_from, made_by_all, with_made}
-use Rattle.turn_counts.proofs.KeptConstants.{events_keep}
+use Rattle.run_words.specs.Constants.{Constant, constant, constants, made_from, made_by_all, with_made}
+use Rattle.run_words.proofs.KeptConstants.{events_keep}
 use Rattle.run_laws.proofs.RunHistories.{run_told, may_from, turn_count, turn_templates, later_may, start_counted, templates_stay}
 use Rattle.run_words.specs.Reached.{spawn_of, spawns_of, IsReached}
 

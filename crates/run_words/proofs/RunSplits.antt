@@ -5,13 +5,13 @@ use Rattle.switchboard.specs.Sound.{IsSound}
 use Rattle.task_system.specs.declared.any.AnyProgram.{AnyProgram}
 use Rattle.task_system.specs.declared.any.AnyProgram.TheVariants as any
 use Rattle.task_system.specs.Run.{RunState}
-use Rattle.turn_counts.specs.Alike.{uncounted_program, uncounted_programs, AreAlikePrograms}
-use Rattle.turn_counts.specs.Constants.{constant, Constants, constants}
-use Rattle.kernel_words.specs.Kernel.{kernel_words}
-use Rattle.kernel_words.proofs.KernelSplits.{kernel_split}
-use Rattle.kernel_words.proofs.GoingOn.{words_again}
-use Rattle.program_words.proofs.ProgramSplits.{raw_split, naming_split, block_split}
-use Rattle.async_words.proofs.AsyncSplits.{async_split}
+use Rattle.run_words.specs.AlikeStates.{uncounted_program, uncounted_programs, AreAlikePrograms}
+use Rattle.run_words.specs.Constants.{constant, Constants, constants}
+use Rattle.run_words.specs.Kernel.{kernel_words}
+use Rattle.run_words.proofs.KernelSplits.{kernel_split}
+use Rattle.run_words.proofs.KernelGoingOn.{words_again}
+use Rattle.state_words.proofs.ProgramSplits.{raw_split, naming_split, block_split}
+use Rattle.state_words.proofs.AsyncSplits.{async_split}
 use Rattle.run_words.specs.RunWords.{any_words, run_words}
 use Rattle.run_words.specs.Alike.{AreAlikeRuns}
 

@@ -19,9 +19,9 @@ use Rattle.kernel_core.specs.Kernel.{serve, kill_event, spawn_event, next_task}
 use Rattle.task_system.specs.declared.any.AnyProgram.{AnyProgram}
 use Rattle.task_system.specs.Any.{wanted, after, entries}
 use Rattle.task_system.specs.Run.{RunState, RunTransition, gone, step_by, step_served, program_at, program_of, request, request_served, kill, killed, spawn_by, spawned, turn}
-use Rattle.turn_counts.specs.Alike.{uncounted_program, uncounted_programs, AreAlikePrograms}
-use Rattle.turn_counts.proofs.ProgramCounts.{alike_wanted, alike_entries, alike_after}
-use Rattle.kernel_words.proofs.GoingOn.{GoOnAlike, ServeOnAlike, served_on, killed_on, spawned_on}
+use Rattle.run_words.specs.AlikeStates.{uncounted_program, uncounted_programs, AreAlikePrograms}
+use Rattle.run_words.proofs.ProgramCounts.{alike_wanted, alike_entries, alike_after}
+use Rattle.run_words.proofs.KernelGoingOn.{GoOnAlike, ServeOnAlike, served_on, killed_on, spawned_on}
 use Rattle.run_words.specs.Alike.{AreAlikeRuns}
 
 -- the events have the same entries, and leave states that are alike

@@ -1,8 +1,8 @@
 -- States of a run that are the same but for counts and for the stamps of calls.
 use Rattle.std.specs.Prelude.{◌≡◌}
 use Rattle.task_system.specs.Run.{RunState}
-use Rattle.turn_counts.specs.Alike.{uncounted_programs}
-use Rattle.kernel_words.specs.Kernel.{AreAlikeKernels}
+use Rattle.run_words.specs.AlikeStates.{uncounted_programs}
+use Rattle.run_words.specs.Kernel.{AreAlikeKernels}
 
 -- two states of a run differ in counts, and in stamps of calls that stand in one order within each place, alone
 pub record AreAlikeRuns (a b : RunState) : Type 0 where

@@ -6,9 +6,9 @@ use Rattle.std.specs.List.{flat_map}
 use Rattle.task_system.specs.declared.any.AnyProgram.{AnyProgram}
 use Rattle.task_system.specs.declared.any.AnyProgram.TheVariants as any
 use Rattle.task_system.specs.Run.{RunState}
-use Rattle.program_words.specs.ProgramWords.{raw_words, naming_words, block_words}
-use Rattle.async_words.specs.AsyncWords.{async_words}
-use Rattle.kernel_words.specs.Kernel.{kernel_words}
+use Rattle.state_words.specs.ProgramWords.{raw_words, naming_words, block_words}
+use Rattle.state_words.specs.AsyncWords.{async_words}
+use Rattle.run_words.specs.Kernel.{kernel_words}
 
 -- a program, by its kind
 abbrev pub any_words : AnyProgram → List ℕ

@@ -3,9 +3,8 @@ ghost use Rattle.std.specs.Prelude.{◌≡◌, ◌++◌, OnOk};
 ghost use Rattle.std.specs.List.{flat_map};
 ghost use Rattle.run_words.specs.RunWords.{any_words, run_words};
 
-use async_words::push_async_program;
-use kernel_words::push_kernel_words;
-use program_words::{push_block_server, push_naming_service, push_raw_program};
+use crate::kernel::push_kernel_words;
+use state_words::{push_async_program, push_block_server, push_naming_service, push_raw_program};
 use std::alloc::AllocError;
 use task_system::{AnyProgram, System};
 

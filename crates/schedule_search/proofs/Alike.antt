@@ -16,7 +16,7 @@ use Rattle.run_words.specs.Reached.{IsReached, spawns_of}
 use Rattle.run_words.specs.RunWords.{run_words}
 use Rattle.search_goals.specs.GoalText.{Asked, LosesCall, IsRest, IsStuck, HoldAll, HasLine}
 use Rattle.search_goals.specs.Goals.{meets_line}
-use Rattle.state_goals.proofs.Alike.{all_alike}
+use Rattle.schedule_search.proofs.AlikeHolding.{all_alike}
 use Rattle.schedule_search.specs.Search.{Search, IsSound, AreOf, kills_in, is_within, may_try, first_state, state_behind, event_at, events_of}
 use Rattle.schedule_search.specs.OpenCalls.{has_open_call}
 use Rattle.schedule_search.specs.Meeting.{changes_nothing, is_at_rest, IsMet, Meets, Finds}

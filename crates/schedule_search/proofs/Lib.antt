@@ -1,3 +1,6 @@
+pub mod AlikeHolding
+pub mod Bodies
+pub mod Past
 pub mod Orders
 pub mod Words
 pub mod Behind

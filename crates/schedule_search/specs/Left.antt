@@ -5,7 +5,7 @@ use Rattle.ipc_ids.specs.declared.message.Event.{Event}
 use Rattle.task_system.specs.Run.{RunState, turn}
 use Rattle.search_goals.specs.Goals.{meets_line}
 use Rattle.search_goals.specs.GoalText.{Asked, LosesCall, IsRest, IsStuck, HoldAll, HasLine}
-use Rattle.state_goals.specs.Holding.{all_hold}
+use Rattle.schedule_search.specs.Holding.{all_hold}
 use Rattle.schedule_search.specs.Search.{Search, first_state}
 use Rattle.schedule_search.specs.OpenCalls.{has_open_call}
 use Rattle.schedule_search.specs.Meeting.{is_at_rest, IsMet}

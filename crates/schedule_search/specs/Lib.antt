@@ -1,3 +1,5 @@
+pub mod Holding
+pub mod Plans
 pub mod Search
 pub mod OpenCalls
 pub mod Lost

@@ -9,7 +9,7 @@ use Rattle.task_system.specs.Run.{RunState, turn, state_after}
 use Rattle.run_words.specs.RunWords.{run_words}
 use Rattle.search_goals.specs.Goals.{meets_line}
 use Rattle.search_goals.specs.GoalText.{Asked, LosesCall, IsRest, IsStuck, HoldAll, HasLine}
-use Rattle.state_goals.specs.Holding.{all_hold}
+use Rattle.schedule_search.specs.Holding.{all_hold}
 use Rattle.schedule_search.specs.Search.{Search, Made, first_state, last_told}
 use Rattle.schedule_search.specs.OpenCalls.{has_open_call}
 use Rattle.schedule_search.specs.Lost.{HasLostCall}

@@ -15,6 +15,7 @@
 
 mod ahead;
 mod at_rest;
+mod holding;
 mod kills;
 mod laws;
 mod left;
@@ -24,6 +25,7 @@ mod open_calls;
 mod outcome;
 mod path;
 mod place;
+mod plans;
 mod problem;
 mod rest;
 mod spawns;
@@ -32,9 +34,10 @@ mod trying;
 mod visits;
 
 pub use at_rest::{RestingStates, survey_schedules};
+pub use holding::{all_hold, holds};
 pub use laws::{
-    codes_stand_for_schedules, nothing_moves_at_rest, stuck_states_have_lost_a_call,
-    waiting_wins_nothing,
+    alike_states_hold_alike, codes_stand_for_schedules, nothing_moves_at_rest,
+    nothing_stands_at_unknown_operations, stuck_states_have_lost_a_call, waiting_wins_nothing,
 };
 pub use outcome::{Outcome, search_schedules};
 pub use problem::{MostMade, Problem};

@@ -6,13 +6,13 @@ ghost use Rattle.schedule_search.specs.Meeting.{IsMet};
 ghost use Rattle.schedule_search.specs.Left.{is_met};
 ghost use Rattle.schedule_search.specs.Problem.{search_of, CanDo};
 
+use crate::holding::all_hold;
 use crate::lost_calls::has_lost_call;
 use crate::problem::Problem;
 use crate::rest::{is_at_rest, is_stuck};
 use ipc_ids::{Event, Trace};
 use schedule_replay::Replay;
 use search_goals::{Goal, may_precede, meets_line};
-use state_goals::all_hold;
 use std::alloc::{AllocError, Global};
 
 /// All events that lead to a state.

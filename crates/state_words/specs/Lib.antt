@@ -3,4 +3,7 @@ pub mod Order
 pub mod CallWords
 pub mod MemoryWords
 pub mod KernelWords
+pub mod ProgramWords
+pub mod AsyncWords
 pub mod Apart
+pub mod ProgramsApart

@@ -17,7 +17,7 @@ pub struct Stand {
 }
 
 /// Where a call stands, and its stamp.
-pub fn stand_of(call: &Call) -> Stand
+pub(crate) fn stand_of(call: &Call) -> Stand
     ensures { result ≡ stand_of call.now }
 {
     Stand {
@@ -46,7 +46,7 @@ fn is_sooner(one: Stand, other: Stand) -> bool
 }
 
 /// How many of these stand at the place of this one and came there before.
-pub fn rank_among(stands: &[Stand], stand: Stand) -> u64
+pub(crate) fn rank_among(stands: &[Stand], stand: Stand) -> u64
     ensures { result ≡ rank_among stands.now stand }
 {
     let mut rank = 0;
@@ -72,7 +72,7 @@ fn push_stand(call: Option<&Call>, out: &mut Vec<Stand>) -> Result<(), AllocErro
 }
 
 /// The stands of all live calls, by their numbers.
-pub fn stands_of(boxes: &Boxes) -> Result<Vec<Stand>, AllocError>
+pub(crate) fn stands_of(boxes: &Boxes) -> Result<Vec<Stand>, AllocError>
     ensures { IfOk result (λ found. found.items ≡ stands boxes.now.calls) }
 {
     let mut found = Vec::new(boxes.alloc());

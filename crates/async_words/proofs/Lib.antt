@@ -1,3 +1,0 @@
-pub mod AsyncSplits
-mod Halves
-mod Places

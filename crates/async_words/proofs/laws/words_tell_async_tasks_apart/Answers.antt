@@ -1,5 +1,0 @@
-use Rattle.async_words.proofs.AsyncSplits.{async_split}
-use Rattle.async_words.proofs.laws.words_tell_async_tasks_apart.Goals as goal
-
-pub returns : goal.returns
-returns c = async_split

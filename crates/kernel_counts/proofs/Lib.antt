@@ -1,2 +1,0 @@
-mod KillCounts
-pub mod RequestCounts

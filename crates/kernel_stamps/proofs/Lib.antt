@@ -1,3 +1,0 @@
-pub mod TableStamps
-mod KillStamps
-pub mod RequestStamps

@@ -1,4 +1,0 @@
-pub mod Ranks
-pub mod Renaming
-pub mod KernelSplits
-pub mod GoingOn

@@ -1,3 +1,0 @@
-pub mod Alike
-pub mod Bodies
-pub mod Past

@@ -1,7 +1,0 @@
-use Rattle.std.proofs.Common.{◌≡◌, drop}
-use Rattle.state_goals.specs.Holding.{all_hold}
-use Rattle.state_goals.proofs.holding.all_hold.Given as goal
-
-abbrev pub invariant-loop-condition : goal.invariant-loop-condition
-invariant-loop-condition l =
-    all_hold (drop l.condition-index l.conditions) l.system ≡ all_hold l.conditions l.system

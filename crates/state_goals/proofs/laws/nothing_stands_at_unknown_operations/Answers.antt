@@ -1,5 +1,0 @@
-use Rattle.state_goals.proofs.Past.{no_state}
-use Rattle.state_goals.proofs.laws.nothing_stands_at_unknown_operations.Goals as goal
-
-pub returns : goal.returns
-returns c = no_state

@@ -1,5 +1,0 @@
-mod ServiceCounts
-pub mod ProgramCounts
-pub mod TurnCounts
-mod AsyncKept
-pub mod KeptConstants
