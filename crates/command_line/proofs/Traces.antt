@@ -5,9 +5,9 @@ use Rattle.std.proofs.lemmas.List.{take_all, length-take-le}
 use Rattle.std.specs.Option.{option_map}
 use Rattle.std.proofs.lemmas.Option.{same_Some}
 use Rattle.io_edge.specs.Edge.{Gives, Holds, file_of}
-use Rattle.trace_check.specs.declared.finding.Finding.{Finding}
-use Rattle.trace_check.specs.declared.finding.Finding.TheVariants.{TooLong, Unreadable, Lawful, Breaks}
-use Rattle.trace_check.specs.Finding.{IsFinding, IsLawfulTrace}
+use Rattle.law_check.specs.declared.finding.Finding.{Finding}
+use Rattle.law_check.specs.declared.finding.Finding.TheVariants.{TooLong, Unreadable, Lawful, Breaks}
+use Rattle.law_check.specs.Finding.{IsFinding, IsLawfulTrace}
 use Rattle.command_line.specs.Check.{DueForTrace}
 use Rattle.command_line.specs.Due.{Files, cannot_line, DueForTraceFile}
 use Rattle.command_line.specs.LawfulRun.{HasLawfulTrace, HasNoLawfulTrace}

@@ -2,9 +2,9 @@
 use Rattle.std.specs.Prelude.{◌≡◌, ℕ, List}
 use Rattle.command_line.specs.declared.status.Status.{Status}
 use Rattle.command_line.specs.declared.status.Status.TheVariants.{Done, BadTrace}
-use Rattle.trace_check.specs.declared.finding.Finding.{Finding}
-use Rattle.trace_check.specs.declared.finding.Finding.TheVariants.{TooLong, Unreadable, Lawful, Breaks}
-use Rattle.trace_check.specs.Finding.{IsFinding, line_of}
+use Rattle.law_check.specs.declared.finding.Finding.{Finding}
+use Rattle.law_check.specs.declared.finding.Finding.TheVariants.{TooLong, Unreadable, Lawful, Breaks}
+use Rattle.law_check.specs.Finding.{IsFinding, line_of}
 
 abbrev pub status_of : Finding → Status
 status_of TooLong = BadTrace

@@ -10,7 +10,7 @@ use Rattle.run_laws.specs.LawfulRun.{KeepsLaws, LosesNoWake}
 use Rattle.schedule_replay.specs.Generator.{generated_plan}
 use Rattle.trace_print.specs.Text.{text_of}
 use Rattle.command_line.specs.Command.{Command, Replay, Generate, Check, command_of}
-use Rattle.trace_check.specs.Finding.{IsLawfulTrace}
+use Rattle.law_check.specs.Finding.{IsLawfulTrace}
 use Rattle.command_line.specs.Due.{Files}
 use Rattle.command_line.specs.Summary.{generated_run, summary_line}
 

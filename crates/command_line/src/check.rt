@@ -2,7 +2,7 @@
 ghost use Rattle.std.specs.Prelude.{◌≡◌, ◌≢◌, ◌≤◌, ◌<◌};
 ghost use Rattle.std.specs.Io.KnownBytes.{Keeps};
 ghost use Rattle.io_edge.specs.Edge.{AppendsStart, Rose};
-ghost use Rattle.trace_check.specs.Finding.{IsLawfulTrace, line_of};
+ghost use Rattle.law_check.specs.Finding.{IsLawfulTrace, line_of};
 ghost use Rattle.command_line.specs.Check.{status_of, DueForTrace};
 ghost use Rattle.command_line.specs.Due.{Whole, Part};
 ghost use Rattle.command_line.specs.declared.status.Status.TheVariants.{Done, BadTrace, WriteFailed, NoMemory as Memory};
@@ -12,7 +12,7 @@ use crate::answer::tell;
 use io_edge::Sink;
 use ipc_ids::NoMemory;
 use std::alloc::Global;
-use trace_check::{Finding, check_trace, finding_text};
+use law_check::{Finding, check_trace, finding_text};
 
 // The status that a finding comes to.
 fn status_of(finding: Finding) -> Status

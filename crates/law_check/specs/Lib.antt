@@ -8,4 +8,6 @@ pub mod Stores
 pub mod Held
 pub mod Allowed
 pub mod Verdict
+pub mod Finding
+pub mod Reading
 pub mod Judging

@@ -1,10 +1,10 @@
 //! What a check of bytes as a trace finds.
 ghost use Rattle.std.specs.Prelude.{◌≡◌, ◌↔◌, IfOk};
-ghost use Rattle.trace_check.specs.Finding.{IsFinding, IsLawfulTrace, IsLawfulFinding, line_of, unreadable_line, entries_part, calls_part, lawful_line, breaks_line};
+ghost use Rattle.law_check.specs.Finding.{IsFinding, IsLawfulTrace, IsLawfulFinding, line_of, unreadable_line, entries_part, calls_part, lawful_line, breaks_line};
 
 use crate::reading::Reading;
+use crate::verdict::Verdict;
 use ipc_ids::NoMemory;
-use law_check::Verdict;
 use std::alloc::Global;
 use trace_reader::Reader;
 

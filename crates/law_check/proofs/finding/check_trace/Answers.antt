@@ -1,8 +1,8 @@
 use Rattle.std.proofs.Common.{◌≡◌, ◌≢◌, [], length, sym, ap, ◌∙◌, arith, false-eqb}
 use Rattle.trace_print.proofs.Comparing.{no_items}
 use Rattle.law_check.specs.Passing.{in_order}
-use Rattle.trace_check.proofs.Found.{reads_on, first_bad, bad_is_unlawful, is_trace, entries_are, is_lawful, is_unlawful}
-use Rattle.trace_check.proofs.finding.check_trace.Goals as goal
+use Rattle.law_check.proofs.Found.{reads_on, first_bad, bad_is_unlawful, is_trace, entries_are, is_lawful, is_unlawful}
+use Rattle.law_check.proofs.finding.check_trace.Goals as goal
 
 pub loop-reader-preserved : goal.loop-reader-preserved
 loop-reader-preserved c =

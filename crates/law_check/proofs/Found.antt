@@ -15,9 +15,9 @@ use Rattle.trace_reader.specs.Line.{IsBuilt}
 use Rattle.trace_reader.specs.Trace.{AreBuilt, IsTrace, IsNoLine, IsFirstBad}
 use Rattle.trace_reader.proofs.Only.{one_list, no_bad}
 use Rattle.trace_reader.proofs.ReadAgain.{built_push}
-use Rattle.trace_check.specs.declared.reading.Reading.{Reading}
-use Rattle.trace_check.specs.Finding.{most_trace, IsLawfulTrace}
-use Rattle.trace_check.specs.Reading.{HasRead, ReadsTo}
+use Rattle.law_check.specs.declared.reading.Reading.{Reading}
+use Rattle.law_check.specs.Finding.{most_trace, IsLawfulTrace}
+use Rattle.law_check.specs.Reading.{HasRead, ReadsTo}
 
 in_order_is : (p es : List Entry) → in_order p es ≡ in_order p [] ++ es
 in_order_is [] es = refl

@@ -1,6 +1,6 @@
 use Rattle.std.proofs.Common.{length}
-use Rattle.trace_check.specs.Reading.{ReadsTo}
-use Rattle.trace_check.proofs.finding.check_trace.Given as goal
+use Rattle.law_check.specs.Reading.{ReadsTo}
+use Rattle.law_check.proofs.finding.check_trace.Given as goal
 
 abbrev pub invariant-loop-reader : goal.invariant-loop-reader
 invariant-loop-reader l = ReadsTo l.bytes l.rest l.reading

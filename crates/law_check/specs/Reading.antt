@@ -7,7 +7,7 @@ use Rattle.law_check.specs.AreaState.{newest}
 use Rattle.law_check.specs.Passing.{in_order}
 use Rattle.law_check.specs.Judging.{Judges, events_of}
 use Rattle.trace_reader.specs.Trace.{AreBuilt}
-use Rattle.trace_check.specs.declared.reading.Reading.{Reading}
+use Rattle.law_check.specs.declared.reading.Reading.{Reading}
 
 -- the last entry: the head, where no entry has come since
 abbrev pub last_of : Option Entry → Option Entry → Option Entry

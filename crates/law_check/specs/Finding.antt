@@ -6,8 +6,8 @@ use Rattle.ipc_ids.specs.AreaLaw.{AreasAreLawful}
 use Rattle.law_check.specs.Verdict.{IsVerdict}
 use Rattle.law_check.specs.declared.verdict.Verdict.TheVariants as verdict
 use Rattle.trace_reader.specs.Trace.{IsTrace, IsFirstBad}
-use Rattle.trace_check.specs.declared.finding.Finding.{Finding}
-use Rattle.trace_check.specs.declared.finding.Finding.TheVariants.{TooLong, Unreadable, Lawful, Breaks}
+use Rattle.law_check.specs.declared.finding.Finding.{Finding}
+use Rattle.law_check.specs.declared.finding.Finding.TheVariants.{TooLong, Unreadable, Lawful, Breaks}
 
 -- the most bytes of a trace
 abbrev pub most_trace : ℕ

@@ -3,10 +3,11 @@ ghost use Rattle.std.specs.Prelude.{◌≡◌, ◌<◌, ◌≤◌, ◌+◌, ◌^
 ghost use Rattle.ipc_ids.specs.declared.entry.Entry.{Entry};
 ghost use Rattle.law_check.specs.AreaState.{entry_of};
 ghost use Rattle.law_check.specs.Judging.{events_of};
-ghost use Rattle.trace_check.specs.Reading.{HasRead, last_of};
+ghost use Rattle.law_check.specs.Reading.{HasRead, last_of};
 
+use crate::areas::is_head;
+use crate::verdict::Laws;
 use ipc_ids::{Entry, NoMemory};
-use law_check::{Laws, is_head};
 use std::alloc::Global;
 
 /// What is kept of the entries that were read: what they say of the laws, how many there were, the
