@@ -1,27 +1,27 @@
-pub mod AnswerFacts
-pub mod ExchangeFacts
-pub mod ExchangePlans
-pub mod FibrilFacts
-pub mod WakeOrders
-pub mod WakePools
-pub mod WakeConns
-pub mod WakeSlots
-pub mod WakeCalls
-pub mod WakeSessions
-pub mod WakeAnswers
-pub mod WakeFibrils
-pub mod NoLostWakes
-pub mod OrderLaws
-pub mod HeldCalls
-pub mod StepsFit
+mod AnswerFacts
+mod ExchangeFacts
+mod ExchangePlans
+mod FibrilFacts
+mod WakeOrders
+mod WakePools
+mod WakeConns
+mod WakeSlots
+mod WakeCalls
+mod WakeSessions
+mod WakeAnswers
+mod WakeFibrils
+mod NoLostWakes
+mod OrderLaws
+mod HeldCalls
+mod StepsFit
 pub mod EventsFit
 pub mod OwnEntries
-pub mod Deliveries
+mod Deliveries
 pub mod Linking
 pub mod NewTasks
 pub mod QuietTasks
-pub mod WakeExamples
-pub mod KeptOnce
-pub mod TakenCalls
-pub mod LimitLaws
-pub mod LawExamples
+mod WakeExamples
+mod KeptOnce
+mod TakenCalls
+mod LimitLaws
+mod LawExamples

@@ -1,7 +1,7 @@
 pub mod Filled
-pub mod Named
-pub mod Listed
-pub mod Rising
+mod Named
+mod Listed
+mod Rising
 pub mod Served
-pub mod Waits
+mod Waits
 pub mod Bounds

@@ -1,4 +1,4 @@
-pub mod LawfulBlocks
+mod LawfulBlocks
 pub mod StepsFit
 mod BlockExamples
 pub mod Windows

@@ -3,7 +3,7 @@ pub mod Queues
 pub mod Killing
 pub mod KilledPhones
 pub mod Limits
-pub mod KillExample
+mod KillExample
 pub mod KillRoom
-pub mod SoundBoards
-pub mod Marks
+mod SoundBoards
+mod Marks

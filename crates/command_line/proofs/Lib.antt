@@ -1,5 +1,5 @@
 pub mod Dues
-pub mod LawfulTexts
+mod LawfulTexts
 pub mod Lost
-pub mod Tallies
+mod Tallies
 mod Traces

@@ -1,3 +1,3 @@
 pub mod Keeping
 pub mod Lengths
-pub mod Pooled
+mod Pooled

@@ -1,13 +1,13 @@
 pub mod Bounds
-pub mod ConnIndex
+mod ConnIndex
 pub mod Connections
-pub mod Counts
+mod Counts
 pub mod Firsts
-pub mod InQueue
+mod InQueue
 pub mod Live
 pub mod Orders
 pub mod Places
-pub mod Queues
-pub mod Rebuilt
+mod Queues
+mod Rebuilt
 pub mod Searches
 pub mod Waking

@@ -1,13 +1,13 @@
-pub mod Numbers
-pub mod Behind
-pub mod ListWords
-pub mod Steps
-pub mod Looking
-pub mod Following
-pub mod Written
-pub mod Answering
-pub mod LastOutcomes
-pub mod States
-pub mod Loading
-pub mod Named
-pub mod Knowing
+mod Numbers
+mod Behind
+mod ListWords
+mod Steps
+mod Looking
+mod Following
+mod Written
+mod Answering
+mod LastOutcomes
+mod States
+mod Loading
+mod Named
+mod Knowing

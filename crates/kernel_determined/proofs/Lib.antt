@@ -1,30 +1,30 @@
-pub mod Same
-pub mod OneOrder
-pub mod TurnsKept
+mod Same
+mod OneOrder
+mod TurnsKept
 pub mod HangupDetermined
-pub mod WriteDetermined
-pub mod ReceiveDetermined
-pub mod ReceiveSo
-pub mod TellsFirst
-pub mod TakesSo
-pub mod SettleDetermined
+mod WriteDetermined
+mod ReceiveDetermined
+mod ReceiveSo
+mod TellsFirst
+mod TakesSo
+mod SettleDetermined
 pub mod SettleSo
-pub mod ForwardDetermined
-pub mod ForwardSo
-pub mod ChecksDetermined
-pub mod CallDetermined
-pub mod CallSo
-pub mod MemoryDetermined
+mod ForwardDetermined
+mod ForwardSo
+mod ChecksDetermined
+mod CallDetermined
+mod CallSo
+mod MemoryDetermined
 pub mod SpawnDetermined
-pub mod AreasDetermined
-pub mod DropDetermined
-pub mod ShareDetermined
-pub mod AnswerDetermined
-pub mod AnswerSo
-pub mod LeastSo
-pub mod KillDetermined
-pub mod KillSo
-pub mod StateLaws
-pub mod ForwardCauses
+mod AreasDetermined
+mod DropDetermined
+mod ShareDetermined
+mod AnswerDetermined
+mod AnswerSo
+mod LeastSo
+mod KillDetermined
+mod KillSo
+mod StateLaws
+mod ForwardCauses
 pub mod Machines
-pub mod LawExamples
+mod LawExamples

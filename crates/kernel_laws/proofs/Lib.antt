@@ -1,23 +1,23 @@
 pub mod Tables
-pub mod Told
+mod Told
 pub mod Lists
 pub mod Places
 pub mod KillParts
 pub mod KilledCalls
-pub mod KillOrder
+mod KillOrder
 pub mod KilledAreas
-pub mod KillLaws
+mod KillLaws
 pub mod Methods
 pub mod ReceiveLaws
 pub mod PoolChanges
-pub mod PoolSteps
-pub mod KilledPool
-pub mod ServedPool
-pub mod FullPool
+mod PoolSteps
+mod KilledPool
+mod ServedPool
+mod FullPool
 pub mod SpawnLaws
-pub mod CallRoutes
-pub mod KillRoutes
-pub mod PhoneRoutes
+mod CallRoutes
+mod KillRoutes
+mod PhoneRoutes
 pub mod ArgumentFive
 pub mod OneArea
 pub mod LawfulReads
@@ -29,9 +29,9 @@ pub mod LawfulShares
 pub mod LawfulCalls
 pub mod AnswerWords
 pub mod HeldCalls
-pub mod CarriedCalls
+mod CarriedCalls
 pub mod MemoryRequests
 pub mod ActiveCalls
 pub mod UsablePhones
-pub mod ToldHangups
-pub mod LawExamples
+mod ToldHangups
+mod LawExamples

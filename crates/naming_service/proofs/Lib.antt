@@ -4,4 +4,4 @@ mod Entries
 mod Examples
 mod RegistrationLaws
 mod Results
-pub mod EndLaws
+mod EndLaws

@@ -1,3 +1,3 @@
 pub mod Lookups
 pub mod Writes
-pub mod Counted
+mod Counted

@@ -1,7 +1,7 @@
-pub mod BlockLaws
-pub mod NamingLaws
-pub mod FibrilLaws
-pub mod RawLaws
-pub mod FibrilRefusals
+mod BlockLaws
+mod NamingLaws
+mod FibrilLaws
+mod RawLaws
+mod FibrilRefusals
 pub mod ScriptArguments
 pub mod ProgramArguments

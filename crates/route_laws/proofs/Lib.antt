@@ -1,5 +1,5 @@
 pub mod PhoneSteps
 pub mod PhoneRequests
-pub mod PhoneKills
+mod PhoneKills
 pub mod PhoneEvents
 pub mod PhoneExamples

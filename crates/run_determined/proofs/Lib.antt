@@ -1,22 +1,22 @@
-pub mod AsyncSteps
-pub mod ByEvent
-pub mod CauseSteps
-pub mod CauseCodes
-pub mod CauseCalls
-pub mod CauseRequests
-pub mod CauseKills
-pub mod CauseEvents
-pub mod CauseRuns
+mod AsyncSteps
+mod ByEvent
+mod CauseSteps
+mod CauseCodes
+mod CauseCalls
+mod CauseRequests
+mod CauseKills
+mod CauseEvents
+mod CauseRuns
 mod CauseExamples
-pub mod LiveCalls
-pub mod LiveEvents
-pub mod LiveRuns
+mod LiveCalls
+mod LiveEvents
+mod LiveRuns
 mod LiveExamples
-pub mod ScheduleLines
+mod ScheduleLines
 mod ScheduleExamples
-pub mod TaskPrograms
-pub mod AskedMessages
-pub mod ToldPhones
-pub mod TurnSteps
-pub mod TurnRuns
+mod TaskPrograms
+mod AskedMessages
+mod ToldPhones
+mod TurnSteps
+mod TurnRuns
 mod TurnExamples

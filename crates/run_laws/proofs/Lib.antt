@@ -1,7 +1,7 @@
-pub mod OwnEntries
-pub mod PhoneRuns
+mod OwnEntries
+mod PhoneRuns
 mod Refusals
 mod ServiceHistories
 pub mod RunHistories
-pub mod ServiceRuns
+mod ServiceRuns
 pub mod LawfulRuns

@@ -1,18 +1,18 @@
 mod KillCounts
-pub mod RequestCounts
-pub mod TableStamps
+mod RequestCounts
+mod TableStamps
 mod KillStamps
-pub mod RequestStamps
+mod RequestStamps
 mod ServiceCounts
-pub mod ProgramCounts
-pub mod TurnCounts
+mod ProgramCounts
+mod TurnCounts
 mod AsyncKept
 pub mod KeptConstants
-pub mod Ranks
-pub mod Renaming
-pub mod KernelSplits
-pub mod KernelGoingOn
+mod Ranks
+mod Renaming
+mod KernelSplits
+mod KernelGoingOn
 pub mod RunSplits
 pub mod Reaching
-pub mod Turning
+mod Turning
 pub mod GoingOn

@@ -1,3 +1,3 @@
 pub mod GeneratedScript
-pub mod Sending
+mod Sending
 pub mod UnderWay

@@ -1,22 +1,22 @@
-pub mod AlikeHolding
-pub mod Bodies
-pub mod Past
-pub mod Orders
-pub mod Words
+mod AlikeHolding
+mod Bodies
+mod Past
+mod Orders
+mod Words
 pub mod Behind
-pub mod Fronts
-pub mod Turns
-pub mod Alike
-pub mod Resting
-pub mod Paths
-pub mod Steps
-pub mod Stuck
-pub mod Losses
-pub mod Doing
-pub mod Following
-pub mod Ranges
+mod Fronts
+mod Turns
+mod Alike
+mod Resting
+mod Paths
+mod Steps
+mod Stuck
+mod Losses
+mod Doing
+mod Following
+mod Ranges
 pub mod Visiting
-pub mod Rights
+mod Rights
 pub mod Resters
-pub mod Tries
-pub mod Runs
+mod Tries
+mod Runs

@@ -1,16 +1,16 @@
-pub mod Arguments
+mod Arguments
 pub mod DraftSteps
 pub mod Lines
-pub mod NumberNames
+mod NumberNames
 pub mod Places
 pub mod Soundness
-pub mod TaskKinds
+mod TaskKinds
 pub mod Words
 pub mod Parts
 mod WordExamples
 mod OperationExamples
-pub mod Verbs
+mod Verbs
 pub mod Faultless
 pub mod NearPlaces
-pub mod LastLines
-pub mod FourBytes
+mod LastLines
+mod FourBytes

@@ -1,7 +1,7 @@
 pub mod Lookups
 pub mod Rows
 pub mod Usable
-pub mod Loops
+mod Loops
 pub mod Soundness
 pub mod MarkChanges
 pub mod SoundMemory
@@ -10,15 +10,15 @@ pub mod SoundJoins
 pub mod SoundData
 pub mod SoundShare
 pub mod Counting
-pub mod Recounting
+mod Recounting
 pub mod Repeats
 pub mod Histories
 pub mod Keepers
 pub mod KeptCalls
-pub mod KeptRows
+mod KeptRows
 pub mod Keeping
-pub mod Endings
-pub mod Inner
+mod Endings
+mod Inner
 pub mod Switched
 pub mod Turns
-pub mod Live
+mod Live

@@ -1,5 +1,5 @@
 pub mod OpenWires
-pub mod Stepping
-pub mod Taking
-pub mod Bodies
-pub mod Spawning
+mod Stepping
+mod Taking
+mod Bodies
+mod Spawning

@@ -1,8 +1,8 @@
 pub mod Comparing
-pub mod Counts
+mod Counts
 pub mod Digits
 pub mod Lasts
-pub mod Marks
-pub mod Pairs
+mod Marks
+mod Pairs
 pub mod Texts
 mod TextExamples

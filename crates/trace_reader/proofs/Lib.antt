@@ -1,11 +1,11 @@
-pub mod Parts
-pub mod Lines
-pub mod Again
-pub mod Pieces
-pub mod Trees
+mod Parts
+mod Lines
+mod Again
+mod Pieces
+mod Trees
 pub mod Joined
 pub mod ReadAgain
 pub mod Only
-pub mod Ranges
-pub mod Words
-pub mod Numbers
+mod Ranges
+mod Words
+mod Numbers
