@@ -1,5 +1,6 @@
 -- The codes that are kept, with one more, and what they tell.
-use Rattle.std.proofs.Common.{ℕ, zero, suc, ◌≡◌, ◌+◌, ◌<◌, ◌≤◌, ◌⊎◌, List, [], ◌∷◌, ◌++◌, length, refl, sym, ◌∙◌, ap, subst, inl, inr, arith, Some, slice_get, slice_index_or, length-append, drop}
+use Rattle.std.proofs.Common.{ℕ, zero, suc, ◌≡◌, ◌+◌, ◌<◌, ◌≤◌, ◌⊎◌, List, [], ◌∷◌, ◌++◌, length, refl, sym, ◌∙◌, ap, subst, inl, inr, arith, Some, slice_get, slice_index_or, length-append, drop, Result, Ok, Err}
+use Rattle.std.specs.Prelude.{IfOk}
 use Rattle.std.specs.List.{between}
 use Rattle.std.proofs.lemmas.Option.{same_Some, none-some, slice_get-get_or, slice_get_within}
 use Rattle.std.proofs.lemmas.List.{take-append-le, drop_at}
@@ -8,6 +9,7 @@ use Rattle.search_core.specs.Node.{IsSeen}
 use Rattle.search_core.specs.Packed.{unpacked}
 use Rattle.search_core.specs.Kept.{IsKept, AreKept}
 use Rattle.search_core.specs.declared.codes.Codes.{Codes}
+use Rattle.search_core.specs.declared.nodes.Nodes.{Nodes}
 use Rattle.search_core.proofs.Pushed.{last_at, pushed_at}
 
 -- a part of what was there is a part of it with more behind
@@ -50,6 +52,13 @@ first_kept code codes packed b n e =
           (only_within (length packed) k m (ap (λ (z : List ℕ). slice_get z k) (sym n) ∙ f));
       last = ap (λ (z : List ℕ). slice_get z 1) n ∙ ap (λ (z : List ℕ). Some (length z)) (sym b);
     }
+
+pub kept_if_made : {E : Type 0} (code : List ℕ → List ℕ) (r : Result Nodes E) (words : List ℕ) → words ≡ code []
+    → IfOk r (λ (nodes : Nodes). unpacked nodes.codes.bytes.items ≡ words)
+    → IfOk r (λ (nodes : Nodes). nodes.codes.bounds.items ≡ 0 ∷ length nodes.codes.bytes.items ∷ [])
+    → IfOk r (λ (nodes : Nodes). AreKept code ([] ∷ []) nodes.codes)
+kept_if_made code (Ok nodes) words e b n = first_kept code nodes.codes nodes.codes.bytes.items refl n (b ∙ e)
+kept_if_made code (Err error) words e b n = tt
 
 -- ---- one place more
 module _ (code : List ℕ → List ℕ) (trails : List (List ℕ)) (old new : Codes) (packed p : List ℕ)

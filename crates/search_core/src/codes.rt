@@ -1,7 +1,9 @@
 //! The codes of places.
 ghost use Rattle.std.specs.Prelude.{◌≡◌, ◌++◌, ◌∷◌, [], true, IfOk, OnOk, length};
 ghost use Rattle.search_core.specs.Kept.{IsKept};
+ghost use Rattle.search_core.specs.Packed.{unpacked};
 
+use crate::packed::packed;
 use std::alloc::{AllocError, Global};
 
 /// The codes of places, each packed, one behind the other.
@@ -14,14 +16,13 @@ pub struct Codes {
 
 impl Codes {
     /// That of the first place alone.
-    pub fn new(alloc: Global, packed: &[u8]) -> Result<Codes, AllocError>
-        ensures bytes { IfOk result (λ codes. codes.bytes.items ≡ packed.now) }
-        ensures bounds { IfOk result (λ codes. codes.bounds.items ≡ 0 ∷ length packed.now ∷ []) }
+    pub fn new(alloc: Global, code: &[u64]) -> Result<Codes, AllocError>
+        ensures bytes { IfOk result (λ codes. unpacked codes.bytes.items ≡ code.now) }
+        ensures bounds { IfOk result (λ codes. codes.bounds.items
+            ≡ 0 ∷ length codes.bytes.items ∷ []) }
     {
-        let bytes = Vec::from_slice(alloc, packed)?;
-        let mut bounds = Vec::new(alloc);
-        bounds.push(0)?;
-        bounds.push(packed.len())?;
+        let bytes = packed(alloc, code)?;
+        let bounds = Vec::from_array(alloc, [0, bytes.len()])?;
         Ok(Codes { bytes, bounds })
     }
 

@@ -1,5 +1,6 @@
 //! The survey.
-ghost use Rattle.std.specs.Prelude.{◌≡◌, ◌+◌, ◌<◌, ◌^◌, IfOk, OnOk, length};
+ghost use Rattle.std.specs.Prelude.{◌≡◌, ◌+◌, ◌<◌, ◌^◌, ◌∷◌, [], IfOk, OnOk, length};
+ghost use Rattle.search_core.specs.Kept.{AreKept};
 ghost use Rattle.search_core.specs.Moves.{AreRising};
 ghost use Rattle.search_core.specs.Node.{ArePlaces, trails_of};
 ghost use Rattle.search_core.specs.Ended.{HasEnded};
@@ -9,7 +10,6 @@ ghost use Rattle.search_core.specs.Picked.{AreLabels, ArePicked};
 use crate::answers::{Answer, Survey};
 use crate::by_breadth::look_on;
 use crate::nodes::Nodes;
-use crate::packed::packed;
 use crate::places::{Labelled, Maze, Visit};
 use indexmap::IndexSet;
 use std::alloc::{AllocError, Global};
@@ -30,12 +30,19 @@ pub fn survey<M: Labelled>(
     requires few { most < 2 ^ 20 }
     ensures { IfOk result (λ survey. IsSurvey (M.moves maze.now) (M.label maze.now) most survey) }
 {
-    let code = maze.code(alloc, &[])?;
-    let packed = packed(alloc, code.as_slice())?;
-    let mut nodes = Nodes::new(alloc, packed.as_slice())?;
-    let unmet = Unmet { maze };
-    let answer = look_on(alloc, &unmet, &mut nodes, most, room)?;
+    let mut nodes = start(alloc, maze)?;
+    let answer = look_on(alloc, &Unmet { maze }, &mut nodes, most, room)?;
     survey_of(alloc, maze, &nodes, most, answer)
+}
+
+/// The place of no move alone.
+fn start<M: Maze>(alloc: Global, maze: &M) -> Result<Nodes, AllocError>
+    requires { M.fits maze.now }
+    ensures later { IfOk result (λ nodes. nodes.later.items ≡ []) }
+    ensures kept { IfOk result (λ nodes. AreKept (M.code maze.now) ([] ∷ []) nodes.codes) }
+{
+    let code = maze.code(alloc, &[])?;
+    Nodes::new(alloc, code.as_slice())
 }
 
 /// The same places, with a goal that is met nowhere.

@@ -1,10 +1,8 @@
-use Rattle.std.proofs.Common.{ℕ, List, sym, ◌∙◌, ap, subst}
+use Rattle.std.proofs.Common.{ℕ, List, sym, subst}
 use Rattle.search_core.specs.Node.{IsUnderWay, trails_of}
-use Rattle.search_core.specs.Packed.{unpacked}
 use Rattle.search_core.specs.Kept.{AreKept}
 use Rattle.search_core.specs.declared.nodes.Node.{Node}
 use Rattle.search_core.proofs.Going.{first_place}
-use Rattle.search_core.proofs.Keeping.{first_kept}
 use Rattle.search_core.proofs.surveys.survey.Goals as goal
 
 pub look_on-requires-clause-under_way : goal.look_on-requires-clause-under_way
@@ -18,5 +16,4 @@ pub look_on-requires-clause-kept : goal.look_on-requires-clause-kept
 look_on-requires-clause-kept g c =
     let code : List ℕ → List ℕ = g.M.Maze.code c.args.maze.now in
     subst (λ (z : List Node). AreKept code (trails_of z) c.in_ok-nodes.nodes.codes) (sym c.in_ok-nodes.ensures.later)
-    (first_kept code c.in_ok-nodes.nodes.codes c.as_slice-2.result.now c.in_ok-nodes.ensures.bytes c.in_ok-nodes.ensures.bounds
-    (ap unpacked c.as_slice-2.ensures.value ∙ c.in_ok-packed.ensures ∙ c.as_slice.ensures.value ∙ c.in_ok-code.ensures))
+    c.in_ok-nodes.ensures.kept
