@@ -1,9 +1,10 @@
 //! Reads what a goal asks of one state.
-ghost use Rattle.std.specs.Prelude.{◌≡◌, ◌≤◌, ◌==◌, position, length};
-ghost use Rattle.search_goals.specs.Conditions.{equals_place, register_in, holding};
+ghost use Rattle.std.specs.Prelude.{◌≡◌};
+ghost use Rattle.search_goals.specs.Conditions.{register_in, holding};
 ghost use Rattle.search_goals.specs.Conditions.{of_subject, numbered, asked_of};
 
 use crate::goal::name_len;
+use crate::line_shapes::mark_place;
 use ipc_ids::{FibrilNo, TaskNo};
 use script_lines::number;
 
@@ -27,25 +28,6 @@ pub enum Condition {
     Killed(TaskNo),
 }
 
-/// Where the first `=` stands.
-fn equals_sign(word: &[u8]) -> Option<usize>
-    ensures { result ≡ position (λ b. b == 61) word.now }
-{
-    word.iter().position(|byte| *byte == b'=')
-}
-
-/// Where `=` stands in a word; its length where it has none.
-#[tactic(auto, using(script_reader::proofs::StepLines::no_end, crate::proofs::GoalWords::found_at))]
-fn equals_place(word: &[u8]) -> usize
-    ensures value { result ≡ equals_place word.now }
-    ensures within { result ≤ length word.now }
-{
-    match equals_sign(word) {
-        Some(at) => at,
-        None => word.len(),
-    }
-}
-
 /// The register `rK`, of 32.
 fn register_in(word: &[u8]) -> Option<u32>
     ensures { result ≡ register_in word.now }
@@ -63,7 +45,7 @@ fn register_in(word: &[u8]) -> Option<u32>
 fn holding(subject: Subject, word: &[u8]) -> Option<Condition>
     ensures { result ≡ holding subject word.now }
 {
-    let (name, value) = word.split_at(equals_place(word));
+    let (name, value) = word.split_at(mark_place(b'=', word));
     let [b'=', digits @ ..] = value else {
         return None;
     };

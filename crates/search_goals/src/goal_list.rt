@@ -1,5 +1,6 @@
 //! Reads several goals, each of which is looked for behind the one before it.
-ghost use Rattle.std.specs.Prelude.{◌≡◌, true, IfOk};
+ghost use Rattle.std.specs.Prelude.{◌≡◌, true, IfOk, OnOk};
+ghost use Rattle.std.specs.Result.{result_map_both};
 ghost use Rattle.script_lines.specs.Text.{texts};
 ghost use Rattle.search_goals.specs.declared.goal_list.GoalsFault.TheVariants as faults;
 ghost use Rattle.search_goals.specs.GoalText.{said};
@@ -9,6 +10,7 @@ use crate::goal::{Goal, GoalFault, read_goal_for};
 use ipc_ids::NoMemory;
 use script_lines::{Names, Reason, TaskPlan};
 use std::alloc::{AllocError, AllocFailed, Global};
+use std::mem::replace;
 
 const MOST_GOALS: usize = 8;
 
@@ -20,7 +22,7 @@ pub struct Goals {
 }
 
 /// Why goals are not read.
-#[derive(Clone, Copy, Debug, PartialEq, Eq)]
+#[derive(Clone, Copy)]
 pub enum GoalsFault {
     /// The first goal at fault, numbered from 1, and its first word at fault as `GoalFault` has it.
     Bad {
@@ -67,19 +69,19 @@ pub fn may_precede(goal: &Goal) -> bool
     }
 }
 
-/// The goals with one more behind them, of this text.
+/// Puts the goal of this text behind the goals.
 #[tactic(auto, unfolding(crate::specs::GoalList::with_goal))]
-fn with_goal(
+fn put_behind(
     alloc: Global,
     names: &Names,
     tasks: &[TaskPlan],
-    goals: Goals,
+    goals: &mut Goals,
     text: &[u8],
-) -> Result<Goals, GoalsFault>
-    requires { all_precede (said_all goals.earlier.items) ≡ true }
-    ensures value { AnswersGoals result
-        (with_goal names.now tasks.now (sought_by goals) text.now) }
-    ensures precede { IfOk result (λ more. all_precede (said_all more.earlier.items) ≡ true) }
+) -> Result<(), GoalsFault>
+    requires { all_precede (said_all goals.old.earlier.items) ≡ true }
+    ensures value { AnswersGoals (result_map_both (λ _. goals.new) (λ fault. fault) result)
+        (with_goal names.now tasks.now (sought_by goals.old) text.now) }
+    ensures precede { OnOk result (all_precede (said_all goals.new.earlier.items) ≡ true) }
 {
     let count = goals.earlier.len();
     if !may_precede(&goals.last) {
@@ -98,13 +100,9 @@ fn with_goal(
     }
     match read_goal_for(alloc, names, tasks, text) {
         Ok(last) => {
-            let Goals {
-                earlier,
-                last: before,
-            } = goals;
-            let mut earlier = earlier;
-            earlier.push(before)?;
-            Ok(Goals { earlier, last })
+            let before = replace(&mut goals.last, last);
+            goals.earlier.push(before)?;
+            Ok(())
         }
         Err(GoalFault::Bad { word, reason }) => Err(GoalsFault::Bad {
             goal: count as u64 + 2,
@@ -160,10 +158,7 @@ pub fn read_goals_for(
 {
     let mut goals = first_goal(alloc, names, tasks, first)?;
     for text in later {
-        match with_goal(alloc, names, tasks, goals, *text) {
-            Ok(more) => goals = more,
-            Err(fault) => return Err(fault),
-        }
+        put_behind(alloc, names, tasks, &mut goals, *text)?;
     }
     Ok(goals)
 }

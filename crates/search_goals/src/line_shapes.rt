@@ -117,7 +117,7 @@ fn mark(byte: u8, word: &[u8]) -> Option<usize>
 
 /// Where a byte stands first; the word's length where it has none.
 #[tactic(auto, using(script_reader::proofs::StepLines::no_end, crate::proofs::GoalWords::found_at))]
-fn mark_place(byte: u8, word: &[u8]) -> usize
+pub(crate) fn mark_place(byte: u8, word: &[u8]) -> usize
     ensures value { result ≡ mark_place byte word.now }
     ensures within { result ≤ length word.now }
 {

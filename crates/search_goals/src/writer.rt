@@ -1,5 +1,5 @@
 //! The text of events, as lines of a schedule.
-ghost use Rattle.std.specs.Prelude.{◌≡◌, ◌≤◌, ◌<◌, ◌^◌, ◌+◌, ◌*◌, ⊤, [], ◌∷◌, ◌++◌, true, Ok, All, IfOk, OnOk, IfSome, IfNone, length, replicate, take, ◌⊎◌};
+ghost use Rattle.std.specs.Prelude.{◌≡◌, ◌≤◌, ◌<◌, ◌^◌, ◌+◌, ◌*◌, ⊤, [], ◌∷◌, ◌++◌, true, Ok, All, IfOk, OnOk, IfSome, IfNone, length, replicate, take, ◌⊎◌, codes};
 ghost use Rattle.std.specs.List.{list_all};
 ghost use Rattle.ipc_ids.specs.declared.message.Event.TheVariants as events;
 ghost use Rattle.script_lines.specs.Text.{is_allowed};
@@ -15,36 +15,42 @@ use script_lines::names_of;
 use script_reader::Script;
 use std::alloc::Global;
 
-/// Adds ` x N`, where there is more than one step.
-fn push_times(alloc: Global, text: &mut Vec<u8>, count: u64) -> Result<(), NoMemory>
-    ensures { OnOk result (text.new.items ≡ text.old.items ++ times_text count) }
+/// Adds three texts, and the end of the line.
+fn push_rest(text: &mut Vec<u8>, first: &[u8], second: &[u8], third: &[u8]) -> Result<(), NoMemory>
+    ensures { OnOk result (text.new.items
+        ≡ text.old.items ++ (first.now ++ (second.now ++ (third.now ++ codes "\n")))) }
 {
-    if 1 < count {
-        let times = format!(in alloc; " x {count}")?;
-        text.extend_from_slice(times.as_bytes())?;
-    }
+    text.extend_from_slice(first)?;
+    text.extend_from_slice(second)?;
+    text.extend_from_slice(third)?;
+    text.push(b'\n')?;
     Ok(())
+}
+
+/// ` x N`, where there is more than one step.
+fn times_text(alloc: Global, count: u64) -> Result<String, NoMemory>
+    ensures { IfOk result (λ times. times.bytes.items ≡ times_text count) }
+{
+    if count <= 1 {
+        return Ok(String::new(alloc));
+    }
+    let times = format!(in alloc; " x {count}")?;
+    Ok(times)
 }
 
 /// Adds the line of so many steps.
 fn push_step(alloc: Global, text: &mut Vec<u8>, name: &[u8], count: u64) -> Result<(), NoMemory>
     ensures { OnOk result (text.new.items ≡ text.old.items ++ step_text name.now count) }
 {
-    text.extend_from_slice(b"step ")?;
-    text.extend_from_slice(name)?;
-    push_times(alloc, text, count)?;
-    text.push(b'\n')?;
-    Ok(())
+    let times = times_text(alloc, count)?;
+    push_rest(text, b"step ", name, times.as_bytes())
 }
 
 /// Adds the line of a kill.
 fn push_kill(text: &mut Vec<u8>, name: &[u8]) -> Result<(), NoMemory>
     ensures { OnOk result (text.new.items ≡ text.old.items ++ kill_text name.now) }
 {
-    text.extend_from_slice(b"kill ")?;
-    text.extend_from_slice(name)?;
-    text.push(b'\n')?;
-    Ok(())
+    push_rest(text, b"kill ", name, &[])
 }
 
 /// Adds the line of a hangup.
@@ -53,11 +59,7 @@ fn push_hangup(alloc: Global, text: &mut Vec<u8>, name: &[u8], phone: u64) -> Re
     ensures fits { phone < 2 ^ 64 }
 {
     let digits = format!(in alloc; " {phone}")?;
-    text.extend_from_slice(b"hangup ")?;
-    text.extend_from_slice(name)?;
-    text.extend_from_slice(digits.as_bytes())?;
-    text.push(b'\n')?;
-    Ok(())
+    push_rest(text, b"hangup ", name, digits.as_bytes())
 }
 
 /// Adds the line by which a task of a template is made.
@@ -65,11 +67,7 @@ fn push_spawn(text: &mut Vec<u8>, template: &[u8], name: &[u8]) -> Result<(), No
     ensures { OnOk result (text.new.items ≡ text.old.items ++ spawn_text template.now name.now) }
 {
     text.extend_from_slice(b"spawn ")?;
-    text.extend_from_slice(template)?;
-    text.push(b' ')?;
-    text.extend_from_slice(name)?;
-    text.push(b'\n')?;
-    Ok(())
+    push_rest(text, template, b" ", name)
 }
 
 /// A name for the next task that is made.

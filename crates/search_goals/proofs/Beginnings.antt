@@ -1,0 +1,28 @@
+-- Words that begin with those that are asked for, as a loop tests them.
+use Rattle.std.proofs.Common.{◌≡◌, ℕ, ◌+◌, ◌<◌, Bool, true, List, ◌∷◌, length, get_or, drop, sym, ap, ◌∙◌}
+use Rattle.std.specs.Prelude.{◌&&◌}
+use Rattle.std.specs.Global.{Vec}
+use Rattle.std.proofs.lemmas.List.{drop_more}
+use Rattle.search_goals.specs.Goals.{fits, begins, listed}
+use Rattle.search_goals.specs.LineShapes.{may_be, begins_as}
+
+module _ (asked : List (Vec ℕ)) (i : ℕ) (word : Vec ℕ) (found : List ℕ) (others words : List (List ℕ)) (whole : Bool)
+    (within : i < length asked) (at : word ≡ get_or asked i word) (parts : words ≡ found ∷ others) where
+  left : drop i asked ≡ word ∷ drop (i + 1) asked
+  left = drop_more asked i word within ∙ ap (λ (w : Vec ℕ). w ∷ drop (i + 1) asked) (sym at)
+
+  -- a word that fits leaves it to the words behind it
+  pub begins_on : fits word.items found ≡ true → begins (listed (drop i asked)) words ≡ whole
+      → begins (listed (drop (i + 1) asked)) others ≡ whole
+  begins_on fit told =
+      ap (λ (b : Bool). b && begins (listed (drop (i + 1) asked)) others) (sym fit)
+      ∙ ap (begins (listed (word ∷ drop (i + 1) asked))) (sym parts)
+      ∙ ap (λ (ws : List (Vec ℕ)). begins (listed ws) words) (sym left) ∙ told
+
+  -- likewise one that may be of the kind
+  pub begins_as_on : may_be word.items found ≡ true → begins_as (listed (drop i asked)) words ≡ whole
+      → begins_as (listed (drop (i + 1) asked)) others ≡ whole
+  begins_as_on fit told =
+      ap (λ (b : Bool). b && begins_as (listed (drop (i + 1) asked)) others) (sym fit)
+      ∙ ap (begins_as (listed (word ∷ drop (i + 1) asked))) (sym parts)
+      ∙ ap (λ (ws : List (Vec ℕ)). begins_as (listed ws) words) (sym left) ∙ told
