@@ -1,8 +1,10 @@
 -- The moves that lead to a place, read from the place before it.
-use Rattle.std.proofs.Common.{ℕ, zero, suc, ◌≡◌, ◌<◌, ◌≤◌, ◌+◌, ◌-◌, List, [], ◌∷◌, ◌++◌, length, refl, sym, ◌∙◌, ap, arith, Some, slice_get, slice_index_or, length-append, append_assoc}
+use Rattle.std.proofs.Common.{ℕ, zero, suc, ◌≡◌, ◌<◌, ◌≤◌, ◌+◌, ◌-◌, List, [], ◌∷◌, ◌++◌, length, refl, sym, ◌∙◌, ap, subst, inl, inr, Bool, true, false, arith, Some, slice_get, slice_index_or, length-append, append_assoc}
 use Rattle.std.proofs.lemmas.Option.{none-some, same_Some, slice_get-get_or, slice_get_within}
 use Rattle.std.proofs.lemmas.List.{get_or_append_left, append-nil}
-use Rattle.search_core.specs.Node.{with_node, with_nodes, trails_of}
+use Rattle.std.specs.Prelude.{if◌then◌else◌}
+use Rattle.search_core.specs.Node.{AreRooted, with_node, with_nodes, trails_of}
+use Rattle.search_core.proofs.Pushed.{pushed_at}
 use Rattle.search_core.specs.declared.nodes.Node.{Node}
 
 -- one more at the end
@@ -74,6 +76,20 @@ all_back nodes at place back l z h =
 
 pub pushed_behind : (nodes new : List Node) (node : Node) → new ≡ nodes ++ node ∷ [] → trails_of new ≡ with_node (trails_of nodes) node
 pushed_behind nodes new node e = ap trails_of e ∙ one_behind ([] ∷ []) nodes node
+
+-- each place is still behind one with a lower number
+pub rooted_behind : (nodes : List Node) (node : Node) → AreRooted nodes → node.before ≤ length nodes → AreRooted (nodes ++ node ∷ [])
+rooted_behind nodes node rooted behind k n e =
+    elim (pushed_at nodes node k n e) [
+      | inl h ↦ rooted k n h
+      | inr h ↦ (let at : k ≡ length nodes = h.0 in
+          subst (λ (z : Node). z.before ≤ k) h.1 (omega (arith, at, behind)))
+    ]
+
+pub still_rooted : (nodes new : List Node) (node : Node) (pushed : Bool) → AreRooted nodes → node.before ≤ length nodes
+    → new ≡ (if pushed then nodes ++ node ∷ [] else nodes) → AreRooted new
+still_rooted nodes new node true rooted behind e = subst AreRooted (sym e) (rooted_behind nodes node rooted behind)
+still_rooted nodes new node false rooted behind e = subst AreRooted (sym e) rooted
 
 pub at_most_all : (nodes : List Node) (at : ℕ) (p : List ℕ) → slice_get (trails_of nodes) at ≡ Some p → at ≤ length nodes
 at_most_all nodes at p e =

@@ -2,8 +2,7 @@
 ghost use Rattle.std.specs.Prelude.{◌≡◌, ◌+◌, ◌<◌, ◌^◌, ◌∷◌, [], IfOk, OnOk, length};
 ghost use Rattle.search_core.specs.Kept.{AreKept};
 ghost use Rattle.search_core.specs.Moves.{AreRising};
-ghost use Rattle.search_core.specs.Node.{ArePlaces, trails_of};
-ghost use Rattle.search_core.specs.Ended.{HasEnded};
+ghost use Rattle.search_core.specs.Node.{ArePlaces, IsUnderWay, trails_of};
 ghost use Rattle.search_core.specs.Survey.{IsSurvey, moves_of};
 ghost use Rattle.search_core.specs.Picked.{AreLabels, ArePicked};
 
@@ -31,8 +30,7 @@ pub fn survey<M: Labelled>(
     ensures { IfOk result (λ survey. IsSurvey (M.moves maze.now) (M.label maze.now) most survey) }
 {
     let mut nodes = start(alloc, maze)?;
-    let answer = look_on(alloc, &Unmet { maze }, &mut nodes, most, room)?;
-    survey_of(alloc, maze, &nodes, most, answer)
+    survey_from(alloc, maze, &mut nodes, most, room)
 }
 
 /// The place of no move alone.
@@ -46,7 +44,7 @@ fn start<M: Maze>(alloc: Global, maze: &M) -> Result<Nodes, AllocError>
 }
 
 /// The same places, with a goal that is met nowhere.
-#[derive_where(Clone, Copy)]
+#[derive(Drop)]
 pub struct Unmet<'a, M> {
     pub maze: &'a M,
 }
@@ -81,20 +79,22 @@ impl<'a, M: Maze> Maze for Unmet<'a, M> {
     }
 }
 
-/// The survey, where the search for a goal that is met nowhere ended so.
-fn survey_of<M: Labelled>(
+/// The survey from the first place on, by a search for a goal that is met nowhere.
+fn survey_from<M: Labelled>(
     alloc: Global,
     maze: &M,
-    nodes: &Nodes,
+    nodes: &mut Nodes,
     most: u32,
-    answer: Answer,
+    room: u32,
 ) -> Result<Survey, AllocError>
     requires fits { M.fits maze.now }
     requires few { most < 2 ^ 20 }
-    requires ended { HasEnded (M.moves maze.now) most (λ p. ⊥) (M.code maze.now)
-        (trails_of nodes.now.later.items) answer }
+    requires under_way { IsUnderWay (M.moves maze.now) most (λ p. ⊥) (M.code maze.now)
+        (trails_of nodes.old.later.items) 0 0 }
+    requires kept { AreKept (M.code maze.now) (trails_of nodes.old.later.items) nodes.old.codes }
     ensures { IfOk result (λ survey. IsSurvey (M.moves maze.now) (M.label maze.now) most survey) }
 {
+    let answer = look_on(alloc, &Unmet { maze }, nodes, most, room)?;
     match answer {
         Answer::NoneAtAll(places) => {
             let paths = pick(alloc, maze, nodes)?;

@@ -5,15 +5,15 @@ use Rattle.search_core.specs.declared.nodes.Node.{Node}
 use Rattle.search_core.proofs.Going.{first_place}
 use Rattle.search_core.proofs.surveys.survey.Goals as goal
 
-pub look_on-requires-clause-under_way : goal.look_on-requires-clause-under_way
-look_on-requires-clause-under_way g c =
+pub survey_from-requires-clause-under_way : goal.survey_from-requires-clause-under_way
+survey_from-requires-clause-under_way g c =
     let moves : ℕ = g.M.Maze.moves c.args.maze.now in
     let code : List ℕ → List ℕ = g.M.Maze.code c.args.maze.now in
     subst (λ (z : List Node). IsUnderWay moves c.args.most (λ p. ⊥) code (trails_of z) 0 0)
     (sym c.in_ok-nodes.ensures.later) (first_place moves c.args.most (λ p. ⊥) code (λ (never : ⊥). never))
 
-pub look_on-requires-clause-kept : goal.look_on-requires-clause-kept
-look_on-requires-clause-kept g c =
+pub survey_from-requires-clause-kept : goal.survey_from-requires-clause-kept
+survey_from-requires-clause-kept g c =
     let code : List ℕ → List ℕ = g.M.Maze.code c.args.maze.now in
     subst (λ (z : List Node). AreKept code (trails_of z) c.in_ok-nodes.nodes.codes) (sym c.in_ok-nodes.ensures.later)
     c.in_ok-nodes.ensures.kept

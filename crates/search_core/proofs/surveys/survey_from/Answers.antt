@@ -3,30 +3,30 @@ use Rattle.search_core.specs.Moves.{IsBefore}
 use Rattle.search_core.specs.Node.{trails_of}
 use Rattle.search_core.specs.Survey.{moves_of}
 use Rattle.search_core.proofs.Surveying.{few_places, counts_before, surveyed}
-use Rattle.search_core.proofs.surveys.survey_of.Goals as goal
+use Rattle.search_core.proofs.surveys.survey_from.Goals as goal
 
 pub pick-requires-clause-places : goal.pick-requires-clause-places
 pick-requires-clause-places g c =
-    few_places _ c.args.most _ _ _ (rw c.in-NoneAtAll.is at c.requires.ended) c.requires.few
+    few_places _ c.args.most _ _ _ (rw c.in-NoneAtAll.is at c.in_ok-answer.ensures) c.requires.few
 
 pub pick-requires-clause-rising : goal.pick-requires-clause-rising
 pick-requires-clause-rising g c =
-    let h = rw c.in-NoneAtAll.is at c.requires.ended in
+    let h = rw c.in-NoneAtAll.is at c.in_ok-answer.ensures in
     h.rising
 
 pub pick-requires-in-NoneWithin-clause-places : goal.pick-requires-in-NoneWithin-clause-places
 pick-requires-in-NoneWithin-clause-places g c =
-    few_places _ c.args.most _ _ _ (rw c.in-NoneWithin.is at c.requires.ended) c.requires.few
+    few_places _ c.args.most _ _ _ (rw c.in-NoneWithin.is at c.in_ok-answer.ensures) c.requires.few
 
 pub pick-requires-in-NoneWithin-clause-rising : goal.pick-requires-in-NoneWithin-clause-rising
 pick-requires-in-NoneWithin-clause-rising g c =
-    let h = rw c.in-NoneWithin.is at c.requires.ended in
+    let h = rw c.in-NoneWithin.is at c.in_ok-answer.ensures in
     h.rising
 
 pub returns-in_ok-paths-in-NoneAtAll : goal.returns-in_ok-paths-in-NoneAtAll
 returns-in_ok-paths-in-NoneAtAll g c =
-    let trails : List (List ℕ) = trails_of c.args.nodes.now.later.items in
-    let h = rw c.in-NoneAtAll.is at c.requires.ended in
+    let trails : List (List ℕ) = trails_of c.look_on.new.nodes.later.items in
+    let h = rw c.in-NoneAtAll.is at c.in_ok-answer.ensures in
     surveyed (g.M.Maze.moves c.args.maze.now) c.args.most (g.M.Maze.code c.args.maze.now) trails
     (λ (q : List ℕ). Unit {0}) h (g.M.Labelled.label c.args.maze.now)
     (g.met.M.Labelled.label_alike c.args.maze.now c.requires.fits)
@@ -36,8 +36,8 @@ returns-in_ok-paths-in-NoneAtAll g c =
 
 pub returns-in_ok-paths-in-NoneWithin : goal.returns-in_ok-paths-in-NoneWithin
 returns-in_ok-paths-in-NoneWithin g c =
-    let trails : List (List ℕ) = trails_of c.args.nodes.now.later.items in
-    let h = rw c.in-NoneWithin.is at c.requires.ended in
+    let trails : List (List ℕ) = trails_of c.look_on.new.nodes.later.items in
+    let h = rw c.in-NoneWithin.is at c.in_ok-answer.ensures in
     surveyed (g.M.Maze.moves c.args.maze.now) c.args.most (g.M.Maze.code c.args.maze.now) trails
     (λ (q : List ℕ). length q ≤ c.args.most) h (g.M.Labelled.label c.args.maze.now)
     (g.met.M.Labelled.label_alike c.args.maze.now c.requires.fits) (counts_before c.args.most) h.short
@@ -45,5 +45,5 @@ returns-in_ok-paths-in-NoneWithin g c =
 
 pub unreachable-requires : goal.unreachable-requires
 unreachable-requires g c =
-    let h = rw c.in-Found.is at c.requires.ended in
+    let h = rw c.in-Found.is at c.in_ok-answer.ensures in
     absurd h.met
