@@ -41,7 +41,7 @@ pub enum Goal {
 }
 
 /// Why a goal is not read.
-#[derive(Clone, Copy)]
+#[derive(Clone, Copy, Debug, PartialEq, Eq)]
 pub enum GoalFault {
     /// The first word at fault, numbered from 1; 0 for the text as a whole, which is too long or
     /// has a byte that may not stand in a line.
