@@ -4,8 +4,8 @@ ghost use Rattle.std.specs.List.{position_or_len};
 ghost use Rattle.std.specs.Option.{option_map};
 ghost use Rattle.script_lines.specs.Draft.{Follows};
 ghost use Rattle.search_goals.specs.GoalText.{Answers};
-ghost use Rattle.hipc_search.specs.Moves.{kill_in, dot_place, phone_in, hangup_in, event_in, is_comma, words_of, words_left, listed_of, listed_in};
-ghost use Rattle.hipc_search.specs.Moves.{colon_place, some_tasks, count_in, bound_in, is_bound, with_bound, bounds_of, bounds_in, spawns_in, most_ever};
+ghost use Rattle.hipc_search.specs.Moves.{kill_in, phone_in, hangup_in, event_in, words_of, words_left, listed_of, listed_in};
+ghost use Rattle.hipc_search.specs.Moves.{some_tasks, count_in, bound_in, is_bound, with_bound, bounds_of, bounds_in, spawns_in, most_ever};
 ghost use Rattle.hipc_search.specs.Moves.{kills_task, is_killed, is_living, step_by, kill_of, for_chosen, living_steps, moves_of};
 
 use ipc_ids::{Event, NoMemory, TaskNo};
@@ -35,22 +35,22 @@ fn kill_in(names: &Names, word: &[u8]) -> Result<Event, Reason>
     Ok(Event::Kill(task))
 }
 
-/// Where the first `.` stands.
-fn dot_at(word: &[u8]) -> Option<usize>
-    ensures { result ≡ position (λ b. b == 46) word.now }
+/// Where a byte stands first in a text.
+fn byte_at(byte: u8, text: &[u8]) -> Option<usize>
+    ensures { result ≡ position (λ b. b == byte) text.now }
 {
-    word.iter().position(|byte| *byte == b'.')
+    text.iter().position(|other| *other == byte)
 }
 
-/// Where `.` stands in a word; its length where it has none.
+/// The same; the length of the text where it has none.
 #[tactic(auto, using(script_reader::proofs::StepLines::no_end, search_goals::proofs::GoalWords::found_at))]
-fn dot_place(word: &[u8]) -> usize
-    ensures value { result ≡ dot_place word.now }
-    ensures within { result ≤ length word.now }
+fn byte_place(byte: u8, text: &[u8]) -> usize
+    ensures value { result ≡ position_or_len (λ b. b == byte) text.now }
+    ensures within { result ≤ length text.now }
 {
-    match dot_at(word) {
+    match byte_at(byte, text) {
         Some(at) => at,
-        None => word.len(),
+        None => text.len(),
     }
 }
 
@@ -69,7 +69,7 @@ fn phone_in(word: &[u8]) -> Option<u64>
 fn hangup_in(names: &Names, word: &[u8]) -> Result<Event, Reason>
     ensures { result ≡ hangup_in names.now word.now }
 {
-    let (name, behind) = word.split_at(dot_place(word));
+    let (name, behind) = word.split_at(byte_place(b'.', word));
     let phone = phone_in(behind).ok_or(Reason::BadWord)?;
     let task = names.task_named(name).ok_or(Reason::UnknownName)?;
     Ok(Event::Hangup(task, phone))
@@ -85,13 +85,6 @@ fn event_in(kind: Listed, names: &Names, word: &[u8]) -> Result<Event, Reason>
     }
 }
 
-/// Where the first comma stands.
-fn comma_at(text: &[u8]) -> Option<usize>
-    ensures { result ≡ position is_comma text.now }
-{
-    text.iter().position(|byte| *byte == b',')
-}
-
 /// The first word of a list, and what stands behind its comma; `None` where it has none.
 #[tactic(auto, using(crate::proofs::ListWords::last_piece))]
 fn first_word(text: &[u8]) -> (&[u8], Option<&[u8]>)
@@ -99,7 +92,7 @@ fn first_word(text: &[u8]) -> (&[u8], Option<&[u8]>)
         ≡ result.0.now ∷ words_left (option_map (λ others. others.now) result.1) }
     ensures shorter { IfSome result.1 (λ others. length others.now < length text.now) }
 {
-    match comma_at(text) {
+    match byte_at(b',', text) {
         Some(at) => {
             let (word, _) = text.split_at(at);
             (word, Some(&text[at + 1..]))
@@ -159,25 +152,6 @@ pub(crate) fn listed_in(
     }
 }
 
-/// Where the first `:` stands.
-fn colon_at(word: &[u8]) -> Option<usize>
-    ensures { result ≡ position (λ b. b == 58) word.now }
-{
-    word.iter().position(|byte| *byte == b':')
-}
-
-/// Where `:` stands in a word; its length where it has none.
-#[tactic(auto, using(script_reader::proofs::StepLines::no_end, search_goals::proofs::GoalWords::found_at))]
-fn colon_place(word: &[u8]) -> usize
-    ensures value { result ≡ colon_place word.now }
-    ensures within { result ≤ length word.now }
-{
-    match colon_at(word) {
-        Some(at) => at,
-        None => word.len(),
-    }
-}
-
 /// A number from 1 to 64.
 fn some_tasks(number: Option<u64>) -> Option<u32>
     ensures { result ≡ some_tasks number }
@@ -203,7 +177,7 @@ fn count_in(word: &[u8]) -> Option<u32>
 fn bound_in(templates: &Names, word: &[u8]) -> Result<MostMade, Reason>
     ensures { result ≡ bound_in templates.now word.now }
 {
-    let (name, behind) = word.split_at(colon_place(word));
+    let (name, behind) = word.split_at(byte_place(b':', word));
     let most = count_in(behind).ok_or(Reason::BadWord)?;
     let place = templates.place_of(name).ok_or(Reason::UnknownName)?;
     Ok(MostMade {
