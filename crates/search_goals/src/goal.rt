@@ -16,6 +16,7 @@ ghost use Rattle.search_goals.specs.GoalText.{goal_from, goal_of_words, goal_of,
 use crate::conditions::{Condition, asked_of};
 use crate::line_shapes::may_begin;
 use crate::meeting::next_word;
+use crate::names::made_name;
 use crate::places::{is_known_of, plan_of};
 use ipc_ids::{NoMemory, TaskNo};
 use script_lines::{MOST_BYTES, Names, Reason, TaskPlan, is_name_byte};
@@ -131,9 +132,8 @@ fn named_task(alloc: Global, names: &Names, place: u64, name: &[u8]) -> Result<V
             reason: Reason::UnknownName,
         }),
         Some(task) => {
-            let number = task.0;
-            let text = format!(in alloc; "t{number}")?;
-            Ok(text.into_bytes())
+            let text = made_name(alloc, task.0)?;
+            Ok(text)
         }
     }
 }

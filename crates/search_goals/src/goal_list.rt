@@ -158,7 +158,10 @@ pub fn read_goals_for(
 {
     let mut goals = first_goal(alloc, names, tasks, first)?;
     for text in later {
-        put_behind(alloc, names, tasks, &mut goals, *text)?;
+        if let Err(fault) = put_behind(alloc, names, tasks, &mut goals, *text) {
+            drop(goals);
+            return Err(fault);
+        }
     }
     Ok(goals)
 }

@@ -140,7 +140,7 @@ fn is_taken(templates: &Names, names: &TaskNames, name: &[u8]) -> bool
 }
 
 /// `t` and a number.
-fn made_name(alloc: Global, number: u64) -> Result<Vec<u8>, NoMemory>
+pub(crate) fn made_name(alloc: Global, number: u64) -> Result<Vec<u8>, NoMemory>
     ensures { IfOk result (λ name. name.items ≡ made_name number) }
 {
     let name = format!(in alloc; "t{number}")?;
