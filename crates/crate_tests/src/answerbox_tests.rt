@@ -1,39 +1,42 @@
 //! Many calls come to one place and leave, in the order of their arrival and from the middle. Small
 //! functions test what a call of the boxes wants.
-ghost use Rattle.std.specs.Prelude.{◌≡◌, ◌<◌, ◌≤◌, Some, IsSome, IfOk, []};
+ghost use Rattle.std.specs.Prelude.{◌≡◌, ◌<◌, ◌≤◌, Some, IsSome, OnOk, []};
 ghost use Rattle.answerbox.specs.Calls.{call_at, task_of};
 
 use answerbox::Boxes;
 use call_slab::{Call, Place};
-use ipc_ids::{Buffer, CallNo, Code, Label, Msg, PhoneNo, Reply, Steps, TaskNo};
+use ipc_ids::{Buffer, CallNo, Code, Label, Msg, NoMemory, PhoneNo, Reply, Steps, TaskNo};
 use std::alloc::Global;
 use std::marker::Brand;
 use std::sync::ledger::{Blank, Ledger};
 use std::test::Fail;
 
 /// What numbers and stamps stay below here.
-const FAR: u64 = 1 << 40;
+pub(crate) const FAR: u64 = 1 << 40;
 
 const ONE: TaskNo = TaskNo(1);
 
 const TWO: TaskNo = TaskNo(2);
 
-/// A call of that caller that stands at that place.
-fn call_from(alloc: Global, number: CallNo, caller: TaskNo, place: Place) -> Call
+/// The place that calls come to.
+const INCOMING: Place = Place::Incoming(TWO);
+
+/// Whom calls come from.
+const FROM: Label = Label {
+    task: ONE,
+    phone: PhoneNo(0),
+};
+
+/// A call from there that stands at that place.
+pub(crate) fn call_from(alloc: Global, number: CallNo, from: Label, msg: Msg, place: Place) -> Call
     ensures number { result.number ≡ number }
-    ensures caller { result.caller ≡ Some caller }
+    ensures caller { result.caller ≡ Some from.task }
     ensures place { result.place ≡ place }
     ensures buffer { result.buffer ≡ [] }
 {
-    let phone = PhoneNo(0);
-    let from = Label {
-        task: caller,
-        phone,
-    };
-    let msg = Msg::bare(512);
     Call {
         number,
-        caller: Some(caller),
+        caller: Some(from.task),
         from,
         label: from,
         request: msg,
@@ -54,35 +57,22 @@ fn number_of(call: Option<CallNo>) -> u64 {
     }
 }
 
-/// The place, where its task is one of three.
-fn within(place: Place) -> Result<Place, Fail>
-    ensures { IfOk result (λ p. task_of p ≤ 3) }
-{
-    match place {
-        Place::Incoming(t) if t.0 <= 3 => Ok(place),
-        Place::Dispatched(t) if t.0 <= 3 => Ok(place),
-        Place::Answers(t) if t.0 <= 3 => Ok(place),
-        _ => Err(Fail::new("no such task")),
-    }
-}
-
-fn send(boxes: &mut Boxes, caller: TaskNo, place: Place) -> Result<u64, Fail>
+/// A call comes from one of three tasks to a place of one of them.
+pub(crate) fn send(boxes: &mut Boxes, from: Label, msg: Msg, place: Place) -> Result<(), Fail>
     requires tasks { boxes.old.tasks ≡ 3 }
+    requires caller { from.task.0 ≤ 3 }
+    requires place { task_of place ≤ 3 }
     ensures tasks { boxes.new.tasks ≡ 3 }
 {
-    let place = within(place)?;
-    if caller.0 > 3 {
-        return Err(Fail::new("no such task"));
-    }
     boxes.reserve(1)?;
     let number = boxes.next_number();
     if number.0 >= FAR || boxes.next_stamp() >= FAR {
         return Err(Fail::new("too many calls"));
     }
     let _used = boxes.used();
-    let call = call_from(boxes.alloc(), number, caller, place);
+    let call = call_from(boxes.alloc(), number, from, msg, place);
     boxes.enqueue(call);
-    Ok(number.0)
+    Ok(())
 }
 
 /// Whether the call leaves, which is live.
@@ -108,76 +98,56 @@ fn leave_counted<L: Ledger>(boxes: &mut Boxes, call: CallNo, blank: Blank) -> Ca
 }
 
 /// The number of the call at the front, or 0.
-fn front(boxes: &Boxes, place: Place) -> Result<u64, Fail>
+fn front(boxes: &Boxes) -> u64
     requires tasks { boxes.now.tasks ≡ 3 }
 {
-    let place = within(place)?;
-    Ok(number_of(front_counted::<Brand>(boxes, place, Blank::new(1))))
+    number_of(front_counted::<Brand>(boxes, Blank::new(1)))
 }
 
-fn front_counted<L: Ledger>(boxes: &Boxes, place: Place, blank: Blank) -> Option<CallNo>
+fn front_counted<L: Ledger>(boxes: &Boxes, blank: Blank) -> Option<CallNo>
     requires blank { (blank.name ≡ L.name) × (blank.parts ≡ L.parts) × (0 < blank.parts) }
-    requires task { task_of place ≤ boxes.now.tasks }
+    requires tasks { boxes.now.tasks ≡ 3 }
 {
     let mut steps = Steps::<L>::new(blank);
-    boxes.front(place, &mut steps)
-}
-
-/// The number of the first call of the caller, or 0.
-fn first(boxes: &Boxes, caller: TaskNo) -> Result<u64, Fail>
-    requires tasks { boxes.now.tasks ≡ 3 }
-{
-    if caller.0 > 3 {
-        return Err(Fail::new("no such task"));
-    }
-    Ok(number_of(boxes.calls_of(caller)))
+    boxes.front(INCOMING, &mut steps)
 }
 
 /// Whether no call stands at the place, and the first task has made none that is live.
-fn is_empty(boxes: &Boxes, place: Place) -> Result<bool, Fail>
+fn is_empty(boxes: &Boxes) -> bool
     requires tasks { boxes.now.tasks ≡ 3 }
 {
-    Ok(front(boxes, place)? == 0 && first(boxes, ONE)? == 0)
+    front(boxes) == 0 && number_of(boxes.calls_of(ONE)) == 0
 }
 
-fn three_tasks(alloc: Global) -> Result<Boxes, Fail>
-    ensures { IfOk result (λ boxes. boxes.tasks ≡ 3) }
+pub(crate) fn three_tasks(boxes: &mut Boxes) -> Result<(), NoMemory>
+    requires none { boxes.old.tasks ≡ 0 }
+    ensures tasks { OnOk result (boxes.new.tasks ≡ 3) }
 {
-    let mut boxes = Boxes::new(alloc);
     boxes.add_task()?;
     boxes.add_task()?;
-    boxes.add_task()?;
-    Ok(boxes)
+    boxes.add_task()
 }
 
-const INCOMING: Place = Place::Incoming(TWO);
-
-/// That many calls of the first task come to the place.
-fn sends(boxes: &mut Boxes, place: Place, count: usize) -> Result<(), Fail>
+/// That many calls of the first task come.
+fn sends(boxes: &mut Boxes, count: u64) -> Result<(), Fail>
     requires tasks { boxes.old.tasks ≡ 3 }
     ensures tasks { boxes.new.tasks ≡ 3 }
 {
-    boxes.reserve(count)?;
+    boxes.reserve(count as usize)?;
     for _ in 0..count {
-        send(boxes, ONE, place)?;
+        send(boxes, FROM, Msg::bare(512), INCOMING)?;
     }
     Ok(())
 }
 
 /// Whether so many calls leave from the front, whose numbers rise by `step` from `number` on.
-fn come_to_the_front(
-    boxes: &mut Boxes,
-    place: Place,
-    number: u64,
-    step: u64,
-    count: u64,
-) -> Result<bool, Fail>
+fn come_to_the_front(boxes: &mut Boxes, number: u64, step: u64, count: u64) -> Result<bool, Fail>
     requires tasks { boxes.old.tasks ≡ 3 }
     ensures tasks { boxes.new.tasks ≡ 3 }
 {
     for i in 0..count {
         let next = number.saturating_add(step.saturating_mul(i));
-        if front(boxes, place)? != next || !leaves(boxes, next)? {
+        if front(boxes) != next || !leaves(boxes, next)? {
             return Ok(false);
         }
     }
@@ -199,50 +169,43 @@ fn even_leave(boxes: &mut Boxes, count: u64, falls: bool) -> Result<bool, Fail>
     Ok(true)
 }
 
-/// Whether 1,000 calls come, every second one leaves, 500 more come, and all leave in order.
-fn arrive(boxes: &mut Boxes) -> Result<bool, Fail>
+/// Whether twice `half` calls come, every second one leaves, `more` come, and all leave in order.
+fn arrive(boxes: &mut Boxes, half: u64, falls: bool, more: u64) -> Result<bool, Fail>
     requires tasks { boxes.old.tasks ≡ 3 }
     ensures tasks { boxes.new.tasks ≡ 3 }
 {
-    sends(boxes, INCOMING, 1000)?;
-    let left = even_leave(boxes, 500, false)?;
-    sends(boxes, INCOMING, 500)?;
-    let are_held = boxes.calls_at(INCOMING) == 1000 && boxes.calls_by(ONE) == 1000;
-    let odd = come_to_the_front(boxes, INCOMING, 1, 2, 500)?;
-    Ok(left && are_held && odd && come_to_the_front(boxes, INCOMING, 1001, 1, 500)?)
+    let count = half.saturating_mul(2);
+    sends(boxes, count)?;
+    let left = even_leave(boxes, half, falls)?;
+    sends(boxes, more)?;
+    let held = half.saturating_add(more) as usize;
+    let are_held = boxes.calls_at(INCOMING) == held && boxes.calls_by(ONE) == held;
+    let odd = come_to_the_front(boxes, 1, 2, half)?;
+    Ok(left && are_held && odd && come_to_the_front(boxes, count.saturating_add(1), 1, more)?)
 }
 
-/// Whether 400,000 calls come, those with even numbers leave by falling number, and all leave in
-/// order.
-fn are_many(boxes: &mut Boxes) -> Result<bool, Fail>
-    requires tasks { boxes.old.tasks ≡ 3 }
-    ensures tasks { boxes.new.tasks ≡ 3 }
+/// Whether they do so where there are no tasks yet, and no call is left.
+fn leave_in_order(boxes: &mut Boxes, half: u64, falls: bool, more: u64) -> Result<bool, Fail>
+    requires none { boxes.old.tasks ≡ 0 }
 {
-    sends(boxes, INCOMING, 400000)?;
-    let left = even_leave(boxes, 200000, true)?;
-    Ok(left && come_to_the_front(boxes, INCOMING, 1, 2, 200000)?)
+    three_tasks(boxes)?;
+    let in_order = arrive(boxes, half, falls, more)?;
+    Ok(in_order && is_empty(boxes))
 }
 
-fn run_many(alloc: Global) -> Result<bool, Fail> {
-    let mut boxes = three_tasks(alloc)?;
-    let arrived = arrive(&mut boxes)?;
-    Ok(arrived && is_empty(&boxes, INCOMING)?)
-}
-
-fn run_most(alloc: Global) -> Result<bool, Fail> {
-    let mut boxes = three_tasks(alloc)?;
-    let were_many = are_many(&mut boxes)?;
-    Ok(were_many && is_empty(&boxes, INCOMING)?)
+fn calls_leave(alloc: Global, half: u64, falls: bool, more: u64) -> Result<bool, Fail> {
+    let mut boxes = Boxes::new(alloc);
+    leave_in_order(&mut boxes, half, falls, more)
 }
 
 #[test]
 fn calls_leave_in_the_order_of_arrival(rt: HostRuntime) -> Result<(), Fail> {
-    assert!(rt; run_many(rt.alloc())?);
+    assert!(rt; calls_leave(rt.alloc(), 500, false, 500)?);
     Ok(())
 }
 
 #[test]
 fn many_calls_leave_one_queue(rt: HostRuntime) -> Result<(), Fail> {
-    assert!(rt; run_most(rt.alloc())?);
+    assert!(rt; calls_leave(rt.alloc(), 200_000, true, 0)?);
     Ok(())
 }

@@ -1,11 +1,12 @@
 //! What is tested before a call goes on, what its next receiver sees, and a call that goes on.
-ghost use Rattle.std.specs.Prelude.{◌≡◌, Some, OnOk, []};
+ghost use Rattle.std.specs.Prelude.{◌≡◌};
 
+use crate::answerbox_tests::{FAR, call_from, send, three_tasks};
 use answerbox::Boxes;
 use call_slab::{Call, Place};
 use forwarding::{ForwardFault, Forwarded, label_after, msg_after, receiver_of, route};
 use ipc_ids::methods::CONNECT_ME_TO;
-use ipc_ids::{Buffer, CallNo, Code, Label, Mode, Msg, PhoneNo, PhoneState, Reply, TaskNo};
+use ipc_ids::{CallNo, Label, Mode, Msg, PhoneNo, PhoneState, TaskNo};
 use std::alloc::Global;
 use std::test::Fail;
 
@@ -24,9 +25,6 @@ const BY_FORWARDER: Label = Label {
     task: TWO,
     phone: PhoneNo(4),
 };
-
-/// What numbers and stamps stay below here.
-const FAR: u64 = 1 << 40;
 
 const USERS: Msg = Msg {
     method: 512,
@@ -49,26 +47,8 @@ const CHANGED: Msg = Msg {
 };
 
 /// A call of the first task, which the second holds.
-fn held_call(alloc: Global, number: CallNo, msg: Msg) -> Call
-    ensures number { result.number ≡ number }
-    ensures caller { result.caller ≡ Some (record { 0 = 1 }) }
-    ensures place { result.place ≡ Place.Dispatched (record { 0 = 2 }) }
-    ensures buffer { result.buffer ≡ [] }
-{
-    Call {
-        number,
-        caller: Some(ONE),
-        from: FROM,
-        label: FROM,
-        request: msg,
-        msg,
-        reply: Reply::bare(Code::EOK),
-        discard: false,
-        buffer: Buffer::new(alloc),
-        reserved: None,
-        place: Place::Dispatched(TWO),
-        stamp: 0,
-    }
+fn held_call(alloc: Global, msg: Msg) -> Call {
+    call_from(alloc, CallNo(1), FROM, msg, Place::Dispatched(TWO))
 }
 
 /// Whether of several causes the first counts, and without one the call goes to the third task.
@@ -89,32 +69,13 @@ fn shows_the_change(call: &Call) -> bool {
 }
 
 fn a_users_call_goes_on(alloc: Global) -> bool {
-    let call = held_call(alloc, CallNo(1), USERS);
+    let call = held_call(alloc, USERS);
     goes_by_the_first_cause(&call) && shows_the_change(&call)
 }
 
 fn keeps_method_and_argument_5(alloc: Global) -> bool {
-    let call = held_call(alloc, CallNo(1), CONNECTS);
+    let call = held_call(alloc, CONNECTS);
     msg_after(&call, Some(CHANGE)) == CHANGED
-}
-
-/// Three tasks come, and the call to the second of them.
-fn hold(boxes: &mut Boxes) -> Result<(), Fail>
-    requires tasks { boxes.old.tasks ≡ 0 }
-    ensures tasks { OnOk result (boxes.new.tasks ≡ 3) }
-{
-    boxes.add_task()?;
-    boxes.add_task()?;
-    boxes.add_task()?;
-    boxes.reserve(1)?;
-    let number = boxes.next_number();
-    let _used = boxes.used();
-    if number.0 >= FAR || boxes.next_stamp() >= FAR {
-        return Err(Fail::new("too many calls"));
-    }
-    let call = held_call(boxes.alloc(), number, USERS);
-    boxes.enqueue(call);
-    Ok(())
 }
 
 /// Whether the call goes to the third task.
@@ -138,10 +99,18 @@ fn is_routed(boxes: &mut Boxes) -> Result<bool, Fail>
     }
 }
 
+/// Whether three tasks come, and the call to the second of them, and it goes to the third.
+fn comes_and_goes_on(boxes: &mut Boxes) -> Result<bool, Fail>
+    requires none { boxes.old.tasks ≡ 0 }
+{
+    three_tasks(boxes)?;
+    send(boxes, FROM, USERS, Place::Dispatched(TWO))?;
+    is_routed(boxes)
+}
+
 fn routes(alloc: Global) -> Result<bool, Fail> {
     let mut boxes = Boxes::new(alloc);
-    hold(&mut boxes)?;
-    is_routed(&mut boxes)
+    comes_and_goes_on(&mut boxes)
 }
 
 #[test]

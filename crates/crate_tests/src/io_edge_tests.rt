@@ -1,13 +1,9 @@
 //! The calls that want memory where there is enough of it, and reads and writes that are cut short.
-use io_edge::{
-    FileShelf, LoadFault, MemShelf, MemSink, OutSink, Shelf, Sink, read_most, words_behind_name,
-};
+use io_edge::{LoadFault, MemShelf, MemSink, OutSink, Shelf, Sink, read_most};
 use ipc_ids::NoMemory;
 use std::alloc::Global;
-use std::env::FillError;
 use std::io;
 use std::io::{ErrorKind, Read, Write};
-use std::rt::{Env, Files};
 
 /// A name, how many bytes are asked for at most, and the bytes that come; none where the load
 /// fails.
@@ -195,73 +191,4 @@ fn a_short_write_goes_on(rt: HostRuntime) {
     let puts: [Put; 4] = [(b"abcde", true), (b"", true), (b"fghi", false), (b"", true)];
     assert!(rt; writer_takes(rt.alloc(), 2, &puts, b"abcdefg"));
     assert!(rt; writer_takes(rt.alloc(), 1, &puts, b"abcdefg"));
-}
-
-fn files_give<R: Files + Drop>(rt: R, alloc: Global, loads: &[Load]) -> bool {
-    let mut shelf = FileShelf::new(rt, alloc);
-    gives_all(&mut shelf, alloc, loads)
-}
-
-#[test]
-fn a_real_file_is_loaded_or_fails(rt: HostRuntime) {
-    let loads: [Load; 4] = [
-        ("/dev/zero", 5000, Some(&[0; 5000])),
-        ("/dev/null", 5000, Some(b"")),
-        ("/no such file", 5000, None),
-        ("/", 5000, None),
-    ];
-    assert!(rt; files_give(&rt, rt.alloc(), &loads));
-}
-
-/// A program that is called with these words, the first of which is its name.
-#[derive(Drop)]
-struct Called<'a> {
-    words: &'a [&'a [u8]],
-}
-
-impl<'a> Env for Called<'a> {
-    fn arg(&self, i: usize, buf: &mut [u8]) -> Result<usize, FillError> {
-        match self.words.get(i) {
-            Some(word) if word.len() <= buf.len() => {
-                buf[..word.len()].copy_from_slice(word);
-                Ok(word.len())
-            }
-            Some(_) => Err(FillError::TooLong),
-            None => Err(FillError::NotPresent),
-        }
-    }
-
-    fn var(&self, _name: &str, _buf: &mut [u8]) -> Result<usize, FillError> {
-        Err(FillError::NotPresent)
-    }
-
-    fn var_at(&self, _i: usize, _buf: &mut [u8]) -> Result<usize, FillError> {
-        Err(FillError::NotPresent)
-    }
-}
-
-fn called_with(alloc: Global, words: &[&[u8]], wanted: &[&str]) -> bool {
-    match words_behind_name(Called { words }, alloc) {
-        Ok(words) => words.len() == wanted.len() && are_all(&words, wanted),
-        Err(NoMemory) => false,
-    }
-}
-
-fn are_all(words: &[String], wanted: &[&str]) -> bool {
-    for (word, text) in words.iter().zip(wanted) {
-        if word.as_str() != *text {
-            return false;
-        }
-    }
-    true
-}
-
-#[test]
-fn a_name_may_be_no_text(rt: HostRuntime) {
-    let alloc = rt.alloc();
-    assert!(rt; called_with(alloc, &[b"hipc", b"gen", b"1", b"23"], &["gen", "1", "23"]));
-    assert!(rt; called_with(alloc, &[b"\xff", b"gen", b"", b"2"], &["gen", "", "2"]));
-    assert!(rt; called_with(alloc, &[b"hipc", b"gen", b"\xff", b"2"], &[]));
-    assert!(rt; called_with(alloc, &[b"hipc"], &[]));
-    assert!(rt; called_with(alloc, &[], &[]));
 }

@@ -9,8 +9,6 @@ mod answerbox_tests;
 #[cfg(test)]
 mod async_sessions_tests;
 #[cfg(test)]
-mod async_task_tests;
-#[cfg(test)]
 mod cleanup_tests;
 #[cfg(test)]
 mod fibril_core_tests;

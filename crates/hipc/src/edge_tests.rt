@@ -1,10 +1,9 @@
 //! Loads and puts that fail, each with what is answered and what was written by then; and a generated run that is
 //! made whole.
-use crate::tests::{FIRST_CALL_SCHEDULE, FIRST_CALL_SCRIPT, files, words};
+use crate::tests::{FIRST_CALL_SCHEDULE, FIRST_CALL_SCRIPT, words};
 use command_line::{Status, run};
-use io_edge::MemSink;
-use schedule_replay::{ReplayFault, SliceFeed, generate, replay};
-use script_reader::{read_schedule, read_script};
+use io_edge::{MemShelf, MemSink};
+use schedule_replay::{SliceFeed, generate, replay};
 use std::alloc::Global;
 use std::test::Fail;
 
@@ -77,32 +76,34 @@ const FAULTS: [FaultRow; 5] = [
 
 /// Whether a replay whose files or output fail so comes to the status and the text of the row.
 fn fails_so(alloc: Global, row: FaultRow) -> Result<bool, Fail> {
-    let words = words(alloc, &["replay", "script", "schedule"])?;
-    let mut shelf = files(alloc, row.script, FIRST_CALL_SCHEDULE)?;
-    shelf.fail_at(row.load)?;
     let mut sink = MemSink::new(alloc, 1000)?;
-    sink.fail_at(row.put.0, row.put.1)?;
-    let status = run(alloc, &words, &mut shelf, &mut sink);
-    Ok(status == row.status && sink.written() == row.text)
+    let words = words(alloc, &["replay", "script", "schedule"])?;
+    let mut shelf = MemShelf::new(alloc);
+    runs_so(alloc, &words, row, &mut shelf, &mut sink)
 }
 
-/// Whether a replay tells of a put that fails, and five bytes of it stand.
-fn tells_of_the_sink(alloc: Global) -> Result<bool, Fail> {
-    let script = read_script(alloc, FIRST_CALL_SCRIPT)?;
-    let events = read_schedule(alloc, FIRST_CALL_SCHEDULE, &script)?;
-    let mut sink = MemSink::new(alloc, 1000)?;
-    sink.fail_at(1, 5)?;
-    let fault = replay(alloc, &script, &mut SliceFeed::new(&events), &mut sink).err();
-    Ok(fault == Some(ReplayFault::Sink) && sink.written() == b"t1 ca".as_slice())
+/// The same, over a shelf without files and a sink to which nothing was written.
+fn runs_so(
+    alloc: Global,
+    words: &[String],
+    row: FaultRow,
+    shelf: &mut MemShelf,
+    sink: &mut MemSink,
+) -> Result<bool, Fail> {
+    shelf.add("script", row.script)?;
+    shelf.add("schedule", FIRST_CALL_SCHEDULE)?;
+    shelf.fail_at(row.load)?;
+    sink.fail_at(row.put.0, row.put.1)?;
+    let status = run(alloc, words, shelf, sink);
+    Ok(status == row.status && sink.written() == row.text)
 }
 
 #[test]
 fn each_file_that_fails_has_its_status(rt: HostRuntime) -> Result<(), Fail> {
-    for row in FAULTS {
+    for row in &FAULTS {
         let shows = row.shows;
-        assert!(rt; fails_so(rt.alloc(), row)?, "{shows}");
+        assert!(rt; fails_so(rt.alloc(), *row)?, "{shows}");
     }
-    assert!(rt; tells_of_the_sink(rt.alloc())?);
     Ok(())
 }
 
@@ -117,13 +118,22 @@ t10 call 0 512 0 0 0 0 0\n\
 \x20 call 3 accepted t10.0 method 512 to t11\n\
 \x20 = call 3\n";
 
-/// Whether a run is generated, where memory is ample, and prints its text.
+/// Whether a run of sixteen tasks is generated, where memory is ample, and replayed whole.
+fn replays_generated(alloc: Global, sink: &mut MemSink) -> bool {
+    match generate(alloc, 0, 3) {
+        Ok(run) => {
+            let mut feed = SliceFeed::new(run.events.as_slice());
+            let done = replay(alloc, &run.script, &mut feed, sink);
+            done.is_ok() && run.script.tasks.as_slice().len() == 16
+        }
+        Err(_) => false,
+    }
+}
+
+/// Whether it prints its text.
 fn is_generated(alloc: Global) -> Result<bool, Fail> {
-    let generated = generate(alloc, 0, 3)?;
     let mut sink = MemSink::new(alloc, 1000)?;
-    let mut feed = SliceFeed::new(generated.events.as_slice());
-    replay(alloc, &generated.script, &mut feed, &mut sink)?;
-    Ok(generated.script.tasks.as_slice().len() == 16 && sink.written() == GENERATED_TEXT)
+    Ok(replays_generated(alloc, &mut sink) && sink.written() == GENERATED_TEXT)
 }
 
 #[test]

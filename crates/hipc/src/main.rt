@@ -16,8 +16,6 @@ ghost use Rattle.command_line.specs.Status.{number_of};
 #[cfg(test)]
 mod edge_tests;
 #[cfg(test)]
-mod line_tests;
-#[cfg(test)]
 mod reading_tests;
 #[cfg(test)]
 mod tests;

@@ -1,6 +1,6 @@
 //! Runs whose output fails, over a shelf and a sink in memory.
 use command_line::{Status, replay_bytes};
-use io_edge::{MemShelf, MemSink};
+use io_edge::MemSink;
 use std::alloc::{AllocError, Global};
 use std::test::Fail;
 
@@ -24,14 +24,6 @@ pub(crate) fn words(alloc: Global, line: &[&str]) -> Result<Vec<String>, AllocEr
         words.push(String::from_str(alloc, *word)?)?;
     }
     Ok(words)
-}
-
-/// The files `script` and `schedule`.
-pub(crate) fn files(alloc: Global, script: &[u8], schedule: &[u8]) -> Result<MemShelf, Fail> {
-    let mut shelf = MemShelf::new(alloc);
-    shelf.add("script", script)?;
-    shelf.add("schedule", schedule)?;
-    Ok(shelf)
 }
 
 // Task a calls until its phone takes no more calls; b answers one of them.
