@@ -2,16 +2,17 @@
 
 use law_check::{Verdict, check_laws};
 use std::alloc::Global;
-use std::test::Fail;
 use trace_reader::read_trace;
 
-/// The text is read as so many entries, and this is the verdict on them.
-fn is_judged(alloc: Global, text: &str, count: usize, verdict: Verdict) -> Result<bool, Fail> {
-    let Ok(trace) = read_trace(alloc, text.as_bytes()) else {
-        return Ok(false);
-    };
-    let found = check_laws(alloc, trace.entries())?;
-    Ok(trace.entries().len() == count && found == verdict)
+/// Whether the text is read as so many entries, and this is the verdict on them.
+fn is_judged(alloc: Global, text: &str, count: usize, verdict: Verdict) -> bool {
+    match read_trace(alloc, text.as_bytes()) {
+        Ok(trace) => {
+            let found = check_laws(alloc, trace.entries());
+            trace.entries().len() == count && found == Ok(verdict)
+        }
+        Err(_) => false,
+    }
 }
 
 const CALL: &str = "t1 call 0 512 7 0 0 0 0\n  \
@@ -33,9 +34,8 @@ const KILL: &str = "t1 call 0 512 7 0 0 0 0\n  \
     kill t2\n";
 
 #[test]
-fn entries_are_read_and_judged(rt: HostRuntime) -> Result<(), Fail> {
-    assert!(rt; is_judged(rt.alloc(), CALL, 7, Verdict::Lawful { calls: 1 })?);
-    assert!(rt; is_judged(rt.alloc(), TWICE, 5, Verdict::Breaks(1))?);
-    assert!(rt; is_judged(rt.alloc(), KILL, 3, Verdict::Breaks(3))?);
-    Ok(())
+fn entries_are_read_and_judged(rt: HostRuntime) {
+    assert!(rt; is_judged(rt.alloc(), CALL, 7, Verdict::Lawful { calls: 1 }));
+    assert!(rt; is_judged(rt.alloc(), TWICE, 5, Verdict::Breaks(1)));
+    assert!(rt; is_judged(rt.alloc(), KILL, 3, Verdict::Breaks(3)));
 }
