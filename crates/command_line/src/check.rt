@@ -11,8 +11,8 @@ use crate::Status;
 use crate::answer::tell;
 use io_edge::Sink;
 use ipc_ids::NoMemory;
-use std::alloc::Global;
 use law_check::{Finding, check_trace, finding_text};
+use std::alloc::Global;
 
 // The status that a finding comes to.
 fn status_of(finding: Finding) -> Status
