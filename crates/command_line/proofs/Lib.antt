@@ -1,3 +1,4 @@
+mod Checking
 pub mod Dues
 mod LawfulTexts
 pub mod Lost

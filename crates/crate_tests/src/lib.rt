@@ -11,6 +11,8 @@ mod async_sessions_tests;
 #[cfg(test)]
 mod cleanup_tests;
 #[cfg(test)]
+mod command_line_tests;
+#[cfg(test)]
 mod fibril_core_tests;
 #[cfg(test)]
 mod forwarding_tests;
@@ -18,3 +20,7 @@ mod forwarding_tests;
 mod io_edge_tests;
 #[cfg(test)]
 mod law_check_tests;
+#[cfg(test)]
+mod schedule_replay_tests;
+#[cfg(test)]
+mod script_reader_tests;

@@ -13,13 +13,6 @@ ghost use Rattle.command_line.specs.Due.{files_of, Due, Whole, Part, LosesOneAtM
 ghost use Rattle.command_line.specs.LawfulRun.{WritesLawfulRunOf, RefusesTraceOf};
 ghost use Rattle.command_line.specs.Status.{number_of};
 
-#[cfg(test)]
-mod edge_tests;
-#[cfg(test)]
-mod reading_tests;
-#[cfg(test)]
-mod tests;
-
 use command_line::{Status, run};
 use io_edge::{FileShelf, OutSink, Shelf, Sink, words_behind_name};
 use ipc_ids::NoMemory;

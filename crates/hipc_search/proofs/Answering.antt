@@ -28,9 +28,6 @@ use Rattle.hipc_search.proofs.Steps.{moves_few}
 
 -- ---- what is written
 
-no_want : (s : Status) → IsOfText s → s ≡ statuses.NoMemory → ⊥
-no_want s h e = subst IsOfText e h
-
 -- the text that is due was told, whole
 pub whole_of : (due : Answers) (old new : Option (List ℕ)) (status told : Status) (text lent : List ℕ) → due status text
     → lent ≡ text → (told ≢ statuses.WriteFailed → (told ≡ status) × Appends old new lent) → Whole due old new told
@@ -46,7 +43,7 @@ part_of due old new status text lent is same start = (status, text, is, subst (A
 pub no_memory_told : (A : Type 0) (status told : Status) → IsOfText status
     → (told ≢ statuses.WriteFailed → told ≡ status) → told ≡ statuses.NoMemory → A
 no_memory_told A status told h ok m =
-    absurd (no_want status h (sym (ok (λ (w : told ≡ statuses.WriteFailed). other_status (sym w ∙ m))) ∙ m)) where
+    absurd (h.1 (sym (ok (λ (w : told ≡ statuses.WriteFailed). other_status (sym w ∙ m))) ∙ m)) where
       other_status : statuses.WriteFailed ≡ statuses.NoMemory → ⊥
       other_status e = cc
 

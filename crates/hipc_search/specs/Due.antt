@@ -1,5 +1,5 @@
 -- Which status with which text is due for a command line, and how much of the text was written.
-use Rattle.std.specs.Prelude.{ℕ, ◌≡◌, ◌≢◌, ⊤, ◌++◌, List, [], Bool, true, false, Option, None, Some, Result, Ok, Err, codes, length}
+use Rattle.std.specs.Prelude.{ℕ, ◌≡◌, ◌≢◌, ◌++◌, List, [], Bool, true, false, Option, None, Some, Result, Ok, Err, codes, length}
 use Rattle.std.specs.Option.{option_map, unwrap_or}
 use Rattle.std.specs.Io.KnownBytes.{Appends}
 use Rattle.io_edge.specs.Edge.{Holds, AppendsStart}
@@ -31,20 +31,9 @@ Answers = Status → List ℕ → Type 0
 abbrev pub Says : Status → List ℕ → Answers
 Says said line status text = (status ≡ said) × (text ≡ line)
 
--- a status that comes with a text that is due: each but the last two
+-- a status that comes with a text that is due: each but these two
 abbrev pub IsOfText : Status → Type 0
-IsOfText Found = ⊤
-IsOfText FoundWithin = ⊤
-IsOfText NoneAtAll = ⊤
-IsOfText NoneWithin = ⊤
-IsOfText NotKnown = ⊤
-IsOfText Usage = ⊤
-IsOfText CannotRead = ⊤
-IsOfText BadScript = ⊤
-IsOfText BadSchedule = ⊤
-IsOfText BadGoal = ⊤
-IsOfText WriteFailed = ⊥
-IsOfText NoMemory = ⊥
+IsOfText status = (status ≢ WriteFailed) × (status ≢ NoMemory)
 
 -- ---- the search
 

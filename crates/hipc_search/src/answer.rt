@@ -29,12 +29,12 @@ const USAGE: &[u8] = b"usage: hipc-search SCRIPT [GOAL | --survey] [--kill NAME,
 pub(crate) struct Answer {
     pub status: Status,
     pub text: Vec<u8>,
+    ghost told: { IsOfText status },
 }
 
 /// The answer to words that are no command.
 pub(crate) fn usage_answer(alloc: Global) -> Result<Answer, NoMemory>
-    ensures says { IfOk result (λ answer. Says Usage usage_line answer.status answer.text.items) }
-    ensures told { IfOk result (λ answer. IsOfText answer.status) }
+    ensures { IfOk result (λ answer. Says Usage usage_line answer.status answer.text.items) }
 {
     let text = Vec::from_slice(alloc, USAGE)?;
     Ok(Answer {
@@ -45,9 +45,8 @@ pub(crate) fn usage_answer(alloc: Global) -> Result<Answer, NoMemory>
 
 /// The answer where a file could not be loaded.
 pub(crate) fn cannot_answer(alloc: Global, name: &str) -> Result<Answer, NoMemory>
-    ensures says { IfOk result (λ answer. Says CannotRead (cannot_line name.now)
+    ensures { IfOk result (λ answer. Says CannotRead (cannot_line name.now)
         answer.status answer.text.items) }
-    ensures told { IfOk result (λ answer. IsOfText answer.status) }
 {
     let text = format!(in alloc; "cannot read {name}\n")?;
     Ok(Answer {
@@ -65,9 +64,8 @@ pub(crate) fn fault_answer(
     reason: Reason,
 ) -> Result<Answer, NoMemory>
     requires { IsOfText status }
-    ensures says { IfOk result (λ answer. Says status (fault_line place.now (number, reason))
+    ensures { IfOk result (λ answer. Says status (fault_line place.now (number, reason))
         answer.status answer.text.items) }
-    ensures told { IfOk result (λ answer. IsOfText answer.status) }
 {
     let text = format!(in alloc; "{place} {number}: {reason}\n")?;
     Ok(Answer {
@@ -83,9 +81,8 @@ pub(crate) fn goal_fault_answer(
     word: u64,
     reason: Reason,
 ) -> Result<Answer, NoMemory>
-    ensures says { IfOk result (λ answer. Says BadGoal (fault_line (goal_place goal) (word, reason))
+    ensures { IfOk result (λ answer. Says BadGoal (fault_line (goal_place goal) (word, reason))
         answer.status answer.text.items) }
-    ensures told { IfOk result (λ answer. IsOfText answer.status) }
 {
     if goal == 1 {
         return fault_answer(alloc, Status::BadGoal, "goal word", word, reason);
@@ -153,9 +150,8 @@ pub(crate) fn search_answer(
     requires first { Precedes problem.now.script.now before.now
         (record { events = problem.now.from.now; names = names.old }) }
     requires allowed { list_all is_allowed goal.now ≡ true }
-    ensures due { IfOk result (λ answer. DueForSearch (search_of problem.now) command.now.events
+    ensures { IfOk result (λ answer. DueForSearch (search_of problem.now) command.now.events
         command.now.states before.now goal.now answer.status answer.text.items) }
-    ensures told { IfOk result (λ answer. IsOfText answer.status) }
 {
     let outcome = search_schedules(alloc, problem, command.events, command.states)?;
     match outcome {

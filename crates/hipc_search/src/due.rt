@@ -50,11 +50,10 @@ fn with_goals(
         (record { events = from.now; names = names.old }) }
     requires allowed { MayStand (said command.now).asks }
     requires precede { all_precede (said_all goals.now.earlier.items) ≡ true }
-    ensures due { IfOk result (λ answer. DueForAsked (said command.now) before.now
+    ensures { IfOk result (λ answer. DueForAsked (said command.now) before.now
         (search_with (said command.now) script.now
         (record { events = from.now; names = names.old }) (Ok (sought_by goals.now)))
         answer.status answer.text.items) }
-    ensures told { IfOk result (λ answer. IsOfText answer.status) }
 {
     let lists = match lists_in(alloc, script, names, command) {
         Ok(lists) => lists,
@@ -99,9 +98,8 @@ fn with_events(
     requires short { length before.now ≤ 524289 }
     requires first { Precedes script.now before.now
         (record { events = from.now; names = names.old }) }
-    ensures due { IfOk result (λ answer. DueForEvents (said command.now) script.now before.now
+    ensures { IfOk result (λ answer. DueForEvents (said command.now) script.now before.now
         (Ok (record { events = from.now; names = names.old })) answer.status answer.text.items) }
-    ensures told { IfOk result (λ answer. IsOfText answer.status) }
 {
     match asked_for(alloc, names, script, command.asks) {
         Ok(goals) => with_goals(alloc, command, script, from, names, before, &goals),
@@ -130,9 +128,8 @@ fn with_first(
 ) -> Result<Answer, NoMemory>
     requires events { command.now.events ≤ 10000 }
     requires named { IsNamed script.now }
-    ensures due { IfOk result (λ answer. DueForPlan (said command.now) script.now (Some bytes.now)
+    ensures { IfOk result (λ answer. DueForPlan (said command.now) script.now (Some bytes.now)
         answer.status answer.text.items) }
-    ensures told { IfOk result (λ answer. IsOfText answer.status) }
 {
     let (from, mut names) = match first_events(alloc, script, bytes) {
         Ok(first) => first,
@@ -156,9 +153,8 @@ fn with_first(
 fn with_no_events(alloc: Global, command: &Command<'_>, script: &Script) -> Result<Answer, NoMemory>
     requires events { command.now.events ≤ 10000 }
     requires named { IsNamed script.now }
-    ensures due { IfOk result (λ answer. DueForPlan (said command.now) script.now None
+    ensures { IfOk result (λ answer. DueForPlan (said command.now) script.now None
         answer.status answer.text.items) }
-    ensures told { IfOk result (λ answer. IsOfText answer.status) }
 {
     let mut names = TaskNames::of_script(alloc, script)?;
     with_events(alloc, command, script, &[], &mut names, &[])
@@ -173,9 +169,8 @@ fn with_script(
 ) -> Result<Answer, NoMemory>
     requires events { command.now.events ≤ 10000 }
     requires named { IsNamed script.now }
-    ensures due { IfOk result (λ answer. DueForPlan (said command.now) script.now
+    ensures { IfOk result (λ answer. DueForPlan (said command.now) script.now
         (option_map (λ bytes. bytes.now) first.entry) answer.status answer.text.items) }
-    ensures told { IfOk result (λ answer. IsOfText answer.status) }
 {
     match first {
         None => with_no_events(alloc, command, script),
@@ -191,9 +186,8 @@ fn with_bytes(
     first: Option<&[u8]>,
 ) -> Result<Answer, NoMemory>
     requires { command.now.events ≤ 10000 }
-    ensures due { IfOk result (λ answer. DueForBytes (said command.now) bytes.now
+    ensures { IfOk result (λ answer. DueForBytes (said command.now) bytes.now
         (option_map (λ bytes. bytes.now) first.entry) answer.status answer.text.items) }
-    ensures told { IfOk result (λ answer. IsOfText answer.status) }
 {
     match read_script(alloc, bytes) {
         Ok(script) => with_script(alloc, command, &script, first),
@@ -213,7 +207,6 @@ fn with_one_file<S: Shelf>(
     requires { command.now.events ≤ 10000 }
     ensures due { IfOk result (λ answer. DueForFiles (S.files shelf.old) (S.failed shelf.old)
         (S.failed shelf.new) (said command.now) None answer.status answer.text.items) }
-    ensures told { IfOk result (λ answer. IsOfText answer.status) }
     ensures files { S.files shelf.new ≡ S.files shelf.old }
     ensures failed { LosesOneAtMost (Some (command.now.script.now, command.now.script.now))
         (S.failed shelf.old) (S.failed shelf.new) }
@@ -235,7 +228,6 @@ fn with_both_files<S: Shelf>(
     requires { command.now.events ≤ 10000 }
     ensures due { IfOk result (λ answer. DueForFiles (S.files shelf.old) (S.failed shelf.old)
         (S.failed shelf.new) (said command.now) (Some name.now) answer.status answer.text.items) }
-    ensures told { IfOk result (λ answer. IsOfText answer.status) }
     ensures files { S.files shelf.new ≡ S.files shelf.old }
     ensures failed { LosesOneAtMost (Some (command.now.script.now, name.now))
         (S.failed shelf.old) (S.failed shelf.new) }
@@ -263,7 +255,6 @@ fn with_files<S: Shelf>(
     ensures due { IfOk result (λ answer. DueForFiles (S.files shelf.old) (S.failed shelf.old)
         (S.failed shelf.new) (said command.now) (said command.now).from
         answer.status answer.text.items) }
-    ensures told { IfOk result (λ answer. IsOfText answer.status) }
     ensures files { S.files shelf.new ≡ S.files shelf.old }
     ensures failed { LosesOneAtMost (Some (loaded_by (said command.now)))
         (S.failed shelf.old) (S.failed shelf.new) }
@@ -278,7 +269,6 @@ fn with_files<S: Shelf>(
 fn answer_of<S: Shelf>(alloc: Global, words: &[String], shelf: &mut S) -> Result<Answer, NoMemory>
     ensures due { IfOk result (λ answer. Due (texts words.now) (S.files shelf.old)
         (S.failed shelf.old) (S.failed shelf.new) answer.status answer.text.items) }
-    ensures told { IfOk result (λ answer. IsOfText answer.status) }
     ensures files { S.files shelf.new ≡ S.files shelf.old }
     ensures failed { LosesOneAtMost (files_of (texts words.now))
         (S.failed shelf.old) (S.failed shelf.new) }
@@ -309,7 +299,7 @@ fn tell<K: Sink>(status: Status, text: &[u8], sink: &mut K) -> Status
 /// Does what the words of a command line ask: loads the script, and the schedule that comes first,
 /// from the shelf, searches, and writes what was found, the line of why there is nothing, or the
 /// line of what is wrong.
-pub fn run<S: Shelf, K: Sink>(
+pub(crate) fn run<S: Shelf, K: Sink>(
     alloc: Global,
     words: &[String],
     shelf: &mut S,

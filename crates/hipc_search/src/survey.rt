@@ -74,9 +74,8 @@ fn survey_answer(
     requires few_first { length problem.now.from.now ≤ 32768 }
     requires short { length before.now ≤ 524289 }
     requires first { ComesFirst problem.now.script.now before.now problem.now.from.now }
-    ensures due { IfOk result (λ answer. DueForSurvey (search_of problem.now) command.now.events
+    ensures { IfOk result (λ answer. DueForSurvey (search_of problem.now) command.now.events
         command.now.states before.now answer.status answer.text.items) }
-    ensures told { IfOk result (λ answer. IsOfText answer.status) }
 {
     let resting = survey_schedules(alloc, problem, command.events, command.states)?;
     match resting {
@@ -135,9 +134,8 @@ pub(crate) fn asks_answer(
     requires first { Precedes problem.now.script.now before.now
         (record { events = problem.now.from.now; names = names.old }) }
     requires allowed { MayStand (said command.now).asks }
-    ensures due { IfOk result (λ answer. DueForAsks (search_of problem.now) command.now.events
+    ensures { IfOk result (λ answer. DueForAsks (search_of problem.now) command.now.events
         command.now.states before.now (said command.now).asks answer.status answer.text.items) }
-    ensures told { IfOk result (λ answer. IsOfText answer.status) }
 {
     match command.asks {
         Asks::Goals { first, later } => {

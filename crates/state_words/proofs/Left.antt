@@ -1,7 +1,6 @@
 -- The words of what is left of a list, of numbers that are left.
-use Rattle.std.proofs.Common.{ℕ, zero, suc, ◌≡◌, ◌<◌, ◌+◌, ◌-◌, List, [], ◌∷◌, ◌++◌, drop, get_or, refl, sym, ◌∙◌, ap, arith, append_assoc, length, slice_get, Option, Some}
+use Rattle.std.proofs.Common.{ℕ, zero, suc, ◌≡◌, ◌<◌, ◌+◌, ◌-◌, List, [], ◌∷◌, ◌++◌, drop, refl, sym, ◌∙◌, ap, arith, append_assoc, length, slice_get, Option, Some}
 use Rattle.std.proofs.lemmas.Bool.Decides.{nat_tests}
-use Rattle.std.proofs.lemmas.List.{at_drop_more}
 use Rattle.std.specs.List.{flat_map}
 use Rattle.phone_table.specs.Phones.{row_at}
 use Rattle.answerbox.specs.Calls.{CallTable, call_at}
@@ -31,15 +30,6 @@ row_at_next rows t x h = grind (arith, nat_tests)
 pub one_more : {A : Type 0} (whole out new now rest left : List A) → out ++ left ≡ whole → left ≡ now ++ rest → new ≡ out ++ now → new ++ rest ≡ whole
 one_more {A} whole out new now rest left a b c =
     ap (λ (z : List A). z ++ rest) c ∙ append_assoc out now rest ∙ ap (λ (z : List A). out ++ z) (sym b) ∙ a
-
--- the same of the element at a place
-pub after_one : {A : Type 0} (words : A → List ℕ) (xs : List A) (p : ℕ) (x other : A) (whole out new : List ℕ)
-    → p < length xs → x ≡ get_or xs p other → out ++ flat_map words (drop p xs) ≡ whole → new ≡ out ++ words x
-    → new ++ flat_map words (drop (p + 1) xs) ≡ whole
-after_one {A} words xs p x other whole out new less is before told =
-    let rest : List ℕ = flat_map words (drop (p + 1) xs) in
-    one_more whole out new (words x) rest (flat_map words (drop p xs)) before
-    (at_drop_more (flat_map words) xs p other less ∙ ap (λ (y : A). words y ++ rest) (sym is)) told
 
 pub left_calls : (among : List Stand) (calls : CallTable) (n m : ℕ) → n < m → table_from among calls n (m - n) ≡ option_words (call_words among) (call_at calls n) ++ table_from among calls (n + 1) (m - (n + 1))
 left_calls among calls n m l =

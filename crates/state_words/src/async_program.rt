@@ -6,7 +6,7 @@ use crate::connections::push_conns;
 use crate::contexts::push_contexts;
 use crate::fibrils::push_fibrils;
 use crate::sessions::push_pool;
-use crate::waits::{push_awaited, push_owed};
+use crate::worded::push_both;
 use async_task::AsyncProgram;
 use std::alloc::AllocError;
 
@@ -24,7 +24,7 @@ pub fn push_async_program(task: &AsyncProgram, out: &mut Vec<u64>) -> Result<(),
     push_conns(task.conns(), out)?;
     push_pool(task.sessions(), out)?;
     let (front, back) = task.awaited();
-    push_awaited(front, back, out)?;
+    push_both(front, back, out)?;
     let (first, others) = task.work();
-    push_owed(first, others, out)
+    push_both(first, others, out)
 }

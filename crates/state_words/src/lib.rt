@@ -23,6 +23,7 @@ mod raw;
 mod sessions;
 mod stands;
 mod waits;
+mod worded;
 
 pub use async_program::push_async_program;
 pub use block::push_block_server;

@@ -19,23 +19,23 @@ found_text-requires-clause-few c =
     let most = c.requires.few in
     omega (arith, within, long, most)
 
-pub returns-in_ok-text-in-Found-clause-due : goal.returns-in_ok-text-in-Found-clause-due
-returns-in_ok-text-in-Found-clause-due c =
+pub returns-in_ok-text-in-Found : goal.returns-in_ok-text-in-Found
+returns-in_ok-text-in-Found c =
     let right = rw c.in-Found.is at c.in_ok-outcome.ensures in
     let written =
     subst (λ (es : List Event). IsSchedule (search_of c.args.problem.now) c.args.before.now c.args.goal.now es c.in_ok-text-in-Found.text.items)
     c.as_slice.ensures.value c.in_ok-text-in-Found.ensures in
     (outcomes.Found c.in-Found.events, right, (refl, written))
 
-pub returns-in_ok-text-in-NoneWithin-clause-due : goal.returns-in_ok-text-in-NoneWithin-clause-due
-returns-in_ok-text-in-NoneWithin-clause-due c =
+pub returns-in_ok-text-in-NoneWithin : goal.returns-in_ok-text-in-NoneWithin
+returns-in_ok-text-in-NoneWithin c =
     let right = rw c.in-NoneWithin.is at c.in_ok-outcome.ensures in
     (outcomes.NoneWithin c.in-NoneWithin.states, right, (refl, c.in_ok-text-in-NoneWithin.ensures))
 
-pub returns-in_ok-text-in-NoneAtAll-clause-due : goal.returns-in_ok-text-in-NoneAtAll-clause-due
-returns-in_ok-text-in-NoneAtAll-clause-due c =
+pub returns-in_ok-text-in-NoneAtAll : goal.returns-in_ok-text-in-NoneAtAll
+returns-in_ok-text-in-NoneAtAll c =
     let right = rw c.in-NoneAtAll.is at c.in_ok-outcome.ensures in
     (outcomes.NoneAtAll c.in-NoneAtAll.states, right, (refl, c.in_ok-text-in-NoneAtAll.ensures))
 
-pub returns-in_ok-text-in-NoRoom-clause-due : goal.returns-in_ok-text-in-NoRoom-clause-due
-returns-in_ok-text-in-NoRoom-clause-due c = (outcomes.NoRoom, tt, (refl, c.in_ok-text-in-NoRoom.ensures))
+pub returns-in_ok-text-in-NoRoom : goal.returns-in_ok-text-in-NoRoom
+returns-in_ok-text-in-NoRoom c = (outcomes.NoRoom, tt, (refl, c.in_ok-text-in-NoRoom.ensures))

@@ -24,4 +24,4 @@ returns-in-None-clause-due g c =
     subst
     (λ (o : Option Command). IfOk c.usage_answer.result
     (λ answer. DueForCommand (g.S.Shelf.files c.args.shelf.now) (g.S.Shelf.failed c.args.shelf.now) (g.S.Shelf.failed c.args.shelf.now) o answer.status answer.text.items))
-    c.in-None.ensures.command c.usage_answer.ensures.says
+    c.in-None.ensures.command c.usage_answer.ensures

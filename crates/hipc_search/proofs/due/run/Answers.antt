@@ -17,4 +17,4 @@ returns-in-Ok-clause-part g c = λ w.
 
 pub returns-in-Ok-clause-memory : goal.returns-in-Ok-clause-memory
 returns-in-Ok-clause-memory g c =
-    no_memory_told _ c.in-Ok.answer.status c.tell.result c.in-Ok.ensures.told (λ w. (c.tell.ensures.ok w).0)
+    no_memory_told _ c.in-Ok.answer.status c.tell.result c.in-Ok.answer.told (λ w. (c.tell.ensures.ok w).0)

@@ -11,7 +11,7 @@ returns-in-Err-Failed-clause-due g c =
     if_ok_on _ _ c.cannot_answer.result
     (λ answer says. first_lost (g.S.Shelf.files c.args.shelf.now) (said c.args.command.now) c.args.name.now _ _ answer.status answer.text.items
     (lost_it _ _ _ added) says)
-    c.cannot_answer.ensures.says
+    c.cannot_answer.ensures
 
 pub returns-in-Err-Failed-load-clause-due : goal.returns-in-Err-Failed-load-clause-due
 returns-in-Err-Failed-load-clause-due g c =
@@ -22,7 +22,7 @@ returns-in-Err-Failed-load-clause-due g c =
     if_ok_on _ _ c.cannot_answer-in-Err-Failed-load.result
     (λ answer says. second_lost (g.S.Shelf.files c.args.shelf.now) (said c.args.command.now) name _ _ answer.status answer.text.items
     (lost_only _ _ _ _ all) (lost_it _ _ _ all) says)
-    c.cannot_answer-in-Err-Failed-load.ensures.says
+    c.cannot_answer-in-Err-Failed-load.ensures
 
 pub returns-clause-due : goal.returns-clause-due
 returns-clause-due g c =
@@ -33,4 +33,4 @@ returns-clause-due g c =
     (λ answer due. both_loaded (g.S.Shelf.files c.args.shelf.now) (said c.args.command.now) c.args.name.now c.in-Ok.bytes.items c.in-Ok-load.bytes.items _ _
     answer.status answer.text.items (lost_none _ _ _ same) (lost_none _ _ _ same) script.bytes (rw script.files at first.bytes)
     (rw (c.as_slice.ensures.value, c.as_slice-2.ensures.value) at due))
-    c.with_bytes.ensures.due
+    c.with_bytes.ensures

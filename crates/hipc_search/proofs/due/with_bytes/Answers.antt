@@ -11,16 +11,16 @@ use Rattle.hipc_search.proofs.due.with_bytes.Goals as goal
 pub with_script-requires-clause-named : goal.with_script-requires-clause-named
 with_script-requires-clause-named c = script_named c.args.bytes.now c.in-Ok.script c.in-Ok.ensures.value
 
-pub returns-in-Ok-clause-due : goal.returns-in-Ok-clause-due
-returns-in-Ok-clause-due c =
+pub returns-in-Ok : goal.returns-in-Ok
+returns-in-Ok c =
     subst
     (λ (r : Result Plan (ℕ × Reason)). IfOk c.with_script.result
     (λ answer. DueForScript (said c.args.command.now) r (option_map (λ bytes. bytes.now) c.args.first) answer.status answer.text.items))
-    (sym c.in-Ok.ensures.value) c.with_script.ensures.due
+    (sym c.in-Ok.ensures.value) c.with_script.ensures
 
-pub returns-in-Err-Bad-clause-due : goal.returns-in-Err-Bad-clause-due
-returns-in-Err-Bad-clause-due c =
+pub returns-in-Err-Bad : goal.returns-in-Err-Bad
+returns-in-Err-Bad c =
     subst
     (λ (r : Result Plan (ℕ × Reason)). IfOk c.fault_answer.result
     (λ answer. DueForScript (said c.args.command.now) r (option_map (λ bytes. bytes.now) c.args.first) answer.status answer.text.items))
-    (sym (rw c.in-Err-Bad.field-0-is at c.in-Err-Bad.ensures.value)) c.fault_answer.ensures.says
+    (sym (rw c.in-Err-Bad.field-0-is at c.in-Err-Bad.ensures.value)) c.fault_answer.ensures

@@ -10,12 +10,12 @@ use Rattle.hipc_search.specs.Schedule.{Precedes}
 use Rattle.hipc_search.proofs.Following.{schedule_first}
 use Rattle.hipc_search.proofs.due.with_first.Goals as goal
 
-pub returns-in-Err-Bad-clause-due : goal.returns-in-Err-Bad-clause-due
-returns-in-Err-Bad-clause-due c =
+pub returns-in-Err-Bad : goal.returns-in-Err-Bad
+returns-in-Err-Bad c =
     subst
     (λ (r : Result EventsAndNames (ℕ × Reason)). IfOk c.fault_answer.result
     (λ answer. DueForEvents (said c.args.command.now) c.args.script.now (c.args.bytes.now ++ codes "\n") r answer.status answer.text.items))
-    (sym (rw c.in-Err-Bad.field-0-is at c.in-Err-Bad.ensures.value)) c.fault_answer.ensures.says
+    (sym (rw c.in-Err-Bad.field-0-is at c.in-Err-Bad.ensures.value)) c.fault_answer.ensures
 
 pub with_events-requires-clause-short : goal.with_events-requires-clause-short
 with_events-requires-clause-short c =

@@ -14,8 +14,8 @@ use Rattle.hipc_search.specs.Moves.{moves_of}
 use Rattle.hipc_search.proofs.Answering.{list_at_fault, search_is, search_sound}
 use Rattle.hipc_search.proofs.due.with_goals.Goals as goal
 
-pub returns-in-Err-Bad-clause-due : goal.returns-in-Err-Bad-clause-due
-returns-in-Err-Bad-clause-due c =
+pub returns-in-Err-Bad : goal.returns-in-Err-Bad
+returns-in-Err-Bad c =
     let command : Command = said c.args.command.now in
     let first : EventsAndNames = record { events = c.args.from.now; names = c.args.names.now } in
     let fault = c.in-Err-Bad in
@@ -24,7 +24,7 @@ returns-in-Err-Bad-clause-due c =
     (λ answer. DueForAsked command c.args.before.now r answer.status answer.text.items))
     (sym (list_at_fault command c.args.script.now first (sought_by c.args.goals.now) fault.list (fault.word, fault.reason)
     (rw fault.field-0-is at fault.ensures.said)))
-    (rw c.list_place.ensures at c.fault_answer.ensures.says)
+    (rw c.list_place.ensures at c.fault_answer.ensures)
 
 pub asks_answer-requires-clause-sound : goal.asks_answer-requires-clause-sound
 asks_answer-requires-clause-sound c =
@@ -48,8 +48,8 @@ asks_answer-requires-clause-sound c =
     c.in-Ok.ensures.few_hangups few is
     (ap (λ (goals : List Goal). all_precede (said_all goals)) c.as_slice-6.ensures.value ∙ c.requires.precede)
 
-pub returns-clause-due : goal.returns-clause-due
-returns-clause-due c =
+pub returns : goal.returns
+returns c =
     let command : Command = said c.args.command.now in
     let first : EventsAndNames = record { events = c.args.from.now; names = c.args.names.now } in
     let lists = c.in-Ok.lists in
@@ -70,4 +70,4 @@ returns-clause-due c =
     (sym (ap (λ (z : Sought). search_with command c.args.script.now first (Ok z)) (sym same)
     ∙ search_is command c.args.script.now first sought lists.killed.items lists.hangups.items moves c.as_slice-5.result.now
     told.0 told.1 (told.2 ∙ ap (λ (b : List MostMade). Ok b) (sym c.as_slice-5.ensures.value)) is))
-    c.asks_answer.ensures.due
+    c.asks_answer.ensures

@@ -11,7 +11,7 @@ returns-in-Ok-clause-due g c =
     if_ok_on _ _ c.with_bytes.result
     (λ answer due. script_loaded (g.S.Shelf.files c.args.shelf.now) (said c.args.command.now) c.in-Ok.bytes.items _ answer.status answer.text.items
     (lost_none _ _ _ file.ok) file.bytes (rw c.as_slice.ensures.value at due))
-    c.with_bytes.ensures.due
+    c.with_bytes.ensures
 
 pub returns-in-Err-Failed-clause-due : goal.returns-in-Err-Failed-clause-due
 returns-in-Err-Failed-clause-due g c =
@@ -19,4 +19,4 @@ returns-in-Err-Failed-clause-due g c =
     if_ok_on _ _ c.cannot_answer.result
     (λ answer says. script_lost (g.S.Shelf.files c.args.shelf.now) (said c.args.command.now) _ answer.status answer.text.items
     (lost_it _ _ _ added) says)
-    c.cannot_answer.ensures.says
+    c.cannot_answer.ensures

@@ -21,8 +21,8 @@ listing-requires-in-Within-clause-listed c =
     (λ (es : List Event). length es ≤ c.args.command.now.events) c.in-Within.schedules.items c.as_slice-in-Within.result.now
     (rw c.in-Within.is at c.in_ok-resting.ensures) c.as_slice-in-Within.ensures.value c.requires.few
 
-pub returns-in_ok-text-in-All-clause-due : goal.returns-in_ok-text-in-All-clause-due
-returns-in_ok-text-in-All-clause-due c =
+pub returns-in_ok-text-in-All : goal.returns-in_ok-text-in-All
+returns-in_ok-text-in-All c =
     let schedules : List (Vec Event) = c.in-All.schedules.items in
     let right = rw c.in-All.is at c.in_ok-resting.ensures in
     let as_many = length-map schedules (λ (v : Vec Event). v.items) in
@@ -41,8 +41,8 @@ returns-in_ok-text-in-All-clause-due c =
       ),
     )
 
-pub returns-in_ok-text-in-Within-clause-due : goal.returns-in_ok-text-in-Within-clause-due
-returns-in_ok-text-in-Within-clause-due c =
+pub returns-in_ok-text-in-Within : goal.returns-in_ok-text-in-Within
+returns-in_ok-text-in-Within c =
     let schedules : List (Vec Event) = c.in-Within.schedules.items in
     let most : ℕ = c.args.command.now.events in
     let right = rw c.in-Within.is at c.in_ok-resting.ensures in

@@ -1,11 +1,31 @@
-//! Loads and puts that fail, each with what is answered and what was written by then; and a generated run that is
-//! made whole.
-use crate::tests::{FIRST_CALL_SCHEDULE, FIRST_CALL_SCRIPT, words};
-use command_line::{Status, run};
+//! Loads and puts that fail, each with what is answered and what was written by then, over a shelf and a
+//! sink in memory.
+use command_line::{Status, replay_bytes, run};
 use io_edge::{MemShelf, MemSink};
-use schedule_replay::{SliceFeed, generate, replay};
-use std::alloc::Global;
+use std::alloc::{AllocError, Global};
 use std::test::Fail;
+
+/// The first lesson: a call is answered.
+const FIRST_CALL_SCRIPT: &[u8] = b"task a raw\n\
+call 0 512 7\n\
+receive\n\
+task b raw\n\
+receive\n\
+answer r2 EOK 8\n\
+wire a 0 b\n";
+
+const FIRST_CALL_SCHEDULE: &[u8] = b"step a\n\
+step b x 2\n\
+step a\n";
+
+/// The words of a command line.
+fn words(alloc: Global, line: &[&str]) -> Result<Vec<String>, AllocError> {
+    let mut words = Vec::new(alloc);
+    for word in line {
+        words.push(String::from_str(alloc, *word)?)?;
+    }
+    Ok(words)
+}
 
 // A word of the seventh line begins no line of a script.
 const FAULTY_SCRIPT: &[u8] = b"task a raw\n\
@@ -107,37 +127,39 @@ fn each_file_that_fails_has_its_status(rt: HostRuntime) -> Result<(), Fail> {
     Ok(())
 }
 
-/// Three events of the seed 0: two calls of the second task, and one of the tenth.
-const GENERATED_TEXT: &[u8] = b"t2 call 0 512 0 0 0 0 0\n\
-\x20 call 1 accepted t2.0 method 512 to t3\n\
-\x20 = call 1\n\
-t2 call 1 512 0 0 0 0 0\n\
-\x20 call 2 accepted t2.1 method 512 to t4\n\
-\x20 = call 2\n\
-t10 call 0 512 0 0 0 0 0\n\
-\x20 call 3 accepted t10.0 method 512 to t11\n\
-\x20 = call 3\n";
+// Task a calls until its phone takes no more calls; b answers one of them.
+const LIMIT_SCRIPT: &[u8] = b"task a raw\n\
+call 0 512\n\
+jumpeq r0 0 0\n\
+receive\n\
+jump 0\n\
+task b raw\n\
+receive\n\
+answer r2 EOK\n\
+wire a 0 b\n";
 
-/// Whether a run of sixteen tasks is generated, where memory is ample, and replayed whole.
-fn replays_generated(alloc: Global, sink: &mut MemSink) -> bool {
-    match generate(alloc, 0, 3) {
-        Ok(run) => {
-            let mut feed = SliceFeed::new(run.events.as_slice());
-            let done = replay(alloc, &run.script, &mut feed, sink);
-            done.is_ok() && run.script.tasks.as_slice().len() == 16
-        }
-        Err(_) => false,
-    }
-}
+const LIMIT_SCHEDULE: &[u8] = b"step a x 129\nstep b x 2\nstep a x 4\n";
 
-/// Whether it prints its text.
-fn is_generated(alloc: Global) -> Result<bool, Fail> {
-    let mut sink = MemSink::new(alloc, 1000)?;
-    Ok(replays_generated(alloc, &mut sink) && sink.written() == GENERATED_TEXT)
+/// Whether the text up to a put that fails stands, and is whole just where none of the first two does.
+fn keeps_its_start(alloc: Global, nth: u64) -> Result<bool, Fail> {
+    let mut whole = MemSink::new(alloc, 10_000)?;
+    let done = replay_bytes(alloc, LIMIT_SCRIPT, LIMIT_SCHEDULE, &mut whole);
+    let mut sink = MemSink::new(alloc, 10_000)?;
+    sink.fail_at(nth, 100)?;
+    let status = replay_bytes(alloc, LIMIT_SCRIPT, LIMIT_SCHEDULE, &mut sink);
+    let cut = sink.written().len() < whole.written().len();
+    Ok(
+        done == Status::Done
+            && whole.written().starts_with(sink.written())
+            && cut == (nth < 3)
+            && cut == (status == Status::WriteFailed),
+    )
 }
 
 #[test]
-fn a_run_is_generated_whole(rt: HostRuntime) -> Result<(), Fail> {
-    assert!(rt; is_generated(rt.alloc())?);
+fn what_was_put_before_a_fault_stands(rt: HostRuntime) -> Result<(), Fail> {
+    for nth in [1, 2, 3] {
+        assert!(rt; keeps_its_start(rt.alloc(), nth)?);
+    }
     Ok(())
 }
