@@ -5,7 +5,9 @@ use Rattle.std.specs.Io.KnownBytes.{Appends}
 use Rattle.io_edge.specs.Edge.{times, Holds, AppendsStart}
 use Rattle.command_line.specs.declared.status.Status.{Status}
 use Rattle.command_line.specs.declared.status.Status.TheVariants.{Done, Usage, CannotRead, WriteFailed, NoMemory}
-use Rattle.command_line.specs.Answer.{answer_of}
+use Rattle.script_lines.specs.Plan.{Plan}
+use Rattle.script_reader.specs.Reading.{schedule_of}
+use Rattle.command_line.specs.Answer.{answer_of, answer_for_events}
 use Rattle.command_line.specs.Command.{Command, Replay, Generate, Check, command_of}
 use Rattle.command_line.specs.Check.{DueForTrace}
 use Rattle.command_line.specs.Summary.{summary_line}
@@ -45,6 +47,11 @@ cannot_line name = codes "cannot read " ++ name ++ codes "\n"
 -- among the names whose load failed it stands more often after the call than before
 abbrev pub lost : Names → Names → List ℕ → Bool
 lost before after name = nat_lt (times name before) (times name after)
+
+-- due for a script that was read, and the bytes of a schedule
+abbrev pub DueForSchedule : Plan → List ℕ → Answers
+DueForSchedule script schedule status text =
+    answer_for_events script (schedule_of script schedule) ≡ (status, text)
 
 -- due for the bytes of the two files
 abbrev pub DueForBytes : List ℕ → List ℕ → Answers

@@ -14,6 +14,11 @@ use Rattle.law_check.specs.Finding.{IsLawfulTrace}
 use Rattle.command_line.specs.Due.{Files}
 use Rattle.command_line.specs.Summary.{generated_run, summary_line}
 
+-- what was written is the whole text of the run of a script that was read
+abbrev pub WritesRun : Plan → List ℕ → Option (List ℕ) → Option (List ℕ) → Type 0
+WritesRun script schedule old new =
+    (events : List Event) × (schedule_of script schedule ≡ Ok events) × Appends old new (text_of (run script events))
+
 -- the bytes of a script and of a schedule spell a run that keeps the laws, and this is its text
 pub record IsLawfulText (script schedule text : List ℕ) : Type 0 where
   pub plan : Plan

@@ -6,8 +6,8 @@ ghost use Rattle.trace_print.specs.Text.{text_of};
 ghost use Rattle.script_reader.specs.Schedule.{MayAllCome};
 ghost use Rattle.task_system.specs.Run.{run};
 ghost use Rattle.command_line.specs.Answer.{fault_line};
-ghost use Rattle.command_line.specs.Due.{DueForBytes, Whole, Part};
-ghost use Rattle.command_line.specs.LawfulRun.{WritesLawfulRun};
+ghost use Rattle.command_line.specs.Due.{DueForBytes, DueForSchedule, Whole, Part};
+ghost use Rattle.command_line.specs.LawfulRun.{WritesLawfulRun, WritesRun};
 ghost use Rattle.command_line.specs.declared.status.Status.TheVariants.{Done, BadTrace, WriteFailed, NoMemory as Memory};
 
 use crate::Status;
@@ -99,6 +99,32 @@ fn replay_events<K: Sink>(
     }
 }
 
+// Reads a schedule over a script that was read, runs it, and writes the text of the run, or the line
+// of the first fault.
+fn replay_schedule<K: Sink>(alloc: Global, script: &Script, schedule: &[u8], sink: &mut K) -> Status
+    ensures whole { Whole (DueForSchedule script.now schedule.now)
+        (K.written sink.old) (K.written sink.new) result }
+    ensures part { result ≡ WriteFailed →
+        Part (DueForSchedule script.now schedule.now) (K.written sink.old) (K.written sink.new) }
+    ensures memory { result ≡ Memory → Keeps (K.written sink.old) (K.written sink.new)
+        ⊎ Part (DueForSchedule script.now schedule.now) (K.written sink.old) (K.written sink.new) }
+    ensures write_failed { result ≡ WriteFailed → Rose (K.faults sink.old) (K.faults sink.new) }
+    ensures risen { K.faults sink.old < K.faults sink.new →
+        (result ≡ WriteFailed) ⊎ (result ≡ Memory) }
+    ensures later { K.faults sink.old ≤ K.faults sink.new }
+    ensures done { result ≡ Done → WritesRun script.now schedule.now
+        (K.written sink.old) (K.written sink.new) }
+    ensures other { result ≢ BadTrace }
+{
+    match read_repeated_events(alloc, schedule, script) {
+        Ok(events) => replay_events(alloc, script, &events, sink),
+        Err(ScheduleFault::Bad { line, reason }) => {
+            tell_fault(alloc, Status::BadSchedule, "schedule", line, reason, sink)
+        }
+        Err(ScheduleFault::NoMemory) => Status::NoMemory,
+    }
+}
+
 /// Reads a script and a schedule, runs them, and writes the text of the run, or the line of the
 /// first fault.
 pub fn replay_bytes<K: Sink>(alloc: Global, script: &[u8], schedule: &[u8], sink: &mut K) -> Status
@@ -128,11 +154,5 @@ pub fn replay_bytes<K: Sink>(alloc: Global, script: &[u8], schedule: &[u8], sink
         }
         Err(ScriptFault::NoMemory) => return Status::NoMemory,
     };
-    match read_repeated_events(alloc, schedule, &script) {
-        Ok(events) => replay_events(alloc, &script, &events, sink),
-        Err(ScheduleFault::Bad { line, reason }) => {
-            tell_fault(alloc, Status::BadSchedule, "schedule", line, reason, sink)
-        }
-        Err(ScheduleFault::NoMemory) => Status::NoMemory,
-    }
+    replay_schedule(alloc, &script, schedule, sink)
 }
