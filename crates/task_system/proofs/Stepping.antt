@@ -1,5 +1,5 @@
 -- A step whose request is known is that of the task's program.
-use Rattle.std.proofs.Common.{◌≡◌, ℕ, ◌-◌, ◌<◌, length, Bool, true, false, Option, None, Some, Result, Ok, Err, List, ◌++◌, append_assoc, refl, sym, ap, ◌∙◌, set, subst}
+use Rattle.std.proofs.Common.{◌≡◌, ℕ, ◌-◌, ◌<◌, length, Bool, true, false, Option, None, Some, Result, Ok, Err, List, [], ◌∷◌, ◌++◌, append_assoc, refl, sym, ap, ◌∙◌, set, subst}
 use Rattle.std.specs.Prelude.{slice_get, if◌then◌else◌, option_map, get_or, OnOk, OnErr}
 use Rattle.std.proofs.lemmas.Option.{get_or_from_slice_get, slice_get_within}
 use Rattle.ipc_ids.specs.declared.numbers.TaskNo.{TaskNo}
@@ -140,3 +140,11 @@ kill_told before now task same alive =
     sym
     (ap (λ (r : RunState). (kill r task).entries) (sym same)
     ∙ ap (λ b. (if b then killed before task (kill_event before.kernel task) else gone before task).entries) alive)
+
+-- what is told of a request that is served: its head, what it did, and its outcome
+pub told_whole : (old first asked served last all es : List Entry) (h o : Entry) → first ≡ old → asked ≡ first ++ h ∷ []
+    → served ≡ asked ++ es → last ≡ served → all ≡ last ++ o ∷ [] → all ≡ old ++ (h ∷ es ++ o ∷ [])
+told_whole old first asked served last all es h o a b c d e =
+    e ∙ ap (λ (v : List Entry). v ++ o ∷ [])
+    (d ∙ c ∙ ap (λ (v : List Entry). v ++ es) (b ∙ ap (λ (v : List Entry). v ++ h ∷ []) a))
+    ∙ append_assoc (old ++ h ∷ []) es (o ∷ []) ∙ append_assoc old (h ∷ []) (es ++ o ∷ [])
