@@ -3,3 +3,4 @@ mod Stepping
 mod Taking
 mod Bodies
 mod Spawning
+mod Beginning
