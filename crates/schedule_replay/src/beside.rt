@@ -135,7 +135,7 @@ pub fn generate(alloc: Global, seed: u64, events: u64) -> Result<Generated, NoMe
     ensures may { IfOk result (λ made. MayAllCome (length made.script.tasks)
         (length made.script.templates) made.events) }
 {
-    let script = generated_script(alloc)?;
     let events = events_from(alloc, seed, events)?;
+    let script = generated_script(alloc)?;
     Ok(Generated { script, events })
 }
