@@ -1,5 +1,5 @@
 -- A line that is the same as the line before it, where that was an operation.
-use Rattle.std.specs.Prelude.{◌≡◌, ℕ, ◌-◌, List, [], length, slice_get, Option, Some, IfSome, Result, Ok, if◌then◌else◌}
+use Rattle.std.specs.Prelude.{◌≡◌, ℕ, ◌-◌, Bool, true, false, List, [], length, slice_get, Option, Some, IfSome, Result, Ok, if◌then◌else◌}
 use Rattle.std.specs.Option.{option_and_then}
 use Rattle.std.specs.Borrow.{Bor}
 use Rattle.ipc_ids.specs.declared.op.Op.{Op}
@@ -9,6 +9,8 @@ use Rattle.script_lines.specs.declared.draft.Draft.{Draft}
 use Rattle.script_lines.specs.declared.draft.Drafts.{Drafts}
 use Rattle.script_lines.specs.declared.fault.Reason.{Reason}
 use Rattle.script_lines.specs.declared.plan.Kind.{Kind}
+use Rattle.script_lines.specs.declared.word.Verb.{Verb}
+use Rattle.script_lines.specs.declared.word.Verb.TheVariants as first
 use Rattle.script_lines.specs.Text.{first_line, behind}
 use Rattle.script_lines.specs.Operation.{◌>>=◌}
 use Rattle.script_lines.specs.Ranges.{IsOpOf}
@@ -40,6 +42,11 @@ pub record KeepsLastOp (old new : Draft) : Type 0 where
 -- one more operation of the last task or template
 abbrev pub op_of_last : ScriptParts → Op → Result ScriptParts Reason
 op_of_last w op = with_op (part w) op >>= λ plan. Ok (with_part w plan)
+
+-- the first word of a line is that of an operation
+abbrev pub is_op : Verb → Bool
+is_op (first.Op verb) = true
+is_op _ = false
 
 -- what a line makes of a script is one more operation, this one, wherever such a task takes operations
 abbrev pub SaysOp : (ScriptParts → Result ScriptParts Reason) → Option Kind → Op → Type 0

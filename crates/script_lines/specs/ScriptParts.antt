@@ -44,5 +44,9 @@ pub record PartsFit (w : ScriptParts) : Type 0 where
 abbrev pub parts_of : Drafts → ScriptParts
 parts_of drafts = record { tasks = plan_of drafts.tasks; templates = plan_of drafts.templates; on_template = drafts.on_template }
 
+-- the script of drafts whose last task and last template are ended
+abbrev pub ended_script : Drafts → Plan
+ended_script drafts = record { tasks = drafts.tasks.done; wires = drafts.tasks.wires; templates = drafts.templates.done }
+
 abbrev pub AreWhole : Drafts → Type 0
 AreWhole drafts = IsWhole drafts.tasks × IsWhole drafts.templates

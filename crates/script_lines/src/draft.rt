@@ -6,9 +6,9 @@ ghost use Rattle.script_lines.specs.Draft.{last_plan, last_plans, plan_of, IsSte
 ghost use Rattle.script_lines.specs.LastLine.{last_in, last_op_of, last_op, TakesLastOp, KeepsLastOp};
 ghost use Rattle.script_lines.specs.Names.{is_ns};
 ghost use Rattle.script_lines.specs.Plan.{nothing};
-ghost use Rattle.script_lines.specs.ScriptParts.{no_parts, script_of_parts, PartsFit, parts_of, AreWhole};
+ghost use Rattle.script_lines.specs.ScriptParts.{no_parts, script_of_parts, PartsFit, parts_of, ended_script, AreWhole};
 ghost use Rattle.script_lines.specs.Ranges.{IsOpOf};
-ghost use Rattle.script_lines.specs.Sound.{IsSoundTask, HeadFits, is_naming, has_service, fibrils, connections};
+ghost use Rattle.script_lines.specs.Sound.{IsSound, IsSoundTask, HeadFits, is_naming, has_service, fibrils, connections};
 
 use crate::fault::{LineFault, Reason};
 use crate::name::Name;
@@ -496,15 +496,19 @@ impl Draft {
         }
     }
 
-    /// The tasks and wires of all the lines.
-    fn into_parts(self) -> Result<(TaskPlans, Wires), NoMemory>
-        requires { IsWhole self }
-        ensures { IfOk result (λ parts.
-            record { tasks = parts.0; wires = parts.1; templates = [] } ≡ plan_of self) }
+    /// The tasks and wires without the last task, which was ended before.
+    fn into_done(self) -> (TaskPlans, Wires)
+        ensures { result ≡ (self.done, self.wires) }
     {
-        let mut draft = self;
-        draft.end_task()?;
-        Ok((draft.done, draft.wires))
+        let Draft {
+            done,
+            last,
+            wires,
+            names,
+        } = self;
+        drop(last);
+        drop(names);
+        (done, wires)
     }
 }
 
@@ -531,18 +535,42 @@ impl Drafts {
         self.tasks.is_empty() && self.templates.is_empty()
     }
 
+    /// Ends the last task and the last template.
+    fn end(&mut self) -> Result<(), NoMemory>
+        ensures { OnOk result (ended_script self.new ≡ script_of_parts (parts_of self.old)) }
+    {
+        self.tasks.end_task()?;
+        self.templates.end_task()
+    }
+
+    /// The script of the tasks and templates that were ended.
+    fn into_ended(self) -> Script
+        requires { IsSound (ended_script self) }
+        ensures { result ≡ ended_script self }
+    {
+        let (tasks, wires) = self.tasks.into_done();
+        let (templates, no_wires) = self.templates.into_done();
+        drop(no_wires);
+        Script {
+            tasks,
+            wires,
+            templates,
+        }
+    }
+
     /// The script of all the lines.
     pub fn into_script(self) -> Result<Script, NoMemory>
         requires whole { AreWhole self }
         requires fit { PartsFit (parts_of self) }
         ensures { IfOk result (λ script. script ≡ script_of_parts (parts_of self)) }
     {
-        let (tasks, wires) = self.tasks.into_parts()?;
-        let (templates, _) = self.templates.into_parts()?;
-        Ok(Script {
-            tasks,
-            wires,
-            templates,
-        })
+        let mut drafts = self;
+        match drafts.end() {
+            Ok(()) => Ok(drafts.into_ended()),
+            Err(NoMemory) => {
+                drop(drafts);
+                Err(NoMemory)
+            }
+        }
     }
 }

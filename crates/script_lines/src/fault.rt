@@ -10,7 +10,7 @@ use std::alloc::{AllocError, AllocFailed};
 use std::fmt;
 
 /// Why a file is not read, as the text after the number of its line says it.
-#[derive(Clone, Copy, Debug, PartialEq, Eq)]
+#[derive(Clone, Copy)]
 pub enum Reason {
     /// The file has more than 1,048,576 bytes. Its line is 0.
     TooLong,
@@ -71,7 +71,7 @@ impl fmt::Display for Reason {
 }
 
 /// Why a script is not read.
-#[derive(Clone, Copy, Debug, PartialEq, Eq)]
+#[derive(Clone, Copy)]
 pub enum ScriptFault {
     /// The first line at fault, numbered from 1. Line 0 is at fault where the file is too long.
     Bad { line: u64, reason: Reason },
@@ -80,7 +80,7 @@ pub enum ScriptFault {
 }
 
 /// Why a schedule is not read.
-#[derive(Clone, Copy, Debug, PartialEq, Eq)]
+#[derive(Clone, Copy)]
 pub enum ScheduleFault {
     /// The first line at fault, numbered from 1. Line 0 is at fault where the file is too long.
     Bad { line: u64, reason: Reason },
@@ -89,7 +89,7 @@ pub enum ScheduleFault {
 }
 
 /// Why a line is not read.
-#[derive(Clone, Copy, Debug, PartialEq, Eq)]
+#[derive(Clone, Copy)]
 pub enum LineFault {
     Bad(Reason),
     NoMemory,

@@ -6,9 +6,10 @@ ghost use Rattle.script_lines.specs.declared.plan.Kind.TheVariants.{Naming, Raw}
 ghost use Rattle.script_lines.specs.Text.{texts, first_line, behind};
 ghost use Rattle.script_lines.specs.Line.{kind_of, counted_kind_of, service_kind_of, number_up_to, most_behind, head, plain_task, counted_task, service_task, task_of, template_of, wire_of, ns, task, template, body, wire, operation, body_of_last, operation_of_last, after_verb, after_words, after_line};
 ghost use Rattle.script_lines.specs.Draft.{IsStep, IsWhole, Follows, with_new, plan_of, taker, present};
-ghost use Rattle.script_lines.specs.LastLine.{last_op, SaysLastOp, TakesLastOp, KeepsLastOp, IsFirstLine, Keeps, last_draft, op_of_last};
+ghost use Rattle.script_lines.specs.LastLine.{is_op, last_op, SaysLastOp, TakesLastOp, KeepsLastOp, IsFirstLine, Keeps, last_draft, op_of_last};
 ghost use Rattle.script_lines.specs.Ranges.{IsOpOf};
 ghost use Rattle.script_lines.specs.declared.word.OpVerb.TheVariants.{Call};
+ghost use Rattle.script_lines.specs.declared.word.Verb.TheVariants.{Ns};
 ghost use Rattle.script_lines.specs.ScriptParts.{parts_of, AreWhole};
 ghost use Rattle.script_lines.specs.Sound.{HeadFits};
 
@@ -201,16 +202,18 @@ fn wire_of(words: &[&[u8]]) -> Result<(Name, u64, Name), Reason>
 #[tactic(auto, unfolding(crate::specs::Line::ns))]
 fn add_service(drafts: &mut Drafts, alloc: Global, words: &[&[u8]]) -> Result<(), LineFault>
     requires { AreWhole drafts.old }
-    ensures value { Follows result (plan_of drafts.new.tasks)
-        (ns (parts_of drafts.old) (texts words.now)) }
-    ensures templates { drafts.new.templates ≡ drafts.old.templates }
+    ensures value { Follows result (parts_of drafts.new)
+        (after_verb (parts_of drafts.old) (Some Ns) (texts words.now)) }
     ensures whole { OnOk result (AreWhole drafts.new) }
 {
     if !drafts.are_empty() {
         return Err(LineFault::Bad(Reason::OutOfPlace));
     }
     match words {
-        [] => drafts.tasks.add_service(alloc),
+        [] => {
+            drafts.on_template = false;
+            drafts.tasks.add_service(alloc)
+        }
         _ => Err(LineFault::Bad(Reason::WrongCount)),
     }
 }
@@ -384,51 +387,44 @@ fn add_operation_to_last(
     }
 }
 
-/// Adds what a first word and the words behind it say, and tells whether that is an operation.
+/// Whether a first word is that of an operation.
+fn is_op(verb: Verb) -> bool
+    ensures { result ≡ is_op verb }
+{
+    match verb {
+        Verb::Op(_) => true,
+        Verb::Ns | Verb::Task | Verb::Template | Verb::Fibril | Verb::Connection | Verb::Wire =>
+            false,
+    }
+}
+
+/// Adds what a first word and the words behind it say.
 fn add_by_verb(
     drafts: &mut Drafts,
     alloc: Global,
     verb: Verb,
     words: &[&[u8]],
-) -> Result<bool, LineFault>
+) -> Result<(), LineFault>
     requires { AreWhole drafts.old }
     ensures value { Follows result (parts_of drafts.new)
         (after_verb (parts_of drafts.old) (Some verb) (texts words.now)) }
-    ensures whole { IfOk result (λ is_op. AreWhole drafts.new × (is_op ≡ true
+    ensures whole { OnOk result (AreWhole drafts.new × (is_op verb ≡ true
         → SaysLastOp (last_draft drafts.new) (λ w. after_verb w (Some verb) (texts words.now)))) }
 {
     match verb {
-        Verb::Ns => {
-            add_service(drafts, alloc, words)?;
-            drafts.on_template = false;
-            Ok(false)
-        }
+        Verb::Ns => add_service(drafts, alloc, words),
         Verb::Task => {
-            add_task(&mut drafts.tasks, alloc, &drafts.templates.names, words)?;
             drafts.on_template = false;
-            Ok(false)
+            add_task(&mut drafts.tasks, alloc, &drafts.templates.names, words)
         }
         Verb::Template => {
-            add_template(&mut drafts.templates, alloc, &drafts.tasks.names, words)?;
             drafts.on_template = true;
-            Ok(false)
+            add_template(&mut drafts.templates, alloc, &drafts.tasks.names, words)
         }
-        Verb::Fibril => {
-            add_body_to_last(drafts, alloc, false, words)?;
-            Ok(false)
-        }
-        Verb::Connection => {
-            add_body_to_last(drafts, alloc, true, words)?;
-            Ok(false)
-        }
-        Verb::Wire => {
-            add_wire(&mut drafts.tasks, words)?;
-            Ok(false)
-        }
-        Verb::Op(verb) => {
-            add_operation_to_last(drafts, verb, words)?;
-            Ok(true)
-        }
+        Verb::Fibril => add_body_to_last(drafts, alloc, false, words),
+        Verb::Connection => add_body_to_last(drafts, alloc, true, words),
+        Verb::Wire => add_wire(&mut drafts.tasks, words),
+        Verb::Op(verb) => add_operation_to_last(drafts, verb, words),
     }
 }
 
@@ -445,7 +441,10 @@ fn add_words(drafts: &mut Drafts, alloc: Global, words: &[&[u8]]) -> Result<bool
     };
     match verb_of(*first) {
         None => Err(LineFault::Bad(Reason::UnknownOperation)),
-        Some(verb) => add_by_verb(drafts, alloc, verb, others),
+        Some(verb) => {
+            add_by_verb(drafts, alloc, verb, others)?;
+            Ok(is_op(verb))
+        }
     }
 }
 

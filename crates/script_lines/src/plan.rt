@@ -7,7 +7,7 @@ use std::alloc::Global;
 use std::marker::Model;
 
 /// What a task is.
-#[derive(Clone, Copy, PartialEq, Eq)]
+#[derive(Clone, Copy)]
 pub enum Kind {
     /// The naming service, the task `ns`.
     Naming,
@@ -33,7 +33,7 @@ pub struct TaskPlan {
 }
 
 /// A phone of a task that leads to a task from the start.
-#[derive(Clone, Copy, PartialEq, Eq)]
+#[derive(Clone, Copy)]
 pub struct Wire {
     pub from: TaskNo,
     pub phone: PhoneNo,

@@ -7,7 +7,7 @@ use arrayvec::ArrayVec;
 use ipc_ids::{ExchangeMode, Mode, Short, Value, code_named, in_base, look_up, method_named};
 
 /// An operation's first word.
-#[derive(Clone, Copy, PartialEq, Eq)]
+#[derive(Clone, Copy)]
 pub enum OpVerb {
     Call,
     Receive,
@@ -33,7 +33,7 @@ pub enum OpVerb {
 }
 
 /// The first word of a line.
-#[derive(Clone, Copy, PartialEq, Eq)]
+#[derive(Clone, Copy)]
 pub enum Verb {
     Ns,
     Task,
