@@ -14,3 +14,4 @@ pub mod Faultless
 pub mod NearPlaces
 mod LastLines
 mod FourBytes
+mod OperationKinds

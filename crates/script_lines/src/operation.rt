@@ -1,6 +1,6 @@
 //! A line that is an operation.
-ghost use Rattle.std.specs.Prelude.{◌≡◌, ◌≤◌, ◌<◌, [], ◌∷◌, length, IfOk, IfSome, All};
-ghost use Rattle.script_lines.specs.Ranges.{IsInRange, IsRawOp, IsAsyncOp, IsOpOf};
+ghost use Rattle.std.specs.Prelude.{◌≡◌, ◌≤◌, [], ◌∷◌, length, IfOk, IfSome, All};
+ghost use Rattle.script_lines.specs.Ranges.{IsInRange, IsOpOf};
 ghost use Rattle.script_lines.specs.Text.{texts};
 ghost use Rattle.script_lines.specs.Word.{number_below};
 ghost use Rattle.script_lines.specs.Operation.{arguments, two_and_arguments, call_op, answer_op, forward_op, receive_op, set_op, jump_op, hangup_op, area_op, unarea_op, poke_op, peek_op, two_and_place, jump_equal_op, jump_differ_op, slot_of, handle_of, session_of, call_slot_op, send_op, wait_op, next_op, yield_op, open_op, begin_op, end_op, close_op, raw_op_of, async_op_of, op_in};
@@ -69,8 +69,7 @@ pub fn two_and_arguments(words: &[&[u8]]) -> Result<(Value, Value, [Value; 5]), 
 #[inline(always)]
 #[tactic(auto, unfolding(crate::specs::Operation::call_op))]
 fn call_op(words: &[&[u8]]) -> Result<Op, Reason>
-    ensures value { result ≡ call_op (texts words.now) }
-    ensures raw { IfOk result IsRawOp }
+    ensures { result ≡ call_op (texts words.now) }
 {
     let (phone, method, args) = two_and_arguments(words)?;
     Ok(Op::Call {
@@ -82,9 +81,7 @@ fn call_op(words: &[&[u8]]) -> Result<Op, Reason>
 
 #[tactic(auto, unfolding(crate::specs::Operation::answer_op))]
 fn answer_op(words: &[&[u8]]) -> Result<Op, Reason>
-    ensures value { result ≡ answer_op (texts words.now) }
-    ensures raw { IfOk result IsRawOp }
-    ensures fibrils { IfOk result IsAsyncOp }
+    ensures { result ≡ answer_op (texts words.now) }
 {
     let (call, code, args) = two_and_arguments(words)?;
     Ok(Op::Answer { call, code, args })
@@ -92,8 +89,7 @@ fn answer_op(words: &[&[u8]]) -> Result<Op, Reason>
 
 #[tactic(auto, unfolding(crate::specs::Operation::receive_op))]
 fn receive_op(words: &[&[u8]]) -> Result<Op, Reason>
-    ensures value { result ≡ receive_op (texts words.now) }
-    ensures raw { IfOk result IsRawOp }
+    ensures { result ≡ receive_op (texts words.now) }
 {
     spelled!(words, [] => Op::Receive)
 }
@@ -101,9 +97,7 @@ fn receive_op(words: &[&[u8]]) -> Result<Op, Reason>
 /// A call, a phone and a mode.
 #[tactic(auto, unfolding(crate::specs::Operation::forward_op))]
 fn forward_alone(call: &[u8], phone: &[u8], mode: &[u8]) -> Result<Op, Reason>
-    ensures value { result ≡ forward_op (call.now ∷ phone.now ∷ mode.now ∷ []) }
-    ensures raw { IfOk result IsRawOp }
-    ensures fibrils { IfOk result IsAsyncOp }
+    ensures { result ≡ forward_op (call.now ∷ phone.now ∷ mode.now ∷ []) }
 {
     let call = needed!(value(call));
     let phone = needed!(value(phone));
@@ -121,10 +115,8 @@ fn forward_with(
     args: &[&[u8]],
 ) -> Result<Op, Reason>
     requires { length args.now ≤ 5 }
-    ensures value { result
+    ensures { result
         ≡ forward_op (call.now ∷ phone.now ∷ mode.now ∷ method.now ∷ texts args.now) }
-    ensures raw { IfOk result IsRawOp }
-    ensures fibrils { IfOk result IsAsyncOp }
 {
     let call = needed!(value(call));
     let phone = needed!(value(phone));
@@ -143,9 +135,7 @@ fn forward_with(
 /// Without a change, or with a method and up to five arguments.
 #[tactic(auto, unfolding(crate::specs::Operation::forward_op))]
 fn forward_op(words: &[&[u8]]) -> Result<Op, Reason>
-    ensures value { result ≡ forward_op (texts words.now) }
-    ensures raw { IfOk result IsRawOp }
-    ensures fibrils { IfOk result IsAsyncOp }
+    ensures { result ≡ forward_op (texts words.now) }
 {
     match words {
         [call, phone, mode] => forward_alone(*call, *phone, *mode),
@@ -158,70 +148,56 @@ fn forward_op(words: &[&[u8]]) -> Result<Op, Reason>
 
 #[tactic(auto, unfolding(crate::specs::Operation::hangup_op))]
 fn hangup_op(words: &[&[u8]]) -> Result<Op, Reason>
-    ensures value { result ≡ hangup_op (texts words.now) }
-    ensures raw { IfOk result IsRawOp }
+    ensures { result ≡ hangup_op (texts words.now) }
 {
     spelled!(words, [phone: value] => Op::Hangup(phone))
 }
 
 #[tactic(auto, unfolding(crate::specs::Operation::area_op))]
 fn area_op(words: &[&[u8]]) -> Result<Op, Reason>
-    ensures value { result ≡ area_op (texts words.now) }
-    ensures raw { IfOk result IsRawOp }
-    ensures fibrils { IfOk result IsAsyncOp }
+    ensures { result ≡ area_op (texts words.now) }
 {
     spelled!(words, [base: value, pages: value, rights: value] => Op::Area { base, pages, rights })
 }
 
 #[tactic(auto, unfolding(crate::specs::Operation::unarea_op))]
 fn unarea_op(words: &[&[u8]]) -> Result<Op, Reason>
-    ensures value { result ≡ unarea_op (texts words.now) }
-    ensures raw { IfOk result IsRawOp }
-    ensures fibrils { IfOk result IsAsyncOp }
+    ensures { result ≡ unarea_op (texts words.now) }
 {
     spelled!(words, [base: value] => Op::Unarea(base))
 }
 
 #[tactic(auto, unfolding(crate::specs::Operation::poke_op))]
 fn poke_op(words: &[&[u8]]) -> Result<Op, Reason>
-    ensures value { result ≡ poke_op (texts words.now) }
-    ensures raw { IfOk result IsRawOp }
-    ensures fibrils { IfOk result IsAsyncOp }
+    ensures { result ≡ poke_op (texts words.now) }
 {
     spelled!(words, [at: value, bytes: bytes_of] => Op::Poke { at, bytes })
 }
 
 #[tactic(auto, unfolding(crate::specs::Operation::peek_op))]
 fn peek_op(words: &[&[u8]]) -> Result<Op, Reason>
-    ensures value { result ≡ peek_op (texts words.now) }
-    ensures raw { IfOk result IsRawOp }
-    ensures fibrils { IfOk result IsAsyncOp }
+    ensures { result ≡ peek_op (texts words.now) }
 {
     spelled!(words, [at: value, count: value] => Op::Peek { at, count })
 }
 
 #[tactic(auto, unfolding(crate::specs::Operation::set_op))]
 fn set_op(words: &[&[u8]]) -> Result<Op, Reason>
-    ensures value { result ≡ set_op (texts words.now) }
-    ensures raw { IfOk result IsRawOp }
-    ensures fibrils { IfOk result IsAsyncOp }
+    ensures { result ≡ set_op (texts words.now) }
 {
     spelled!(words, [target: register, source: value] => Op::Set { register: target, value: source })
 }
 
 #[tactic(auto, unfolding(crate::specs::Operation::jump_op))]
 fn jump_op(words: &[&[u8]]) -> Result<Op, Reason>
-    ensures value { result ≡ jump_op (texts words.now) }
-    ensures raw { IfOk result IsRawOp }
-    ensures fibrils { IfOk result IsAsyncOp }
+    ensures { result ≡ jump_op (texts words.now) }
 {
     spelled!(words, [to: place_of] => Op::Jump(to))
 }
 
 /// The number of an operation.
 fn place_of(word: &[u8]) -> Option<u32>
-    ensures value { result ≡ number_below 65536 word.now }
-    ensures small { IfSome result (λ place. place < 65536) }
+    ensures { result ≡ number_below 65536 word.now }
 {
     number_below(65536, word)
 }
@@ -229,17 +205,14 @@ fn place_of(word: &[u8]) -> Option<u32>
 /// Two values, and a place.
 #[tactic(auto, unfolding(crate::specs::Operation::two_and_place))]
 fn two_and_place(words: &[&[u8]]) -> Result<(Value, Value, u32), Reason>
-    ensures value { result ≡ two_and_place (texts words.now) }
-    ensures ranges { IfOk result (λ x. IsInRange x.0 × IsInRange x.1 × (x.2 < 65536)) }
+    ensures { result ≡ two_and_place (texts words.now) }
 {
     spelled!(words, [left: value, right: value, to: place_of] => (left, right, to))
 }
 
 #[tactic(auto, unfolding(crate::specs::Operation::jump_equal_op))]
 fn jump_equal_op(words: &[&[u8]]) -> Result<Op, Reason>
-    ensures value { result ≡ jump_equal_op (texts words.now) }
-    ensures raw { IfOk result IsRawOp }
-    ensures fibrils { IfOk result IsAsyncOp }
+    ensures { result ≡ jump_equal_op (texts words.now) }
 {
     let (left, right, to) = two_and_place(words)?;
     Ok(Op::JumpEqual { left, right, to })
@@ -247,9 +220,7 @@ fn jump_equal_op(words: &[&[u8]]) -> Result<Op, Reason>
 
 #[tactic(auto, unfolding(crate::specs::Operation::jump_differ_op))]
 fn jump_differ_op(words: &[&[u8]]) -> Result<Op, Reason>
-    ensures value { result ≡ jump_differ_op (texts words.now) }
-    ensures raw { IfOk result IsRawOp }
-    ensures fibrils { IfOk result IsAsyncOp }
+    ensures { result ≡ jump_differ_op (texts words.now) }
 {
     let (left, right, to) = two_and_place(words)?;
     Ok(Op::JumpDiffer { left, right, to })
@@ -258,8 +229,7 @@ fn jump_differ_op(words: &[&[u8]]) -> Result<Op, Reason>
 /// A slot of a fibril.
 #[tactic(auto, unfolding(crate::specs::Operation::slot_of))]
 fn slot_of(word: &[u8]) -> Option<u32>
-    ensures value { result ≡ slot_of word.now }
-    ensures small { IfSome result (λ slot. slot < 8) }
+    ensures { result ≡ slot_of word.now }
 {
     number_below(SLOTS, word)
 }
@@ -267,16 +237,14 @@ fn slot_of(word: &[u8]) -> Option<u32>
 /// A handle of an exchange.
 #[tactic(auto, unfolding(crate::specs::Operation::handle_of))]
 fn handle_of(word: &[u8]) -> Option<u32>
-    ensures value { result ≡ handle_of word.now }
-    ensures small { IfSome result (λ handle. handle < 8) }
+    ensures { result ≡ handle_of word.now }
 {
     number_below(HANDLES, word)
 }
 
 #[tactic(auto, unfolding(crate::specs::Operation::session_of))]
 fn session_of(word: &[u8]) -> Option<u32>
-    ensures value { result ≡ session_of word.now }
-    ensures small { IfSome result (λ session. session < 16) }
+    ensures { result ≡ session_of word.now }
 {
     number_below(SESSIONS, word)
 }
@@ -284,8 +252,7 @@ fn session_of(word: &[u8]) -> Option<u32>
 /// A slot, two values, and up to five arguments.
 #[tactic(auto, unfolding(crate::specs::Operation::call_slot_op))]
 fn call_slot_op(words: &[&[u8]]) -> Result<Op, Reason>
-    ensures value { result ≡ call_slot_op (texts words.now) }
-    ensures fibrils { IfOk result IsAsyncOp }
+    ensures { result ≡ call_slot_op (texts words.now) }
 {
     spelled!(words, [slot: slot_of, phone: value, method: value; args] => Op::CallSlot { slot, phone, method, args })
 }
@@ -293,72 +260,63 @@ fn call_slot_op(words: &[&[u8]]) -> Result<Op, Reason>
 /// A slot, a handle, a value, and up to five arguments.
 #[tactic(auto, unfolding(crate::specs::Operation::send_op))]
 fn send_op(words: &[&[u8]]) -> Result<Op, Reason>
-    ensures value { result ≡ send_op (texts words.now) }
-    ensures fibrils { IfOk result IsAsyncOp }
+    ensures { result ≡ send_op (texts words.now) }
 {
     spelled!(words, [slot: slot_of, handle: handle_of, method: value; args] => Op::Send { slot, handle, method, args })
 }
 
 #[tactic(auto, unfolding(crate::specs::Operation::wait_op))]
 fn wait_op(words: &[&[u8]]) -> Result<Op, Reason>
-    ensures value { result ≡ wait_op (texts words.now) }
-    ensures fibrils { IfOk result IsAsyncOp }
+    ensures { result ≡ wait_op (texts words.now) }
 {
     spelled!(words, [slot: slot_of] => Op::Wait(slot))
 }
 
 #[tactic(auto, unfolding(crate::specs::Operation::next_op))]
 fn next_op(words: &[&[u8]]) -> Result<Op, Reason>
-    ensures value { result ≡ next_op (texts words.now) }
-    ensures fibrils { IfOk result IsAsyncOp }
+    ensures { result ≡ next_op (texts words.now) }
 {
     spelled!(words, [] => Op::Next)
 }
 
 #[tactic(auto, unfolding(crate::specs::Operation::yield_op))]
 fn yield_op(words: &[&[u8]]) -> Result<Op, Reason>
-    ensures value { result ≡ yield_op (texts words.now) }
-    ensures fibrils { IfOk result IsAsyncOp }
+    ensures { result ≡ yield_op (texts words.now) }
 {
     spelled!(words, [] => Op::Yield)
 }
 
 #[tactic(auto, unfolding(crate::specs::Operation::open_op))]
 fn open_op(words: &[&[u8]]) -> Result<Op, Reason>
-    ensures value { result ≡ open_op (texts words.now) }
-    ensures fibrils { IfOk result IsAsyncOp }
+    ensures { result ≡ open_op (texts words.now) }
 {
     spelled!(words, [session: session_of, phone: value, mode: exchange_mode_of] => Op::OpenSession { session, phone, mode })
 }
 
 #[tactic(auto, unfolding(crate::specs::Operation::begin_op))]
 fn begin_op(words: &[&[u8]]) -> Result<Op, Reason>
-    ensures value { result ≡ begin_op (texts words.now) }
-    ensures fibrils { IfOk result IsAsyncOp }
+    ensures { result ≡ begin_op (texts words.now) }
 {
     spelled!(words, [handle: handle_of, session: session_of] => Op::Begin { handle, session })
 }
 
 #[tactic(auto, unfolding(crate::specs::Operation::end_op))]
 fn end_op(words: &[&[u8]]) -> Result<Op, Reason>
-    ensures value { result ≡ end_op (texts words.now) }
-    ensures fibrils { IfOk result IsAsyncOp }
+    ensures { result ≡ end_op (texts words.now) }
 {
     spelled!(words, [handle: handle_of] => Op::End(handle))
 }
 
 #[tactic(auto, unfolding(crate::specs::Operation::close_op))]
 fn close_op(words: &[&[u8]]) -> Result<Op, Reason>
-    ensures value { result ≡ close_op (texts words.now) }
-    ensures fibrils { IfOk result IsAsyncOp }
+    ensures { result ≡ close_op (texts words.now) }
 {
     spelled!(words, [session: session_of] => Op::Close(session))
 }
 
 /// The operation of a raw task that a first word and the words behind it spell.
 fn raw_op_of(verb: OpVerb, words: &[&[u8]]) -> Result<Op, Reason>
-    ensures value { result ≡ raw_op_of verb (texts words.now) }
-    ensures raw { IfOk result IsRawOp }
+    ensures { result ≡ raw_op_of verb (texts words.now) }
 {
     match verb {
         OpVerb::Call => call_op(words),
@@ -387,8 +345,7 @@ fn raw_op_of(verb: OpVerb, words: &[&[u8]]) -> Result<Op, Reason>
 
 /// The operation of an async task that a first word and the words behind it spell.
 fn async_op_of(verb: OpVerb, words: &[&[u8]]) -> Result<Op, Reason>
-    ensures value { result ≡ async_op_of verb (texts words.now) }
-    ensures fibrils { IfOk result IsAsyncOp }
+    ensures { result ≡ async_op_of verb (texts words.now) }
 {
     match verb {
         OpVerb::Call => call_slot_op(words),
