@@ -14,4 +14,7 @@ pub mod Faultless
 pub mod NearPlaces
 mod LastLines
 mod FourBytes
+mod HexBytes
+mod Steps
+mod TaskHeads
 mod OperationKinds

@@ -6,6 +6,7 @@ use Rattle.std.specs.List.{starts_with}
 use Rattle.std.specs.Option.{option_and_then, option_or}
 use Rattle.std.proofs.lemmas.List.Elements.{All-append, All-cons, All-nil, All-replicate}
 use Rattle.std.proofs.lemmas.Bool.{ltb-true}
+use Rattle.script_lines.proofs.Steps.{Any, any, some_then, ok_then}
 use Rattle.ipc_ids.specs.Digits.{in_base}
 use Rattle.ipc_ids.specs.declared.op.Value.{Value}
 use Rattle.ipc_ids.specs.declared.op.Value.TheVariants.{Number, Register}
@@ -21,21 +22,6 @@ use Rattle.script_lines.specs.Word.{number, register_number, register, named, va
 use Rattle.script_lines.specs.Operation.{◌>>=◌, needed, values, arguments, two_and_arguments, call_op, answer_op, receive_op, forward_op, hangup_op, area_op, unarea_op, poke_op, peek_op, set_op, jump_op, two_and_place, jump_equal_op, jump_differ_op, slot_of, handle_of, session_of, call_slot_op, send_op, wait_op, next_op, yield_op, open_op, begin_op, end_op, close_op, raw_op_of, async_op_of}
 
 -- ---- one step of reading
-
-abbrev Any : {A : Type 0} → A → Type 0
-Any x = x ≡ x
-
-any : {A : Type 0} (o : Option A) → IfSome o Any
-any (Some x) = refl
-any None = tt
-
-some_then : {A B : Type 0} (P : A → Type 0) (Q : B → Type 0) (o : Option A) (f : A → Result B Reason) → IfSome o P → ((x : A) → P x → IfOk (f x) Q) → IfOk (needed o >>= f) Q
-some_then P Q (Some x) f is goes = goes x is
-some_then P Q None f is goes = tt
-
-ok_then : {A B : Type 0} (P : A → Type 0) (Q : B → Type 0) (r : Result A Reason) (f : A → Result B Reason) → IfOk r P → ((x : A) → P x → IfOk (f x) Q) → IfOk (r >>= f) Q
-ok_then P Q (Ok x) f is goes = goes x is
-ok_then P Q (Err reason) f is goes = tt
 
 few : {A : Type 0} (Q : A → Type 0) (b : Bool) (r : Result A Reason) → IfOk r Q → IfOk (cond b r (Err WrongCount)) Q
 few Q true r is = is

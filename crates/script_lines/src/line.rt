@@ -41,22 +41,19 @@ const COUNTED_KINDS: [(&[u8], Kind); 3] = [
 const SERVICE_KINDS: [(&[u8], Kind); 1] = [(b"block", Kind::Block)];
 
 fn kind_of(word: &[u8]) -> Option<Kind>
-    ensures value { result ≡ kind_of word.now }
-    ensures not_naming { IfSome result (λ kind. kind ≢ Naming) }
+    ensures { result ≡ kind_of word.now }
 {
     look_up(&KINDS, word)
 }
 
 fn counted_kind_of(word: &[u8]) -> Option<Kind>
-    ensures value { result ≡ counted_kind_of word.now }
-    ensures not_naming { IfSome result (λ kind. kind ≢ Naming) }
+    ensures { result ≡ counted_kind_of word.now }
 {
     look_up(&COUNTED_KINDS, word)
 }
 
 fn service_kind_of(word: &[u8]) -> Option<Kind>
-    ensures value { result ≡ service_kind_of word.now }
-    ensures not_naming { IfSome result (λ kind. kind ≢ Naming) }
+    ensures { result ≡ service_kind_of word.now }
 {
     look_up(&SERVICE_KINDS, word)
 }
@@ -74,9 +71,7 @@ fn most_behind(kind: Kind) -> u32
 /// A number from 1 up to a limit.
 #[tactic(auto, unfolding(crate::specs::Line::number_up_to))]
 fn number_up_to(most: u32, word: &[u8]) -> Option<u32>
-    ensures value { result ≡ number_up_to most word.now }
-    ensures some { IfSome result (λ n. 1 ≤ n) }
-    ensures few { IfSome result (λ n. n ≤ most) }
+    ensures { result ≡ number_up_to most word.now }
 {
     let number = number(word)?;
     if 1 <= number && number <= u64::from(most) {
@@ -88,12 +83,7 @@ fn number_up_to(most: u32, word: &[u8]) -> Option<u32>
 
 /// What a line says that has this number behind the kind.
 fn head(name: Name, kind: Kind, count: u32, service: Option<u64>) -> TaskHead
-    requires not_naming { kind ≢ Naming }
-    requires some { 1 ≤ count }
-    requires few { count ≤ most_behind kind }
-    ensures value { result ≡ head name kind count service }
-    ensures kind { result.kind ≡ kind }
-    ensures fits { HeadFits result.kind result }
+    ensures { result ≡ head name kind count service }
 {
     match kind {
         Kind::Block => TaskHead {
@@ -116,9 +106,7 @@ fn head(name: Name, kind: Kind, count: u32, service: Option<u64>) -> TaskHead
 /// `NAME raw` or `NAME async`
 #[tactic(auto, unfolding(crate::specs::Line::plain_task))]
 fn plain_task(name: &[u8], kind: &[u8]) -> Result<TaskHead, Reason>
-    ensures value { result ≡ plain_task name.now kind.now }
-    ensures not_naming { IfOk result (λ head. head.kind ≢ Naming) }
-    ensures fits { IfOk result (λ head. HeadFits head.kind head) }
+    ensures { result ≡ plain_task name.now kind.now }
 {
     let name = needed!(Name::from_slice(name));
     let kind = needed!(kind_of(kind));
@@ -128,10 +116,7 @@ fn plain_task(name: &[u8], kind: &[u8]) -> Result<TaskHead, Reason>
 /// A name, a kind that was looked up, and a number.
 #[tactic(auto, unfolding(crate::specs::Line::counted_task))]
 fn counted_task(name: &[u8], found: Option<Kind>, count: &[u8]) -> Result<TaskHead, Reason>
-    requires not_naming { IfSome found (λ kind. kind ≢ Naming) }
-    ensures value { result ≡ counted_task name.now found count.now }
-    ensures not_naming { IfOk result (λ head. head.kind ≢ Naming) }
-    ensures fits { IfOk result (λ head. HeadFits head.kind head) }
+    ensures { result ≡ counted_task name.now found count.now }
 {
     let name = needed!(Name::from_slice(name));
     let kind = needed!(found);
@@ -142,9 +127,7 @@ fn counted_task(name: &[u8], found: Option<Kind>, count: &[u8]) -> Result<TaskHe
 /// `NAME block N N`
 #[tactic(auto, unfolding(crate::specs::Line::service_task))]
 fn service_task(name: &[u8], kind: &[u8], count: &[u8], service: &[u8]) -> Result<TaskHead, Reason>
-    ensures value { result ≡ service_task name.now kind.now count.now service.now }
-    ensures not_naming { IfOk result (λ head. head.kind ≢ Naming) }
-    ensures fits { IfOk result (λ head. HeadFits head.kind head) }
+    ensures { result ≡ service_task name.now kind.now count.now service.now }
 {
     let name = needed!(Name::from_slice(name));
     let kind = needed!(service_kind_of(kind));
@@ -156,9 +139,7 @@ fn service_task(name: &[u8], kind: &[u8], count: &[u8], service: &[u8]) -> Resul
 /// The words behind `task`: a name, a kind, and maybe numbers.
 #[tactic(auto, unfolding(crate::specs::Line::task_of))]
 fn task_of(words: &[&[u8]]) -> Result<TaskHead, Reason>
-    ensures value { result ≡ task_of (texts words.now) }
-    ensures not_naming { IfOk result (λ head. head.kind ≢ Naming) }
-    ensures fits { IfOk result (λ head. HeadFits head.kind head) }
+    ensures { result ≡ task_of (texts words.now) }
 {
     match words {
         [name, kind] => plain_task(*name, *kind),
@@ -171,9 +152,7 @@ fn task_of(words: &[&[u8]]) -> Result<TaskHead, Reason>
 /// The words behind `template`: a name, `raw` or `async`, and maybe a number.
 #[tactic(auto, unfolding(crate::specs::Line::template_of))]
 fn template_of(words: &[&[u8]]) -> Result<TaskHead, Reason>
-    ensures value { result ≡ template_of (texts words.now) }
-    ensures not_naming { IfOk result (λ head. head.kind ≢ Naming) }
-    ensures fits { IfOk result (λ head. HeadFits head.kind head) }
+    ensures { result ≡ template_of (texts words.now) }
 {
     match words {
         [name, kind] => plain_task(*name, *kind),

@@ -332,14 +332,14 @@ fn raw_op_of(verb: OpVerb, words: &[&[u8]]) -> Result<Op, Reason>
         OpVerb::Jump => jump_op(words),
         OpVerb::JumpEqual => jump_equal_op(words),
         OpVerb::JumpDiffer => jump_differ_op(words),
-        OpVerb::Wait => Err(Reason::OutOfPlace),
-        OpVerb::Next => Err(Reason::OutOfPlace),
-        OpVerb::Yield => Err(Reason::OutOfPlace),
-        OpVerb::Send => Err(Reason::OutOfPlace),
-        OpVerb::Open => Err(Reason::OutOfPlace),
-        OpVerb::Begin => Err(Reason::OutOfPlace),
-        OpVerb::End => Err(Reason::OutOfPlace),
-        OpVerb::Close => Err(Reason::OutOfPlace),
+        OpVerb::Wait
+        | OpVerb::Next
+        | OpVerb::Yield
+        | OpVerb::Send
+        | OpVerb::Open
+        | OpVerb::Begin
+        | OpVerb::End
+        | OpVerb::Close => Err(Reason::OutOfPlace),
     }
 }
 
@@ -349,10 +349,9 @@ fn async_op_of(verb: OpVerb, words: &[&[u8]]) -> Result<Op, Reason>
 {
     match verb {
         OpVerb::Call => call_slot_op(words),
-        OpVerb::Receive => Err(Reason::OutOfPlace),
         OpVerb::Answer => answer_op(words),
         OpVerb::Forward => forward_op(words),
-        OpVerb::Hangup => Err(Reason::OutOfPlace),
+        OpVerb::Receive | OpVerb::Hangup => Err(Reason::OutOfPlace),
         OpVerb::Area => area_op(words),
         OpVerb::Unarea => unarea_op(words),
         OpVerb::Poke => poke_op(words),

@@ -104,7 +104,6 @@ pub fn verb_of(word: &[u8]) -> Option<Verb>
 }
 
 /// The number that a word stands for: that of a method, of a code, or of a right or flag.
-#[tactic(auto, using(crate::proofs::NumberNames::named_by_tables))]
 fn named(word: &[u8]) -> Option<u64>
     ensures { result ≡ named word.now }
 {
