@@ -19,7 +19,7 @@ use Rattle.script_lines.specs.declared.word.OpVerb.{OpVerb}
 use Rattle.script_lines.specs.declared.word.OpVerb.TheVariants as verbs
 use Rattle.script_lines.specs.Ranges.{IsInRange, IsRawOp, IsAsyncOp, IsOpOf}
 use Rattle.script_lines.specs.Word.{number, register_number, register, named, value, number_below, bytes_of, mode_of, exchange_mode_of}
-use Rattle.script_lines.specs.Operation.{◌>>=◌, needed, values, arguments, two_and_arguments, call_op, answer_op, receive_op, forward_op, hangup_op, area_op, unarea_op, poke_op, peek_op, set_op, jump_op, two_and_place, jump_equal_op, jump_differ_op, slot_of, handle_of, session_of, call_slot_op, send_op, wait_op, next_op, yield_op, open_op, begin_op, end_op, close_op, raw_op_of, async_op_of}
+use Rattle.script_lines.specs.Operation.{values, arguments, two_and_arguments, call_op, answer_op, receive_op, forward_op, hangup_op, area_op, unarea_op, poke_op, peek_op, set_op, jump_op, two_and_place, jump_equal_op, jump_differ_op, slot_of, handle_of, session_of, call_slot_op, send_op, wait_op, next_op, yield_op, open_op, begin_op, end_op, close_op, raw_op_of, async_op_of}
 
 -- ---- one step of reading
 

@@ -233,15 +233,20 @@ impl LastTask {
         ensures { IfOk result (λ task. task ≡ last_plan self) }
     {
         let mut last = self;
-        last.end_body()?;
-        Ok(TaskPlan {
-            name: last.name,
-            kind: last.kind,
-            limit: last.limit,
-            bodies: last.bodies,
-            blocks: last.blocks,
-            service: last.service,
-        })
+        match last.end_body() {
+            Ok(()) => Ok(TaskPlan {
+                name: last.name,
+                kind: last.kind,
+                limit: last.limit,
+                bodies: last.bodies,
+                blocks: last.blocks,
+                service: last.service,
+            }),
+            Err(NoMemory) => {
+                drop(last);
+                Err(NoMemory)
+            }
+        }
     }
 }
 

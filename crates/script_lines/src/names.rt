@@ -117,6 +117,19 @@ impl Names {
     }
 }
 
+/// Adds the names of tasks where there are none yet.
+fn add_names(names: &mut Names, alloc: Global, tasks: &[TaskPlan]) -> Result<(), NoMemory>
+    requires none { names.old ≡ [] }
+    requires differ { NamesDiffer tasks.now }
+    requires few { length tasks.now ≤ 64 }
+    ensures { OnOk result (names.new ≡ task_names tasks.now) }
+{
+    for task in tasks {
+        names.push(alloc, task.name.as_slice())?;
+    }
+    Ok(())
+}
+
 /// The names of tasks.
 ///
 /// # Errors
@@ -128,8 +141,11 @@ pub fn names_of(alloc: Global, tasks: &[TaskPlan]) -> Result<Names, NoMemory>
     ensures { IfOk result (λ names. names ≡ task_names tasks.now) }
 {
     let mut names = Names::new(alloc);
-    for task in tasks {
-        names.push(alloc, task.name.as_slice())?;
+    match add_names(&mut names, alloc, tasks) {
+        Ok(()) => Ok(names),
+        Err(NoMemory) => {
+            drop(names);
+            Err(NoMemory)
+        }
     }
-    Ok(names)
 }

@@ -3,7 +3,7 @@ use Rattle.std.specs.Prelude.{is_some}
 use Rattle.script_lines.specs.declared.plan.TaskPlan.{TaskPlan}
 use Rattle.script_lines.specs.Names.{place_of, task_names}
 use Rattle.script_lines.proofs.Soundness.{name_before_is_new}
-use Rattle.script_lines.proofs.names.names_of.Goals as goal
+use Rattle.script_lines.proofs.names.add_names.Goals as goal
 
 pub push-requires-clause-new : goal.push-requires-clause-new
 push-requires-clause-new c =
