@@ -59,7 +59,10 @@ fn read(alloc: Global, bytes: &[u8]) -> Result<Script, ScriptFault>
     let mut drafts = Drafts::new(alloc);
     match add_lines(&mut drafts, alloc, bytes) {
         Ok(()) => finish(drafts),
-        Err(fault) => Err(fault),
+        Err(fault) => {
+            drop(drafts);
+            Err(fault)
+        }
     }
 }
 

@@ -38,7 +38,7 @@ macro_rules! needed {
 const MOST_EVENTS: u64 = 65_536;
 
 /// The first word of a line.
-#[derive(Clone, Copy, PartialEq, Eq)]
+#[derive(Clone, Copy)]
 pub enum EventVerb {
     Step,
     Kill,
@@ -421,12 +421,29 @@ fn read(
     }
 }
 
+/// The events, where the names of the script's tasks are known.
+fn read_from(
+    alloc: Global,
+    bytes: &[u8],
+    script: &Script,
+    names: &mut Names,
+) -> Result<RepeatedEvents, ScheduleFault>
+    requires { names.old ≡ task_names script.now.tasks }
+    ensures { Agrees fault_in_schedule result (schedule_of script.now bytes.now) }
+{
+    let templates = names_of(alloc, script.templates.as_slice())?;
+    let events = read(alloc, bytes, names, &templates);
+    drop(templates);
+    events
+}
+
 fn read_for(alloc: Global, bytes: &[u8], script: &Script) -> Result<RepeatedEvents, ScheduleFault>
     ensures { Agrees fault_in_schedule result (schedule_of script.now bytes.now) }
 {
     let mut names = names_of(alloc, script.tasks.as_slice())?;
-    let templates = names_of(alloc, script.templates.as_slice())?;
-    read(alloc, bytes, &mut names, &templates)
+    let events = read_from(alloc, bytes, script, &mut names);
+    drop(names);
+    events
 }
 
 /// The events that the bytes of a file spell, for the tasks and templates of a script: at most

@@ -1,5 +1,5 @@
 use Rattle.std.proofs.Common.{◌≡◌, take}
-use Rattle.script_reader.proofs.copying.copies_of_ops.Given as goal
+use Rattle.script_reader.proofs.copying.copy_ops.Given as goal
 
 abbrev pub invariant-loop-op : goal.invariant-loop-op
 invariant-loop-op l = l.copies ≡ take l.op-index l.ops
