@@ -1,17 +1,14 @@
 -- A line that steps a task whose name was looked up.
 use Rattle.std.proofs.Common.{◌≡◌, ℕ, ◌++◌, List, Some, Result, Ok, Err, ap, ◌∙◌}
 use Rattle.std.specs.Prelude.{IfOk, codes}
-use Rattle.ipc_ids.specs.declared.message.Event.{Event}
 use Rattle.ipc_ids.specs.declared.message.Event.TheVariants as events
 use Rattle.ipc_ids.specs.declared.numbers.TaskNo.{TaskNo}
-use Rattle.script_lines.specs.declared.fault.Reason.{Reason}
 use Rattle.script_lines.specs.Operation.{◌>>=◌}
 use Rattle.script_lines.specs.Word.{name_of}
 use Rattle.script_reader.specs.declared.recent.TaskSteps.{TaskSteps}
-use Rattle.script_lines.specs.Text.{first_line}
-use Rattle.script_reader.specs.EventLine.{EventsAndNames, with_repeated, after_event_line}
+use Rattle.script_reader.specs.EventLine.{with_repeated}
 use Rattle.script_reader.specs.Recent.{Has, BeginsWithName, SaysStepsOf}
-use Rattle.script_reader.specs.Schedule.{step_with, with_events}
+use Rattle.script_reader.specs.Schedule.{step_with}
 use Rattle.script_reader.specs.StepLine.{EndsStep, SaysSteps}
 use Rattle.script_reader.proofs.StepLines.{ends_says}
 
