@@ -10,7 +10,7 @@ use std::alloc::{AllocError, AllocFailed};
 use std::fmt;
 
 /// Why a file is not read, as the text after the number of its line says it.
-#[derive(Clone, Copy)]
+#[derive(Clone, Copy, Debug, PartialEq, Eq)]
 pub enum Reason {
     /// The file has more than 1,048,576 bytes. Its line is 0.
     TooLong,
