@@ -79,7 +79,6 @@ impl FibrilSlots {
     }
 
     /// A slot is closed.
-    #[tactic(auto, using(crate::proofs::Filled::filled_past))]
     pub(crate) fn close(&mut self, slot: u32)
         ensures { self.new ≡ with_held self.old slot Slot.Closed }
     {
