@@ -5,7 +5,7 @@ ghost use Rattle.std.specs.List.Sorted.{IsNonDecreasingBy};
 ghost use Rattle.std.specs.Option.{IfNone, option_copied};
 ghost use Rattle.fibril_core.specs.Fibrils.{no_fibrils, first_with, next_number, why_in, why_of};
 ghost use Rattle.fibril_core.specs.Fibrils.{IsWithinBounds, spawned, with_status, put_fibril};
-ghost use Rattle.fibril_core.specs.Fibrils.{fibril_at, number_of};
+ghost use Rattle.fibril_core.specs.Fibrils.{fibril_at, number_of, sooner};
 ghost use Rattle.fibril_core.specs.LiveFibrils.{AreLive, goes_on, GoesOn, is_live, count, ended};
 ghost use Rattle.fibril_core.specs.LiveFibrils.{first_from};
 
@@ -241,9 +241,19 @@ fn first_among<'a>(
 {
     let mut first = best;
     for fibril in fibrils {
-        if fibril.status == status && first.is_none_or(|best| fibril.stamp < best.stamp) {
-            first = Some(fibril);
+        if fibril.status == status {
+            first = Some(sooner(first, fibril));
         }
     }
     first
+}
+
+/// Of a fibril, if there is one, and this the one with the smaller stamp.
+fn sooner<'a>(best: Option<&'a Fibril>, fibril: &'a Fibril) -> &'a Fibril
+    ensures { Some result.now ≡ sooner (option_copied best.entry) fibril.now }
+{
+    match best {
+        Some(best) if best.stamp <= fibril.stamp => best,
+        _ => fibril,
+    }
 }
