@@ -83,9 +83,13 @@ impl Machine {
             (Does self.new out.old out.new (deliver self.old.state awaited call reply.now)) }
         ensures unchanged { OnErr result (Stays self.old self.new out.old out.new) }
     {
-        self.answer_slot(awaited.fibril, slot, call, reply)?;
-        self.end_wait(awaited, call, reply, out);
-        Ok(())
+        match self.answer_slot(awaited.fibril, slot, call, reply) {
+            Ok(()) => {
+                self.end_wait(awaited, call, reply, out);
+                Ok(())
+            }
+            Err(e) => Err(e),
+        }
     }
 
     /// The answer for a slot comes: a fibril that is blocked on it takes it at once, else it stays
@@ -129,16 +133,14 @@ impl Machine {
     {
         let f = awaited.fibril;
         self.end_wait(awaited, call, reply, out);
-        match self.context(f) {
-            Some(t) => match self.present_op(t) {
-                Some(Op::Begin { handle, session }) => {
-                    let handle = *handle;
-                    let session = *session;
-                    self.answer_begin(f, handle, session, reply, out);
-                }
-                _ => {}
-            },
-            None => {}
+        let Some(t) = self.context(f) else {
+            return;
+        };
+        let Some(op) = self.present_op(t) else {
+            return;
+        };
+        if let Op::Begin { handle, session } = *op {
+            self.answer_begin(f, handle, session, reply, out);
         }
     }
 

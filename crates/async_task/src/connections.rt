@@ -60,11 +60,13 @@ impl Machine {
         ensures unchanged { OnErr result (Stays self.old self.new out.old out.new) }
     {
         match body_of_connections(self.bodies.as_slice()) {
-            Some(body) => {
-                self.reserve_connection()?;
-                self.start_connection(call, msg, label, body, called_label(msg), out);
-                Ok(())
-            }
+            Some(body) => match self.reserve_connection() {
+                Ok(()) => {
+                    self.start_connection(call, msg, label, body, called_label(msg), out);
+                    Ok(())
+                }
+                Err(e) => Err(e),
+            },
             None => self.route_call(call, msg, label),
         }
     }
@@ -251,9 +253,13 @@ impl Machine {
     {
         let more = self.conns.owed(f);
         self.reserve_work(more as usize)?;
-        let owed = self.conns.finish(f)?;
-        self.end_owing(f, &owed, out);
-        Ok(())
+        match self.conns.finish(f) {
+            Ok(owed) => {
+                self.end_owing(f, &owed, out);
+                Ok(())
+            }
+            Err(e) => Err(e),
+        }
     }
 
     fn end_owing(&mut self, f: FibrilNo, owed: &Owed, out: &mut Trace)

@@ -128,12 +128,8 @@ impl Machine {
         ensures { Does self.new out.old out.new
             (refuse_begin self.old.state f (context_or_new self.old.state f) code) }
     {
-        self.refused_begin_at(f, code);
-        out.push(Entry::RefusedOp {
-            task: self.me,
-            fibril: f,
-            code,
-        });
+        self.short_at(f, false);
+        self.refuse_op(f, code, out);
     }
 
     fn connect_outcome(&mut self, f: FibrilNo, got: &Outcome, out: &mut Trace)

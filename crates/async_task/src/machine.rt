@@ -147,19 +147,6 @@ impl Machine {
         }
     }
 
-    /// A begin of the fibril was refused.
-    pub(crate) fn refused_begin_at(&mut self, f: FibrilNo, code: Code)
-        ensures state { self.new.state
-            ≡ with_context self.old.state f
-            (after_refused (with_short (context_or_new self.old.state f) false) code) }
-        ensures room { self.new.room ≡ self.old.room }
-    {
-        if let Some(t) = self.contexts.get_mut(place_of(f)) {
-            t.set_short(false);
-            t.refused(code);
-        }
-    }
-
     /// The request of the fibril's operation was done or refused.
     pub(crate) fn outcome_at(&mut self, f: FibrilNo, got: &Outcome)
         ensures state { self.new.state

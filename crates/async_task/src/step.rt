@@ -56,10 +56,10 @@ impl Machine {
             return self.end_fibril(f, out);
         };
         match *op {
-            Op::CallSlot { slot, .. } => self.call_slot(f, slot, got, out)?,
+            Op::CallSlot { slot, .. } => return self.call_slot(f, slot, got, out),
             Op::Send { slot, handle, .. } => {
                 let phone = self.phone_by(f, t.handle(handle));
-                self.send_over(f, slot, phone, got, out)?;
+                return self.send_over(f, slot, phone, got, out);
             }
             Op::Wait(slot) => self.wait_slot(f, slot, out),
             Op::Next => self.next_call(f, out),

@@ -1,4 +1,4 @@
-use Rattle.std.proofs.Common.{◌≡◌, List, Option, length, sym, ap, ◌∙◌}
+use Rattle.std.proofs.Common.{List, Option, length, sym, ap, ◌∙◌}
 use Rattle.ipc_ids.specs.declared.numbers.ExchangeNo.{ExchangeNo}
 use Rattle.async_task.proofs.Named.{length_names}
 use Rattle.async_task.proofs.handles.Handles.count.Goals as goal

@@ -1,4 +1,4 @@
-use Rattle.std.proofs.Common.{◌≡◌, ◌<◌, ◌≤◌, length, sym, arith}
+use Rattle.std.proofs.Common.{sym, arith}
 use Rattle.async_task.specs.declared.context.Slot.TheVariants as slot
 use Rattle.async_task.proofs.Filled.{filled_set, filled_past}
 use Rattle.async_task.proofs.slots.FibrilSlots.close.Goals as goal
