@@ -103,7 +103,7 @@ pub struct Conn {
 }
 
 /// Where a received call went.
-#[derive(Clone, Copy, PartialEq, Eq)]
+#[derive(Clone, Copy)]
 pub enum Routed {
     /// To the end of the queue of this fibril's connection.
     Queued(FibrilNo),
@@ -114,7 +114,7 @@ pub enum Routed {
 }
 
 /// What a fibril finds that asks its connection for the next call.
-#[derive(Clone, Copy, PartialEq, Eq)]
+#[derive(Clone, Copy)]
 pub enum Taken {
     Call(CallNo, Msg, Label),
     /// The connection is closed and all its calls are taken.
