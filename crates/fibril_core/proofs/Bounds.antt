@@ -4,9 +4,9 @@ use Rattle.std.specs.Prelude.{if◌then◌else◌, nat_lt, slice_set}
 use Rattle.ipc_ids.specs.declared.message.Why.{Why}
 use Rattle.ipc_ids.specs.declared.numbers.FibrilNo.{FibrilNo}
 use Rattle.fibril_core.specs.declared.fibrils.Status.{Status}
-use Rattle.fibril_core.specs.declared.fibrils.Status.TheVariants.{Ready, Ended}
+use Rattle.fibril_core.specs.declared.fibrils.Status.TheVariants.{Ready}
 use Rattle.fibril_core.specs.declared.fibrils.Fibril.{Fibril}
-use Rattle.fibril_core.specs.Fibrils.{FibrilOrder, put_fibril, with_status, found_with, first_blocked, first_with, found_over, end_current, wake_times, wake_all}
+use Rattle.fibril_core.specs.Fibrils.{FibrilOrder, put_fibril, with_status, found_with, first_blocked, wake_times, wake_all}
 use Rattle.fibril_core.proofs.Places.{length_set}
 
 pub length_put : (o : FibrilOrder) (x : Fibril) → length (put_fibril o x).fibrils ≡ length o.fibrils

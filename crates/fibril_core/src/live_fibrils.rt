@@ -116,7 +116,6 @@ impl LiveFibrils {
 
     /// Makes a fibril, which is ready behind the others, and gives its number. There is room for
     /// it.
-    #[tactic(auto, using(crate::proofs::Rebuilt::length_all))]
     pub(crate) fn spawn_reserved(&mut self) -> FibrilNo
         requires room { 0 < self.old.spare }
         requires bounds { IsWithinBounds self.old.order }

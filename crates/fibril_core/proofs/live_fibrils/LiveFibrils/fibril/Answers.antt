@@ -1,6 +1,5 @@
 use Rattle.std.proofs.Common.{rules, ◌≡◌, ℕ, zero, suc, ◌<◌, length, Some, refl, ap, sym, ◌∙◌, arith}
 use Rattle.std.specs.VecDeque.{deque_len}
-use Rattle.fibril_core.specs.declared.fibrils.Fibril.{Fibril}
 use Rattle.fibril_core.specs.Fibrils.{FibrilOrder, FibrilsState, fibril_at}
 use Rattle.fibril_core.specs.LiveFibrils.{all_of}
 use Rattle.fibril_core.proofs.Live.{live_rise, place_within, fibril_here}
