@@ -4,5 +4,6 @@ pub mod Digits
 pub mod Lasts
 mod Marks
 mod Pairs
+mod Parts
 pub mod Texts
 mod TextExamples

@@ -152,11 +152,11 @@ pub fn push_fibril_effect<P: Pen>(pen: &mut P, effect: &Entry)
         Entry::Sent {
             task,
             fibril,
-            call: CallNo(call),
+            call,
             slot,
         } => {
             push_fibril(pen, *task, *fibril, b" sent ");
-            pen.number(*call);
+            pen.number(call.0);
             push_slot(pen, *slot);
         }
         Entry::Gets {

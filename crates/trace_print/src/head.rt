@@ -5,7 +5,7 @@ ghost use Rattle.trace_print.specs.Text.{mode_text, change_text, request_text, o
 
 use crate::part::{push_code, push_label, push_msg, push_numbered, push_reply, push_spaced};
 use crate::pen::Pen;
-use ipc_ids::{CallNo, Mode, Msg, Outcome, Request};
+use ipc_ids::{Mode, Msg, Outcome, Request};
 
 #[tactic(auto, using(crate::proofs::Marks::map_append))]
 fn push_mode<P: Pen>(pen: &mut P, mode: Mode)
@@ -113,23 +113,16 @@ pub fn push_outcome<P: Pen>(pen: &mut P, outcome: &Outcome)
     match outcome {
         Outcome::Done => pen.word(b"EOK"),
         Outcome::Refused(code) => push_code(pen, *code),
-        Outcome::Accepted(CallNo(call)) => push_numbered(pen, b"call ", *call),
-        Outcome::Received {
-            call: CallNo(call),
-            msg,
-            label,
-        } => {
-            push_numbered(pen, b"received ", *call);
+        Outcome::Accepted(call) => push_numbered(pen, b"call ", call.0),
+        Outcome::Received { call, msg, label } => {
+            push_numbered(pen, b"received ", call.0);
             pen.byte(b' ');
             push_msg(pen, msg);
             pen.word(b" from ");
             push_label(pen, *label);
         }
-        Outcome::Answered {
-            call: CallNo(call),
-            reply,
-        } => {
-            push_numbered(pen, b"answer ", *call);
+        Outcome::Answered { call, reply } => {
+            push_numbered(pen, b"answer ", call.0);
             pen.byte(b' ');
             push_reply(pen, reply);
         }

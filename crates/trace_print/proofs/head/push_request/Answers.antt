@@ -1,0 +1,25 @@
+use Rattle.std.proofs.Common.{◌++◌, codes, decimal}
+use Rattle.trace_print.specs.Text.{bytes_text, msg_text, reply_text}
+use Rattle.trace_print.proofs.Parts.{three}
+use Rattle.trace_print.proofs.head.push_request.Goals as goal
+
+pub returns-in-Call-clause-text : goal.returns-in-Call-clause-text
+returns-in-Call-clause-text g c =
+    let a = c.in-Call in
+    rw (a.is)
+    (three g.P.Pen.mark _ (codes "call " ++ decimal a.phone) (codes " ") (msg_text a.msg)
+    c.push_numbered.ensures.text c.byte.ensures.text c.push_msg.ensures.text)
+
+pub returns-in-Answer-clause-text : goal.returns-in-Answer-clause-text
+returns-in-Answer-clause-text g c =
+    let a = c.in-Answer in
+    rw (a.is)
+    (three g.P.Pen.mark _ (codes "answer " ++ decimal a.call) (codes " ") (reply_text a.reply)
+    c.push_numbered-in-Answer.ensures.text c.byte-in-Answer.ensures.text c.push_reply.ensures.text)
+
+pub returns-in-Poke-clause-text : goal.returns-in-Poke-clause-text
+returns-in-Poke-clause-text g c =
+    let a = c.in-Poke in
+    rw (a.is, ← c.as_slice.ensures.bytes)
+    (three g.P.Pen.mark _ (codes "poke " ++ decimal a.at) (codes " ") (bytes_text
+    c.as_slice.result.now) c.push_numbered-in-Poke.ensures.text c.byte-in-Poke.ensures.text c.bytes.ensures.text)
