@@ -7,5 +7,4 @@ pub returns-clause-text : goal.returns-clause-text
 unfolding call_text
 returns-clause-text g c =
     let a = c.args in
-    three g.P.Pen.mark _ (codes "  call ") (decimal a.call.0) a.what.now
-    c.word.ensures.text c.number.ensures.text c.word-2.ensures.text
+    three g.P.Pen.mark _ (codes "  call ") (decimal a.call.0) a.what.now c.word.ensures.text c.number.ensures.text c.word-2.ensures.text

@@ -14,16 +14,16 @@ pub returns-in-Forwarded-clause-text : goal.returns-in-Forwarded-clause-text
 returns-in-Forwarded-clause-text g c =
     let a = c.in-Forwarded in
     rw (a.is)
-    (five g.P.Pen.mark _ (codes "  " ++ call_text a.call ++ codes " forwarded ") (task_text a.by) (way_text (Some
-    a.to)) (codes " label ") (label_text a.label) c.push_call-in-Forwarded.ensures.text
+    (five g.P.Pen.mark _ (codes "  " ++ call_text a.call ++ codes " forwarded ") (task_text a.by) (way_text (Some a.to)) (codes " label ")
+    (label_text a.label) c.push_call-in-Forwarded.ensures.text
     c.push_task-in-Forwarded.ensures.text c.push_way.ensures.text c.word.ensures.text c.push_label.ensures.text)
 
 pub returns-in-Answered-clause-text : goal.returns-in-Answered-clause-text
 returns-in-Answered-clause-text g c =
     let a = c.in-Answered in
     rw (a.is)
-    (three g.P.Pen.mark _ (codes "  " ++ call_text a.call ++ codes " answered ") (reply_text a.reply) (answerer_text
-    a.by) c.push_call-in-Answered.ensures.text c.push_reply.ensures.text c.push_answerer.ensures.text)
+    (three g.P.Pen.mark _ (codes "  " ++ call_text a.call ++ codes " answered ") (reply_text a.reply) (answerer_text a.by)
+    c.push_call-in-Answered.ensures.text c.push_reply.ensures.text c.push_answerer.ensures.text)
 
 pub returns-in-Delivered-clause-text : goal.returns-in-Delivered-clause-text
 returns-in-Delivered-clause-text g c =

@@ -14,9 +14,9 @@ pub returns-in-AreaMade-clause-text : goal.returns-in-AreaMade-clause-text
 returns-in-AreaMade-clause-text g c =
     let a = c.in-AreaMade in
     rw (a.is)
-    (six g.P.Pen.mark _ (codes "area ") (task_text a.task) (spaced_text a.base) (spaced_text a.pages) (spaced_text
-    a.rights) (store_text a.store) c.word-in-AreaMade.ensures.text c.push_task.ensures.text c.push_spaced.ensures.text
-    c.push_spaced-in-AreaMade.ensures.text c.push_spaced-in-AreaMade-2.ensures.text c.push_store.ensures.text)
+    (six g.P.Pen.mark _ (codes "area ") (task_text a.task) (spaced_text a.base) (spaced_text a.pages) (spaced_text a.rights)
+    (store_text a.store) c.word-in-AreaMade.ensures.text c.push_task.ensures.text
+    c.push_spaced.ensures.text c.push_spaced-in-AreaMade.ensures.text c.push_spaced-in-AreaMade-2.ensures.text c.push_store.ensures.text)
 
 pub returns-in-AreaGone-clause-text : goal.returns-in-AreaGone-clause-text
 returns-in-AreaGone-clause-text g c =
@@ -29,6 +29,6 @@ pub returns-in-Wrote-clause-text : goal.returns-in-Wrote-clause-text
 returns-in-Wrote-clause-text g c =
     let a = c.in-Wrote in
     rw (a.is)
-    (five g.P.Pen.mark _ (codes "write ") (task_text a.task) (spaced_text a.at) (spaced_text a.count) (store_text
-    a.store) c.word-in-Wrote.ensures.text c.push_task-in-Wrote.ensures.text c.push_spaced-in-Wrote.ensures.text
-    c.push_spaced-in-Wrote-2.ensures.text c.push_store-in-Wrote.ensures.text)
+    (five g.P.Pen.mark _ (codes "write ") (task_text a.task) (spaced_text a.at) (spaced_text a.count) (store_text a.store)
+    c.word-in-Wrote.ensures.text c.push_task-in-Wrote.ensures.text
+    c.push_spaced-in-Wrote.ensures.text c.push_spaced-in-Wrote-2.ensures.text c.push_store-in-Wrote.ensures.text)

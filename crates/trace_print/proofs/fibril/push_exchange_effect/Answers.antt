@@ -7,8 +7,8 @@ pub returns-in-Begins-clause-text : goal.returns-in-Begins-clause-text
 returns-in-Begins-clause-text g c =
     let a = c.in-Begins in
     rw (a.is)
-    (three g.P.Pen.mark _ (fibril_text a.task a.fibril ++ codes " begins") (exchange_text a.exchange) (terms_text
-    a.mode a.session a.phone) c.push_fibril.ensures.text c.push_exchange.ensures.text c.push_terms.ensures.text)
+    (three g.P.Pen.mark _ (fibril_text a.task a.fibril ++ codes " begins") (exchange_text a.exchange) (terms_text a.mode a.session a.phone)
+    c.push_fibril.ensures.text c.push_exchange.ensures.text c.push_terms.ensures.text)
 
 pub returns-in-ExchangeEnds-clause-text : goal.returns-in-ExchangeEnds-clause-text
 returns-in-ExchangeEnds-clause-text g c =

@@ -6,6 +6,6 @@ use Rattle.trace_print.proofs.fibril.push_gets.Goals as goal
 pub returns-clause-text : goal.returns-clause-text
 returns-clause-text g c =
     let a = c.args in
-    five g.P.Pen.mark _ (fibril_text a.task a.fibril ++ codes " gets ") (decimal a.call.0) (slot_text a.slot) (codes
-    " ") (reply_text a.reply.now) c.push_fibril.ensures.text c.number.ensures.text c.push_slot.ensures.text
-    c.byte.ensures.text c.push_reply.ensures.text
+    five g.P.Pen.mark _ (fibril_text a.task a.fibril ++ codes " gets ") (decimal a.call.0) (slot_text a.slot) (codes " ")
+    (reply_text a.reply.now) c.push_fibril.ensures.text
+    c.number.ensures.text c.push_slot.ensures.text c.byte.ensures.text c.push_reply.ensures.text

@@ -7,9 +7,9 @@ pub returns-in-Received-clause-text : goal.returns-in-Received-clause-text
 returns-in-Received-clause-text g c =
     let a = c.in-Received in
     rw (a.is)
-    (five g.P.Pen.mark _ (codes "received " ++ decimal a.call.0) (codes " ") (msg_text a.msg) (codes " from ")
-    (label_text a.label) c.push_numbered-in-Received.ensures.text c.byte.ensures.text c.push_msg.ensures.text
-    c.word-in-Received.ensures.text c.push_label.ensures.text)
+    (five g.P.Pen.mark _ (codes "received " ++ decimal a.call.0) (codes " ") (msg_text a.msg) (codes " from ") (label_text a.label)
+    c.push_numbered-in-Received.ensures.text c.byte.ensures.text
+    c.push_msg.ensures.text c.word-in-Received.ensures.text c.push_label.ensures.text)
 
 pub returns-in-Answered-clause-text : goal.returns-in-Answered-clause-text
 returns-in-Answered-clause-text g c =
@@ -22,5 +22,4 @@ pub returns-in-Bytes-clause-text : goal.returns-in-Bytes-clause-text
 returns-in-Bytes-clause-text g c =
     let a = c.in-Bytes in
     rw (a.is, ← c.as_slice.ensures.bytes)
-    (two g.P.Pen.mark _ (codes "bytes ") (bytes_text
-    c.as_slice.result.now) c.word-in-Bytes.ensures.text c.bytes.ensures.text)
+    (two g.P.Pen.mark _ (codes "bytes ") (bytes_text c.as_slice.result.now) c.word-in-Bytes.ensures.text c.bytes.ensures.text)

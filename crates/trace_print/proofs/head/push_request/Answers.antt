@@ -21,5 +21,5 @@ pub returns-in-Poke-clause-text : goal.returns-in-Poke-clause-text
 returns-in-Poke-clause-text g c =
     let a = c.in-Poke in
     rw (a.is, ← c.as_slice.ensures.bytes)
-    (three g.P.Pen.mark _ (codes "poke " ++ decimal a.at) (codes " ") (bytes_text
-    c.as_slice.result.now) c.push_numbered-in-Poke.ensures.text c.byte-in-Poke.ensures.text c.bytes.ensures.text)
+    (three g.P.Pen.mark _ (codes "poke " ++ decimal a.at) (codes " ") (bytes_text c.as_slice.result.now)
+    c.push_numbered-in-Poke.ensures.text c.byte-in-Poke.ensures.text c.bytes.ensures.text)

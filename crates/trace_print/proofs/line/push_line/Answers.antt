@@ -1,5 +1,5 @@
-use Rattle.std.proofs.Common.{codes}
-use Rattle.trace_print.specs.Text.{request_text, task_text}
+use Rattle.std.proofs.Common.{codes, arith}
+use Rattle.trace_print.specs.Text.{outcome_text, request_text, task_text}
 use Rattle.trace_print.proofs.Parts.{two, three, four}
 use Rattle.trace_print.proofs.line.push_line.Goals as goal
 
@@ -21,8 +21,7 @@ pub returns-in-Gone-clause-text : goal.returns-in-Gone-clause-text
 returns-in-Gone-clause-text g c =
     let a = c.in-Gone in
     rw (a.is)
-    (two g.P.Pen.mark _ (task_text a.task) (codes " ended\n")
-    c.push_task-in-Gone.ensures.text c.word-in-Gone.ensures.text)
+    (two g.P.Pen.mark _ (task_text a.task) (codes " ended\n") c.push_task-in-Gone.ensures.text c.word-in-Gone.ensures.text)
 
 pub returns-in-Spawn-clause-text : goal.returns-in-Spawn-clause-text
 returns-in-Spawn-clause-text g c =
@@ -30,3 +29,13 @@ returns-in-Spawn-clause-text g c =
     rw (a.is)
     (three g.P.Pen.mark _ (codes "spawn ") (task_text a.task) (codes "\n")
     c.word-in-Spawn.ensures.text c.push_task-in-Spawn.ensures.text c.byte-in-Spawn.ensures.text)
+
+pub returns-in-Outcome : goal.returns-in-Outcome
+returns-in-Outcome g c =
+    let a = c.in-Outcome in
+    record {
+      text = rw (a.is)
+          (three g.P.Pen.mark _ (codes "  = ") (outcome_text a.outcome) (codes "\n")
+          c.word-in-Outcome.ensures.text c.push_outcome.ensures.text c.byte-in-Outcome.ensures.text);
+      left = omega arith;
+    }
