@@ -9,7 +9,7 @@ ghost use Rattle.ipc_ids.specs.declared.entry.Entry.{Entry};
 ghost use Rattle.law_check.specs.Lives.{kept_at};
 ghost use Rattle.law_check.specs.Allowed.{WasAllowed};
 ghost use Rattle.law_check.specs.AreaSteps.{wants, wants_in, IsServed, Receives, MayCome};
-ghost use Rattle.law_check.specs.AreaState.{KnowsAreas, holding, entry_of, newest, made_in, has_method, read_after, is_head_entry};
+ghost use Rattle.law_check.specs.AreaState.{KnowsAreas, holding, entry_of, newest, called_of, made_in, has_method, read_after, is_head_entry};
 ghost use Rattle.law_check.specs.Held.{area_at, AreByStore};
 ghost use Rattle.law_check.specs.Passing.{AreasStand, in_order};
 
@@ -46,6 +46,16 @@ pub fn is_head(entry: &Entry) -> bool
         entry,
         Entry::Head(_, _) | Entry::Kill(_) | Entry::Gone(_) | Entry::Spawn(_)
     )
+}
+
+/// The arguments of the call, where the head of the event is one.
+fn called_in(now: Option<&Entry>) -> Option<[u64; 5]>
+    ensures { result ≡ called_of (entry_of now.entry) }
+{
+    match now {
+        Some(Entry::Head(_, Request::Call { msg, .. })) => Some(msg.args),
+        _ => None,
+    }
 }
 
 impl Areas {
@@ -217,14 +227,10 @@ impl Areas {
         ensures wants { self.new.wants ≡ self.old.wants }
         ensures read { self.new.read ≡ self.old.read }
     {
-        let called = match now {
-            Some(Entry::Head(_, Request::Call { msg, .. })) => Some(msg.args),
-            _ => None,
-        };
         self.made.push(MadeCall {
             caller,
             method,
-            called,
+            called: called_in(now),
         })?;
         Ok(())
     }

@@ -11,7 +11,7 @@ use trace_reader::Reader;
 const MOST: usize = 16_777_216;
 
 /// What bytes are, as a trace.
-#[derive(Clone, Copy, PartialEq, Eq)]
+#[derive(Clone, Copy)]
 pub enum Finding {
     /// More bytes than a trace may have.
     TooLong,

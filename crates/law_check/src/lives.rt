@@ -13,7 +13,7 @@ use std::alloc::Global;
 use std::collections::BTreeMap;
 
 /// Where a call is.
-#[derive(Clone, Copy, PartialEq, Eq)]
+#[derive(Clone, Copy)]
 pub enum Place {
     Back,
     Incoming(u64),
@@ -23,7 +23,7 @@ pub enum Place {
 }
 
 /// A call that was accepted: by which task it was made, and where it is.
-#[derive(Clone, Copy, PartialEq, Eq)]
+#[derive(Clone, Copy)]
 pub struct KnownCall {
     pub caller: u64,
     pub place: Place,
