@@ -1,6 +1,6 @@
 use Rattle.std.proofs.Common.{◌++◌, codes, decimal}
 use Rattle.trace_print.specs.Text.{bytes_text, msg_text, reply_text}
-use Rattle.trace_print.proofs.Parts.{three}
+use Rattle.trace_print.proofs.Parts.{three, joined}
 use Rattle.trace_print.proofs.head.push_request.Goals as goal
 
 pub returns-in-Call-clause-text : goal.returns-in-Call-clause-text
@@ -23,3 +23,10 @@ returns-in-Poke-clause-text g c =
     rw (a.is, ← c.as_slice.ensures.bytes)
     (three g.P.Pen.mark _ (codes "poke " ++ decimal a.at) (codes " ") (bytes_text c.as_slice.result.now)
     c.push_numbered-in-Poke.ensures.text c.byte-in-Poke.ensures.text c.bytes.ensures.text)
+
+pub returns-in-Peek-clause-text : goal.returns-in-Peek-clause-text
+returns-in-Peek-clause-text g c =
+    let a = c.in-Peek in
+    rw (a.is)
+    (joined g.P.Pen.mark _ (codes "peek " ++ decimal a.at) (codes " ") (decimal a.count)
+    c.push_numbered-in-Peek.ensures.text c.push_spaced.ensures.text)
