@@ -9,7 +9,7 @@ use crate::head::{push_outcome, push_request};
 use crate::page::Page;
 use crate::part::{push_numbered, push_task};
 use crate::pen::Pen;
-use ipc_ids::{CallNo, Entry, NoMemory, Outcome};
+use ipc_ids::{Entry, NoMemory, Outcome};
 
 #[tactic(auto, using(crate::proofs::Marks::map_append))]
 fn push_line<P: Pen>(pen: &mut P, entry: &Entry)
@@ -39,8 +39,8 @@ fn push_line<P: Pen>(pen: &mut P, entry: &Entry)
             pen.byte(b'\n');
         }
         Entry::Outcome(Outcome::Done) => pen.word(b"  = EOK\n"),
-        Entry::Outcome(Outcome::Accepted(CallNo(call))) => {
-            push_numbered(pen, b"  = call ", *call);
+        Entry::Outcome(Outcome::Accepted(call)) => {
+            push_numbered(pen, b"  = call ", call.0);
             pen.byte(b'\n');
         }
         Entry::Outcome(outcome) => {

@@ -1,4 +1,5 @@
-use Rattle.std.proofs.Common.{codes, arith}
+use Rattle.std.proofs.Common.{◌≡◌, ◌++◌, codes, decimal, arith, rules}
+use Rattle.ipc_ids.specs.declared.message.Outcome.TheVariants as got
 use Rattle.trace_print.specs.Text.{outcome_text, request_text, task_text}
 use Rattle.trace_print.proofs.Parts.{two, three, four}
 use Rattle.trace_print.proofs.line.push_line.Goals as goal
@@ -29,6 +30,14 @@ returns-in-Spawn-clause-text g c =
     rw (a.is)
     (three g.P.Pen.mark _ (codes "spawn ") (task_text a.task) (codes "\n")
     c.word-in-Spawn.ensures.text c.push_task-in-Spawn.ensures.text c.byte-in-Spawn.ensures.text)
+
+pub returns-in-Outcome-Accepted-clause-text : goal.returns-in-Outcome-Accepted-clause-text
+returns-in-Outcome-Accepted-clause-text g c =
+    let a = c.in-Outcome-Accepted in
+    let told : a.field-0 ≡ got.Accepted a.call = search rules in
+    rw (a.is, told)
+    (two g.P.Pen.mark _ (codes "  = call " ++ decimal a.call.0) (codes "\n")
+    c.push_numbered.ensures.text c.byte-in-Outcome-Accepted.ensures.text)
 
 pub returns-in-Outcome : goal.returns-in-Outcome
 returns-in-Outcome g c =
