@@ -38,3 +38,12 @@ returns-in-Dropped-clause-text g c =
     rw (a.is)
     (two g.P.Pen.mark _ (codes "  " ++ call_text a.call ++ codes " dropped ") (task_text a.at)
     c.push_call-in-Dropped.ensures.text c.push_task-in-Dropped.ensures.text)
+
+pub returns-in-Accepted-clause-text : goal.returns-in-Accepted-clause-text
+returns-in-Accepted-clause-text g c = rw (c.in-Accepted.is) c.push_accepted.ensures.text
+
+pub returns-in-Vanished-clause-text : goal.returns-in-Vanished-clause-text
+returns-in-Vanished-clause-text g c = rw (c.in-Vanished.is) c.push_call-in-Vanished.ensures.text
+
+pub returns-in-Forgotten-clause-text : goal.returns-in-Forgotten-clause-text
+returns-in-Forgotten-clause-text g c = rw (c.in-Forgotten.is) c.push_call-in-Forgotten.ensures.text
