@@ -30,3 +30,9 @@ returns-in-RefusedOp-clause-text g c =
     rw (a.is)
     (two g.P.Pen.mark _ (fibril_text a.task a.fibril ++ codes " refused ") (code_text a.code)
     c.push_fibril-in-RefusedOp.ensures.text c.push_code.ensures.text)
+
+pub returns-in-Gets-clause-text : goal.returns-in-Gets-clause-text
+returns-in-Gets-clause-text g c = rw (c.in-Gets.is) c.push_gets.ensures.text
+
+pub returns-in-Ends-clause-text : goal.returns-in-Ends-clause-text
+returns-in-Ends-clause-text g c = rw (c.in-Ends.is) c.push_fibril-in-Ends.ensures.text

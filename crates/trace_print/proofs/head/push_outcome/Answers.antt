@@ -23,3 +23,15 @@ returns-in-Bytes-clause-text g c =
     let a = c.in-Bytes in
     rw (a.is, ← c.as_slice.ensures.bytes)
     (two g.P.Pen.mark _ (codes "bytes ") (bytes_text c.as_slice.result.now) c.word-in-Bytes.ensures.text c.bytes.ensures.text)
+
+pub returns-in-Done-clause-text : goal.returns-in-Done-clause-text
+returns-in-Done-clause-text g c = rw (c.in-Done.is) c.word.ensures.text
+
+pub returns-in-Refused-clause-text : goal.returns-in-Refused-clause-text
+returns-in-Refused-clause-text g c = rw (c.in-Refused.is) c.push_code.ensures.text
+
+pub returns-in-Accepted-clause-text : goal.returns-in-Accepted-clause-text
+returns-in-Accepted-clause-text g c = rw (c.in-Accepted.is) c.push_numbered.ensures.text
+
+pub returns-in-Empty-clause-text : goal.returns-in-Empty-clause-text
+returns-in-Empty-clause-text g c = rw (c.in-Empty.is) c.word-in-Empty.ensures.text

@@ -30,3 +30,21 @@ returns-in-Peek-clause-text g c =
     rw (a.is)
     (joined g.P.Pen.mark _ (codes "peek " ++ decimal a.at) (codes " ") (decimal a.count)
     c.push_numbered-in-Peek.ensures.text c.push_spaced.ensures.text)
+
+pub returns-in-Receive-clause-text : goal.returns-in-Receive-clause-text
+returns-in-Receive-clause-text g c = rw (c.in-Receive.is) c.word.ensures.text
+
+pub returns-in-Forward-clause-text : goal.returns-in-Forward-clause-text
+returns-in-Forward-clause-text g c = rw (c.in-Forward.is) c.push_forward.ensures.text
+
+pub returns-in-Hangup-clause-text : goal.returns-in-Hangup-clause-text
+returns-in-Hangup-clause-text g c = rw (c.in-Hangup.is) c.push_numbered-in-Hangup.ensures.text
+
+pub returns-in-AreaMake-clause-text : goal.returns-in-AreaMake-clause-text
+returns-in-AreaMake-clause-text g c = rw (c.in-AreaMake.is) c.push_area.ensures.text
+
+pub returns-in-AreaDrop-clause-text : goal.returns-in-AreaDrop-clause-text
+returns-in-AreaDrop-clause-text g c = rw (c.in-AreaDrop.is) c.push_numbered-in-AreaDrop.ensures.text
+
+pub returns-in-Nothing-clause-text : goal.returns-in-Nothing-clause-text
+returns-in-Nothing-clause-text g c = rw (c.in-Nothing.is) c.word-in-Nothing.ensures.text
