@@ -1,15 +1,16 @@
 //! The steps that may come behind events, as a maze.
 ghost use Rattle.std.specs.Prelude.{◌≡◌, ◌<◌, ◌^◌, None, Some, IfOk, length, not, reverse};
 ghost use Rattle.answerbox.specs.Calls.{call_at};
+ghost use Rattle.task_system.specs.Run.{state_after, MayAllHappen};
 ghost use Rattle.run_words.specs.RunWords.{run_words};
 ghost use Rattle.search_core.specs.Moves.{AreMoves};
 ghost use Rattle.schedule_search.specs.OpenCalls.{is_open};
 ghost use Rattle.schedule_search.specs.Search.{state_behind};
-ghost use Rattle.schedule_search.specs.Problem.{search_of};
+ghost use Rattle.schedule_search.specs.Problem.{search_of, CanDo};
 ghost use Rattle.schedule_search.specs.Ahead.{FitsAhead, IsClosed, ahead, steps_of};
 
 use crate::open_calls::is_open;
-use crate::place::{all_calls, do_events, replayed, words_of};
+use crate::place::{all_calls, led, replayed, words_of};
 use crate::problem::Problem;
 use ipc_ids::{CallNo, Event, TaskNo, Trace};
 use schedule_replay::Replay;
@@ -38,15 +39,7 @@ impl Ahead<'_> {
             (reverse path.now)) }
     {
         let steps = steps_by(alloc, path)?;
-        let mut told = Trace::new(alloc);
-        let mut replay = replayed(alloc, self.problem, self.events, &mut told)?;
-        match do_events(&mut replay, &mut told, steps.as_slice()) {
-            Ok(()) => Ok(replay),
-            Err(e) => {
-                drop(replay);
-                Err(e)
-            }
-        }
+        replayed_on(alloc, self.problem, self.events, steps.as_slice())
     }
 }
 
@@ -70,16 +63,34 @@ impl Maze for Ahead<'_> {
     fn visit(&self, alloc: Global, path: &[u32]) -> Result<Visit, AllocError> {
         let replay = self.replayed(alloc, path)?;
         let visit = visit_of(alloc, &replay, self.call);
-        drop(replay);
+        replay.close();
         visit
     }
 
     fn code(&self, alloc: Global, path: &[u32]) -> Result<Vec<u64>, AllocError> {
         let replay = self.replayed(alloc, path)?;
         let words = words_of(alloc, &replay);
-        drop(replay);
+        replay.close();
         words
     }
+}
+
+/// The tasks of a problem behind these events, and these steps behind them.
+fn replayed_on(
+    alloc: Global,
+    problem: &Problem<'_>,
+    events: &[Event],
+    steps: &[Event],
+) -> Result<Replay, AllocError>
+    requires can { CanDo (search_of problem.now) events.now }
+    requires few { length steps.now < 2 ^ 20 }
+    requires may { MayAllHappen (state_behind (search_of problem.now) events.now) steps.now }
+    ensures { IfOk result (λ replay. replay.state
+        ≡ state_after (state_behind (search_of problem.now) events.now) steps.now) }
+{
+    let mut told = Trace::new(alloc);
+    let replay = replayed(alloc, problem, events, &mut told)?;
+    led(replay, &mut told, steps)
 }
 
 /// Whether the call is closed here, and the words of the state.

@@ -68,10 +68,17 @@ fn goals_left(
 }
 
 /// The tasks behind events, and how many of the goals before the last are left there.
-#[derive(Drop)]
 pub(crate) struct Behind {
     pub replay: Replay,
     pub left: usize,
+}
+
+impl Behind {
+    /// Lets the tasks go.
+    pub(crate) fn close(self) {
+        let Behind { replay, left: _ } = self;
+        replay.close();
+    }
 }
 
 /// Where these events lead, which come behind those that come first. What counts for the next goal
@@ -94,7 +101,7 @@ pub(crate) fn followed(
     match goals_left(alloc, problem, events, &mut replay, told) {
         Ok(left) => Ok(Behind { replay, left }),
         Err(e) => {
-            drop(replay);
+            replay.close();
             Err(e)
         }
     }

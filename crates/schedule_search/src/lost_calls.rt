@@ -79,7 +79,7 @@ fn closes_in_order(
     let mut told = Trace::new(alloc);
     let mut replay = replayed(alloc, problem, events, &mut told)?;
     let closes = closes_by_steps(&mut replay, &mut told, tasks, call, order);
-    drop(replay);
+    replay.close();
     closes
 }
 

@@ -1,7 +1,7 @@
 //! The tasks of a problem behind events, made anew each time.
 //!
-//! They are let go by one call of `drop` where no branch and no `?` stands between: else each way out
-//! of a function would let go of all their parts by itself, and to prove that takes long.
+//! They are let go by `Replay::close`, where no `?` stands between: else each way out of a function
+//! would let go of all their parts by itself, and to prove that takes long.
 ghost use Rattle.std.specs.Prelude.{◌≡◌, ◌+◌, ◌^◌, ◌<◌, ◌≤◌, [], length, IfOk, OnOk};
 ghost use Rattle.task_system.specs.Run.{start, turn, state_after, MayHappen, MayAllHappen};
 ghost use Rattle.run_words.specs.RunWords.{run_words};
@@ -51,11 +51,7 @@ pub(crate) fn do_event(
 }
 
 /// One event after the other.
-pub(crate) fn do_events(
-    replay: &mut Replay,
-    told: &mut Trace,
-    events: &[Event],
-) -> Result<(), AllocError>
+fn do_events(replay: &mut Replay, told: &mut Trace, events: &[Event]) -> Result<(), AllocError>
     requires few { replay.old.state.kernel.events + length events.now ≤ 2 ^ 24 }
     requires may { MayAllHappen replay.old.state events.now }
     ensures state { OnOk result (replay.new.state ≡ state_after replay.old.state events.now) }
@@ -66,6 +62,27 @@ pub(crate) fn do_events(
         do_event(replay, told, event)?;
     }
     Ok(())
+}
+
+/// The tasks behind these events more. Where no memory is found they are let go.
+pub(crate) fn led(
+    mut replay: Replay,
+    told: &mut Trace,
+    events: &[Event],
+) -> Result<Replay, AllocError>
+    requires few { replay.state.kernel.events + length events.now ≤ 2 ^ 24 }
+    requires may { MayAllHappen replay.state events.now }
+    ensures state { IfOk result (λ led. led.state ≡ state_after replay.state events.now) }
+    ensures count { IfOk result (λ led. led.state.kernel.events
+        ≤ replay.state.kernel.events + length events.now) }
+{
+    match do_events(&mut replay, told, events) {
+        Ok(()) => Ok(replay),
+        Err(AllocError) => {
+            replay.close();
+            Err(AllocError)
+        }
+    }
 }
 
 /// The tasks of a problem behind the events that come first. Nothing is told.
@@ -79,17 +96,10 @@ pub(crate) fn begun(
     ensures entries { OnOk result (told.new.entries ≡ []) }
     ensures count { IfOk result (λ replay. replay.state.kernel.events ≤ 65536) }
 {
-    let mut replay = started(alloc, problem.script)?;
-    match do_events(&mut replay, told, problem.from) {
-        Ok(()) => {
-            told.clear();
-            Ok(replay)
-        }
-        Err(AllocError) => {
-            drop(replay);
-            Err(AllocError)
-        }
-    }
+    let replay = started(alloc, problem.script)?;
+    let begun = led(replay, told, problem.from);
+    told.clear();
+    begun
 }
 
 /// The tasks of a problem behind these events, which come behind those that come first.
@@ -105,14 +115,8 @@ pub(crate) fn replayed(
     ensures count { IfOk result (λ replay. replay.state.kernel.events
         ≤ 65536 + length events.now) }
 {
-    let mut replay = begun(alloc, problem, told)?;
-    match do_events(&mut replay, told, events) {
-        Ok(()) => Ok(replay),
-        Err(AllocError) => {
-            drop(replay);
-            Err(AllocError)
-        }
-    }
+    let replay = begun(alloc, problem, told)?;
+    led(replay, told, events)
 }
 
 /// How many tasks there are.

@@ -55,7 +55,7 @@ fn changes_nothing(
     let mut told = Trace::new(alloc);
     let mut replay = replayed(alloc, problem, events, &mut told)?;
     let same = step_changes_nothing(alloc, &mut replay, &mut told, words, task);
-    drop(replay);
+    replay.close();
     same
 }
 
@@ -136,6 +136,6 @@ pub(crate) fn rest_words(
     let mut told = Trace::new(alloc);
     let replay = replayed(alloc, problem, events, &mut told)?;
     let words = words_at_rest(alloc, problem, events, &replay);
-    drop(replay);
+    replay.close();
     words
 }

@@ -70,7 +70,7 @@ pub fn told_by(alloc: Global, problem: &Problem<'_>, events: &[Event]) -> Result
     let mut told = Trace::new(alloc);
     let mut replay = started(alloc, problem.script)?;
     let done = tell_both(&mut replay, &mut told, problem.from, events);
-    drop(replay);
+    replay.close();
     match done {
         Ok(()) => Ok(told),
         Err(AllocError) => Err(AllocError),

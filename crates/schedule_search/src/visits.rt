@@ -183,7 +183,7 @@ pub(crate) fn visit_behind(
     let mut told = Trace::new(alloc);
     let behind = followed(alloc, problem, events, &mut told)?;
     let visit = visit_there(alloc, problem, events, &behind, &told, room);
-    drop(behind);
+    behind.close();
     visit
 }
 
@@ -202,6 +202,6 @@ pub(crate) fn code_behind(
     let mut told = Trace::new(alloc);
     let behind = followed(alloc, problem, events, &mut told)?;
     let code = code_there(alloc, problem, events, &behind);
-    drop(behind);
+    behind.close();
     code
 }

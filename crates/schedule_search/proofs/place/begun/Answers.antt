@@ -1,9 +1,7 @@
-use Rattle.std.proofs.Common.{◌∙◌, ap, arith}
-use Rattle.task_system.specs.Run.{RunState, state_after}
 use Rattle.schedule_search.specs.Problem.{search_of}
 use Rattle.schedule_search.proofs.Behind.{first_may}
 use Rattle.schedule_search.proofs.place.begun.Goals as goal
 
-pub do_events-requires-clause-may : goal.do_events-requires-clause-may
-do_events-requires-clause-may c =
+pub led-begun-requires-clause-may : goal.led-begun-requires-clause-may
+led-begun-requires-clause-may c =
     first_may (search_of c.args.problem.now) c.requires.sound c.in_ok-replay.replay.state c.in_ok-replay.ensures.state
