@@ -42,7 +42,7 @@ pub enum Goal {
 }
 
 /// Why a goal is not read.
-#[derive(Clone, Copy, Debug, PartialEq, Eq)]
+#[derive(Clone, Copy)]
 pub enum GoalFault {
     /// The first word at fault, numbered from 1; 0 for the text as a whole, which is too long or
     /// has a byte that may not stand in a line.
@@ -413,19 +413,13 @@ fn goal_from(
     requires less { length others.now ≤ 1048576 }
     ensures { Answers said result (goal_from names.now tasks.now first.now (text_words others.now)) }
 {
-    if first == b"lost".as_slice() {
-        return goal_alone(Goal::Lost, others);
+    match first {
+        b"lost" => goal_alone(Goal::Lost, others),
+        b"rest" => goal_alone(Goal::Rest, others),
+        b"stuck" => stuck_of(names, others),
+        b"when" => when_of(alloc, names, tasks, others),
+        _ => goal_by(alloc, names, owner_of(first), text, first, others),
     }
-    if first == b"rest".as_slice() {
-        return goal_alone(Goal::Rest, others);
-    }
-    if first == b"stuck".as_slice() {
-        return stuck_of(names, others);
-    }
-    if first == b"when".as_slice() {
-        return when_of(alloc, names, tasks, others);
-    }
-    goal_by(alloc, names, owner_of(first), text, first, others)
 }
 
 /// What the words of a text say.

@@ -22,7 +22,7 @@ pub struct Goals {
 }
 
 /// Why goals are not read.
-#[derive(Clone, Copy, Debug, PartialEq, Eq)]
+#[derive(Clone, Copy)]
 pub enum GoalsFault {
     /// The first goal at fault, numbered from 1, and its first word at fault as `GoalFault` has it.
     Bad {

@@ -150,22 +150,15 @@ fn is_code(word: &[u8]) -> bool
 fn is_of_kind(kind: &[u8], word: &[u8]) -> bool
     ensures { result ≡ is_of_kind kind.now word.now }
 {
-    if kind == b"N".as_slice() {
-        return is_number(word);
+    match kind {
+        b"N" => is_number(word),
+        b"T" => is_task(word),
+        b"P" => is_numbered(b'.', word),
+        b"F" => is_numbered(b'/', word),
+        b"C" => is_code(word),
+        b"B" => true,
+        _ => kind == word,
     }
-    if kind == b"T".as_slice() {
-        return is_task(word);
-    }
-    if kind == b"P".as_slice() {
-        return is_numbered(b'.', word);
-    }
-    if kind == b"F".as_slice() {
-        return is_numbered(b'/', word);
-    }
-    if kind == b"C".as_slice() {
-        return is_code(word);
-    }
-    kind == b"B".as_slice() || kind == word
 }
 
 /// Whether a word that is asked for may be of this kind: any is asked for, or it is.
