@@ -1,13 +1,28 @@
-use Rattle.std.proofs.Common.{◌+◌, arith}
+use Rattle.std.proofs.Common.{◌+◌, List, length, sym, ap, ◌∙◌, arith}
+use Rattle.std.proofs.lemmas.List.{length-map}
+use Rattle.ipc_ids.specs.declared.entry.Entry.{Entry}
+use Rattle.task_system.specs.Run.{RunState}
+use Rattle.search_goals.specs.GoalText.{said}
 use Rattle.search_goals.specs.GoalList.{said_all}
-use Rattle.schedule_search.specs.Search.{Search}
-use Rattle.schedule_search.specs.Left.{Left}
+use Rattle.schedule_search.specs.Search.{Search, first_state}
+use Rattle.schedule_search.specs.Left.{Left, left_here}
 use Rattle.schedule_search.specs.Problem.{search_of}
-use Rattle.schedule_search.proofs.Following.{can_front, can_none, may_next, state_on, left_on}
+use Rattle.schedule_search.proofs.Following.{can_front, can_none, may_next, state_on, left_on, state_done, left_done}
 use Rattle.schedule_search.proofs.left.goals_left.Goals as goal
 
 pub left_here-requires-clause-can : goal.left_here-requires-clause-can
 left_here-requires-clause-can c = can_none (search_of c.args.problem.now) c.args.events.now c.requires.can
+
+pub loop-i-init : goal.loop-i-init
+loop-i-init c =
+    let earlier = said_all c.args.problem.now.earlier.now in
+    record {
+      state = c.requires.here;
+      left = c.in_ok-left.ensures
+          ∙ ap (λ (z : RunState). left_here earlier z c.args.told.now.entries) c.requires.here
+          ∙ ap (λ (z : List Entry). left_here earlier (first_state (search_of c.args.problem.now)) z) c.requires.entries;
+      few = c.requires.few;
+    }
 
 pub do_event-requires-clause-few : goal.do_event-requires-clause-few
 do_event-requires-clause-few c = omega (arith, c.requires.can.few, c.loop-i.invariant.few)
@@ -40,3 +55,21 @@ loop-i-preserved c =
           c.in_ok-do_event.ensures.entries c.loop-i.invariant.left c.in_ok-left-2.ensures;
       few = omega (arith, c.in_ok-do_event.ensures.count, c.loop-i.invariant.few);
     }
+
+pub returns-clause-state : goal.returns-clause-state
+returns-clause-state c =
+    state_done (search_of c.args.problem.now) c.args.events.now c.loop-i.i c.loop-i-test.false c.loop-i.replay.state
+    c.loop-i.invariant.state
+
+pub returns-clause-left : goal.returns-clause-left
+returns-clause-left c =
+    let left : Left = record { goals = said_all c.loop-i.left.now; told = c.loop-i.told.entries } in
+    sym (length-map c.loop-i.left.now said)
+    ∙ ap (λ (z : Left). length z.goals)
+    (left_done (search_of c.args.problem.now) c.args.events.now c.loop-i.i c.loop-i-test.false left c.loop-i.invariant.left)
+
+pub returns-clause-entries : goal.returns-clause-entries
+returns-clause-entries c =
+    let left : Left = record { goals = said_all c.loop-i.left.now; told = c.loop-i.told.entries } in
+    ap (λ (z : Left). z.told)
+    (left_done (search_of c.args.problem.now) c.args.events.now c.loop-i.i c.loop-i-test.false left c.loop-i.invariant.left)
