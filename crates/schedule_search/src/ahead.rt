@@ -1,18 +1,17 @@
 //! The steps that may come behind events, as a maze.
 ghost use Rattle.std.specs.Prelude.{◌≡◌, ◌<◌, ◌^◌, None, Some, IfOk, length, not, reverse};
 ghost use Rattle.answerbox.specs.Calls.{call_at};
-ghost use Rattle.task_system.specs.Run.{state_after, MayAllHappen};
 ghost use Rattle.run_words.specs.RunWords.{run_words};
 ghost use Rattle.search_core.specs.Moves.{AreMoves};
 ghost use Rattle.schedule_search.specs.OpenCalls.{is_open};
 ghost use Rattle.schedule_search.specs.Search.{state_behind};
-ghost use Rattle.schedule_search.specs.Problem.{search_of, CanDo};
+ghost use Rattle.schedule_search.specs.Problem.{search_of};
 ghost use Rattle.schedule_search.specs.Ahead.{FitsAhead, IsClosed, ahead, steps_of};
 
 use crate::open_calls::is_open;
 use crate::place::{all_calls, led, replayed, words_of};
 use crate::problem::Problem;
-use ipc_ids::{CallNo, Event, TaskNo, Trace};
+use ipc_ids::{CallNo, Event, TaskNo};
 use schedule_replay::Replay;
 use search_core::{Maze, Visit};
 use std::alloc::{AllocError, Global};
@@ -39,7 +38,8 @@ impl Ahead<'_> {
             (reverse path.now)) }
     {
         let steps = steps_by(alloc, path)?;
-        replayed_on(alloc, self.problem, self.events, steps.as_slice())
+        let replay = replayed(alloc, self.problem, self.events)?;
+        led(alloc, replay, steps.as_slice())
     }
 }
 
@@ -73,24 +73,6 @@ impl Maze for Ahead<'_> {
         replay.close();
         words
     }
-}
-
-/// The tasks of a problem behind these events, and these steps behind them.
-fn replayed_on(
-    alloc: Global,
-    problem: &Problem<'_>,
-    events: &[Event],
-    steps: &[Event],
-) -> Result<Replay, AllocError>
-    requires can { CanDo (search_of problem.now) events.now }
-    requires few { length steps.now < 2 ^ 20 }
-    requires may { MayAllHappen (state_behind (search_of problem.now) events.now) steps.now }
-    ensures { IfOk result (λ replay. replay.state
-        ≡ state_after (state_behind (search_of problem.now) events.now) steps.now) }
-{
-    let mut told = Trace::new(alloc);
-    let replay = replayed(alloc, problem, events, &mut told)?;
-    led(replay, &mut told, steps)
 }
 
 /// Whether the call is closed here, and the words of the state.

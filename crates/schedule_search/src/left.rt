@@ -7,7 +7,7 @@ ghost use Rattle.schedule_search.specs.Code.{goals_left};
 ghost use Rattle.schedule_search.specs.Problem.{search_of, CanDo};
 
 use crate::meeting::is_met;
-use crate::place::{begun, do_event};
+use crate::place::do_event;
 use crate::problem::Problem;
 use ipc_ids::{Event, Trace};
 use schedule_replay::Replay;
@@ -42,7 +42,7 @@ fn left_here<'a>(
 
 /// How many of the goals before the last are left behind these events, through which `replay` is led
 /// from where it stands before them. What counts for the next goal is told.
-fn goals_left(
+pub(crate) fn goals_left(
     alloc: Global,
     problem: &Problem<'_>,
     events: &[Event],
@@ -65,44 +65,4 @@ fn goals_left(
         left = left_here(alloc, problem, left, &events[..i + 1], replay, told)?;
     }
     Ok(left.len())
-}
-
-/// The tasks behind events, and how many of the goals before the last are left there.
-pub(crate) struct Behind {
-    pub replay: Replay,
-    pub left: usize,
-}
-
-impl Behind {
-    /// Lets the tasks go.
-    pub(crate) fn close(self) {
-        let Behind { replay, left: _ } = self;
-        replay.close();
-    }
-}
-
-/// Where these events lead, which come behind those that come first. What counts for the next goal
-/// is told.
-pub(crate) fn followed(
-    alloc: Global,
-    problem: &Problem<'_>,
-    events: &[Event],
-    told: &mut Trace,
-) -> Result<Behind, AllocError>
-    requires can { CanDo (search_of problem.now) events.now }
-    ensures state { IfOk result (λ followed. followed.replay.state
-        ≡ state_behind (search_of problem.now) events.now) }
-    ensures left { IfOk result (λ followed. followed.left
-        ≡ goals_left (search_of problem.now) events.now) }
-    ensures entries { OnOk result (told.new.entries
-        ≡ (left_behind (search_of problem.now) events.now).told) }
-{
-    let mut replay = begun(alloc, problem, told)?;
-    match goals_left(alloc, problem, events, &mut replay, told) {
-        Ok(left) => Ok(Behind { replay, left }),
-        Err(e) => {
-            replay.close();
-            Err(e)
-        }
-    }
 }

@@ -76,8 +76,8 @@ fn closes_in_order(
     if tasks == 0 {
         return Ok(false);
     }
+    let mut replay = replayed(alloc, problem, events)?;
     let mut told = Trace::new(alloc);
-    let mut replay = replayed(alloc, problem, events, &mut told)?;
     let closes = closes_by_steps(&mut replay, &mut told, tasks, call, order);
     replay.close();
     closes

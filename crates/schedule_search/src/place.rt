@@ -2,7 +2,7 @@
 //!
 //! They are let go by `Replay::close`, where no `?` stands between: else each way out of a function
 //! would let go of all their parts by itself, and to prove that takes long.
-ghost use Rattle.std.specs.Prelude.{◌≡◌, ◌+◌, ◌^◌, ◌<◌, ◌≤◌, [], length, IfOk, OnOk};
+ghost use Rattle.std.specs.Prelude.{◌≡◌, ◌+◌, ◌^◌, ◌<◌, ◌≤◌, length, IfOk, OnOk};
 ghost use Rattle.task_system.specs.Run.{start, turn, state_after, MayHappen, MayAllHappen};
 ghost use Rattle.run_words.specs.RunWords.{run_words};
 ghost use Rattle.schedule_search.specs.Search.{IsSound, first_state, state_behind};
@@ -65,18 +65,15 @@ fn do_events(replay: &mut Replay, told: &mut Trace, events: &[Event]) -> Result<
 }
 
 /// The tasks behind these events more. Where no memory is found they are let go.
-pub(crate) fn led(
-    mut replay: Replay,
-    told: &mut Trace,
-    events: &[Event],
-) -> Result<Replay, AllocError>
+pub(crate) fn led(alloc: Global, mut replay: Replay, events: &[Event]) -> Result<Replay, AllocError>
     requires few { replay.state.kernel.events + length events.now ≤ 2 ^ 24 }
     requires may { MayAllHappen replay.state events.now }
     ensures state { IfOk result (λ led. led.state ≡ state_after replay.state events.now) }
     ensures count { IfOk result (λ led. led.state.kernel.events
         ≤ replay.state.kernel.events + length events.now) }
 {
-    match do_events(&mut replay, told, events) {
+    let mut told = Trace::new(alloc);
+    match do_events(&mut replay, &mut told, events) {
         Ok(()) => Ok(replay),
         Err(AllocError) => {
             replay.close();
@@ -85,21 +82,14 @@ pub(crate) fn led(
     }
 }
 
-/// The tasks of a problem behind the events that come first. Nothing is told.
-pub(crate) fn begun(
-    alloc: Global,
-    problem: &Problem<'_>,
-    told: &mut Trace,
-) -> Result<Replay, AllocError>
+/// The tasks of a problem behind the events that come first.
+pub(crate) fn begun(alloc: Global, problem: &Problem<'_>) -> Result<Replay, AllocError>
     requires sound { IsSound (search_of problem.now) }
     ensures state { IfOk result (λ replay. replay.state ≡ first_state (search_of problem.now)) }
-    ensures entries { OnOk result (told.new.entries ≡ []) }
     ensures count { IfOk result (λ replay. replay.state.kernel.events ≤ 65536) }
 {
     let replay = started(alloc, problem.script)?;
-    let begun = led(replay, told, problem.from);
-    told.clear();
-    begun
+    led(alloc, replay, problem.from)
 }
 
 /// The tasks of a problem behind these events, which come behind those that come first.
@@ -107,7 +97,6 @@ pub(crate) fn replayed(
     alloc: Global,
     problem: &Problem<'_>,
     events: &[Event],
-    told: &mut Trace,
 ) -> Result<Replay, AllocError>
     requires can { CanDo (search_of problem.now) events.now }
     ensures state { IfOk result (λ replay. replay.state
@@ -115,8 +104,8 @@ pub(crate) fn replayed(
     ensures count { IfOk result (λ replay. replay.state.kernel.events
         ≤ 65536 + length events.now) }
 {
-    let replay = begun(alloc, problem, told)?;
-    led(replay, told, events)
+    let replay = begun(alloc, problem)?;
+    led(alloc, replay, events)
 }
 
 /// How many tasks there are.

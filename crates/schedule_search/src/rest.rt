@@ -52,8 +52,8 @@ fn changes_nothing(
     ensures { IfOk result (λ same. same
         ≡ changes_nothing (state_behind (search_of problem.now) events.now) task.0) }
 {
+    let mut replay = replayed(alloc, problem, events)?;
     let mut told = Trace::new(alloc);
-    let mut replay = replayed(alloc, problem, events, &mut told)?;
     let same = step_changes_nothing(alloc, &mut replay, &mut told, words, task);
     replay.close();
     same
@@ -133,8 +133,7 @@ pub(crate) fn rest_words(
     if !may_try(problem, events) {
         return Ok(None);
     }
-    let mut told = Trace::new(alloc);
-    let replay = replayed(alloc, problem, events, &mut told)?;
+    let replay = replayed(alloc, problem, events)?;
     let words = words_at_rest(alloc, problem, events, &replay);
     replay.close();
     words

@@ -40,21 +40,23 @@ fn tell_events(replay: &mut Replay, told: &mut Trace, events: &[Event]) -> Resul
     Ok(())
 }
 
-/// The events that come first, and these behind them.
-fn tell_both(
+/// The entries of the events that come first, and of these behind them.
+fn told_both(
+    alloc: Global,
     replay: &mut Replay,
-    told: &mut Trace,
     first: &[Event],
     events: &[Event],
-) -> Result<(), AllocError>
+) -> Result<Trace, AllocError>
     requires few { replay.old.state.kernel.events + length first.now + length events.now ≤ 2 ^ 24 }
     requires may_first { MayAllHappen replay.old.state first.now }
     requires may { MayAllHappen (state_after replay.old.state first.now) events.now }
-    ensures { OnOk result (told.new.entries
-        ≡ told.old.entries ++ run_from replay.old.state (first.now ++ events.now)) }
+    ensures { IfOk result (λ told. told.entries
+        ≡ run_from replay.old.state (first.now ++ events.now)) }
 {
-    tell_events(replay, told, first)?;
-    tell_events(replay, told, events)
+    let mut told = Trace::new(alloc);
+    tell_events(replay, &mut told, first)?;
+    tell_events(replay, &mut told, events)?;
+    Ok(told)
 }
 
 /// The entries of a whole run: of the events that come first, and of these behind them.
@@ -67,12 +69,8 @@ pub fn told_by(alloc: Global, problem: &Problem<'_>, events: &[Event]) -> Result
     ensures { IfOk result (λ told. told.entries
         ≡ run problem.now.script.now (problem.now.from.now ++ events.now)) }
 {
-    let mut told = Trace::new(alloc);
     let mut replay = started(alloc, problem.script)?;
-    let done = tell_both(&mut replay, &mut told, problem.from, events);
+    let told = told_both(alloc, &mut replay, problem.from, events);
     replay.close();
-    match done {
-        Ok(()) => Ok(told),
-        Err(AllocError) => Err(AllocError),
-    }
+    told
 }

@@ -1,17 +1,17 @@
 //! Where the events of moves lead.
-ghost use Rattle.std.specs.Prelude.{◌≡◌, ◌∷◌, ◌++◌, true, false, Some, IfOk, OnOk, length};
+ghost use Rattle.std.specs.Prelude.{◌≡◌, ◌≤◌, ◌∷◌, ◌++◌, [], true, false, Some, IfOk, OnOk, length};
 ghost use Rattle.run_words.specs.Reached.{spawn_of, spawns_of};
 ghost use Rattle.run_words.specs.RunWords.{run_words};
-ghost use Rattle.schedule_search.specs.Search.{may_try, state_behind};
+ghost use Rattle.schedule_search.specs.Search.{may_try, first_state, state_behind};
 ghost use Rattle.schedule_search.specs.Meeting.{Finds};
 ghost use Rattle.schedule_search.specs.Left.{left_behind};
 ghost use Rattle.schedule_search.specs.Code.{goals_left, code_behind};
 ghost use Rattle.schedule_search.specs.Problem.{search_of, CanTry, CanDo};
 
 use crate::kills::{counted, kills_in};
-use crate::left::{Behind, followed};
+use crate::left::goals_left;
 use crate::meeting::is_last_met;
-use crate::place::WORDS;
+use crate::place::{WORDS, begun};
 use crate::problem::Problem;
 use crate::trying::may_try;
 use ipc_ids::{Event, Trace};
@@ -92,61 +92,63 @@ fn code_of(
 }
 
 /// Whether events that may be tried lead to what is looked for; `None` where there is no room to tell.
-/// `behind` is where they lead, and what counts for the last goal is told.
+/// `replay` stands where they lead, so many goals before the last are left there, and what counts for
+/// the last is told.
 fn is_found(
     alloc: Global,
     problem: &Problem<'_>,
     events: &[Event],
-    behind: &Behind,
+    left: usize,
+    replay: &Replay,
     told: &Trace,
     room: u32,
 ) -> Result<Option<bool>, AllocError>
     requires can { CanDo (search_of problem.now) events.now }
-    requires here { behind.now.replay.state ≡ state_behind (search_of problem.now) events.now }
-    requires left { behind.now.left ≡ goals_left (search_of problem.now) events.now }
+    requires here { replay.now.state ≡ state_behind (search_of problem.now) events.now }
+    requires left { left ≡ goals_left (search_of problem.now) events.now }
     requires entries { told.now.entries
         ≡ (left_behind (search_of problem.now) events.now).told }
     ensures met { IfOk result (λ o. o ≡ Some true → Finds (search_of problem.now) events.now) }
     ensures unmet { IfOk result (λ o. o ≡ Some false
         → Finds (search_of problem.now) events.now → ⊥) }
 {
-    if behind.left > 0 {
+    if left > 0 {
         return Ok(Some(false));
     }
-    is_last_met(alloc, problem, events, &behind.replay, told, room)
+    is_last_met(alloc, problem, events, replay, told, room)
 }
 
-/// The code of where events lead.
+/// The code of where events lead: there `replay` stands, and so many goals before the last are left.
 fn code_there(
     alloc: Global,
     problem: &Problem<'_>,
     events: &[Event],
-    behind: &Behind,
+    left: usize,
+    replay: &Replay,
 ) -> Result<Vec<u64>, AllocError>
     requires tried { may_try (search_of problem.now) events.now ≡ true }
-    requires here { behind.now.replay.state ≡ state_behind (search_of problem.now) events.now }
-    requires left { behind.now.left ≡ goals_left (search_of problem.now) events.now }
+    requires here { replay.now.state ≡ state_behind (search_of problem.now) events.now }
+    requires left { left ≡ goals_left (search_of problem.now) events.now }
     ensures { IfOk result (λ code. code.items ≡ code_behind (search_of problem.now) events.now) }
 {
     let kills = counted(problem.kills, kills_in(events));
-    code_of(alloc, kills, behind.left as u64, events, &behind.replay)
+    code_of(alloc, kills, left as u64, events, replay)
 }
 
 /// Whether events that may be tried lead to what is looked for, and the code of where they lead.
+/// `replay` is led there from where it stands before them.
 fn visit_there(
     alloc: Global,
     problem: &Problem<'_>,
     events: &[Event],
-    behind: &Behind,
-    told: &Trace,
+    replay: &mut Replay,
+    told: &mut Trace,
     room: u32,
 ) -> Result<Visit, AllocError>
     requires can { CanDo (search_of problem.now) events.now }
-    requires tried { may_try (search_of problem.now) events.now ≡ true }
-    requires here { behind.now.replay.state ≡ state_behind (search_of problem.now) events.now }
-    requires left { behind.now.left ≡ goals_left (search_of problem.now) events.now }
-    requires entries { told.now.entries
-        ≡ (left_behind (search_of problem.now) events.now).told }
+    requires here { replay.old.state ≡ first_state (search_of problem.now) }
+    requires entries { told.old.entries ≡ [] }
+    requires few { replay.old.state.kernel.events ≤ 65536 }
     ensures met { IfOk result (λ visit. visit.met ≡ Some true
         → Finds (search_of problem.now) events.now) }
     ensures unmet { IfOk result (λ visit. visit.met ≡ Some false
@@ -154,9 +156,28 @@ fn visit_there(
     ensures code { IfOk result (λ visit. visit.code.items
         ≡ code_behind (search_of problem.now) events.now) }
 {
-    let met = is_found(alloc, problem, events, behind, told, room)?;
-    let code = code_there(alloc, problem, events, behind)?;
+    let left = goals_left(alloc, problem, events, replay, told)?;
+    let met = is_found(alloc, problem, events, left, replay, told, room)?;
+    let code = code_there(alloc, problem, events, left, replay)?;
     Ok(Visit { met, code })
+}
+
+/// The code alone.
+fn code_led(
+    alloc: Global,
+    problem: &Problem<'_>,
+    events: &[Event],
+    replay: &mut Replay,
+    told: &mut Trace,
+) -> Result<Vec<u64>, AllocError>
+    requires can { CanDo (search_of problem.now) events.now }
+    requires here { replay.old.state ≡ first_state (search_of problem.now) }
+    requires entries { told.old.entries ≡ [] }
+    requires few { replay.old.state.kernel.events ≤ 65536 }
+    ensures { IfOk result (λ code. code.items ≡ code_behind (search_of problem.now) events.now) }
+{
+    let left = goals_left(alloc, problem, events, replay, told)?;
+    code_there(alloc, problem, events, left, replay)
 }
 
 /// Whether these events may be tried and lead to what is looked for, and the code of where they lead.
@@ -180,10 +201,10 @@ pub(crate) fn visit_behind(
             code: Vec::new(alloc),
         });
     }
+    let mut replay = begun(alloc, problem)?;
     let mut told = Trace::new(alloc);
-    let behind = followed(alloc, problem, events, &mut told)?;
-    let visit = visit_there(alloc, problem, events, &behind, &told, room);
-    behind.close();
+    let visit = visit_there(alloc, problem, events, &mut replay, &mut told, room);
+    replay.close();
     visit
 }
 
@@ -199,9 +220,9 @@ pub(crate) fn code_behind(
     if !may_try(problem, events) {
         return Ok(Vec::new(alloc));
     }
+    let mut replay = begun(alloc, problem)?;
     let mut told = Trace::new(alloc);
-    let behind = followed(alloc, problem, events, &mut told)?;
-    let code = code_there(alloc, problem, events, &behind);
-    behind.close();
+    let code = code_led(alloc, problem, events, &mut replay, &mut told);
+    replay.close();
     code
 }

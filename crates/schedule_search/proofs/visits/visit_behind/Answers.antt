@@ -13,14 +13,6 @@ returns-then-not-may_try-clause-code c =
     c.new.ensures.items
     ∙ no_code_is (search_of c.args.problem.now) c.args.events.now (sym c.may_try.ensures ∙ c.if-not-may_try.true)
 
-pub followed-requires : goal.followed-requires
-followed-requires c = record {
-  can = done (search_of c.args.problem.now) c.args.events.now c.requires.can (sym c.may_try.ensures ∙ c.if-not-may_try.false);
-}
-
 pub visit_there-visit-requires-clause-can : goal.visit_there-visit-requires-clause-can
 visit_there-visit-requires-clause-can c =
     done (search_of c.args.problem.now) c.args.events.now c.requires.can (sym c.may_try.ensures ∙ c.if-not-may_try.false)
-
-pub visit_there-visit-requires-clause-tried : goal.visit_there-visit-requires-clause-tried
-visit_there-visit-requires-clause-tried c = sym c.may_try.ensures ∙ c.if-not-may_try.false
