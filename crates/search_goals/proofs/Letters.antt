@@ -1,5 +1,5 @@
--- Kinds of words that stand for themselves.
-use Rattle.std.proofs.Common.{◌≡◌, ℕ, true, false, List, [], ◌∷◌, length, get_or, refl, ap, ne_eqb, arith}
+-- Kinds of words by their letters, and those that stand for themselves.
+use Rattle.std.proofs.Common.{◌≡◌, ℕ, true, false, List, [], ◌∷◌, length, get_or, refl, sym, ap, ne_eqb, arith}
 use Rattle.std.specs.Prelude.{◌==◌, ◌&&◌, Bool}
 use Rattle.std.specs.Str.{bytes_eq}
 use Rattle.search_goals.specs.LineShapes.{is_of_kind}
@@ -13,6 +13,15 @@ other_byte : (kind : List ℕ) (x : ℕ) → (length kind ≡ 1 → get_or kind 
 other_byte [] x h = refl
 other_byte (k ∷ []) x h = ap (λ b. b && true) (ne_eqb k x (h refl))
 other_byte (k ∷ l ∷ ks) x h = no_more (k == x)
+
+-- a kind of this byte alone
+one_byte : (kind : List ℕ) (x : ℕ) → length kind ≡ 1 → get_or kind 0 0 ≡ x → x ∷ [] ≡ kind
+one_byte [] x one is = absurd (omega (arith, one))
+one_byte (k ∷ []) x one is = ap (λ b. b ∷ []) (sym is)
+one_byte (k ∷ l ∷ ks) x one is = absurd (omega (arith, one))
+
+pub by_letter : (kind word : List ℕ) (x : ℕ) → length kind ≡ 1 → get_or kind 0 0 ≡ x → is_of_kind (x ∷ []) word ≡ is_of_kind kind word
+by_letter kind word x one is = ap (λ (k : List ℕ). is_of_kind k word) (one_byte kind x one is)
 
 module _ (kind word : List ℕ) where
   pub no_letter : (length kind ≡ 1 → get_or kind 0 0 ≡ 78 → ⊥) → (length kind ≡ 1 → get_or kind 0 0 ≡ 84 → ⊥)

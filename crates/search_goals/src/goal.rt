@@ -413,13 +413,19 @@ fn goal_from(
     requires less { length others.now ≤ 1048576 }
     ensures { Answers said result (goal_from names.now tasks.now first.now (text_words others.now)) }
 {
-    match first {
-        b"lost" => goal_alone(Goal::Lost, others),
-        b"rest" => goal_alone(Goal::Rest, others),
-        b"stuck" => stuck_of(names, others),
-        b"when" => when_of(alloc, names, tasks, others),
-        _ => goal_by(alloc, names, owner_of(first), text, first, others),
+    if first == b"lost".as_slice() {
+        return goal_alone(Goal::Lost, others);
     }
+    if first == b"rest".as_slice() {
+        return goal_alone(Goal::Rest, others);
+    }
+    if first == b"stuck".as_slice() {
+        return stuck_of(names, others);
+    }
+    if first == b"when".as_slice() {
+        return when_of(alloc, names, tasks, others);
+    }
+    goal_by(alloc, names, owner_of(first), text, first, others)
 }
 
 /// What the words of a text say.
