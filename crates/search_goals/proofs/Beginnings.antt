@@ -1,8 +1,8 @@
 -- Words that begin with those that are asked for, as a loop tests them.
-use Rattle.std.proofs.Common.{◌≡◌, ℕ, ◌+◌, ◌<◌, Bool, true, List, ◌∷◌, length, get_or, drop, sym, ap, ◌∙◌}
+use Rattle.std.proofs.Common.{◌≡◌, ℕ, ◌+◌, ◌≤◌, ◌<◌, Bool, true, false, List, [], ◌∷◌, length, get_or, drop, sym, ap, ◌∙◌}
 use Rattle.std.specs.Prelude.{◌&&◌}
 use Rattle.std.specs.Global.{Vec}
-use Rattle.std.proofs.lemmas.List.{drop_more}
+use Rattle.std.proofs.lemmas.List.{drop_more, drop_all}
 use Rattle.search_goals.specs.Goals.{fits, begins, listed}
 use Rattle.search_goals.specs.LineShapes.{may_be, begins_as}
 
@@ -26,3 +26,37 @@ module _ (asked : List (Vec ℕ)) (i : ℕ) (word : Vec ℕ) (found : List ℕ) 
       ap (λ (b : Bool). b && begins_as (listed (drop (i + 1) asked)) others) (sym fit)
       ∙ ap (begins_as (listed (word ∷ drop (i + 1) asked))) (sym parts)
       ∙ ap (λ (ws : List (Vec ℕ)). begins_as (listed ws) words) (sym left) ∙ told
+
+  -- a word that does not fit ends it
+  pub begins_not : fits word.items found ≡ false → begins (listed (drop i asked)) words ≡ whole → false ≡ whole
+  begins_not unfit told =
+      ap (λ (b : Bool). b && begins (listed (drop (i + 1) asked)) others) (sym unfit)
+      ∙ ap (begins (listed (word ∷ drop (i + 1) asked))) (sym parts)
+      ∙ ap (λ (ws : List (Vec ℕ)). begins (listed ws) words) (sym left) ∙ told
+
+  pub begins_as_not : may_be word.items found ≡ false → begins_as (listed (drop i asked)) words ≡ whole → false ≡ whole
+  begins_as_not unfit told =
+      ap (λ (b : Bool). b && begins_as (listed (drop (i + 1) asked)) others) (sym unfit)
+      ∙ ap (begins_as (listed (word ∷ drop (i + 1) asked))) (sym parts)
+      ∙ ap (λ (ws : List (Vec ℕ)). begins_as (listed ws) words) (sym left) ∙ told
+
+-- so does the end of the text
+module _ (asked : List (Vec ℕ)) (i : ℕ) (word : Vec ℕ) (words : List (List ℕ)) (whole : Bool) (within : i < length asked)
+    (none : words ≡ []) where
+  pub begins_short : begins (listed (drop i asked)) words ≡ whole → false ≡ whole
+  begins_short told =
+      ap (begins (listed (get_or asked i word ∷ drop (i + 1) asked))) (sym none)
+      ∙ ap (λ (ws : List (Vec ℕ)). begins (listed ws) words) (sym (drop_more asked i word within)) ∙ told
+
+  pub begins_as_short : begins_as (listed (drop i asked)) words ≡ whole → false ≡ whole
+  begins_as_short told =
+      ap (begins_as (listed (get_or asked i word ∷ drop (i + 1) asked))) (sym none)
+      ∙ ap (λ (ws : List (Vec ℕ)). begins_as (listed ws) words) (sym (drop_more asked i word within)) ∙ told
+
+-- all were there
+module _ (asked : List (Vec ℕ)) (i : ℕ) (words : List (List ℕ)) (whole : Bool) (over : length asked ≤ i) where
+  pub begins_all : begins (listed (drop i asked)) words ≡ whole → true ≡ whole
+  begins_all told = ap (λ (ws : List (Vec ℕ)). begins (listed ws) words) (sym (drop_all i asked over)) ∙ told
+
+  pub begins_as_all : begins_as (listed (drop i asked)) words ≡ whole → true ≡ whole
+  begins_as_all told = ap (λ (ws : List (Vec ℕ)). begins_as (listed ws) words) (sym (drop_all i asked over)) ∙ told
