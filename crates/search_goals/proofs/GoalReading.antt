@@ -1,12 +1,14 @@
 -- The words of a goal, as a loop reads them.
-use Rattle.std.proofs.Common.{◌≡◌, ℕ, ◌+◌, List, [], ◌∷◌, ◌++◌, Result, Ok, Err, sym, ap, ◌∙◌}
+use Rattle.std.proofs.Common.{◌≡◌, ℕ, ◌+◌, true, false, List, [], ◌∷◌, ◌++◌, Result, Ok, Err, refl, sym, ap, ◌∙◌}
 use Rattle.std.specs.Global.{Vec}
 use Rattle.script_lines.specs.declared.fault.Reason.{Reason}
+use Rattle.script_lines.specs.declared.fault.Reason.TheVariants.{BadWord}
 use Rattle.script_lines.specs.declared.plan.TaskPlan.{TaskPlan}
 use Rattle.script_lines.specs.Operation.{◌>>=◌}
 use Rattle.script_reader.specs.Reading.{lines_from, at_line}
 use Rattle.search_goals.specs.Goals.{listed}
-use Rattle.search_goals.specs.GoalText.{with_word, condition_in, with_condition, in_word, Answers}
+use Rattle.search_goals.specs.LineShapes.{may_begin}
+use Rattle.search_goals.specs.GoalText.{word_in, line_so_far, with_word, condition_in, with_condition, in_word, Answers}
 use Rattle.search_goals.specs.declared.conditions.Condition.{Condition}
 use Rattle.search_goals.specs.declared.goal.GoalFault.{GoalFault}
 use Rattle.search_goals.specs.declared.goal.GoalFault.TheVariants.{Bad, NoMemory}
@@ -42,6 +44,27 @@ refused n m reason (Ok y) go e = absurd cc
 refused {A} n m reason (Err why) go e = again e where
   again : in_word {A = A} n (Err why) ≡ Err (m, reason) → at_line n (Err why) go ≡ Err (m, reason)
   again h = cc
+
+-- ---- one word more
+
+said_right : {A : Type 0} (n : ℕ) (r : Result A Reason) (x : A) → in_word n r ≡ Ok x → r ≡ Ok x
+said_right n (Ok y) x e = cc
+said_right n (Err reason) x e = absurd cc
+
+module _ (names : List (List ℕ)) (n : ℕ) (so_far : List (List ℕ)) (word text : List ℕ)
+    (said : in_word n (word_in names word) ≡ Ok text) where
+  added : in_word n (with_word names so_far word) ≡ in_word n (line_so_far (so_far ++ text ∷ []))
+  unfolding with_word
+  added =
+      ap (λ (r : Result (List ℕ) Reason). in_word n (r >>= λ word. line_so_far (so_far ++ word ∷ [])))
+      (said_right n (word_in names word) text said)
+
+  pub word_goes_on : may_begin (so_far ++ text ∷ []) ≡ true →
+      in_word n (with_word names so_far word) ≡ Ok (so_far ++ text ∷ [])
+  word_goes_on may = added ∙ rw may refl
+
+  pub word_ends : may_begin (so_far ++ text ∷ []) ≡ false → in_word n (with_word names so_far word) ≡ Err (n, BadWord)
+  word_ends may = added ∙ rw may refl
 
 module _ (names : List (List ℕ)) (n : ℕ) (so_far : List (Vec ℕ)) (word : List ℕ) (words all : List (List ℕ))
     (whole : Numbered (List ℕ)) (is : all ≡ word ∷ words)
