@@ -20,3 +20,4 @@ mod Rights
 pub mod Resters
 mod Tries
 mod Runs
+mod Fronted

@@ -1,6 +1,6 @@
 use Rattle.std.proofs.Common.{ℕ, ◌≡◌, ◌+◌, ◌∷◌, ◌++◌, [], ◌∙◌, List, Some, length, map, take, get_or, reverse, slice_get, refl, sym, ap, subst}
 use Rattle.std.specs.Global.{Vec}
-use Rattle.std.proofs.lemmas.List.{map_more, map_push}
+use Rattle.std.proofs.lemmas.List.{map_more, map_push, take_all}
 use Rattle.std.proofs.lemmas.Option.{slice_get_read}
 use Rattle.ipc_ids.specs.declared.message.Event.{Event}
 use Rattle.search_core.specs.Moves.{AreMoves}
@@ -36,3 +36,9 @@ loop-path-preserved c =
     ∙ ap (λ (z : List Event). map f (moves_of (take i c.args.paths.now)) ++ z ∷ []) (events ∙ ap f (sym item))
     ∙ sym (map_push f (moves_of (take i c.args.paths.now)) (g (get_or c.args.paths.now i path)))
     ∙ ap (map f) (sym more)
+
+pub returns : goal.returns
+returns c =
+    c.loop-path.invariant
+    ∙ ap (λ (z : List (Vec ℕ)). map (events_of c.args.moves.now) (moves_of z))
+    (take_all c.loop-path.path-index c.args.paths.now c.loop-path-test.false)
