@@ -21,3 +21,4 @@ pub mod Resters
 mod Tries
 mod Runs
 mod Fronted
+mod Copied
