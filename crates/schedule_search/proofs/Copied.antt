@@ -1,5 +1,5 @@
 -- What a look-up by an index gives.
-use Rattle.std.proofs.Common.{Bor, ℕ, ◌≡◌, ◌<◌, ◌-◌, true, List, length, get_or, Option, Some, None, refl, sym, ◌∙◌, ap, slice_get}
+use Rattle.std.proofs.Common.{Bor, ℕ, ◌≡◌, ◌<◌, ◌-◌, List, length, get_or, Option, Some, None, refl, sym, ap, slice_get}
 use Rattle.std.specs.Prelude.{Bool, nat_lt, is_some, IfSome, if◌then◌else◌}
 use Rattle.std.specs.Option.{option_copied}
 use Rattle.std.proofs.lemmas.Bool.{ltb-false, ltb-true, lt-ltb}

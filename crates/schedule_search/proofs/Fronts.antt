@@ -1,5 +1,5 @@
 -- Lists that begin alike, or end alike.
-use Rattle.std.proofs.Common.{ℕ, ◌≡◌, ◌+◌, List, [], ◌∷◌, ◌++◌, length, length-append, refl, ◌∙◌, ap, arith}
+use Rattle.std.proofs.Common.{◌≡◌, List, [], ◌∷◌, ◌++◌, length, length-append, refl, ◌∙◌, ap, arith}
 
 pub same_front : {A : Type 0} (a b v w : List A) → length a ≡ length b → a ++ v ≡ b ++ w → (a ≡ b) × (v ≡ w)
 same_front [] [] v w l e = (refl, e)

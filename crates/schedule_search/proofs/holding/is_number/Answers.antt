@@ -1,4 +1,4 @@
-use Rattle.std.proofs.Common.{◌≡◌, ◌<◌, ℕ, length, Some, slice_get, sym, ap, refl}
+use Rattle.std.proofs.Common.{◌<◌, length, sym, ap, refl}
 use Rattle.std.proofs.Common.{rules}
 use Rattle.std.proofs.lemmas.Option.{slice_get_read}
 use Rattle.schedule_search.specs.Holding.{is_number}

@@ -1,9 +1,7 @@
-use Rattle.std.proofs.Common.{ℕ, ◌∙◌, List, ap, sym, subst}
-use Rattle.std.specs.Global.{Vec}
+use Rattle.std.proofs.Common.{◌∙◌, List, sym, subst}
 use Rattle.ipc_ids.specs.declared.message.Event.{Event}
 use Rattle.task_system.specs.Run.{RunState}
 use Rattle.run_words.specs.Reached.{IsReached, spawns_of}
-use Rattle.search_goals.specs.Goals.{listed, meets_line}
 use Rattle.schedule_search.specs.Search.{state_behind}
 use Rattle.schedule_search.specs.Problem.{search_of}
 use Rattle.schedule_search.proofs.Behind.{reached_by_all}

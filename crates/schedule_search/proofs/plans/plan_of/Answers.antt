@@ -1,4 +1,4 @@
-use Rattle.std.proofs.Common.{ℕ, ◌-◌, List, length, slice_get, sym, ◌∙◌, ap, subst, arith, ◌≤◌, ◌≡◌}
+use Rattle.std.proofs.Common.{ℕ, ◌-◌, List, length, slice_get, sym, ◌∙◌, ap, subst, ◌≤◌, ◌≡◌}
 use Rattle.script_lines.specs.declared.plan.TaskPlan.{TaskPlan}
 use Rattle.script_lines.specs.Plan.{Plan}
 use Rattle.run_words.specs.Reached.{spawns_of}

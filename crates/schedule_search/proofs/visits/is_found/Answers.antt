@@ -1,5 +1,4 @@
-use Rattle.std.proofs.Common.{◌≡◌, ℕ, ◌≤◌, arith}
-use Rattle.schedule_search.specs.Code.{goals_left}
+use Rattle.std.proofs.Common.{arith}
 use Rattle.schedule_search.specs.Problem.{search_of}
 use Rattle.schedule_search.proofs.Visiting.{left_find_none, all_found, none_found}
 use Rattle.schedule_search.proofs.visits.is_found.Goals as goal

@@ -1,7 +1,7 @@
-use Rattle.std.proofs.Common.{rules, ◌≡◌, ℕ, true, false, List, codes, subst, ap, ◌∙◌}
+use Rattle.std.proofs.Common.{rules, ◌≡◌, true, false, codes, subst, ap, ◌∙◌}
 use Rattle.std.specs.Str.{bytes_eq}
 use Rattle.search_goals.specs.Goals.{text_words}
-use Rattle.search_goals.specs.GoalText.{Asked, said, goal_by, owner_of, Answers}
+use Rattle.search_goals.specs.GoalText.{said, goal_by, Answers}
 use Rattle.search_goals.proofs.FirstWords.{says_lost, says_rest, says_stuck, says_when, says_line}
 use Rattle.search_goals.proofs.goal.goal_from.Goals as goal
 

@@ -1,4 +1,4 @@
-use Rattle.std.proofs.Common.{◌≡◌, ◌∷◌, ◌++◌, ◌+◌, [], sym, ap, ◌∙◌, arith}
+use Rattle.std.proofs.Common.{◌∷◌, ◌++◌, ◌+◌, [], sym, ap, ◌∙◌, arith}
 use Rattle.search_goals.specs.declared.goal.Goal.{Goal}
 use Rattle.search_goals.proofs.GoalLists.{precede_more, goal_put, goal_fault}
 use Rattle.search_goals.proofs.goal_list.put_behind.Goals as goal

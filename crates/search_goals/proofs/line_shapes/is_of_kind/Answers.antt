@@ -1,4 +1,4 @@
-use Rattle.std.proofs.Common.{rules, ◌≡◌, ◌≤◌, ◌<◌, ◌∙◌, length, get_or, ℕ, arith}
+use Rattle.std.proofs.Common.{rules, ◌≤◌, ◌<◌, ◌∙◌, length, arith}
 use Rattle.search_goals.specs.LineShapes.{is_of_kind}
 use Rattle.search_goals.proofs.Letters.{by_letter, no_letter, no_byte}
 use Rattle.search_goals.proofs.line_shapes.is_of_kind.Goals.{in_default-via-then-kind-lt1, in_default-via-else-kind-lt1+then-kind-lt2+in_default-1, in_default-via-else-kind-lt1+else-kind-lt2}
