@@ -299,7 +299,7 @@ fn tell<K: Sink>(status: Status, text: &[u8], sink: &mut K) -> Status
 /// Does what the words of a command line ask: loads the script, and the schedule that comes first,
 /// from the shelf, searches, and writes what was found, the line of why there is nothing, or the
 /// line of what is wrong.
-pub(crate) fn run<S: Shelf, K: Sink>(
+pub fn run<S: Shelf, K: Sink>(
     alloc: Global,
     words: &[String],
     shelf: &mut S,

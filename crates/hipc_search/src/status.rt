@@ -7,7 +7,7 @@ use std::process::ExitCode;
 
 /// How a search ended. All but the last two say that the text that is due was written whole.
 #[derive(Clone, Copy, Debug, PartialEq, Eq, Drop)]
-pub(crate) enum Status {
+pub enum Status {
     /// A schedule leads to what is looked for, or schedules lead to the states at rest; they were
     /// written.
     Found,
@@ -40,7 +40,7 @@ pub(crate) enum Status {
 
 impl Status {
     /// The exit number of the program.
-    pub(crate) fn number(self) -> u8
+    pub fn number(self) -> u8
         ensures { result ≡ number_of self }
     {
         match self {
@@ -60,7 +60,7 @@ impl Status {
     }
 
     /// How the process ends.
-    pub(crate) fn exit_code(self) -> ExitCode
+    pub fn exit_code(self) -> ExitCode
         ensures { exit_status result ≡ number_of self }
     {
         ExitCode::from(self.number())
