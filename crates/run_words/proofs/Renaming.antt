@@ -307,6 +307,3 @@ alike_from f g d e a b f_rises g_rises is =
       calls = one_order f g d e a.calls b.calls (ap (λ (z : KernelState). z.calls) is) f_rises g_rises;
       memory = ap (λ (z : KernelState). z.memory) is;
     }
-
-pub alike_again : (a b : KernelState) → AreRenamed a b → AreAlikeKernels a b
-alike_again a b r = alike_from r.f r.g r.d r.e a b r.f_rises r.g_rises r.same

@@ -18,7 +18,6 @@ use Rattle.connect_hooks.specs.Connecting.{IsKept, send_over, receive_over, befo
 use Rattle.switchboard.specs.State.{KernelState, label_of, phone_at}
 use Rattle.switchboard.specs.Counts.{HasCounts}
 use Rattle.switchboard.specs.Kept.{AreKept, IsLoose, first_usable_from, first_usable_of, kept_rows, or_refused, with_kept, label_in, phone_in, IsOf, WaitsIn}
-use Rattle.switchboard.specs.Joins.{code_of}
 use Rattle.switchboard.proofs.Endings.{slammed_states}
 use Rattle.switchboard.proofs.Keepers.{AreUnkept, IsThere, not_waiting, state_here}
 use Rattle.switchboard.proofs.Usable.{usable_is}
@@ -134,7 +133,3 @@ to_me_counts counts t caller row (Some l) is = same_row counts t.0 row.counts is
 pub to_me_waits : (rows : List (List PhoneState)) (t : TaskNo) (row : Row) (kept : Option Label) → row_at rows t.0 ≡ Some row.states → IsOf t kept → WaitsIn rows kept → IsKept row (phone_in kept)
 to_me_waits rows t row None is own waits = tt
 to_me_waits rows t row (Some l) is own waits = let here : state_at rows t.0 l.phone.0 ≡ Some Connecting = subst (λ (u : TaskNo). state_at rows u.0 l.phone.0 ≡ Some Connecting) own waits in rw is at here
-
-pub to_me_code : (row : Row) (caller : TaskNo) (kept : Option Label) → (accept_to_me row (phone_in kept) caller).told ≡ code_of kept
-to_me_code row caller None = refl
-to_me_code row caller (Some l) = refl
