@@ -1,5 +1,5 @@
 -- The words of what is left of a list, of numbers that are left.
-use Rattle.std.proofs.Common.{ℕ, zero, suc, ◌≡◌, ◌<◌, ◌+◌, ◌-◌, List, [], ◌∷◌, ◌++◌, drop, refl, sym, ◌∙◌, ap, arith, append_assoc, length, slice_get, Option, Some}
+use Rattle.std.proofs.Common.{ℕ, zero, suc, ◌≡◌, ◌<◌, ◌+◌, ◌-◌, List, [], ◌∷◌, ◌++◌, drop, refl, sym, ◌∙◌, ap, arith, append_assoc, length, get_or, slice_get, Option, Some}
 use Rattle.std.proofs.lemmas.Bool.Decides.{nat_tests}
 use Rattle.std.specs.List.{flat_map}
 use Rattle.phone_table.specs.Phones.{row_at}
@@ -22,6 +22,16 @@ left_at words xs p =
 
 pub left_words : {A : Type 0} (words : A → List ℕ) (xs : List A) (p : ℕ) (x : A) → slice_get xs p ≡ Some x → flat_map words (drop p xs) ≡ words x ++ flat_map words (drop (p + 1) xs)
 left_words {A} words xs p x h = left_at words xs p ∙ ap (λ (z : Option A). at_words words z ++ flat_map words (drop (p + 1) xs)) h
+
+-- an item that a loop over a list has in hand is one of the list
+item_there : {A : Type 0} (xs : List A) (p : ℕ) (x : A) → p < length xs → x ≡ get_or xs p x → slice_get xs p ≡ Some x
+item_there [] p x less is = absurd (omega (arith, less))
+item_there (y ∷ xs) zero x less is = ap (λ z. Some z) (sym is)
+item_there (y ∷ xs) (suc p) x less is = item_there xs p x (omega (arith, less)) is
+
+pub left_item : {A : Type 0} (words : A → List ℕ) (xs : List A) (p : ℕ) (x : A) → p < length xs → x ≡ get_or xs p x
+    → flat_map words (drop p xs) ≡ words x ++ flat_map words (drop (p + 1) xs)
+left_item words xs p x less is = left_words words xs p x (item_there xs p x less is)
 
 pub row_at_next : {A : Type 0} (rows : List A) (t : ℕ) (x : A) → row_at rows (t + 1) ≡ Some x → slice_get rows t ≡ Some x
 row_at_next rows t x h = grind (arith, nat_tests)

@@ -1,5 +1,5 @@
 -- What stands at a place, as the getters give it.
-use Rattle.std.proofs.Common.{ℕ, zero, suc, ◌≡◌, ◌+◌, ◌<◌, List, [], ◌∷◌, length, Option, Some, None, refl, arith, ap, ◌∙◌}
+use Rattle.std.proofs.Common.{ℕ, zero, suc, ◌≡◌, ◌+◌, ◌<◌, List, [], ◌∷◌, length, Option, Some, refl, arith, ap}
 use Rattle.std.specs.Prelude.{slice_get}
 use Rattle.ipc_ids.specs.declared.numbers.ExchangeNo.{ExchangeNo}
 use Rattle.fibril_core.specs.Fibrils.{FibrilOrder, fibril_at}

@@ -2,11 +2,7 @@
 ghost use Rattle.std.specs.Prelude.{◌≡◌, ◌++◌, OnOk};
 ghost use Rattle.state_words.specs.AsyncWords.{async_words};
 
-use crate::connections::push_conns;
-use crate::contexts::push_contexts;
-use crate::fibrils::push_fibrils;
-use crate::sessions::push_pool;
-use crate::worded::push_both;
+use crate::worded::{push_both, push_four};
 use async_task::AsyncProgram;
 use std::alloc::AllocError;
 
@@ -19,10 +15,13 @@ use std::alloc::AllocError;
 pub fn push_async_program(task: &AsyncProgram, out: &mut Vec<u64>) -> Result<(), AllocError>
     ensures { OnOk result (out.new.items ≡ out.old.items ++ async_words task.now.state) }
 {
-    push_fibrils(task.fibrils(), out)?;
-    push_contexts(task.contexts(), out)?;
-    push_conns(task.conns(), out)?;
-    push_pool(task.sessions(), out)?;
+    push_four(
+        task.fibrils(),
+        task.contexts(),
+        task.conns(),
+        task.sessions(),
+        out,
+    )?;
     let (front, back) = task.awaited();
     push_both(front, back, out)?;
     let (first, others) = task.work();

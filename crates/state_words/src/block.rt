@@ -1,13 +1,12 @@
 //! A block server as words.
 ghost use Rattle.std.specs.Prelude.{◌≡◌, ◌++◌, OnOk};
-ghost use Rattle.state_words.specs.Words.{number_words, list_words, option_words};
-ghost use Rattle.state_words.specs.CallWords.{label_words};
+ghost use Rattle.state_words.specs.Words.{number_words, list_words};
 ghost use Rattle.state_words.specs.ProgramWords.{block_work_words, block_words};
 
-use crate::parts::{push_bytes, push_reply, push_reserved, push_words};
+use crate::parts::{push_bytes, push_words};
 use crate::worded::{Worded, push_all, push_both};
 use block_server::{BlockServer, Work};
-use ipc_ids::{Label, Short};
+use ipc_ids::Short;
 use std::alloc::AllocError;
 
 impl Worded for Short {
@@ -15,14 +14,6 @@ impl Worded for Short {
 
     fn push_to(&self, out: &mut Vec<u64>) -> Result<(), AllocError> {
         push_bytes(self.as_slice(), out)
-    }
-}
-
-impl Worded for Option<Label> {
-    ghost words = { option_words label_words };
-
-    fn push_to(&self, out: &mut Vec<u64>) -> Result<(), AllocError> {
-        push_reserved(*self, out)
     }
 }
 
@@ -35,7 +26,7 @@ impl Worded for Work {
             Work::Drop { base } => push_words(&[1, *base], out),
             Work::Answer { call, reply } => {
                 push_words(&[2, call.0], out)?;
-                push_reply(reply, out)
+                reply.push_to(out)
             }
             Work::Show { call, at, block } => push_words(&[3, call.0, *at, *block], out),
             Work::Fetch { call, at, block } => push_words(&[4, call.0, *at, *block], out),

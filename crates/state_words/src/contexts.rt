@@ -4,70 +4,60 @@ ghost use Rattle.std.specs.Option.{option_copied};
 ghost use Rattle.state_words.specs.Words.{list_words, option_words};
 ghost use Rattle.state_words.specs.AsyncWords.{slot_words, exchange_number_words, context_words};
 
-use crate::parts::{push_bool, push_numbers, push_reply, push_words};
+use crate::parts::{push_numbers, push_words};
+use crate::worded::{Worded, push_three};
 use async_task::{Context, Contexts, FibrilSlots, Handles, Slot};
-use ipc_ids::ExchangeNo;
 use std::alloc::AllocError;
 
-/// What a slot holds.
-fn push_slot(slot: Slot, out: &mut Vec<u64>) -> Result<(), AllocError>
-    ensures { OnOk result (out.new.items ≡ out.old.items ++ slot_words slot) }
-{
-    match slot {
-        Slot::Closed => push_words(&[0], out),
-        Slot::Sent(call) => push_words(&[1, call.0], out),
-        Slot::Answered(call, reply) => {
-            push_words(&[2, call.0], out)?;
-            push_reply(&reply, out)
+impl Worded for Slot {
+    ghost words = { slot_words };
+
+    fn push_to(&self, out: &mut Vec<u64>) -> Result<(), AllocError> {
+        match self {
+            Slot::Closed => push_words(&[0], out),
+            Slot::Sent(call) => push_words(&[1, call.0], out),
+            Slot::Answered(call, reply) => {
+                push_words(&[2, call.0], out)?;
+                reply.push_to(out)
+            }
         }
     }
 }
 
-/// How many slots, and what each of them holds.
-fn push_slots(slots: &FibrilSlots, out: &mut Vec<u64>) -> Result<(), AllocError>
-    ensures { OnOk result (out.new.items ≡ out.old.items ++ list_words slot_words slots.now) }
-{
-    let count = slots.count();
-    out.push(count as u64)?;
-    for slot in 0..count {
-        push_slot(slots.get(slot), out)?;
-    }
-    Ok(())
-}
+impl Worded for FibrilSlots {
+    ghost words = { list_words slot_words };
 
-/// The exchange that a handle names, where it names one.
-fn push_handle(names: Option<ExchangeNo>, out: &mut Vec<u64>) -> Result<(), AllocError>
-    ensures { OnOk result (out.new.items
-        ≡ out.old.items ++ option_words exchange_number_words names) }
-{
-    match names {
-        None => push_words(&[0], out),
-        Some(exchange) => push_words(&[1, exchange.0], out),
+    fn push_to(&self, out: &mut Vec<u64>) -> Result<(), AllocError> {
+        let count = self.count();
+        out.push(count as u64)?;
+        for slot in 0..count {
+            self.get(slot).push_to(out)?;
+        }
+        Ok(())
     }
 }
 
-/// How many handles, and what each of them names.
-fn push_handles(handles: &Handles, out: &mut Vec<u64>) -> Result<(), AllocError>
-    ensures { OnOk result (out.new.items
-        ≡ out.old.items ++ list_words (option_words exchange_number_words) handles.now) }
-{
-    let count = handles.count();
-    out.push(count as u64)?;
-    for handle in 0..count {
-        push_handle(handles.get(handle), out)?;
+impl Worded for Handles {
+    ghost words = { list_words (option_words exchange_number_words) };
+
+    fn push_to(&self, out: &mut Vec<u64>) -> Result<(), AllocError> {
+        let count = self.count();
+        out.push(count as u64)?;
+        for handle in 0..count {
+            self.get(handle).push_to(out)?;
+        }
+        Ok(())
     }
-    Ok(())
 }
 
-/// What a fibril keeps.
-fn push_context(context: &Context, out: &mut Vec<u64>) -> Result<(), AllocError>
-    ensures { OnOk result (out.new.items ≡ out.old.items ++ context_words context.now) }
-{
-    push_words(&[context.body as u64, context.place as u64], out)?;
-    push_numbers(context.registers.as_slice(), out)?;
-    push_slots(&context.slots, out)?;
-    push_handles(&context.handles, out)?;
-    push_bool(context.short, out)
+impl Worded for Context {
+    ghost words = { context_words };
+
+    fn push_to(&self, out: &mut Vec<u64>) -> Result<(), AllocError> {
+        push_words(&[self.body as u64, self.place as u64], out)?;
+        push_numbers(self.registers.as_slice(), out)?;
+        push_three(&self.slots, &self.handles, &self.short, out)
+    }
 }
 
 /// What stands at a place, where something does.
@@ -79,20 +69,20 @@ fn push_kept(context: Option<&Context>, out: &mut Vec<u64>) -> Result<(), AllocE
         None => push_words(&[0], out),
         Some(context) => {
             out.push(1)?;
-            push_context(context, out)
+            context.push_to(out)
         }
     }
 }
 
-/// How many places, and what stands at each of them.
-pub(crate) fn push_contexts(contexts: &Contexts, out: &mut Vec<u64>) -> Result<(), AllocError>
-    ensures { OnOk result (out.new.items
-        ≡ out.old.items ++ list_words (option_words context_words) contexts.now.kept) }
-{
-    let made = contexts.made();
-    out.push(made as u64)?;
-    for place in 0..made {
-        push_kept(contexts.get(place), out)?;
+impl Worded for Contexts {
+    ghost words = { λ contexts. list_words (option_words context_words) contexts.kept };
+
+    fn push_to(&self, out: &mut Vec<u64>) -> Result<(), AllocError> {
+        let made = self.made();
+        out.push(made as u64)?;
+        for place in 0..made {
+            push_kept(self.get(place), out)?;
+        }
+        Ok(())
     }
-    Ok(())
 }

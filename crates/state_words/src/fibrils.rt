@@ -5,43 +5,45 @@ ghost use Rattle.state_words.specs.Words.{at_words, list_words};
 ghost use Rattle.state_words.specs.AsyncWords.{why_words, status_words, fibril_words, order_words};
 
 use crate::parts::push_words;
+use crate::worded::{Worded, push_three};
 use fibril_core::{Fibril, Fibrils, Status};
 use ipc_ids::{FibrilNo, Why};
 use std::alloc::AllocError;
 
-/// What a fibril waits for.
-fn push_why(why: Why, out: &mut Vec<u64>) -> Result<(), AllocError>
-    ensures { OnOk result (out.new.items ≡ out.old.items ++ why_words why) }
-{
-    match why {
-        Why::Answer(call) => push_words(&[0, call.0], out),
-        Why::Mutex(session) => push_words(&[1, session as u64], out),
-        Why::Phone => push_words(&[2], out),
-        Why::Message => push_words(&[3], out),
-    }
-}
+impl Worded for Why {
+    ghost words = { why_words };
 
-/// Whether a fibril goes on.
-fn push_status(status: Status, out: &mut Vec<u64>) -> Result<(), AllocError>
-    ensures { OnOk result (out.new.items ≡ out.old.items ++ status_words status) }
-{
-    match status {
-        Status::Ready => push_words(&[0], out),
-        Status::Ended => push_words(&[1], out),
-        Status::Blocked(why) => {
-            out.push(2)?;
-            push_why(why, out)
+    fn push_to(&self, out: &mut Vec<u64>) -> Result<(), AllocError> {
+        match self {
+            Why::Answer(call) => push_words(&[0, call.0], out),
+            Why::Mutex(session) => push_words(&[1, *session as u64], out),
+            Why::Phone => push_words(&[2], out),
+            Why::Message => push_words(&[3], out),
         }
     }
 }
 
-/// A fibril: its number, whether it goes on, and since when.
-fn push_fibril(fibril: Fibril, out: &mut Vec<u64>) -> Result<(), AllocError>
-    ensures { OnOk result (out.new.items ≡ out.old.items ++ fibril_words fibril) }
-{
-    out.push(fibril.number.0)?;
-    push_status(fibril.status, out)?;
-    push_words(&[fibril.stamp], out)
+impl Worded for Status {
+    ghost words = { status_words };
+
+    fn push_to(&self, out: &mut Vec<u64>) -> Result<(), AllocError> {
+        match self {
+            Status::Ready => push_words(&[0], out),
+            Status::Ended => push_words(&[1], out),
+            Status::Blocked(why) => {
+                out.push(2)?;
+                why.push_to(out)
+            }
+        }
+    }
+}
+
+impl Worded for Fibril {
+    ghost words = { fibril_words };
+
+    fn push_to(&self, out: &mut Vec<u64>) -> Result<(), AllocError> {
+        push_three(&self.number, &self.status, &self.stamp, out)
+    }
 }
 
 /// The fibril with this number, where there is one.
@@ -50,7 +52,7 @@ fn push_fibril_at(fibrils: &Fibrils, f: FibrilNo, out: &mut Vec<u64>) -> Result<
         ≡ out.old.items ++ at_words fibril_words (fibril_at fibrils.now.order f.0)) }
 {
     match fibrils.fibril(f) {
-        Some(fibril) => push_fibril(fibril, out),
+        Some(fibril) => fibril.push_to(out),
         None => Ok(()),
     }
 }
@@ -68,10 +70,11 @@ fn push_all_fibrils(fibrils: &Fibrils, out: &mut Vec<u64>) -> Result<(), AllocEr
     Ok(())
 }
 
-/// The fibrils, and the stamp that comes next.
-pub(crate) fn push_fibrils(fibrils: &Fibrils, out: &mut Vec<u64>) -> Result<(), AllocError>
-    ensures { OnOk result (out.new.items ≡ out.old.items ++ order_words fibrils.now.order) }
-{
-    push_all_fibrils(fibrils, out)?;
-    push_words(&[fibrils.next_stamp()], out)
+impl Worded for Fibrils {
+    ghost words = { λ fibrils. order_words fibrils.order };
+
+    fn push_to(&self, out: &mut Vec<u64>) -> Result<(), AllocError> {
+        push_all_fibrils(self, out)?;
+        push_words(&[self.next_stamp()], out)
+    }
 }

@@ -4,8 +4,8 @@ ghost use Rattle.state_words.specs.Words.{list_words, at_words};
 ghost use Rattle.state_words.specs.ProgramWords.{entry_words, received_words, work_words, naming_words};
 
 use crate::ends::push_ends;
-use crate::parts::{push_label, push_msg, push_reply, push_words};
-use crate::worded::{Worded, push_all, push_both};
+use crate::parts::push_words;
+use crate::worded::{Worded, push_all, push_both, push_three};
 use indexmap::IndexMap;
 use naming_service::{NamingService, ReceivedCall, Work};
 use std::alloc::AllocError;
@@ -41,9 +41,7 @@ impl Worded for ReceivedCall {
     ghost words = { received_words };
 
     fn push_to(&self, out: &mut Vec<u64>) -> Result<(), AllocError> {
-        out.push(self.number.0)?;
-        push_msg(&self.msg, out)?;
-        push_label(self.label, out)
+        push_three(&self.number, &self.msg, &self.label, out)
     }
 }
 
@@ -54,11 +52,11 @@ impl Worded for Work {
         match self {
             Work::Answer { call, reply } => {
                 push_words(&[0, call.0], out)?;
-                push_reply(reply, out)
+                reply.push_to(out)
             }
             Work::Forward { call, phone, msg } => {
                 push_words(&[1, call.0, *phone], out)?;
-                push_msg(msg, out)
+                msg.push_to(out)
             }
         }
     }

@@ -1,4 +1,4 @@
-//! What has words, and the words of many.
+//! What has words, and the words of several and of many.
 ghost use Rattle.std.specs.Prelude.{◌≡◌, ◌+◌, ◌<◌, ◌^◌, ◌++◌, ◌∷◌, [], ℕ, List, OnOk, length};
 ghost use Rattle.std.specs.List.{flat_map};
 ghost use Rattle.state_words.specs.Words.{list_words};
@@ -13,6 +13,47 @@ pub(crate) trait Worded {
     /// Its words.
     fn push_to(&self, out: &mut Vec<u64>) -> Result<(), AllocError>
         ensures { OnOk result (out.new.items ≡ out.old.items ++ words self.now) };
+}
+
+/// The one and then the other.
+pub(crate) fn push_two<A: Worded, B: Worded>(
+    a: &A,
+    b: &B,
+    out: &mut Vec<u64>,
+) -> Result<(), AllocError>
+    ensures { OnOk result (out.new.items ≡ out.old.items ++ (A.words a.now ++ B.words b.now)) }
+{
+    a.push_to(out)?;
+    b.push_to(out)
+}
+
+/// Three, one behind the other.
+pub(crate) fn push_three<A: Worded, B: Worded, C: Worded>(
+    a: &A,
+    b: &B,
+    c: &C,
+    out: &mut Vec<u64>,
+) -> Result<(), AllocError>
+    ensures { OnOk result (out.new.items
+        ≡ out.old.items ++ (A.words a.now ++ (B.words b.now ++ C.words c.now))) }
+{
+    a.push_to(out)?;
+    push_two(b, c, out)
+}
+
+/// Four, one behind the other.
+pub(crate) fn push_four<A: Worded, B: Worded, C: Worded, D: Worded>(
+    a: &A,
+    b: &B,
+    c: &C,
+    d: &D,
+    out: &mut Vec<u64>,
+) -> Result<(), AllocError>
+    ensures { OnOk result (out.new.items ≡ out.old.items
+        ++ (A.words a.now ++ (B.words b.now ++ (C.words c.now ++ D.words d.now)))) }
+{
+    a.push_to(out)?;
+    push_three(b, c, d, out)
 }
 
 /// Each of these.

@@ -3,11 +3,11 @@ use Rattle.state_words.specs.Words.{option_words}
 use Rattle.state_words.proofs.Left.{left_words, one_more}
 use Rattle.state_words.specs.AsyncWords.{context_words}
 use Rattle.state_words.proofs.Places.{kept_there}
-use Rattle.state_words.proofs.contexts.push_contexts.Goals as goal
+use Rattle.state_words.proofs.contexts.ContextsWorded.push_to.Goals as goal
 
 pub loop-place-preserved : goal.loop-place-preserved
 loop-place-preserved c =
-    let kept = c.args.contexts.now.kept in
+    let kept = c.args.self.now.kept in
     let k = c.loop-place.place in
     one_more _ _ _ _ _ _ c.loop-place.invariant
     (left_words (option_words context_words) kept k _
