@@ -49,12 +49,6 @@ module _ (label : List ℕ → Option (List ℕ)) (trails : List (List ℕ)) whe
             skip_by n listed u s j p e l h (cases_order j n);
       }
 
-  pub past_all : (n : ℕ) (listed : List (List ℕ)) → ArePicked label trails n listed → length trails ≤ n
-      → ArePicked label trails (n + 1) listed
-  past_all n listed u l =
-      skip n listed u (λ (p : List ℕ) (e : slice_get trails n ≡ Some p) (h : IsSome (label p)).
-      (let k : n < length trails = slice_get_within trails n p e in absurd (omega arith)))
-
   pub unlabelled : (n : ℕ) (listed : List (List ℕ)) (p : List ℕ) → ArePicked label trails n listed
       → slice_get trails n ≡ Some p → label p ≡ None → ArePicked label trails (n + 1) listed
   unlabelled n listed p u e f =

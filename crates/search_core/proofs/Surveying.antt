@@ -29,9 +29,13 @@ at_by trails r j k a p e f b (inr (inr l)) = absurd (not_itself a (before_trans 
 module _ (moves most : ℕ) (code : List ℕ → List ℕ) (trails : List (List ℕ)) (counts : List ℕ → Type 0)
     (covered : HasCovered moves most (λ p. ⊥) code trails counts) where
   pub few_places : most < 2 ^ 20 → ArePlaces moves trails
-  few_places f k p e =
-      let s : length p ≤ most = covered.short k p e in
-      (covered.each k p e, omega arith)
+  few_places f =
+      record {
+        each = λ (k : ℕ) (p : List ℕ) (e : slice_get trails k ≡ Some p).
+            (let s : length p ≤ most = covered.short k p e in
+            (covered.each k p e, omega arith));
+        rising = covered.rising;
+      }
 
   module _ (label : List ℕ → Option (List ℕ))
       (alike : (p q : List ℕ) → AreMoves moves p → AreMoves moves q → code p ≡ code q → label p ≡ label q)

@@ -23,3 +23,9 @@ pub record ArePicked (label : List ℕ → Option (List ℕ)) (trails : List (Li
 -- these are the labels of the listed
 abbrev pub AreLabels : (label : List ℕ → Option (List ℕ)) → List (List ℕ) → List (Vec ℕ) → Type 0
 AreLabels label listed labels = map (λ (words : Vec ℕ). Some words.items) labels ≡ map label listed
+
+-- so far these are picked, and these labels are kept
+pub record HasPicked (label : List ℕ → Option (List ℕ)) (trails : List (List ℕ)) (n : ℕ) (listed : List (List ℕ))
+    (labels : List (Vec ℕ)) : Type 0 where
+  pub picked : ArePicked label trails n listed
+  pub kept : AreLabels label listed labels

@@ -1,10 +1,9 @@
 //! The survey.
-ghost use Rattle.std.specs.Prelude.{◌≡◌, ◌+◌, ◌<◌, ◌^◌, ◌∷◌, [], IfOk, OnOk, length};
-ghost use Rattle.search_core.specs.Kept.{AreKept};
-ghost use Rattle.search_core.specs.Moves.{AreRising};
-ghost use Rattle.search_core.specs.Node.{ArePlaces, IsUnderWay, trails_of};
+ghost use Rattle.std.specs.Prelude.{◌≡◌, ◌+◌, ◌<◌, ◌≤◌, ◌^◌, ◌∷◌, [], IfOk, OnOk, length};
+ghost use Rattle.search_core.specs.Kept.{AreKept, HasCome};
+ghost use Rattle.search_core.specs.Node.{ArePlaces, trails_of};
 ghost use Rattle.search_core.specs.Survey.{IsSurvey, moves_of};
-ghost use Rattle.search_core.specs.Picked.{AreLabels, ArePicked};
+ghost use Rattle.search_core.specs.Picked.{ArePicked, HasPicked};
 
 use crate::answers::{Answer, Survey};
 use crate::by_breadth::look_on;
@@ -30,7 +29,9 @@ pub fn survey<M: Labelled>(
     ensures { IfOk result (λ survey. IsSurvey (M.moves maze.now) (M.label maze.now) most survey) }
 {
     let mut nodes = start(alloc, maze)?;
-    survey_from(alloc, maze, &mut nodes, most, room)
+    let survey = survey_from(alloc, maze, &mut nodes, most, room);
+    drop(nodes);
+    survey
 }
 
 /// The place of no move alone.
@@ -89,9 +90,8 @@ fn survey_from<M: Labelled>(
 ) -> Result<Survey, AllocError>
     requires fits { M.fits maze.now }
     requires few { most < 2 ^ 20 }
-    requires under_way { IsUnderWay (M.moves maze.now) most (λ p. ⊥) (M.code maze.now)
-        (trails_of nodes.old.later.items) 0 0 }
-    requires kept { AreKept (M.code maze.now) (trails_of nodes.old.later.items) nodes.old.codes }
+    requires come { HasCome (M.moves maze.now) most (λ p. ⊥) (M.code maze.now)
+        (trails_of nodes.old.later.items) nodes.old.codes 0 0 }
     ensures { IfOk result (λ survey. IsSurvey (M.moves maze.now) (M.label maze.now) most survey) }
 {
     let answer = look_on(alloc, &Unmet { maze }, nodes, most, room)?;
@@ -113,17 +113,42 @@ fn survey_from<M: Labelled>(
 fn pick<M: Labelled>(alloc: Global, maze: &M, nodes: &Nodes) -> Result<Vec<Vec<u32>>, AllocError>
     requires fits { M.fits maze.now }
     requires places { ArePlaces (M.moves maze.now) (trails_of nodes.now.later.items) }
-    requires rising { AreRising (trails_of nodes.now.later.items) }
     ensures { IfOk result (λ paths. ArePicked (M.label maze.now) (trails_of nodes.now.later.items)
         (length (trails_of nodes.now.later.items)) (moves_of paths.items)) }
 {
     let mut paths = Vec::new(alloc);
     let mut labels = IndexSet::new(alloc);
+    let picked = pick_all(alloc, maze, nodes, &mut paths, &mut labels);
+    drop(labels);
+    match picked {
+        Ok(()) => Ok(paths),
+        Err(error) => {
+            drop(paths);
+            Err(error)
+        }
+    }
+}
+
+/// Picks one place after the other, where none is picked.
+fn pick_all<M: Labelled>(
+    alloc: Global,
+    maze: &M,
+    nodes: &Nodes,
+    paths: &mut Vec<Vec<u32>>,
+    labels: &mut IndexSet<Vec<u64>>,
+) -> Result<(), AllocError>
+    requires fits { M.fits maze.now }
+    requires places { ArePlaces (M.moves maze.now) (trails_of nodes.now.later.items) }
+    requires none { paths.old.items ≡ [] }
+    requires no_label { labels.old.keys ≡ [] }
+    ensures { OnOk result (ArePicked (M.label maze.now) (trails_of nodes.now.later.items)
+        (length (trails_of nodes.now.later.items)) (moves_of paths.new.items)) }
+{
     let seen = nodes.count();
     for at in 0..seen {
-        pick_place(alloc, maze, nodes, at as usize, &mut paths, &mut labels)?;
+        pick_place(alloc, maze, nodes, at as usize, paths, labels)?;
     }
-    Ok(paths)
+    Ok(())
 }
 
 /// Picks the place of this number too, where it has a label that is not among `labels`, those of the
@@ -138,18 +163,13 @@ fn pick_place<M: Labelled>(
 ) -> Result<(), AllocError>
     requires fits { M.fits maze.now }
     requires places { ArePlaces (M.moves maze.now) (trails_of nodes.now.later.items) }
-    requires rising { AreRising (trails_of nodes.now.later.items) }
-    requires picked { ArePicked (M.label maze.now) (trails_of nodes.now.later.items) at
-        (moves_of paths.old.items) }
-    requires labels { AreLabels (M.label maze.now) (moves_of paths.old.items) labels.old.keys }
-    ensures picked { OnOk result (ArePicked (M.label maze.now) (trails_of nodes.now.later.items)
-        (at + 1) (moves_of paths.new.items)) }
-    ensures labels { OnOk result (AreLabels (M.label maze.now) (moves_of paths.new.items)
-        labels.new.keys) }
+    requires there { at ≤ length nodes.now.later.items }
+    requires so_far { HasPicked (M.label maze.now) (trails_of nodes.now.later.items) at
+        (moves_of paths.old.items) labels.old.keys }
+    ensures { OnOk result (HasPicked (M.label maze.now) (trails_of nodes.now.later.items) (at + 1)
+        (moves_of paths.new.items) labels.new.keys) }
 {
-    let Some(path) = nodes.path(alloc, at)? else {
-        return Ok(());
-    };
+    let path = nodes.path(alloc, at)?;
     let Some(label) = maze.label(alloc, path.as_slice())? else {
         return Ok(());
     };

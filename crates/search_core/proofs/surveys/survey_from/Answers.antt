@@ -9,19 +9,9 @@ pub pick-requires-clause-places : goal.pick-requires-clause-places
 pick-requires-clause-places g c =
     few_places _ c.args.most _ _ _ (rw c.in-NoneAtAll.is at c.in_ok-answer.ensures) c.requires.few
 
-pub pick-requires-clause-rising : goal.pick-requires-clause-rising
-pick-requires-clause-rising g c =
-    let h = rw c.in-NoneAtAll.is at c.in_ok-answer.ensures in
-    h.rising
-
 pub pick-requires-in-NoneWithin-clause-places : goal.pick-requires-in-NoneWithin-clause-places
 pick-requires-in-NoneWithin-clause-places g c =
     few_places _ c.args.most _ _ _ (rw c.in-NoneWithin.is at c.in_ok-answer.ensures) c.requires.few
-
-pub pick-requires-in-NoneWithin-clause-rising : goal.pick-requires-in-NoneWithin-clause-rising
-pick-requires-in-NoneWithin-clause-rising g c =
-    let h = rw c.in-NoneWithin.is at c.in_ok-answer.ensures in
-    h.rising
 
 pub returns-in_ok-paths-in-NoneAtAll : goal.returns-in_ok-paths-in-NoneAtAll
 returns-in_ok-paths-in-NoneAtAll g c =
