@@ -1,6 +1,7 @@
 -- Words that begin with those that are asked for, as a loop tests them.
 use Rattle.std.proofs.Common.{◌≡◌, ℕ, ◌+◌, ◌≤◌, ◌<◌, Bool, true, false, List, [], ◌∷◌, length, get_or, drop, sym, ap, ◌∙◌}
-use Rattle.std.specs.Prelude.{◌&&◌}
+use Rattle.std.specs.Prelude.{◌&&◌, ◌||◌}
+use Rattle.std.specs.List.{list_any}
 use Rattle.std.specs.Global.{Vec}
 use Rattle.std.proofs.lemmas.List.{drop_more, drop_all}
 use Rattle.search_goals.specs.Goals.{fits, begins, listed}
@@ -60,3 +61,20 @@ module _ (asked : List (Vec ℕ)) (i : ℕ) (words : List (List ℕ)) (whole : B
 
   pub begins_as_all : begins_as (listed (drop i asked)) words ≡ whole → true ≡ whole
   begins_as_all told = ap (λ (ws : List (Vec ℕ)). begins_as (listed ws) words) (sym (drop_all i asked over)) ∙ told
+
+-- ---- some element has it
+module _ {A : Type 0} (f : A → Bool) (xs : List A) (i : ℕ) (x : A) (within : i < length xs) (at : x ≡ get_or xs i x) where
+  from_here : drop i xs ≡ x ∷ drop (i + 1) xs
+  from_here = drop_more xs i x within ∙ ap (λ (y : A). y ∷ drop (i + 1) xs) (sym at)
+
+  pub any_on : f x ≡ false → list_any f (drop i xs) ≡ list_any f xs → list_any f (drop (i + 1) xs) ≡ list_any f xs
+  any_on fails told =
+      ap (λ (b : Bool). b || list_any f (drop (i + 1) xs)) (sym fails) ∙ ap (list_any f) (sym from_here) ∙ told
+
+  pub any_here : f x ≡ true → list_any f (drop i xs) ≡ list_any f xs → true ≡ list_any f xs
+  any_here has told =
+      ap (λ (b : Bool). b || list_any f (drop (i + 1) xs)) (sym has) ∙ ap (list_any f) (sym from_here) ∙ told
+
+pub any_over : {A : Type 0} (f : A → Bool) (xs : List A) (i : ℕ) → length xs ≤ i
+    → list_any f (drop i xs) ≡ list_any f xs → false ≡ list_any f xs
+any_over f xs i over told = ap (list_any f) (sym (drop_all i xs over)) ∙ told

@@ -1,8 +1,9 @@
 -- The words of a text, one after the other.
-use Rattle.std.proofs.Common.{◌≡◌, ℕ, suc, ◌+◌, ◌≤◌, Bool, true, false, cond, not, List, [], ◌∷◌, length, take, drop, Some, None, refl, sym, ap, subst, ◌∙◌, inl, inr, arith}
+use Rattle.std.proofs.Common.{◌≡◌, ℕ, zero, suc, ◌+◌, ◌-◌, ◌<◌, ◌≤◌, Bool, true, false, cond, not, List, [], ◌∷◌, length, take, drop, Some, None, refl, sym, ap, subst, ◌∙◌, inl, inr, arith, length-drop}
 use Rattle.std.specs.Prelude.{filter, ◌==◌, is_some, position}
 use Rattle.std.specs.List.{slice_split, onto_first, position_or_len}
-use Rattle.std.proofs.lemmas.Bool.{cases_Bool, cases_lt, lt-ltb, le-ltb, ne_eqb, true≢false}
+use Rattle.std.proofs.lemmas.Bool.{cases_Bool, cases_lt, eqb-true, lt-ltb, le-ltb, ne_eqb, true≢false}
+use Rattle.std.proofs.lemmas.List.{length-take-le}
 use Rattle.std.proofs.lemmas.List.Sums.{prefix_len-le-length}
 use Rattle.std.proofs.lemmas.List.Splits.{slice_split-cons_yes, slice_split-cons_no}
 use Rattle.std.proofs.lemmas.Option.{same_Some}
@@ -105,3 +106,33 @@ next_is (x ∷ xs) = elim (cases_Bool (is_gap x)) [
       )
   | inr goes ↦ subst (Next (x ∷ xs)) (sym (after_none x xs goes)) (next_here x xs goes)
 ]
+
+-- not 0
+pub some : (n : ℕ) → (n == 0) ≡ false → 1 ≤ n
+some zero e = absurd (true≢false e)
+some (suc n) e = omega arith
+
+-- the first word and what stands behind it, as they are cut
+module _ (text rest word others : List ℕ) (after : rest ≡ after_gaps text) (front : word ≡ take (len rest) rest)
+    (behind : others ≡ drop (len rest) rest) where
+  long : length word ≡ len rest
+  long = ap length front ∙ length-take-le (len rest) rest (prefix_len-le-length (λ x. not (is_gap x)) rest)
+
+  pub no_word : (length word == 0) ≡ true → text_words text ≡ []
+  no_word is_none =
+      let none = eqb-true (length word) 0 is_none in (next_is text).0 (ap len (sym after) ∙ sym long ∙ none)
+
+  pub word_then : 1 ≤ length word → text_words text ≡ word ∷ text_words others
+  word_then some =
+      (next_is text).1 (let is = ap len (sym after) ∙ sym long in omega (arith, is, some))
+      ∙ ap (λ (t : List ℕ). take (len t) t ∷ text_words (drop (len t) t)) (sym after)
+      ∙ ap (λ (w : List ℕ). w ∷ text_words (drop (len rest) rest)) (sym front)
+      ∙ ap (λ (o : List ℕ). word ∷ text_words o) (sym behind)
+
+  pub others_shorter : 1 ≤ length word → length others < length text
+  others_shorter some =
+      let word_long = long in
+      let most : len rest ≤ length rest = prefix_len-le-length (λ x. not (is_gap x)) rest in
+      let a : length others ≡ length rest - len rest = ap length behind ∙ length-drop (len rest) rest in
+      let b = ap length after ∙ length-drop (position_or_len (λ x. not (is_gap x)) text) text in
+      omega (arith, some, word_long, most, a, b)

@@ -114,6 +114,17 @@ named_listed known i word task are lt is number =
     let name : word.items ≡ get_or (listed known) i [] = ap bytes is ∙ sym (get_or-map bytes known i word [] lt) in
     (ap is_name name ∙ are.good i [] within, named_at (listed known) i word.items are.differ within name task number)
 
+-- the names before one are not too many
+pub room_at : (known : List (Vec ℕ)) (i : ℕ) → AreNames (listed known) → i < length known
+    → length (listed (take i known)) < 64
+room_at known i are lt =
+    let bytes : Vec ℕ → List ℕ = λ (w : Vec ℕ). w.items in
+    let all = length-map known bytes in
+    let some = length-map (take i known) bytes in
+    let len = length-take-le i known (omega (arith, lt)) in
+    let few = are.few in
+    omega (arith, all, some, len, few, lt)
+
 -- ---- all names
 
 -- what is not found is none of the names

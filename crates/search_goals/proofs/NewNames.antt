@@ -12,7 +12,9 @@ use Rattle.std.proofs.lemmas.List.Folds.{list_any-append, list_any_at}
 use Rattle.std.proofs.lemmas.List.Quantifiers.{position-Some}
 use Rattle.std.proofs.lemmas.Map.Steps.{le-length_from_below}
 use Rattle.std.proofs.lemmas.Slice.Eq.{bytes_eq-Decides}
-use Rattle.script_lines.specs.Names.{place_of, ns_name, is_ns}
+use Rattle.script_lines.specs.declared.plan.TaskPlan.{TaskPlan}
+use Rattle.script_lines.specs.Names.{place_of, task_names, ns_name, is_ns}
+use Rattle.script_lines.proofs.Places.{none_any}
 use Rattle.script_lines.specs.Word.{is_name, is_name_byte}
 use Rattle.script_reader.specs.EventLine.{is_taken}
 use Rattle.search_goals.specs.Writing.{IsNew, made_name}
@@ -45,6 +47,26 @@ some_any names name e = by_place (place_of names name) refl e where
   by_place (Some i) at f =
       let there = position-Some (λ known. bytes_eq name known) names i [] at in
       list_any_at (bytes_eq name) names i [] there.0 there.1
+
+-- the name of a template is this one
+abbrev pub has_name : List ℕ → TaskPlan → Bool
+has_name name plan = bytes_eq name plan.name
+
+any_named : (name : List ℕ) (templates : List TaskPlan) → list_any (has_name name) templates
+    ≡ list_any (bytes_eq name) (task_names templates)
+any_named name [] = refl
+any_named name (t ∷ templates) = ap (λ (b : Bool). bytes_eq name t.name || b) (any_named name templates)
+
+found_by : (names : List (List ℕ)) (name : List ℕ) (b : Bool) → is_some (place_of names name) ≡ b
+    → list_any (bytes_eq name) names ≡ b
+found_by names name true e = some_any names name e
+found_by names name false e = none_any (bytes_eq name) names e
+
+-- it is that of one where it is found
+pub template_is : (name : List ℕ) (templates : List TaskPlan)
+    → list_any (has_name name) templates ≡ is_some (place_of (task_names templates) name)
+template_is name templates =
+    any_named name templates ∙ found_by (task_names templates) name (is_some (place_of (task_names templates) name)) refl
 
 -- all names that are taken
 abbrev taken : (templates names : List (List ℕ)) → List (List ℕ)

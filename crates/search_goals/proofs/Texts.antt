@@ -140,6 +140,15 @@ pub may_others : (n t count : ℕ) (left : List Event) (first : Event) (others :
 may_others n t count left first others front may =
     may_after n t (replicate count first) others (subst (MayAllCome n t) front.parts may)
 
+-- there are no more of it than there are
+pub count_within : (left : List Event) (first : Event) (count : ℕ) (others : List Event) → IsFront left first count others
+    → count ≤ length left
+count_within left first count others front =
+    let a = length-append (replicate count first) others in
+    let b = length-replicate count first in
+    let e = ap length front.parts in
+    omega (arith, a, b, e)
+
 -- ---- line by line
 
 module _ (templates start names known : List (List ℕ)) (old mid new : List ℕ) (left whole : List Event) (first : Event)

@@ -3,8 +3,7 @@ ghost use Rattle.std.specs.Prelude.{◌≡◌};
 ghost use Rattle.search_goals.specs.Conditions.{register_in, holding};
 ghost use Rattle.search_goals.specs.Conditions.{of_subject, numbered, asked_of};
 
-use crate::goal::name_len;
-use crate::line_shapes::mark_place;
+use crate::stops::{Stop, cut_at};
 use ipc_ids::{FibrilNo, TaskNo};
 use script_lines::number;
 
@@ -45,7 +44,7 @@ fn register_in(word: &[u8]) -> Option<u32>
 fn holding(subject: Subject, word: &[u8]) -> Option<Condition>
     ensures { result ≡ holding subject word.now }
 {
-    let (name, value) = word.split_at(mark_place(b'=', word));
+    let (name, value) = cut_at(Stop::Mark(b'='), word);
     let [b'=', digits @ ..] = value else {
         return None;
     };
@@ -74,7 +73,7 @@ fn of_subject(subject: Subject, bytes: &[u8]) -> Option<Condition>
 fn numbered(task: TaskNo, bytes: &[u8]) -> Option<Condition>
     ensures { result ≡ numbered task bytes.now }
 {
-    let (digits, rest) = bytes.split_at(name_len(bytes));
+    let (digits, rest) = cut_at(Stop::NameEnd, bytes);
     match number(digits) {
         Some(fibril) => of_subject(
             Subject {

@@ -1,12 +1,9 @@
 //! Reads a goal.
-ghost use Rattle.std.specs.Prelude.{◌≡◌, ◌<◌, ◌≤◌, ◌+◌, ◌^◌, ◌∷◌, [], ℕ, not, position, length, codes, ◌&&◌, ◌==◌};
-ghost use Rattle.std.specs.List.{list_all, position_or_len};
+ghost use Rattle.std.specs.Prelude.{◌≡◌, ◌≤◌, ◌∷◌, length};
+ghost use Rattle.std.specs.List.{list_all};
 ghost use Rattle.std.specs.Option.{option_map};
-ghost use Rattle.std.specs.Str.{bytes_eq};
 ghost use Rattle.script_lines.specs.Text.{is_allowed};
-ghost use Rattle.script_lines.specs.Word.{is_name_byte};
 ghost use Rattle.search_goals.specs.declared.goal.GoalFault.TheVariants as faults;
-ghost use Rattle.search_goals.specs.Conditions.{name_len};
 ghost use Rattle.search_goals.specs.Goals.{text_words, listed};
 ghost use Rattle.search_goals.specs.GoalText.{said, named_task, behind_at, word_in, with_word, words_in};
 ghost use Rattle.search_goals.specs.GoalText.{owner_of, in_word, line_of, goal_by, goal_alone, stuck_task, stuck_of};
@@ -15,11 +12,12 @@ ghost use Rattle.search_goals.specs.GoalText.{goal_from, goal_of_words, goal_of,
 
 use crate::conditions::{Condition, asked_of};
 use crate::line_shapes::may_begin;
-use crate::meeting::next_word;
+use crate::meeting::{is_word, next_word};
 use crate::names::made_name;
 use crate::places::{is_known_of, plan_of};
+use crate::stops::{Stop, cut_at};
 use ipc_ids::{NoMemory, TaskNo};
-use script_lines::{MOST_BYTES, Names, Reason, TaskPlan, is_name_byte};
+use script_lines::{MOST_BYTES, Names, Reason, TaskPlan};
 use std::alloc::{AllocError, AllocFailed, Global};
 
 /// What a search looks for.
@@ -75,37 +73,11 @@ impl<T: Drop> From<AllocFailed<T>> for GoalFault {
     }
 }
 
-/// Whether a byte may stand in a line.
-fn is_allowed(byte: u8) -> bool
-    ensures { result ≡ is_allowed byte }
-{
-    (32 <= byte && byte <= 126) || byte == b'\t'
-}
-
 /// Whether each byte may stand in a line.
 fn all_allowed(text: &[u8]) -> bool
     ensures { result ≡ list_all is_allowed text.now }
 {
-    text.iter().all(|byte| is_allowed(*byte))
-}
-
-/// Where the first byte stands that may not stand in a name.
-fn name_end(word: &[u8]) -> Option<usize>
-    ensures { result ≡ position (λ b. not (is_name_byte b)) word.now }
-{
-    word.iter().position(|byte| !is_name_byte(*byte))
-}
-
-/// How many bytes at the front may stand in a name.
-#[tactic(auto, using(script_reader::proofs::StepLines::no_end, crate::proofs::GoalWords::found_at))]
-pub(crate) fn name_len(word: &[u8]) -> usize
-    ensures value { result ≡ name_len word.now }
-    ensures within { result ≤ length word.now }
-{
-    match name_end(word) {
-        Some(at) => at,
-        None => word.len(),
-    }
+    cut_at(Stop::LineEnd, text).1.is_empty()
 }
 
 /// The name before a colon, which is the last byte.
@@ -143,7 +115,7 @@ fn named_task(alloc: Global, names: &Names, place: u64, name: &[u8]) -> Result<V
 fn behind_at(alloc: Global, names: &Names, place: u64, word: &[u8]) -> Result<Vec<u8>, GoalFault>
     ensures { Answers (λ text. text.items) result (in_word place (behind_at names.now word.now)) }
 {
-    let (name, rest) = word.split_at(name_len(word));
+    let (name, rest) = cut_at(Stop::NameEnd, word);
     let mut text = named_task(alloc, names, place, name)?;
     text.extend_from_slice(rest)?;
     Ok(text)
@@ -337,7 +309,7 @@ fn condition_in(
     ensures { Answers (λ condition. condition) result
         (in_word place (condition_in names.now tasks.now word.now)) }
 {
-    let (name, rest) = word.split_at(name_len(word));
+    let (name, rest) = cut_at(Stop::NameEnd, word);
     match names.task_named(name) {
         None => Err(GoalFault::Bad {
             word: place,
@@ -413,16 +385,16 @@ fn goal_from(
     requires less { length others.now ≤ 1048576 }
     ensures { Answers said result (goal_from names.now tasks.now first.now (text_words others.now)) }
 {
-    if first == b"lost".as_slice() {
+    if is_word(first, b"lost") {
         return goal_alone(Goal::Lost, others);
     }
-    if first == b"rest".as_slice() {
+    if is_word(first, b"rest") {
         return goal_alone(Goal::Rest, others);
     }
-    if first == b"stuck".as_slice() {
+    if is_word(first, b"stuck") {
         return stuck_of(names, others);
     }
-    if first == b"when".as_slice() {
+    if is_word(first, b"when") {
         return when_of(alloc, names, tasks, others);
     }
     goal_by(alloc, names, owner_of(first), text, first, others)

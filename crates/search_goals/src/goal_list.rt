@@ -2,14 +2,13 @@
 ghost use Rattle.std.specs.Prelude.{◌≡◌, true, IfOk, OnOk};
 ghost use Rattle.std.specs.Result.{result_map_both};
 ghost use Rattle.script_lines.specs.Text.{texts};
-ghost use Rattle.search_goals.specs.declared.goal_list.GoalsFault.TheVariants as faults;
 ghost use Rattle.search_goals.specs.GoalText.{said};
-ghost use Rattle.search_goals.specs.GoalList.{may_precede, all_precede, first_goal, with_goal, goals_of, said_all, sought_by, AnswersGoals};
+ghost use Rattle.search_goals.specs.GoalList.{fault_in, may_precede, all_precede, first_goal, with_last, with_goal, goals_of, said_all, sought_by, AnswersGoals};
 
 use crate::goal::{Goal, GoalFault, read_goal_for};
 use ipc_ids::NoMemory;
 use script_lines::{Names, Reason, TaskPlan};
-use std::alloc::{AllocError, AllocFailed, Global};
+use std::alloc::Global;
 use std::mem::replace;
 
 const MOST_GOALS: usize = 8;
@@ -34,27 +33,13 @@ pub enum GoalsFault {
     NoMemory,
 }
 
-impl From<NoMemory> for GoalsFault {
-    ghost from_gives = { λ _ e. e ≡ faults.NoMemory };
-
-    fn from(_error: NoMemory) -> GoalsFault {
-        GoalsFault::NoMemory
-    }
-}
-
-impl From<AllocError> for GoalsFault {
-    ghost from_gives = { λ _ e. e ≡ faults.NoMemory };
-
-    fn from(_error: AllocError) -> GoalsFault {
-        GoalsFault::NoMemory
-    }
-}
-
-impl<T: Drop> From<AllocFailed<T>> for GoalsFault {
-    ghost from_gives = { λ _ e. e ≡ faults.NoMemory };
-
-    fn from(_error: AllocFailed<T>) -> GoalsFault {
-        GoalsFault::NoMemory
+/// The fault of the goal of this number.
+fn fault_in(goal: u64, fault: GoalFault) -> GoalsFault
+    ensures { result ≡ fault_in goal fault }
+{
+    match fault {
+        GoalFault::Bad { word, reason } => GoalsFault::Bad { goal, word, reason },
+        GoalFault::NoMemory => GoalsFault::NoMemory,
     }
 }
 
@@ -69,6 +54,15 @@ pub fn may_precede(goal: &Goal) -> bool
     }
 }
 
+/// Puts this goal behind the goals.
+fn put_last(goals: &mut Goals, last: Goal) -> Result<(), NoMemory>
+    ensures { OnOk result (sought_by goals.new ≡ with_last (sought_by goals.old) (said last)) }
+{
+    let before = replace(&mut goals.last, last);
+    goals.earlier.push(before)?;
+    Ok(())
+}
+
 /// Puts the goal of this text behind the goals.
 #[tactic(auto, unfolding(crate::specs::GoalList::with_goal))]
 fn put_behind(
@@ -78,10 +72,8 @@ fn put_behind(
     goals: &mut Goals,
     text: &[u8],
 ) -> Result<(), GoalsFault>
-    requires { all_precede (said_all goals.old.earlier.items) ≡ true }
-    ensures value { AnswersGoals (result_map_both (λ _. goals.new) (λ fault. fault) result)
+    ensures { AnswersGoals (result_map_both (λ _. goals.new) (λ fault. fault) result)
         (with_goal names.now tasks.now (sought_by goals.old) text.now) }
-    ensures precede { OnOk result (all_precede (said_all goals.new.earlier.items) ≡ true) }
 {
     let count = goals.earlier.len();
     if !may_precede(&goals.last) {
@@ -99,17 +91,11 @@ fn put_behind(
         });
     }
     match read_goal_for(alloc, names, tasks, text) {
-        Ok(last) => {
-            let before = replace(&mut goals.last, last);
-            goals.earlier.push(before)?;
-            Ok(())
-        }
-        Err(GoalFault::Bad { word, reason }) => Err(GoalsFault::Bad {
-            goal: count as u64 + 2,
-            word,
-            reason,
-        }),
-        Err(GoalFault::NoMemory) => Err(GoalsFault::NoMemory),
+        Ok(last) => match put_last(goals, last) {
+            Ok(()) => Ok(()),
+            Err(NoMemory) => Err(GoalsFault::NoMemory),
+        },
+        Err(fault) => Err(fault_in(count as u64 + 2, fault)),
     }
 }
 
@@ -120,20 +106,14 @@ fn first_goal(
     tasks: &[TaskPlan],
     text: &[u8],
 ) -> Result<Goals, GoalsFault>
-    ensures value { AnswersGoals result (first_goal names.now tasks.now text.now) }
-    ensures precede { IfOk result (λ goals. all_precede (said_all goals.earlier.items) ≡ true) }
+    ensures { AnswersGoals result (first_goal names.now tasks.now text.now) }
 {
     match read_goal_for(alloc, names, tasks, text) {
         Ok(last) => Ok(Goals {
             earlier: Vec::new(alloc),
             last,
         }),
-        Err(GoalFault::Bad { word, reason }) => Err(GoalsFault::Bad {
-            goal: 1,
-            word,
-            reason,
-        }),
-        Err(GoalFault::NoMemory) => Err(GoalsFault::NoMemory),
+        Err(fault) => Err(fault_in(1, fault)),
     }
 }
 

@@ -14,6 +14,7 @@ mod line_shapes;
 mod meeting;
 mod names;
 mod places;
+mod stops;
 mod writer;
 
 pub use conditions::{Condition, Subject};

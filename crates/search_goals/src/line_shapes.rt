@@ -1,15 +1,16 @@
 //! Which lines a trace can have: the shape of each kind of line, word by word. In a shape N is a
 //! number, T a task, P a phone, F a fibril, C a code and B any word; each other word is itself.
-ghost use Rattle.std.specs.Prelude.{◌≡◌, ◌≤◌, ◌==◌, length, position};
+ghost use Rattle.std.specs.Prelude.{◌≡◌};
 ghost use Rattle.std.specs.Char.{is_ascii_digit};
 ghost use Rattle.std.specs.List.{list_all};
 ghost use Rattle.script_lines.specs.Text.{texts};
 ghost use Rattle.search_goals.specs.Goals.{text_words, listed};
-ghost use Rattle.search_goals.specs.LineShapes.{is_number, is_task, mark_place, is_numbered, is_code, is_of_kind};
+ghost use Rattle.search_goals.specs.LineShapes.{is_number, is_task, is_numbered, is_code, is_of_kind};
 ghost use Rattle.search_goals.specs.LineShapes.{head_shapes, outcome_shapes, effect_shapes, fibril_shapes};
 ghost use Rattle.search_goals.specs.LineShapes.{may_be, begins_as, begins_one, may_begin};
 
-use crate::meeting::next_word;
+use crate::meeting::{is_word, next_word};
+use crate::stops::{Stop, cut_at};
 use ipc_ids::code_named;
 
 /// Heads of events.
@@ -85,10 +86,11 @@ const FIBRILS: [&[u8]; 16] = [
     b"F drops exchange N",
 ];
 
+/// Whether each byte is a decimal digit.
 fn all_digits(word: &[u8]) -> bool
     ensures { result ≡ list_all is_ascii_digit word.now }
 {
-    word.iter().all(|byte| byte.is_ascii_digit())
+    cut_at(Stop::NumberEnd, word).1.is_empty()
 }
 
 /// Whether a word is decimal digits.
@@ -108,30 +110,11 @@ fn is_task(word: &[u8]) -> bool
     }
 }
 
-/// Where a byte stands first.
-fn mark(byte: u8, word: &[u8]) -> Option<usize>
-    ensures { result ≡ position (λ b. b == byte) word.now }
-{
-    word.iter().position(|b| *b == byte)
-}
-
-/// Where a byte stands first; the word's length where it has none.
-#[tactic(auto, using(script_reader::proofs::StepLines::no_end, crate::proofs::GoalWords::found_at))]
-pub(crate) fn mark_place(byte: u8, word: &[u8]) -> usize
-    ensures value { result ≡ mark_place byte word.now }
-    ensures within { result ≤ length word.now }
-{
-    match mark(byte, word) {
-        Some(at) => at,
-        None => word.len(),
-    }
-}
-
 /// Whether a word is a task and a number, with this byte between them.
 fn is_numbered(byte: u8, word: &[u8]) -> bool
     ensures { result ≡ is_numbered byte word.now }
 {
-    let (task, rest) = word.split_at(mark_place(byte, word));
+    let (task, rest) = cut_at(Stop::Mark(byte), word);
     match rest {
         [_, digits @ ..] => is_task(task) && is_number(digits),
         [] => false,
@@ -157,7 +140,7 @@ fn is_of_kind(kind: &[u8], word: &[u8]) -> bool
         b"F" => is_numbered(b'/', word),
         b"C" => is_code(word),
         b"B" => true,
-        _ => kind == word,
+        _ => is_word(kind, word),
     }
 }
 
@@ -165,7 +148,7 @@ fn is_of_kind(kind: &[u8], word: &[u8]) -> bool
 fn may_be(asked: &[u8], kind: &[u8]) -> bool
     ensures { result ≡ may_be asked.now kind.now }
 {
-    asked == b"*".as_slice() || is_of_kind(kind, asked)
+    is_word(asked, b"*") || is_of_kind(kind, asked)
 }
 
 /// Whether a line of this shape may begin with the words that are asked for.

@@ -1,83 +1,39 @@
 //! Whether the entries of an event meet a goal.
-ghost use Rattle.std.specs.Prelude.{◌≡◌, ◌∷◌, [], ◌≤◌, ◌<◌, not, position, length, IfSome, IfNone};
-ghost use Rattle.std.specs.List.{position_or_len, list_any};
-ghost use Rattle.search_goals.specs.Goals.{is_gap, text_words, fits, begins, entry_fits, first_fits, meets_line, listed, after_gaps};
+ghost use Rattle.std.specs.Prelude.{◌≡◌, ◌∷◌, [], ◌<◌, length, IfSome, IfNone};
+ghost use Rattle.std.specs.List.{list_any};
+ghost use Rattle.std.specs.Str.{bytes_eq};
+ghost use Rattle.search_goals.specs.Goals.{text_words, fits, begins, entry_fits, meets_line, listed};
 
+use crate::stops::{Stop, cut_at};
 use ipc_ids::Entry;
 use trace_print::{Page, push_entry};
 
-/// Whether a byte stands between words.
-fn is_gap(byte: u8) -> bool
-    ensures { result ≡ is_gap byte }
-{
-    byte == b' ' || byte == b'\t' || byte == b'\n'
-}
-
-/// Where the first word ends.
-fn gap_place(text: &[u8]) -> Option<usize>
-    ensures { result ≡ position is_gap text.now }
-{
-    text.iter().position(|byte| is_gap(*byte))
-}
-
-/// Where the first word begins.
-fn word_place(text: &[u8]) -> Option<usize>
-    ensures { result ≡ position (λ b. not (is_gap b)) text.now }
-{
-    text.iter().position(|byte| !is_gap(*byte))
-}
-
-/// How many bytes at the front belong to a word.
-#[tactic(auto, using(script_reader::proofs::StepLines::no_end, crate::proofs::GoalWords::found_at))]
-fn word_len(text: &[u8]) -> usize
-    ensures value { result ≡ position_or_len is_gap text.now }
-    ensures within { result ≤ length text.now }
-{
-    match gap_place(text) {
-        Some(at) => at,
-        None => text.len(),
-    }
-}
-
-/// How many bytes at the front belong to none.
-#[tactic(auto, using(script_reader::proofs::StepLines::no_end, crate::proofs::GoalWords::found_at))]
-fn gap_len(text: &[u8]) -> usize
-    ensures value { result ≡ position_or_len (λ b. not (is_gap b)) text.now }
-    ensures within { result ≤ length text.now }
-{
-    match word_place(text) {
-        Some(at) => at,
-        None => text.len(),
-    }
-}
-
-/// What stands behind spaces, tabs and line feeds.
-fn after_gaps(text: &[u8]) -> &[u8]
-    ensures { result.now ≡ after_gaps text.now }
-{
-    text.split_at(gap_len(text)).1
-}
-
 /// The first word, and what stands behind it; `None` where there is none.
-#[tactic(auto, using(crate::proofs::GoalWords::next_is))]
 pub(crate) fn next_word(text: &[u8]) -> Option<(&[u8], &[u8])>
     ensures some { IfSome result (λ cut. text_words text.now ≡ cut.0.now ∷ text_words cut.1.now) }
     ensures none { IfNone result (text_words text.now ≡ []) }
     ensures shorter { IfSome result (λ cut. length cut.1.now < length text.now) }
 {
-    let rest = after_gaps(text);
-    let len = word_len(rest);
-    if len == 0 {
+    let (_, rest) = cut_at(Stop::Word, text);
+    let (word, others) = cut_at(Stop::Gap, rest);
+    if word.is_empty() {
         return None;
     }
-    Some(rest.split_at(len))
+    Some((word, others))
+}
+
+/// Whether two words are the same.
+pub(crate) fn is_word(word: &[u8], other: &[u8]) -> bool
+    ensures { result ≡ bytes_eq word.now other.now }
+{
+    word == other
 }
 
 /// Whether a word is the one that is asked for, or any is.
 fn fits(asked: &[u8], word: &[u8]) -> bool
     ensures { result ≡ fits asked.now word.now }
 {
-    asked == b"*".as_slice() || asked == word
+    is_word(asked, b"*") || is_word(asked, word)
 }
 
 /// Whether the words of a text begin with those that are asked for.

@@ -1,13 +1,14 @@
 //! The names of tasks at a place of a schedule.
 ghost use Rattle.std.specs.Prelude.{◌≡◌, ◌<◌, ◌≤◌, ◌∷◌, ◌++◌, [], true, false, is_some, length, position, IfOk, OnOk};
 ghost use Rattle.std.specs.Str.{bytes_eq};
-ghost use Rattle.script_lines.specs.Names.{place_of, task_named, task_names};
+ghost use Rattle.script_lines.specs.Names.{place_of, task_names};
 ghost use Rattle.script_lines.specs.Sound.{IsTask};
 ghost use Rattle.script_lines.specs.Word.{is_name};
 ghost use Rattle.script_reader.specs.EventLine.{is_taken};
 ghost use Rattle.search_goals.specs.Goals.{listed};
 ghost use Rattle.search_goals.specs.Writing.{AreNamed, AreNames, IsNameOf, IsNew, made_name};
 
+use crate::meeting::is_word;
 use ipc_ids::{NoMemory, TaskNo};
 use script_lines::{Names, is_ns};
 use script_reader::{Script, TaskPlan};
@@ -44,7 +45,8 @@ impl TaskNames {
         requires { AreNamed script.now.tasks }
         ensures { IfOk result (λ names. names ≡ task_names script.now.tasks) }
     {
-        let known = words_of(alloc, script.tasks.as_slice())?;
+        let mut known = Vec::new(alloc);
+        push_words(alloc, script.tasks.as_slice(), &mut known)?;
         Ok(TaskNames { known })
     }
 
@@ -96,20 +98,22 @@ impl TaskNames {
     pub fn to_table(&self, alloc: Global) -> Result<Names, NoMemory>
         ensures { IfOk result (λ table. table ≡ self.now) }
     {
-        table_of(alloc, self.known.as_slice())
+        let mut table = Names::new(alloc);
+        push_names(alloc, self.known.as_slice(), &mut table)?;
+        Ok(table)
     }
 }
 
-/// The names of tasks, as bytes.
-fn words_of(alloc: Global, tasks: &[TaskPlan]) -> Result<Vec<Vec<u8>>, NoMemory>
-    ensures { IfOk result (λ known. listed known.items ≡ task_names tasks.now) }
+/// Adds the names of tasks, as bytes, where there are none yet.
+fn push_words(alloc: Global, tasks: &[TaskPlan], known: &mut Vec<Vec<u8>>) -> Result<(), NoMemory>
+    requires { known.old.items ≡ [] }
+    ensures { OnOk result (listed known.new.items ≡ task_names tasks.now) }
 {
-    let mut known = Vec::new(alloc);
     for task in tasks {
         let name = Vec::from_slice(alloc, task.name.as_slice())?;
         known.push(name)?;
     }
-    Ok(known)
+    Ok(())
 }
 
 /// Where a name stands.
@@ -119,24 +123,36 @@ fn place_in(known: &[Vec<u8>], name: &[u8]) -> Option<usize>
     known.iter().position(|word| name == word.as_slice())
 }
 
-/// The table of these names.
-fn table_of(alloc: Global, known: &[Vec<u8>]) -> Result<Names, NoMemory>
-    requires { AreNames (listed known.now) }
-    ensures { IfOk result (λ table. table ≡ listed known.now) }
+/// Adds these names to a table, where there are none yet.
+fn push_names(alloc: Global, known: &[Vec<u8>], table: &mut Names) -> Result<(), NoMemory>
+    requires none { table.old ≡ [] }
+    requires names { AreNames (listed known.now) }
+    ensures { OnOk result (table.new ≡ listed known.now) }
 {
-    let mut table = Names::new(alloc);
     for name in known {
         table.push(alloc, name.as_slice())?;
     }
-    Ok(table)
+    Ok(())
+}
+
+/// Whether a template has this name.
+fn is_template(templates: &[TaskPlan], name: &[u8]) -> bool
+    ensures { result ≡ is_some (place_of (task_names templates.now) name.now) }
+{
+    for template in templates {
+        if is_word(name, template.name.as_slice()) {
+            return true;
+        }
+    }
+    false
 }
 
 /// Whether a task that is made may not have this name.
 #[tactic(auto, unfolding(script_reader::specs::EventLine::is_taken))]
-fn is_taken(templates: &Names, names: &TaskNames, name: &[u8]) -> bool
-    ensures { result ≡ is_taken templates.now names.now name.now }
+fn is_taken(templates: &[TaskPlan], names: &TaskNames, name: &[u8]) -> bool
+    ensures { result ≡ is_taken (task_names templates.now) names.now name.now }
 {
-    names.place_of(name).is_some() || templates.place_of(name).is_some() || is_ns(name)
+    names.place_of(name).is_some() || is_template(templates, name) || is_ns(name)
 }
 
 /// `t` and a number.
@@ -151,11 +167,11 @@ pub(crate) fn made_name(alloc: Global, number: u64) -> Result<Vec<u8>, NoMemory>
 /// number whose name is not.
 pub(crate) fn next_name(
     alloc: Global,
-    templates: &Names,
+    templates: &[TaskPlan],
     names: &TaskNames,
 ) -> Result<Vec<u8>, NoMemory>
     requires { length templates.now ≤ 64 }
-    ensures { IfOk result (λ name. IsNew templates.now names.now name.items) }
+    ensures { IfOk result (λ name. IsNew (task_names templates.now) names.now name.items) }
 {
     let mut number = names.len() as u64 + 1;
     let mut name = made_name(alloc, number)?;

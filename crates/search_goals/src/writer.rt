@@ -1,17 +1,13 @@
 //! The text of events, as lines of a schedule.
-ghost use Rattle.std.specs.Prelude.{◌≡◌, ◌≤◌, ◌<◌, ◌^◌, ◌+◌, ◌*◌, ⊤, [], ◌∷◌, ◌++◌, true, Ok, All, IfOk, OnOk, IfSome, IfNone, length, replicate, take, ◌⊎◌, codes};
-ghost use Rattle.std.specs.List.{list_all};
+ghost use Rattle.std.specs.Prelude.{◌≡◌, ◌≤◌, ◌<◌, ◌^◌, ◌+◌, ◌*◌, [], ◌∷◌, ◌++◌, Ok, IfOk, OnOk, IfSome, IfNone, length, replicate, take, ◌⊎◌, codes};
 ghost use Rattle.ipc_ids.specs.declared.message.Event.TheVariants as events;
-ghost use Rattle.script_lines.specs.Text.{is_allowed};
 ghost use Rattle.script_lines.specs.Names.{task_names};
-ghost use Rattle.script_reader.specs.Reading.{schedule_of};
 ghost use Rattle.script_reader.specs.Schedule.{MayCome, MayAllCome};
-ghost use Rattle.search_goals.specs.Lines.{comment_text, times_text, step_text, kill_text, hangup_text, spawn_text};
-ghost use Rattle.search_goals.specs.Writing.{IsStep, AreNamed, IsNamed, IsNew, Writes, IsFront};
+ghost use Rattle.search_goals.specs.Lines.{times_text, step_text, hangup_text, spawn_text};
+ghost use Rattle.search_goals.specs.Writing.{IsStep, AreNamed, Writes, IsFront};
 
 use crate::names::{TaskNames, next_name};
 use ipc_ids::{Event, NoMemory, TaskNo};
-use script_lines::names_of;
 use script_reader::Script;
 use std::alloc::Global;
 
@@ -46,13 +42,6 @@ fn push_step(alloc: Global, text: &mut Vec<u8>, name: &[u8], count: u64) -> Resu
     push_rest(text, b"step ", name, times.as_bytes())
 }
 
-/// Adds the line of a kill.
-fn push_kill(text: &mut Vec<u8>, name: &[u8]) -> Result<(), NoMemory>
-    ensures { OnOk result (text.new.items ≡ text.old.items ++ kill_text name.now) }
-{
-    push_rest(text, b"kill ", name, &[])
-}
-
 /// Adds the line of a hangup.
 fn push_hangup(alloc: Global, text: &mut Vec<u8>, name: &[u8], phone: u64) -> Result<(), NoMemory>
     ensures text { OnOk result (text.new.items ≡ text.old.items ++ hangup_text name.now phone) }
@@ -70,14 +59,6 @@ fn push_spawn(text: &mut Vec<u8>, template: &[u8], name: &[u8]) -> Result<(), No
     push_rest(text, template, b" ", name)
 }
 
-/// A name for the next task that is made.
-fn new_name(alloc: Global, script: &Script, names: &TaskNames) -> Result<Vec<u8>, NoMemory>
-    ensures { IfOk result (λ name. IsNew (task_names script.now.templates) names.now name.items) }
-{
-    let templates = names_of(alloc, script.templates.as_slice())?;
-    next_name(alloc, &templates, names)
-}
-
 /// Adds the line by which a task of the template at a place is made, which gets a name of its own.
 fn push_made(
     alloc: Global,
@@ -92,8 +73,9 @@ fn push_made(
     ensures { OnOk result (Writes (task_names script.now.templates) names.old text.old.items
         text.new.items (events.Spawn place ∷ []) names.new) }
 {
-    let name = new_name(alloc, script, names)?;
-    let template = script.templates.as_slice()[place as usize].name.as_slice();
+    let templates = script.templates.as_slice();
+    let name = next_name(alloc, templates, names)?;
+    let template = templates[place as usize].name.as_slice();
     push_spawn(text, template, name.as_slice())?;
     names.push(alloc, name.as_slice())
 }
@@ -117,7 +99,7 @@ fn push_line(
 {
     match event {
         Event::Step(task) => push_step(alloc, text, names.name_of(task), count),
-        Event::Kill(task) => push_kill(text, names.name_of(task)),
+        Event::Kill(task) => push_rest(text, b"kill ", names.name_of(task), &[]),
         Event::Hangup(task, phone) => push_hangup(alloc, text, names.name_of(task), phone),
         Event::Spawn(place) => push_made(alloc, text, script, names, place),
     }

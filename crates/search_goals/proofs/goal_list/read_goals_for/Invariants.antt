@@ -1,14 +1,10 @@
-use Rattle.std.proofs.Common.{◌≡◌, true, drop}
+use Rattle.std.proofs.Common.{◌≡◌, drop}
 use Rattle.script_lines.specs.Text.{texts}
-use Rattle.search_goals.specs.GoalList.{all_precede, with_goals, goals_of, said_all, sought_by}
+use Rattle.search_goals.specs.GoalList.{with_goals, goals_of, sought_by}
 use Rattle.search_goals.proofs.goal_list.read_goals_for.Given as goal
 
 -- what was read, and the texts that are left, say what all say
 abbrev pub invariant-loop-text : goal.invariant-loop-text
 invariant-loop-text l =
-    record {
-      told :
-          with_goals l.names l.tasks (sought_by l.goals) (texts (drop l.text-index l.later))
-          ≡ goals_of l.names l.tasks l.first (texts l.later);
-      precede : all_precede (said_all l.goals.earlier.items) ≡ true;
-    }
+    with_goals l.names l.tasks (sought_by l.goals) (texts (drop l.text-index l.later))
+    ≡ goals_of l.names l.tasks l.first (texts l.later)

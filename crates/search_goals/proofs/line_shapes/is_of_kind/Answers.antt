@@ -7,7 +7,7 @@ use Rattle.search_goals.proofs.line_shapes.is_of_kind.Goals as goal
 pub returns-in_default : goal.returns-in_default
 returns-in_default c =
     let kind = c.args.kind.now in
-    c.eq.ensures
+    c.is_word.ensures
     ∙ elim c.in_default.branch [
       | in_default-via-then-kind-lt1 w ↦
           let few : length kind < 1 = search rules in

@@ -1,9 +1,10 @@
-use Rattle.std.proofs.Common.{ℕ, [], length, refl, sym, subst, arith}
+use Rattle.std.proofs.Common.{ℕ, List, [], ◌++◌, length, refl, sym, ap, subst, ◌∙◌, arith, append-nil}
+use Rattle.ipc_ids.specs.declared.message.Event.{Event}
 use Rattle.script_lines.specs.Names.{task_names}
 use Rattle.script_reader.specs.Schedule.{MayAllCome}
-use Rattle.search_goals.specs.Writing.{IsFront}
+use Rattle.search_goals.specs.Writing.{IsFront, Writes}
 use Rattle.search_goals.proofs.Adding.{writes_none}
-use Rattle.search_goals.proofs.Texts.{step_on, may_first, may_others, shorter}
+use Rattle.search_goals.proofs.Texts.{step_on, may_first, may_others, count_within, shorter}
 use Rattle.search_goals.proofs.writer.push_events.Goals as goal
 
 pub loop-front-init : goal.loop-front-init
@@ -44,3 +45,27 @@ loop-front-preserved c =
           (may_others (length names) t new.count rest new.first new.others.now front c.loop-front.invariant.may);
       few = omega (arith, few, less);
     }
+
+pub returns : goal.returns
+returns c =
+    let way = c.loop-front.invariant.way in
+    subst
+    (λ (es : List Event). Writes (task_names c.args.script.now.templates) c.args.names.now c.args.text.now.items
+    c.loop-front.text.items es c.loop-front.names)
+    (sym (way.parts ∙ ap (λ (es : List Event). way.done ++ es) c.in_default.ensures.none ∙ append-nil way.done)) way.wrote
+
+pub push_line-requires-clause-named : goal.push_line-requires-clause-named
+push_line-requires-clause-named c = c.requires.named
+
+pub push_line-requires-clause-some : goal.push_line-requires-clause-some
+push_line-requires-clause-some c = c.in-Some.ensures.some.some
+
+pub push_line-requires-clause-times : goal.push_line-requires-clause-times
+push_line-requires-clause-times c = c.in-Some.ensures.some.times
+
+pub push_line-requires-clause-few : goal.push_line-requires-clause-few
+push_line-requires-clause-few c =
+    let new = c.in-Some.front in
+    let within = count_within c.loop-front.rest.now new.first new.count new.others.now c.in-Some.ensures.some in
+    let few = c.loop-front.invariant.few in
+    omega (arith, within, few)

@@ -14,9 +14,9 @@ returns-in-Step c =
 
 pub returns-in-Kill : goal.returns-in-Kill
 returns-in-Kill c =
-    then_on_ok c.push_kill.result c.push_kill.ensures
+    then_on_ok c.push_rest.result c.push_rest.ensures
     (kill_written (task_names c.args.script.now.templates) c.args.names.now c.in-Kill.task c.name_of-in-Kill.result.now
-    c.args.text.now.items c.push_kill.new.text.items c.args.event c.args.count c.name_of-in-Kill.ensures
+    c.args.text.now.items c.push_rest.new.text.items c.args.event c.args.count c.name_of-in-Kill.ensures
     c.in-Kill.is
     (once c.args.event c.args.count c.requires.times (λ step. subst IsStep c.in-Kill.is step)))
 

@@ -9,6 +9,6 @@ use Rattle.search_goals.proofs.names.TaskNames.of_script.Goals as goal
 pub invariant_of-result : goal.invariant_of-result
 invariant_of-result c =
     let view = ap (λ (p : Plan). p.tasks) c.script.view_is in
-    subst AreNames (sym (c.in_ok-known.ensures ∙ ap task_names (c.as_slice.ensures ∙ view)))
+    subst AreNames (sym (c.in_ok-push_words.ensures ∙ ap task_names (c.as_slice.ensures ∙ view)))
     (are_names c.args.script.now.tasks c.requires (subst NamesDiffer view c.script.invariant.names_differ)
     (rw view at c.script.invariant.few))

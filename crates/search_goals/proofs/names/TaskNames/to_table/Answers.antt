@@ -3,5 +3,5 @@ use Rattle.search_goals.specs.Goals.{listed}
 use Rattle.search_goals.specs.Writing.{AreNames}
 use Rattle.search_goals.proofs.names.TaskNames.to_table.Goals as goal
 
-pub table_of-requires : goal.table_of-requires
-table_of-requires c = subst (λ ws. AreNames (listed ws)) (sym c.as_slice.ensures.value) c.self.invariant
+pub push_names-requires-clause-names : goal.push_names-requires-clause-names
+push_names-requires-clause-names c = subst (λ ws. AreNames (listed ws)) (sym c.as_slice.ensures.value) c.self.invariant

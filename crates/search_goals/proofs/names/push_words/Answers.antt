@@ -1,10 +1,10 @@
 use Rattle.std.proofs.Common.{ℕ, List, [], ◌∷◌, ◌++◌, take, sym, ap, ◌∙◌}
 use Rattle.std.specs.Global.{Vec}
-use Rattle.std.proofs.lemmas.List.{map_push, take_more}
+use Rattle.std.proofs.lemmas.List.{map_push, take_more, take_all}
 use Rattle.script_lines.specs.declared.plan.TaskPlan.{TaskPlan}
 use Rattle.script_lines.specs.Names.{task_names}
 use Rattle.search_goals.specs.Goals.{listed}
-use Rattle.search_goals.proofs.names.words_of.Goals as goal
+use Rattle.search_goals.proofs.names.push_words.Goals as goal
 
 pub loop-task-preserved : goal.loop-task-preserved
 loop-task-preserved c =
@@ -18,3 +18,10 @@ loop-task-preserved c =
     ∙ sym (map_push (λ (t : TaskPlan). t.name) (take i tasks) task)
     ∙ ap (λ (t : TaskPlan). task_names (take i tasks ++ t ∷ [])) c.task-item.is
     ∙ sym (ap task_names (take_more tasks i task c.loop-task-test.true))
+
+pub returns : goal.returns
+returns c =
+    c.loop-task.invariant ∙ ap task_names (take_all c.loop-task.task-index c.args.tasks.now c.loop-task-test.false)
+
+pub loop-task-init : goal.loop-task-init
+loop-task-init c = ap listed c.requires
