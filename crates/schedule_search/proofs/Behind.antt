@@ -91,3 +91,7 @@ module _ (s : Search) (sound : IsSound s) where
       let all : MayAllHappen (start s.plan) (s.from ++ es) =
       may_from s.plan (s.from ++ es) (start s.plan) refl (may_all es tried) in
       subst (λ (z : RunState). MayAllHappen z es) (sym is) (may_behind (start s.plan) s.from es all)
+
+  pub all_may : (now : RunState) (es : List Event) → now ≡ start s.plan → may_try s es ≡ true
+      → MayAllHappen now (s.from ++ es)
+  all_may now es is tried = may_from s.plan (s.from ++ es) now is (may_all es tried)

@@ -1,10 +1,9 @@
 -- The entries of a run, one event after the other.
 use Rattle.std.proofs.Common.{ℕ, ◌≡◌, ◌≤◌, ◌<◌, ◌+◌, List, ◌∷◌, ◌++◌, length, drop, get_or, sym, ◌∙◌, ap, append_assoc, append-nil}
 use Rattle.std.proofs.lemmas.List.{drop_more, drop_all}
-use Rattle.schedule_replay.proofs.UnderWay.{run_append}
 use Rattle.ipc_ids.specs.declared.entry.Entry.{Entry}
 use Rattle.ipc_ids.specs.declared.message.Event.{Event}
-use Rattle.task_system.specs.Run.{RunState, turn, state_after, run_from}
+use Rattle.task_system.specs.Run.{RunState, turn, run_from}
 
 module _ (events : List Event) (i : ℕ) (e d : Event) (within : i < length events) (is : e ≡ get_or events i d) where
   -- what is told, and what the events that are left tell, is the whole
@@ -23,12 +22,3 @@ pub tells_there : (events : List Event) (i : ℕ) → length events ≤ i → (n
     → told ++ run_from now (drop i events) ≡ whole → told ≡ whole
 tells_there events i over now told whole h =
     sym (append-nil told) ∙ ap (λ (es : List Event). told ++ run_from now es) (sym (drop_all i events over)) ∙ h
-
--- what two parts of a schedule tell, one behind the other
-pub told_both : (from es : List Event) (old first : List Entry) (begun behind : RunState) → first ≡ old ++ run_from begun from
-    → behind ≡ state_after begun from → first ++ run_from behind es ≡ old ++ run_from begun (from ++ es)
-told_both from es old first begun behind told there =
-    ap (λ (z : RunState). first ++ run_from z es) there
-    ∙ ap (λ (z : List Entry). z ++ run_from (state_after begun from) es) told
-    ∙ append_assoc old (run_from begun from) (run_from (state_after begun from) es)
-    ∙ ap (λ (z : List Entry). old ++ z) (sym (run_append begun from es))

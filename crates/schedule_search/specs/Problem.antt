@@ -1,6 +1,8 @@
 -- What the code of a search is asked, as the definitions have it, and what it may do.
 use Rattle.std.specs.Prelude.{◌≡◌, ◌<◌, ◌^◌, true, List, length}
 use Rattle.ipc_ids.specs.declared.message.Event.{Event}
+use Rattle.script_lines.specs.Plan.{Plan}
+use Rattle.task_system.specs.Run.{RunState, start}
 use Rattle.search_goals.specs.GoalText.{said}
 use Rattle.search_goals.specs.GoalList.{said_all}
 use Rattle.schedule_search.specs.declared.problem.Problem.{Problem}
@@ -31,3 +33,8 @@ pub record CanDo (s : Search) (es : List Event) : Type 0 where
   pub of_moves : AreOf s.moves es
   pub few : length es < 2 ^ 20
   pub tried : may_try s es ≡ true
+
+-- the tasks of a script before the first event, none of which was counted yet
+pub record IsAtStart (plan : Plan) (now : RunState) : Type 0 where
+  pub state : now ≡ start plan
+  pub none : now.kernel.events ≡ 0

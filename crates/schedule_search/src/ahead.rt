@@ -1,15 +1,13 @@
 //! The steps that may come behind events, as a maze.
-ghost use Rattle.std.specs.Prelude.{◌≡◌, ◌<◌, ◌^◌, None, Some, IfOk, length, not, reverse};
-ghost use Rattle.answerbox.specs.Calls.{call_at};
+ghost use Rattle.std.specs.Prelude.{◌≡◌, ◌<◌, ◌^◌, true, false, Some, IfOk, length, reverse};
 ghost use Rattle.run_words.specs.RunWords.{run_words};
 ghost use Rattle.search_core.specs.Moves.{AreMoves};
-ghost use Rattle.schedule_search.specs.OpenCalls.{is_open};
 ghost use Rattle.schedule_search.specs.Search.{state_behind};
-ghost use Rattle.schedule_search.specs.Problem.{search_of};
+ghost use Rattle.schedule_search.specs.Problem.{search_of, IsAtStart};
 ghost use Rattle.schedule_search.specs.Ahead.{FitsAhead, IsClosed, ahead, steps_of};
 
 use crate::open_calls::is_open;
-use crate::place::{all_calls, led, replayed, words_of};
+use crate::place::{all_calls, do_events, lead, started, words_of};
 use crate::problem::Problem;
 use ipc_ids::{CallNo, Event, TaskNo};
 use schedule_replay::Replay;
@@ -27,19 +25,40 @@ pub(crate) struct Ahead<'a> {
 }
 
 impl Ahead<'_> {
-    /// The tasks behind these steps.
-    fn replayed(&self, alloc: Global, path: &[u32]) -> Result<Replay, AllocError>
+    /// Whether the call is closed behind these steps, and the words of the state there. `replay` is led
+    /// there from where it starts.
+    fn visit_there(
+        &self,
+        alloc: Global,
+        path: &[u32],
+        replay: &mut Replay,
+    ) -> Result<Visit, AllocError>
         requires fits { FitsAhead (search_of self.now.problem.now) self.now.events.now self.now.tasks
             self.now.call.0 }
         requires few { length path.now < 2 ^ 20 }
         requires moves { AreMoves self.now.tasks (reverse path.now) }
-        ensures { IfOk result (λ replay. replay.state
-            ≡ ahead (state_behind (search_of self.now.problem.now) self.now.events.now)
-            (reverse path.now)) }
+        requires at_start { IsAtStart self.now.problem.now.script.now replay.old.state }
+        ensures met { IfOk result (λ visit. visit.met ≡ Some true
+            → IsClosed (state_behind (search_of self.now.problem.now) self.now.events.now)
+            self.now.call.0 (reverse path.now)) }
+        ensures unmet { IfOk result (λ visit. visit.met ≡ Some false
+            → IsClosed (state_behind (search_of self.now.problem.now) self.now.events.now)
+            self.now.call.0 (reverse path.now) → ⊥) }
+        ensures code { IfOk result (λ visit. visit.code.items ≡ run_words
+            (ahead (state_behind (search_of self.now.problem.now) self.now.events.now)
+            (reverse path.now))) }
     {
+        lead(alloc, self.problem, self.events, replay)?;
         let steps = steps_by(alloc, path)?;
-        let replay = replayed(alloc, self.problem, self.events)?;
-        led(alloc, replay, steps.as_slice())
+        let done = do_events(alloc, replay, steps.as_slice());
+        drop(steps);
+        done?;
+        let open = is_open(None, all_calls(replay).get(self.call));
+        let code = words_of(alloc, replay)?;
+        Ok(Visit {
+            met: Some(!open),
+            code,
+        })
     }
 }
 
@@ -61,32 +80,16 @@ impl Maze for Ahead<'_> {
     }
 
     fn visit(&self, alloc: Global, path: &[u32]) -> Result<Visit, AllocError> {
-        let replay = self.replayed(alloc, path)?;
-        let visit = visit_of(alloc, &replay, self.call);
+        let mut replay = started(alloc, self.problem.script)?;
+        let visit = self.visit_there(alloc, path, &mut replay);
         replay.close();
         visit
     }
 
     fn code(&self, alloc: Global, path: &[u32]) -> Result<Vec<u64>, AllocError> {
-        let replay = self.replayed(alloc, path)?;
-        let words = words_of(alloc, &replay);
-        replay.close();
-        words
+        let visit = self.visit(alloc, path)?;
+        Ok(visit.code)
     }
-}
-
-/// Whether the call is closed here, and the words of the state.
-fn visit_of(alloc: Global, replay: &Replay, call: CallNo) -> Result<Visit, AllocError>
-    ensures met { IfOk result (λ visit. visit.met
-        ≡ Some (not (is_open None (call_at replay.now.state.kernel.calls call.0)))) }
-    ensures code { IfOk result (λ visit. visit.code.items ≡ run_words replay.now.state) }
-{
-    let open = is_open(None, all_calls(replay).get(call));
-    let code = words_of(alloc, replay)?;
-    Ok(Visit {
-        met: Some(!open),
-        code,
-    })
 }
 
 /// The steps of these numbers.

@@ -16,30 +16,22 @@ use async_task::{AsyncProgram, Context};
 use ipc_ids::{Body, Event, FibrilNo, Op, TaskNo};
 use raw_program::RawProgram;
 use script_reader::Script;
-use search_goals::Condition;
+use search_goals::{Condition, Subject};
 use task_system::{AnyProgram, System};
 
-/// The task that a condition is about.
-fn task_of(condition: &Condition) -> TaskNo
-    ensures { result ≡ task_of condition.now }
+/// The task that a condition is about, and the fibril that it names, if it names one.
+fn subject_of(condition: &Condition) -> Subject
+    ensures task { result.task ≡ task_of condition.now }
+    ensures fibril { result.fibril ≡ named_fibril condition.now }
 {
     match condition {
-        Condition::At(subject, _) => subject.task,
-        Condition::Holds(subject, _, _) => subject.task,
-        Condition::AtEnd(subject) => subject.task,
-        Condition::Killed(task) => *task,
-    }
-}
-
-/// The fibril that a condition names, if it names one.
-fn named_fibril(condition: &Condition) -> Option<FibrilNo>
-    ensures { result ≡ named_fibril condition.now }
-{
-    match condition {
-        Condition::At(subject, _) => subject.fibril,
-        Condition::Holds(subject, _, _) => subject.fibril,
-        Condition::AtEnd(subject) => subject.fibril,
-        Condition::Killed(_) => None,
+        Condition::At(subject, _) => *subject,
+        Condition::Holds(subject, _, _) => *subject,
+        Condition::AtEnd(subject) => *subject,
+        Condition::Killed(task) => Subject {
+            task: *task,
+            fibril: None,
+        },
     }
 }
 
@@ -182,7 +174,7 @@ fn holds_of(condition: &Condition, program: &AnyProgram, bodies: &[Body]) -> boo
     requires { DoesBodies (constant program.now) bodies.now }
     ensures { result ≡ holds_of condition.now program.now }
 {
-    let fibril = named_fibril(condition);
+    let fibril = subject_of(condition).fibril;
     match program {
         AnyProgram::Raw(program) => holds_of_raw(condition, fibril, program, bodies),
         AnyProgram::Async(program) => {
@@ -225,7 +217,7 @@ pub fn holds(condition: &Condition, script: &Script, from: &[Event], system: &Sy
     requires reached { IsReached script.now (spawns_of from.now) system.now }
     ensures { result ≡ holds condition.now system.now }
 {
-    let task = task_of(condition);
+    let task = subject_of(condition).task;
     match program_with(system, task) {
         Some(program) => {
             let bodies = bodies_of(script, from, task);

@@ -1,12 +1,12 @@
 //! Whether a call is ever answered, whatever steps of tasks come behind events.
-ghost use Rattle.std.specs.Prelude.{◌≡◌, ◌≤◌, ◌<◌, ◌^◌, true, false, Some, IfOk, length};
+ghost use Rattle.std.specs.Prelude.{◌≡◌, ◌≤◌, ◌<◌, true, false, Some, IfOk, length};
 ghost use Rattle.schedule_search.specs.Search.{state_behind};
-ghost use Rattle.schedule_search.specs.Problem.{search_of, CanDo};
+ghost use Rattle.schedule_search.specs.Problem.{search_of, CanDo, IsAtStart};
 ghost use Rattle.schedule_search.specs.Lost.{IsLost, HasLostCall};
 
 use crate::ahead::Ahead;
 use crate::open_calls::is_open;
-use crate::place::{all_calls, do_event, replayed, tasks};
+use crate::place::{all_calls, do_event, lead, started, tasks};
 use crate::problem::Problem;
 use ipc_ids::{CallNo, Event, TaskNo, Trace};
 use schedule_replay::Replay;
@@ -30,27 +30,33 @@ fn next_number(number: u64) -> u64 {
         .wrapping_add(1_442_695_040_888_963_407)
 }
 
-/// Whether the call is closed by steps of so many tasks in one order, which come where `replay` stands.
-/// If not, others may close it.
+/// Whether the call is closed behind these events by steps of so many tasks in one order, through which
+/// `replay` is led from where it starts. If not, others may close it.
 fn closes_by_steps(
+    alloc: Global,
+    problem: &Problem<'_>,
+    events: &[Event],
     replay: &mut Replay,
-    told: &mut Trace,
     tasks: u64,
     call: CallNo,
     order: u64,
 ) -> Result<bool, AllocError>
-    requires count { tasks ≡ length replay.old.state.kernel.tasks.alive }
+    requires can { CanDo (search_of problem.now) events.now }
+    requires at_start { IsAtStart problem.now.script.now replay.old.state }
+    requires count { tasks ≡ length (state_behind (search_of problem.now) events.now).kernel.tasks.alive }
     requires some { 0 < tasks }
     requires few { tasks ≤ 4096 }
-    requires room { replay.old.state.kernel.events ≤ 2 ^ 21 }
-    ensures { IfOk result (λ closes. closes ≡ true → IsLost replay.old.state call.0 → ⊥) }
+    ensures { IfOk result (λ closes. closes ≡ true
+        → IsLost (state_behind (search_of problem.now) events.now) call.0 → ⊥) }
 {
+    lead(alloc, problem, events, replay)?;
+    let mut told = Trace::new(alloc);
     let mut number = order;
     let steps = STEPS * tasks;
     for i in 0..steps {
         number = next_number(number);
         let task = (number >> 33) % tasks + 1;
-        do_event(replay, told, &Event::Step(TaskNo(task)))?;
+        do_event(replay, &mut told, &Event::Step(TaskNo(task)))?;
         if !is_open(None, all_calls(replay).get(call)) {
             return Ok(true);
         }
@@ -76,9 +82,8 @@ fn closes_in_order(
     if tasks == 0 {
         return Ok(false);
     }
-    let mut replay = replayed(alloc, problem, events)?;
-    let mut told = Trace::new(alloc);
-    let closes = closes_by_steps(&mut replay, &mut told, tasks, call, order);
+    let mut replay = started(alloc, problem.script)?;
+    let closes = closes_by_steps(alloc, problem, events, &mut replay, tasks, call, order);
     replay.close();
     closes
 }

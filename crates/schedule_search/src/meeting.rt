@@ -16,7 +16,11 @@ use search_goals::{Goal, may_precede, meets_line};
 use std::alloc::{AllocError, Global};
 
 /// All events that lead to a state.
-fn all_events(alloc: Global, first: &[Event], later: &[Event]) -> Result<Vec<Event>, AllocError>
+pub(crate) fn all_events(
+    alloc: Global,
+    first: &[Event],
+    later: &[Event],
+) -> Result<Vec<Event>, AllocError>
     ensures { IfOk result (λ all. all.items ≡ first.now ++ later.now) }
 {
     let mut all = Vec::from_slice(alloc, first)?;

@@ -1,12 +1,13 @@
 //! The tasks of a problem behind events, made anew each time.
 //!
-//! They are let go by `Replay::close`, where no `?` stands between: else each way out of a function
-//! would let go of all their parts by itself, and to prove that takes long.
+//! Who makes them lends them to one other function, and lets them go by `Replay::close`, where no `?`
+//! stands between: else each way out of a function would let go of all their parts by itself, and to
+//! prove that takes long.
 ghost use Rattle.std.specs.Prelude.{◌≡◌, ◌+◌, ◌^◌, ◌<◌, ◌≤◌, length, IfOk, OnOk};
-ghost use Rattle.task_system.specs.Run.{start, turn, state_after, MayHappen, MayAllHappen};
+ghost use Rattle.task_system.specs.Run.{turn, state_after, MayHappen, MayAllHappen};
 ghost use Rattle.run_words.specs.RunWords.{run_words};
-ghost use Rattle.schedule_search.specs.Search.{IsSound, first_state, state_behind};
-ghost use Rattle.schedule_search.specs.Problem.{search_of, CanDo};
+ghost use Rattle.schedule_search.specs.Search.{state_behind};
+ghost use Rattle.schedule_search.specs.Problem.{search_of, CanDo, IsAtStart};
 
 use crate::problem::Problem;
 use answerbox::Boxes;
@@ -21,8 +22,7 @@ pub(crate) const WORDS: usize = 1024;
 
 /// The tasks of a script before the first event.
 pub(crate) fn started(alloc: Global, script: &Script) -> Result<Replay, AllocError>
-    ensures state { IfOk result (λ replay. replay.state ≡ start script.now) }
-    ensures count { IfOk result (λ replay. replay.state.kernel.events ≡ 0) }
+    ensures { IfOk result (λ replay. IsAtStart script.now replay.state) }
 {
     match Replay::new(alloc, script) {
         Ok(replay) => Ok(replay),
@@ -51,61 +51,39 @@ pub(crate) fn do_event(
 }
 
 /// One event after the other.
-fn do_events(replay: &mut Replay, told: &mut Trace, events: &[Event]) -> Result<(), AllocError>
+pub(crate) fn do_events(
+    alloc: Global,
+    replay: &mut Replay,
+    events: &[Event],
+) -> Result<(), AllocError>
     requires few { replay.old.state.kernel.events + length events.now ≤ 2 ^ 24 }
     requires may { MayAllHappen replay.old.state events.now }
     ensures state { OnOk result (replay.new.state ≡ state_after replay.old.state events.now) }
     ensures count { OnOk result (replay.new.state.kernel.events
         ≤ replay.old.state.kernel.events + length events.now) }
 {
+    let mut told = Trace::new(alloc);
     for event in events {
-        do_event(replay, told, event)?;
+        do_event(replay, &mut told, event)?;
     }
     Ok(())
 }
 
-/// The tasks behind these events more. Where no memory is found they are let go.
-pub(crate) fn led(alloc: Global, mut replay: Replay, events: &[Event]) -> Result<Replay, AllocError>
-    requires few { replay.state.kernel.events + length events.now ≤ 2 ^ 24 }
-    requires may { MayAllHappen replay.state events.now }
-    ensures state { IfOk result (λ led. led.state ≡ state_after replay.state events.now) }
-    ensures count { IfOk result (λ led. led.state.kernel.events
-        ≤ replay.state.kernel.events + length events.now) }
-{
-    let mut told = Trace::new(alloc);
-    match do_events(&mut replay, &mut told, events) {
-        Ok(()) => Ok(replay),
-        Err(AllocError) => {
-            replay.close();
-            Err(AllocError)
-        }
-    }
-}
-
-/// The tasks of a problem behind the events that come first.
-pub(crate) fn begun(alloc: Global, problem: &Problem<'_>) -> Result<Replay, AllocError>
-    requires sound { IsSound (search_of problem.now) }
-    ensures state { IfOk result (λ replay. replay.state ≡ first_state (search_of problem.now)) }
-    ensures count { IfOk result (λ replay. replay.state.kernel.events ≤ 65536) }
-{
-    let replay = started(alloc, problem.script)?;
-    led(alloc, replay, problem.from)
-}
-
-/// The tasks of a problem behind these events, which come behind those that come first.
-pub(crate) fn replayed(
+/// Leads the tasks from where they start through the events that come first, and these behind them.
+pub(crate) fn lead(
     alloc: Global,
     problem: &Problem<'_>,
     events: &[Event],
-) -> Result<Replay, AllocError>
+    replay: &mut Replay,
+) -> Result<(), AllocError>
     requires can { CanDo (search_of problem.now) events.now }
-    ensures state { IfOk result (λ replay. replay.state
-        ≡ state_behind (search_of problem.now) events.now) }
-    ensures count { IfOk result (λ replay. replay.state.kernel.events
-        ≤ 65536 + length events.now) }
+    requires at_start { IsAtStart problem.now.script.now replay.old.state }
+    ensures state { OnOk result (replay.new.state ≡ state_behind (search_of problem.now) events.now) }
+    ensures count { OnOk result (replay.new.state.kernel.events ≤ 65536 + length events.now) }
 {
-    let replay = begun(alloc, problem)?;
-    led(alloc, replay, events)
+    do_events(alloc, replay, problem.from)?;
+    do_events(alloc, replay, events)?;
+    Ok(())
 }
 
 /// How many tasks there are.

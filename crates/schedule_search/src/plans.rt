@@ -1,7 +1,6 @@
 //! The bodies of the tasks of a run, by the script and the spawns.
 ghost use Rattle.std.specs.Prelude.{◌≡◌, ◌-◌, slice_get};
 ghost use Rattle.std.specs.Option.{option_copied};
-ghost use Rattle.search_goals.specs.Places.{bodies_in};
 ghost use Rattle.run_words.specs.Reached.{spawns_of};
 ghost use Rattle.schedule_search.specs.Plans.{template_of, spawned_plans, plan_at, bodies_of};
 
@@ -51,19 +50,12 @@ fn plan_of<'a>(script: &'a Script, from: &[Event], task: TaskNo) -> Option<&'a T
     spawned_plan(script.templates.as_slice(), from, place - tasks.len())
 }
 
-/// The bodies of a plan; none where there is no plan.
-fn bodies_in(plan: Option<&TaskPlan>) -> &[Body]
-    ensures { result.now ≡ bodies_in (option_copied plan.entry) }
-{
-    match plan {
-        Some(plan) => plan.bodies.as_slice(),
-        None => &[],
-    }
-}
-
-/// The bodies of a task.
+/// The bodies of a task; none where it has no plan.
 pub(crate) fn bodies_of<'a>(script: &'a Script, from: &[Event], task: TaskNo) -> &'a [Body]
     ensures { result.now ≡ bodies_of script.now (spawns_of from.now) task }
 {
-    bodies_in(plan_of(script, from, task))
+    match plan_of(script, from, task) {
+        Some(plan) => plan.bodies.as_slice(),
+        None => &[],
+    }
 }

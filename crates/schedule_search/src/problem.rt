@@ -7,7 +7,7 @@ ghost use Rattle.schedule_search.specs.Problem.{search_of};
 
 use crate::path::events_by;
 use crate::rest::rest_words;
-use crate::visits::{code_behind, visit_behind};
+use crate::visits::visit_behind;
 use ipc_ids::Event;
 use script_reader::Script;
 use search_core::{Labelled, Maze, Visit};
@@ -64,12 +64,13 @@ impl Maze for Schedules<'_> {
 
     fn visit(&self, alloc: Global, path: &[u32]) -> Result<Visit, AllocError> {
         let events = events_by(alloc, self.problem.moves, path)?;
-        visit_behind(alloc, self.problem, events.as_slice(), self.room)
+        visit_behind(alloc, self.problem, events.as_slice(), Some(self.room))
     }
 
     fn code(&self, alloc: Global, path: &[u32]) -> Result<Vec<u64>, AllocError> {
         let events = events_by(alloc, self.problem.moves, path)?;
-        code_behind(alloc, self.problem, events.as_slice())
+        let visit = visit_behind(alloc, self.problem, events.as_slice(), None)?;
+        Ok(visit.code)
     }
 }
 

@@ -1,43 +1,48 @@
 //! Whether nothing moves behind events.
-ghost use Rattle.std.specs.Prelude.{◌≡◌, ◌^◌, ◌<◌, ◌&&◌, length, IfOk};
+ghost use Rattle.std.specs.Prelude.{◌≡◌, ◌&&◌, length, IfOk};
 ghost use Rattle.script_lines.specs.Sound.{IsTask};
 ghost use Rattle.run_words.specs.RunWords.{run_words};
 ghost use Rattle.schedule_search.specs.Search.{state_behind};
 ghost use Rattle.schedule_search.specs.OpenCalls.{has_open_call};
 ghost use Rattle.schedule_search.specs.Meeting.{changes_nothing, is_at_rest};
 ghost use Rattle.schedule_search.specs.Code.{rest_words};
-ghost use Rattle.schedule_search.specs.Problem.{search_of, CanTry, CanDo};
+ghost use Rattle.schedule_search.specs.Problem.{search_of, CanTry, CanDo, IsAtStart};
 ghost use Rattle.search_core.specs.Survey.{words_in};
 
 use crate::open_calls::has_open_call;
-use crate::place::{all_calls, do_event, replayed, tasks, words_of};
+use crate::place::{all_calls, do_events, lead, started, tasks, words_of};
 use crate::problem::Problem;
 use crate::trying::may_try;
 use crate::visits::words_behind;
-use ipc_ids::{Event, TaskNo, Trace};
+use ipc_ids::{Event, TaskNo};
 use schedule_replay::Replay;
 use std::alloc::{AllocError, Global};
 
-/// Whether one more step of a task changes nothing but counters, where `words` are those of the state
-/// before it. `replay` stands behind the step then.
+/// Whether behind these events one more step of a task changes nothing but counters, where `words` are
+/// those of the state before it. `replay` is led behind the step, from where it starts.
 fn step_changes_nothing(
     alloc: Global,
+    problem: &Problem<'_>,
+    events: &[Event],
     replay: &mut Replay,
-    told: &mut Trace,
     words: &[u64],
     task: TaskNo,
 ) -> Result<bool, AllocError>
-    requires few { replay.old.state.kernel.events < 2 ^ 24 }
-    requires here { words.now ≡ run_words replay.old.state }
-    requires there { IsTask (length replay.old.state.kernel.tasks.alive) task.0 }
-    ensures { IfOk result (λ same. same ≡ changes_nothing replay.old.state task.0) }
+    requires can { CanDo (search_of problem.now) events.now }
+    requires at_start { IsAtStart problem.now.script.now replay.old.state }
+    requires here { words.now ≡ run_words (state_behind (search_of problem.now) events.now) }
+    requires there { let here = state_behind (search_of problem.now) events.now in
+        IsTask (length here.kernel.tasks.alive) task.0 }
+    ensures { IfOk result (λ same. same
+        ≡ changes_nothing (state_behind (search_of problem.now) events.now) task.0) }
 {
-    do_event(replay, told, &Event::Step(task))?;
+    lead(alloc, problem, events, replay)?;
+    do_events(alloc, replay, &[Event::Step(task)])?;
     let after = words_of(alloc, replay)?;
     Ok(after.as_slice() == words)
 }
 
-/// The same behind these events, where `words` are those of the state.
+/// The same, with tasks that are made for it.
 fn changes_nothing(
     alloc: Global,
     problem: &Problem<'_>,
@@ -52,9 +57,8 @@ fn changes_nothing(
     ensures { IfOk result (λ same. same
         ≡ changes_nothing (state_behind (search_of problem.now) events.now) task.0) }
 {
-    let mut replay = replayed(alloc, problem, events)?;
-    let mut told = Trace::new(alloc);
-    let same = step_changes_nothing(alloc, &mut replay, &mut told, words, task);
+    let mut replay = started(alloc, problem.script)?;
+    let same = step_changes_nothing(alloc, problem, events, &mut replay, words, task);
     replay.close();
     same
 }
@@ -102,17 +106,19 @@ pub(crate) fn is_stuck(
     is_at_rest(alloc, problem, events, replay)
 }
 
-/// What tells the state behind these events apart, where nothing moves there. `replay` stands there.
+/// What tells the state behind these events apart, where nothing moves there. `replay` is led there
+/// from where it starts.
 fn words_at_rest(
     alloc: Global,
     problem: &Problem<'_>,
     events: &[Event],
-    replay: &Replay,
+    replay: &mut Replay,
 ) -> Result<Option<Vec<u64>>, AllocError>
     requires can { CanDo (search_of problem.now) events.now }
-    requires here { replay.now.state ≡ state_behind (search_of problem.now) events.now }
+    requires at_start { IsAtStart problem.now.script.now replay.old.state }
     ensures { IfOk result (λ o. words_in o ≡ rest_words (search_of problem.now) events.now) }
 {
+    lead(alloc, problem, events, replay)?;
     let rests = is_at_rest(alloc, problem, events, replay)?;
     if !rests {
         return Ok(None);
@@ -133,8 +139,8 @@ pub(crate) fn rest_words(
     if !may_try(problem, events) {
         return Ok(None);
     }
-    let replay = replayed(alloc, problem, events)?;
-    let words = words_at_rest(alloc, problem, events, &replay);
+    let mut replay = started(alloc, problem.script)?;
+    let words = words_at_rest(alloc, problem, events, &mut replay);
     replay.close();
     words
 }

@@ -1,8 +1,9 @@
 //! What the run of a whole schedule tells.
 ghost use Rattle.std.specs.Prelude.{◌≡◌, ◌+◌, ◌^◌, ◌<◌, ◌≤◌, ◌++◌, length, IfOk, OnOk};
-ghost use Rattle.task_system.specs.Run.{turn, run_from, run, state_after, MayHappen, MayAllHappen};
+ghost use Rattle.task_system.specs.Run.{turn, run_from, run, MayHappen, MayAllHappen};
 ghost use Rattle.schedule_search.specs.Problem.{search_of, CanDo};
 
+use crate::meeting::all_events;
 use crate::place::started;
 use crate::problem::Problem;
 use ipc_ids::{Event, NoMemory, Trace};
@@ -24,38 +25,16 @@ fn tell_event(replay: &mut Replay, told: &mut Trace, event: &Event) -> Result<()
     }
 }
 
-/// One event after the other.
-fn tell_events(replay: &mut Replay, told: &mut Trace, events: &[Event]) -> Result<(), AllocError>
+/// The entries of these events, which `replay` does one after the other.
+fn told_from(alloc: Global, replay: &mut Replay, events: &[Event]) -> Result<Trace, AllocError>
     requires few { replay.old.state.kernel.events + length events.now ≤ 2 ^ 24 }
     requires may { MayAllHappen replay.old.state events.now }
-    ensures state { OnOk result (replay.new.state ≡ state_after replay.old.state events.now) }
-    ensures entries { OnOk result (told.new.entries
-        ≡ told.old.entries ++ run_from replay.old.state events.now) }
-    ensures count { OnOk result (replay.new.state.kernel.events
-        ≤ replay.old.state.kernel.events + length events.now) }
-{
-    for event in events {
-        tell_event(replay, told, event)?;
-    }
-    Ok(())
-}
-
-/// The entries of the events that come first, and of these behind them.
-fn told_both(
-    alloc: Global,
-    replay: &mut Replay,
-    first: &[Event],
-    events: &[Event],
-) -> Result<Trace, AllocError>
-    requires few { replay.old.state.kernel.events + length first.now + length events.now ≤ 2 ^ 24 }
-    requires may_first { MayAllHappen replay.old.state first.now }
-    requires may { MayAllHappen (state_after replay.old.state first.now) events.now }
-    ensures { IfOk result (λ told. told.entries
-        ≡ run_from replay.old.state (first.now ++ events.now)) }
+    ensures { IfOk result (λ told. told.entries ≡ run_from replay.old.state events.now) }
 {
     let mut told = Trace::new(alloc);
-    tell_events(replay, &mut told, first)?;
-    tell_events(replay, &mut told, events)?;
+    for event in events {
+        tell_event(replay, &mut told, event)?;
+    }
     Ok(told)
 }
 
@@ -69,8 +48,9 @@ pub fn told_by(alloc: Global, problem: &Problem<'_>, events: &[Event]) -> Result
     ensures { IfOk result (λ told. told.entries
         ≡ run problem.now.script.now (problem.now.from.now ++ events.now)) }
 {
+    let all = all_events(alloc, problem.from, events)?;
     let mut replay = started(alloc, problem.script)?;
-    let told = told_both(alloc, &mut replay, problem.from, events);
+    let told = told_from(alloc, &mut replay, all.as_slice());
     replay.close();
     told
 }

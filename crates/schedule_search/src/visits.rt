@@ -1,17 +1,17 @@
 //! Where the events of moves lead.
-ghost use Rattle.std.specs.Prelude.{◌≡◌, ◌≤◌, ◌∷◌, ◌++◌, [], true, false, Some, IfOk, OnOk, length};
+ghost use Rattle.std.specs.Prelude.{◌≡◌, ◌∷◌, ◌++◌, [], true, false, Some, IfOk, OnOk, length};
 ghost use Rattle.run_words.specs.Reached.{spawn_of, spawns_of};
 ghost use Rattle.run_words.specs.RunWords.{run_words};
-ghost use Rattle.schedule_search.specs.Search.{may_try, first_state, state_behind};
+ghost use Rattle.schedule_search.specs.Search.{may_try, state_behind};
 ghost use Rattle.schedule_search.specs.Meeting.{Finds};
 ghost use Rattle.schedule_search.specs.Left.{left_behind};
 ghost use Rattle.schedule_search.specs.Code.{goals_left, code_behind};
-ghost use Rattle.schedule_search.specs.Problem.{search_of, CanTry, CanDo};
+ghost use Rattle.schedule_search.specs.Problem.{search_of, CanTry, CanDo, IsAtStart};
 
 use crate::kills::{counted, kills_in};
 use crate::left::goals_left;
 use crate::meeting::is_last_met;
-use crate::place::{WORDS, begun};
+use crate::place::{WORDS, lead, started};
 use crate::problem::Problem;
 use crate::trying::may_try;
 use ipc_ids::{Event, Trace};
@@ -91,9 +91,9 @@ fn code_of(
     Ok(code)
 }
 
-/// Whether events that may be tried lead to what is looked for; `None` where there is no room to tell.
-/// `replay` stands where they lead, so many goals before the last are left there, and what counts for
-/// the last is told.
+/// Whether events that may be tried lead to what is looked for; `None` where there is no room to tell,
+/// or with no `room`, where it is not asked. `replay` stands where they lead, so many goals before the
+/// last are left there, and what counts for the last is told.
 fn is_found(
     alloc: Global,
     problem: &Problem<'_>,
@@ -101,7 +101,7 @@ fn is_found(
     left: usize,
     replay: &Replay,
     told: &Trace,
-    room: u32,
+    room: Option<u32>,
 ) -> Result<Option<bool>, AllocError>
     requires can { CanDo (search_of problem.now) events.now }
     requires here { replay.now.state ≡ state_behind (search_of problem.now) events.now }
@@ -115,6 +115,9 @@ fn is_found(
     if left > 0 {
         return Ok(Some(false));
     }
+    let Some(room) = room else {
+        return Ok(None);
+    };
     is_last_met(alloc, problem, events, replay, told, room)
 }
 
@@ -136,19 +139,18 @@ fn code_there(
 }
 
 /// Whether events that may be tried lead to what is looked for, and the code of where they lead.
-/// `replay` is led there from where it stands before them.
+/// `replay` is led there from where it starts.
 fn visit_there(
     alloc: Global,
     problem: &Problem<'_>,
     events: &[Event],
     replay: &mut Replay,
     told: &mut Trace,
-    room: u32,
+    room: Option<u32>,
 ) -> Result<Visit, AllocError>
     requires can { CanDo (search_of problem.now) events.now }
-    requires here { replay.old.state ≡ first_state (search_of problem.now) }
+    requires at_start { IsAtStart problem.now.script.now replay.old.state }
     requires entries { told.old.entries ≡ [] }
-    requires few { replay.old.state.kernel.events ≤ 65536 }
     ensures met { IfOk result (λ visit. visit.met ≡ Some true
         → Finds (search_of problem.now) events.now) }
     ensures unmet { IfOk result (λ visit. visit.met ≡ Some false
@@ -156,36 +158,20 @@ fn visit_there(
     ensures code { IfOk result (λ visit. visit.code.items
         ≡ code_behind (search_of problem.now) events.now) }
 {
+    lead(alloc, problem, &[], replay)?;
     let left = goals_left(alloc, problem, events, replay, told)?;
     let met = is_found(alloc, problem, events, left, replay, told, room)?;
     let code = code_there(alloc, problem, events, left, replay)?;
     Ok(Visit { met, code })
 }
 
-/// The code alone.
-fn code_led(
-    alloc: Global,
-    problem: &Problem<'_>,
-    events: &[Event],
-    replay: &mut Replay,
-    told: &mut Trace,
-) -> Result<Vec<u64>, AllocError>
-    requires can { CanDo (search_of problem.now) events.now }
-    requires here { replay.old.state ≡ first_state (search_of problem.now) }
-    requires entries { told.old.entries ≡ [] }
-    requires few { replay.old.state.kernel.events ≤ 65536 }
-    ensures { IfOk result (λ code. code.items ≡ code_behind (search_of problem.now) events.now) }
-{
-    let left = goals_left(alloc, problem, events, replay, told)?;
-    code_there(alloc, problem, events, left, replay)
-}
-
 /// Whether these events may be tried and lead to what is looked for, and the code of where they lead.
+/// With no `room` the code alone is asked.
 pub(crate) fn visit_behind(
     alloc: Global,
     problem: &Problem<'_>,
     events: &[Event],
-    room: u32,
+    room: Option<u32>,
 ) -> Result<Visit, AllocError>
     requires can { CanTry (search_of problem.now) events.now }
     ensures met { IfOk result (λ visit. visit.met ≡ Some true
@@ -201,28 +187,9 @@ pub(crate) fn visit_behind(
             code: Vec::new(alloc),
         });
     }
-    let mut replay = begun(alloc, problem)?;
+    let mut replay = started(alloc, problem.script)?;
     let mut told = Trace::new(alloc);
     let visit = visit_there(alloc, problem, events, &mut replay, &mut told, room);
     replay.close();
     visit
-}
-
-/// The code alone.
-pub(crate) fn code_behind(
-    alloc: Global,
-    problem: &Problem<'_>,
-    events: &[Event],
-) -> Result<Vec<u64>, AllocError>
-    requires can { CanTry (search_of problem.now) events.now }
-    ensures { IfOk result (λ code. code.items ≡ code_behind (search_of problem.now) events.now) }
-{
-    if !may_try(problem, events) {
-        return Ok(Vec::new(alloc));
-    }
-    let mut replay = begun(alloc, problem)?;
-    let mut told = Trace::new(alloc);
-    let code = code_led(alloc, problem, events, &mut replay, &mut told);
-    replay.close();
-    code
 }

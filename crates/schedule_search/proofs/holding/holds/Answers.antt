@@ -8,5 +8,5 @@ use Rattle.schedule_search.proofs.holding.holds.Goals as goal
 pub holds_of-requires : goal.holds_of-requires
 holds_of-requires c =
     subst (DoesBodies (constant c.in-Some.program.now)) (sym c.bodies_of-bodies.ensures)
-    (task_does c.args.script.now (spawns_of c.args.from.now) c.args.system.now c.task_of-task.result
+    (task_does c.args.script.now (spawns_of c.args.from.now) c.args.system.now c.subject_of.result.task
     c.in-Some.program.now c.requires.reached c.in-Some.ensures)

@@ -13,11 +13,6 @@ returns-then-not-may_try c =
     ap (λ (z : Bool). if z && is_at_rest (state_behind s c.args.events.now) then Some (words_behind s c.args.events.now) else None)
     (sym (sym c.may_try.ensures ∙ c.if-not-may_try.true))
 
-pub replayed-requires : goal.replayed-requires
-replayed-requires c = record {
-  can = done (search_of c.args.problem.now) c.args.events.now c.requires.can (sym c.may_try.ensures ∙ c.if-not-may_try.false);
-}
-
 pub words_at_rest-words-requires-clause-can : goal.words_at_rest-words-requires-clause-can
 words_at_rest-words-requires-clause-can c =
     done (search_of c.args.problem.now) c.args.events.now c.requires.can (sym c.may_try.ensures ∙ c.if-not-may_try.false)

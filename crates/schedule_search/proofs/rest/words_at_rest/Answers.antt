@@ -14,7 +14,7 @@ returns-then-not-rests c =
     let s : Search = search_of c.args.problem.now in
     let now : RunState = state_behind s c.args.events.now in
     let moves : is_at_rest now ≡ false =
-    ap is_at_rest (sym c.requires.here) ∙ sym c.in_ok-rests.ensures ∙ c.if-not-rests.true in
+    ap is_at_rest (sym c.in_ok-lead.ensures.state) ∙ sym c.in_ok-rests.ensures ∙ c.if-not-rests.true in
     ap (λ (z : Bool). if z then Some (words_behind s c.args.events.now) else None) (sym moves)
     ∙ ap (λ (z : Bool). if z && is_at_rest now then Some (words_behind s c.args.events.now) else None) (sym c.requires.can.tried)
 
@@ -23,6 +23,6 @@ returns c =
     let s : Search = search_of c.args.problem.now in
     let now : RunState = state_behind s c.args.events.now in
     let still : is_at_rest now ≡ true =
-    ap is_at_rest (sym c.requires.here) ∙ sym c.in_ok-rests.ensures ∙ c.if-not-rests.false in
-    ap Some (c.in_ok-words.ensures ∙ ap (told_of s c.args.events.now) c.requires.here)
+    ap is_at_rest (sym c.in_ok-lead.ensures.state) ∙ sym c.in_ok-rests.ensures ∙ c.if-not-rests.false in
+    ap Some (c.in_ok-words.ensures ∙ ap (told_of s c.args.events.now) c.in_ok-lead.ensures.state)
     ∙ sym (words_of_rest s c.args.events.now c.requires.can.tried still)
