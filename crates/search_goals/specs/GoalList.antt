@@ -6,7 +6,7 @@ use Rattle.script_lines.specs.declared.fault.Reason.TheVariants.{OutOfPlace, Too
 use Rattle.script_lines.specs.declared.plan.TaskPlan.{TaskPlan}
 use Rattle.search_goals.specs.declared.goal.Goal.{Goal}
 use Rattle.search_goals.specs.declared.goal.GoalFault.{GoalFault}
-use Rattle.search_goals.specs.declared.goal.GoalFault.TheVariants as words
+use Rattle.search_goals.specs.declared.goal.GoalFault.TheVariants as faults
 use Rattle.search_goals.specs.declared.goal_list.Goals.{Goals}
 use Rattle.search_goals.specs.declared.goal_list.GoalsFault.{GoalsFault}
 use Rattle.search_goals.specs.declared.goal_list.GoalsFault.TheVariants.{Bad, NoMemory}
@@ -99,8 +99,8 @@ sought_by goals = record { earlier = said_all goals.earlier.items; last = said g
 
 -- the fault of the goal of this number
 abbrev pub fault_in : ℕ → GoalFault → GoalsFault
-fault_in goal (words.Bad word reason) = Bad goal word reason
-fault_in goal words.NoMemory = NoMemory
+fault_in goal (faults.Bad word reason) = Bad goal word reason
+fault_in goal faults.NoMemory = NoMemory
 
 -- the answer is what is said, unless memory ran out
 abbrev pub AnswersGoals : Result Goals GoalsFault → Result Sought Fault → Type 0
