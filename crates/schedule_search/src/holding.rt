@@ -213,7 +213,7 @@ fn program_with(system: &System, task: TaskNo) -> Option<&AnyProgram>
 /// its registers as they were. Of the naming service and of a block server nothing holds but that it
 /// was killed, and of a task or a fibril that was never made nothing at all; a raw task has no
 /// fibrils.
-pub fn holds(condition: &Condition, script: &Script, from: &[Event], system: &System) -> bool
+pub(crate) fn holds(condition: &Condition, script: &Script, from: &[Event], system: &System) -> bool
     requires reached { IsReached script.now (spawns_of from.now) system.now }
     ensures { result ≡ holds condition.now system.now }
 {
@@ -228,7 +228,12 @@ pub fn holds(condition: &Condition, script: &Script, from: &[Event], system: &Sy
 }
 
 /// Whether each of these holds there. Takes no memory.
-pub fn all_hold(conditions: &[Condition], script: &Script, from: &[Event], system: &System) -> bool
+pub(crate) fn all_hold(
+    conditions: &[Condition],
+    script: &Script,
+    from: &[Event],
+    system: &System,
+) -> bool
     requires reached { IsReached script.now (spawns_of from.now) system.now }
     ensures { result ≡ all_hold conditions.now system.now }
 {

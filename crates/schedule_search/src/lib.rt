@@ -34,7 +34,6 @@ mod trying;
 mod visits;
 
 pub use at_rest::{RestingStates, survey_schedules};
-pub use holding::{all_hold, holds};
 pub use laws::{
     alike_states_hold_alike, codes_stand_for_schedules, nothing_moves_at_rest,
     nothing_stands_at_unknown_operations, stuck_states_have_lost_a_call, waiting_wins_nothing,

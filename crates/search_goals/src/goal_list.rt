@@ -2,6 +2,7 @@
 ghost use Rattle.std.specs.Prelude.{◌≡◌, true, IfOk, OnOk};
 ghost use Rattle.std.specs.Result.{result_map_both};
 ghost use Rattle.script_lines.specs.Text.{texts};
+ghost use Rattle.search_goals.specs.declared.goal_list.GoalsFault.TheVariants as faults;
 ghost use Rattle.search_goals.specs.GoalText.{said};
 ghost use Rattle.search_goals.specs.GoalList.{fault_in, may_precede, all_precede, first_goal, with_last, with_goal, goals_of, said_all, sought_by, AnswersGoals};
 
@@ -31,6 +32,14 @@ pub enum GoalsFault {
     },
     /// No memory was found.
     NoMemory,
+}
+
+impl From<NoMemory> for GoalsFault {
+    ghost from_gives = { λ _ e. e ≡ faults.NoMemory };
+
+    fn from(_error: NoMemory) -> GoalsFault {
+        GoalsFault::NoMemory
+    }
 }
 
 /// The fault of the goal of this number.
