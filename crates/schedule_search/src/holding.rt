@@ -13,7 +13,7 @@ ghost use Rattle.schedule_search.specs.Holding.{holds, all_hold};
 
 use crate::plans::bodies_of;
 use async_task::{AsyncProgram, Context};
-use ipc_ids::{Body, Event, FibrilNo, Op, TaskNo};
+use ipc_ids::{Body, Event, FibrilNo, TaskNo};
 use raw_program::RawProgram;
 use script_reader::Script;
 use search_goals::{Condition, Subject};
@@ -78,22 +78,12 @@ fn holds_of_ended(condition: &Condition) -> bool
     }
 }
 
-/// The operation at a place of a body.
-fn op_at(bodies: &[Body], body: usize, place: usize) -> Option<&Op>
-    ensures { option_copied result ≡ op_in (slice_get bodies.now body) place }
-{
-    match bodies.get(body) {
-        Some(body) => body.ops.as_slice().get(place),
-        None => None,
-    }
-}
-
 /// Whether there is an operation at a place of a body.
 fn goes_on(bodies: &[Body], body: usize, place: usize) -> bool
     ensures { result ≡ is_some (op_in (slice_get bodies.now body) place) }
 {
-    match op_at(bodies, body, place) {
-        Some(_) => true,
+    match bodies.get(body) {
+        Some(body) => place < body.ops.as_slice().len(),
         None => false,
     }
 }

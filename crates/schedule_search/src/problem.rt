@@ -69,7 +69,9 @@ impl Maze for Schedules<'_> {
 
     fn code(&self, alloc: Global, path: &[u32]) -> Result<Vec<u64>, AllocError> {
         let events = events_by(alloc, self.problem.moves, path)?;
-        let visit = visit_behind(alloc, self.problem, events.as_slice(), None)?;
+        let visited = visit_behind(alloc, self.problem, events.as_slice(), None);
+        drop(events);
+        let visit = visited?;
         Ok(visit.code)
     }
 }

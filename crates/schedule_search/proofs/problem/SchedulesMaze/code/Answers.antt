@@ -4,8 +4,8 @@ use Rattle.schedule_search.specs.Problem.{search_of}
 use Rattle.schedule_search.proofs.Paths.{can_try}
 use Rattle.schedule_search.proofs.problem.SchedulesMaze.code.Goals as goal
 
-pub visit_behind-requires : goal.visit_behind-requires
-visit_behind-requires c =
+pub visit_behind-visited-requires : goal.visit_behind-visited-requires
+visit_behind-visited-requires c =
     record {
       can = can_try (search_of c.args.self.now.problem.now) c.args.path.now c.as_slice.result.now c.requires.fits.sound
           c.requires.moves c.requires.few (c.as_slice.ensures.value ∙ c.in_ok-events.ensures);
