@@ -11,6 +11,7 @@ use Rattle.script_lines.specs.Sound as script
 use Rattle.script_reader.specs.EventLine.{EventsAndNames}
 use Rattle.script_reader.specs.Schedule.{MayAllCome}
 use Rattle.search_goals.specs.GoalList.{Sought, all_precede}
+use Rattle.schedule_search.specs.declared.at_rest.RestingStates.{RestingStates}
 use Rattle.schedule_search.specs.declared.problem.MostMade.{MostMade}
 use Rattle.schedule_search.specs.Search.{Search, IsSound}
 use Rattle.hipc_search.specs.declared.lists.ListName.{ListName}
@@ -20,7 +21,7 @@ use Rattle.hipc_search.specs.declared.status.Status.{Status}
 use Rattle.hipc_search.specs.declared.status.Status.TheVariants as statuses
 use Rattle.hipc_search.specs.Asking.{search_by, search_with}
 use Rattle.hipc_search.specs.Command.{Command}
-use Rattle.hipc_search.specs.Due.{Answers, IsOfText, Whole, Part}
+use Rattle.hipc_search.specs.Due.{Answers, IsOfText, DueForResting, Whole, Part}
 use Rattle.hipc_search.specs.Line.{fault_line}
 use Rattle.hipc_search.specs.Lists.{list_place, IsListFault}
 use Rattle.hipc_search.specs.Moves.{listed_in, bounds_in, moves_of}
@@ -46,6 +47,15 @@ no_memory_told A status told h ok m =
     absurd (h.1 (sym (ok (λ (w : told ≡ statuses.WriteFailed). other_status (sym w ∙ m))) ∙ m)) where
       other_status : statuses.WriteFailed ≡ statuses.NoMemory → ⊥
       other_status e = cc
+
+-- ---- what a survey answers
+
+-- it is due for the answer that was known
+pub due_for : (s : Search) (most room : ℕ) (before : List ℕ) (resting known : RestingStates) (status : Status)
+    (text : List ℕ) → resting ≡ known → DueForResting s most room before known status text
+    → DueForResting s most room before resting status text
+due_for s most room before resting known status text same due =
+    subst (λ (r : RestingStates). DueForResting s most room before r status text) (sym same) due
 
 -- ---- what is asked
 

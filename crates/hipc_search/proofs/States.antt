@@ -5,7 +5,7 @@ use Rattle.std.specs.Global.{Vec}
 use Rattle.std.specs.List.{list_all}
 use Rattle.std.specs.Option.{option_map}
 use Rattle.std.specs.Str.{bytes_eq}
-use Rattle.std.proofs.lemmas.List.{drop_more, drop_all}
+use Rattle.std.proofs.lemmas.List.{drop_more, drop_all, length-map}
 use Rattle.std.proofs.lemmas.List.Quantifiers.{position-Some}
 use Rattle.std.proofs.lemmas.Option.{same_Some}
 use Rattle.std.proofs.lemmas.Slice.Eq.{bytes_eq-Decides}
@@ -22,7 +22,7 @@ use Rattle.schedule_search.specs.Search.{Search, Made}
 use Rattle.schedule_search.specs.Survey.{IsFirstAtRest, Lists, schedules_of}
 use Rattle.hipc_search.specs.Schedule.{found_comment, events_and_names, Precedes}
 use Rattle.hipc_search.specs.Told.{last_outcome, entry_with, told_text}
-use Rattle.hipc_search.specs.Survey.{state_name, heading, outcome_line, outcome_lines, IsState, AreStates, IsListing}
+use Rattle.hipc_search.specs.Survey.{state_name, heading, counts_end, outcome_line, outcome_lines, IsState, AddsState, AreStates, IsListing}
 use Rattle.hipc_search.proofs.Following.{comment_read}
 use Rattle.hipc_search.proofs.Written.{digits_allowed, both_allowed, comment_allowed, comment_short}
 
@@ -85,10 +85,10 @@ state_allowed place count fits counted =
     (digits_allowed (decimal count) (are_digits count counted))
 
 module _ (s : Search) (before : List ℕ) (place count : ℕ) (es : List Event) (names known : List (List ℕ))
-    (none begun first found text : List ℕ) (fits : place < 2 ^ 64) (counted : count < 2 ^ 64)
+    (old begun first found text : List ℕ) (fits : place < 2 ^ 64) (counted : count < 2 ^ 64)
     (few_first : length s.from ≤ 32768) (short : length before ≤ 524289)
     (precedes : Precedes s.plan before (record { events = s.from; names = names })) (few : length es ≤ 10000)
-    (is_none : none ≡ []) (is_begun : begun ≡ none ++ heading place count (length es)) (is_first : first ≡ begun ++ before)
+    (is_begun : begun ≡ old ++ heading place count (length es)) (is_first : first ≡ begun ++ before)
     (wrote : Writes (task_names s.plan.templates) names first found es known)
     (is_text : text ≡ found ++ outcome_lines 1 known (run s.plan (s.from ++ es))) where
   abbrev outcomes : List ℕ
@@ -111,21 +111,28 @@ module _ (s : Search) (before : List ℕ) (place count : ℕ) (es : List Event) 
       (omega (arith, line, all, long, few, short))
       (precedes.goes_on wrote.line es known wrote.adds (omega (arith, long, few, short)) (omega (arith, few, few_first)))
 
-  pub is_state : IsState s before place count es text
-  is_state =
-      record {
-        lines = wrote.line;
-        names = known;
-        parts =
-            is_text
-            ∙ ap (λ (t : List ℕ). t ++ outcomes)
-            (wrote.parts
-            ∙ ap (λ (t : List ℕ). t ++ wrote.line)
-            (is_first ∙ ap (λ (t : List ℕ). t ++ before) (is_begun ∙ ap (λ (t : List ℕ). t ++ head) is_none)))
-            ∙ append_assoc (head ++ before) wrote.line outcomes
-            ∙ append_assoc head before (wrote.line ++ outcomes);
-        reads = reads;
-      }
+  parts : text ≡ old ++ (head ++ (before ++ (wrote.line ++ outcomes)))
+  parts =
+      is_text
+      ∙ ap (λ (t : List ℕ). t ++ outcomes)
+      (wrote.parts
+      ∙ ap (λ (t : List ℕ). t ++ wrote.line) (is_first ∙ ap (λ (t : List ℕ). t ++ before) is_begun))
+      ∙ append_assoc ((old ++ head) ++ before) wrote.line outcomes
+      ∙ append_assoc (old ++ head) before (wrote.line ++ outcomes)
+      ∙ append_assoc old head (before ++ (wrote.line ++ outcomes))
+
+  -- its text was put behind another
+  pub adds_state : AddsState s before place count es old text
+  adds_state = (
+    head ++ (before ++ (wrote.line ++ outcomes)),
+    parts,
+    record {
+      lines = wrote.line;
+      names = known;
+      parts = refl;
+      reads = reads;
+    },
+  )
 
 -- ---- the states one behind the other
 
@@ -178,10 +185,24 @@ few_listed s most counts schedules lent lists same few k es e =
     let within : length es ≤ most = first.within in
     (first.made, omega (arith, within, few))
 
+-- a last line with the count of schedules was added
+pub last_added : (schedules : List (Vec Event)) (states start begun text : List ℕ) (all : ℕ) → begun ≡ states ++ start
+    → text ≡ begun ++ counts_end (length schedules) all
+    → text ≡ states ++ (start ++ counts_end (length (schedules_of schedules)) all)
+last_added schedules states start begun text all first added =
+    added
+    ∙ ap (λ (t : List ℕ). t ++ counts_end (length schedules) all) first
+    ∙ append_assoc states start (counts_end (length schedules) all)
+    ∙ ap (λ (n : ℕ). states ++ (start ++ counts_end n all))
+    (sym (length-map schedules (λ (v : Vec Event). v.items)))
+
 -- what was lent is what is listed
-pub listing_is : (s : Search) (before : List ℕ) (schedules lent : List (Vec Event)) (last line text : List ℕ)
-    → lent ≡ schedules → last ≡ line → IsListing s before (schedules_of lent) last text
-    → IsListing s before (schedules_of schedules) line text
-listing_is s before schedules lent last line text same said is =
-    subst (λ (vs : List (Vec Event)). IsListing s before (schedules_of vs) line text) same
-    (subst (λ (l : List ℕ). IsListing s before (schedules_of lent) l text) said is)
+pub listing_is : (s : Search) (before : List ℕ) (schedules lent : List (Vec Event)) (start line text : List ℕ) (all : ℕ)
+    → lent ≡ schedules → start ≡ line
+    → IsListing s before (schedules_of lent) (start ++ counts_end (length (schedules_of lent)) all) text
+    → IsListing s before (schedules_of schedules) (line ++ counts_end (length (schedules_of schedules)) all) text
+listing_is s before schedules lent start line text all same said is =
+    subst
+    (λ (vs : List (Vec Event)). IsListing s before (schedules_of vs) (line ++ counts_end (length (schedules_of vs)) all) text)
+    same
+    (subst (λ (l : List ℕ). IsListing s before (schedules_of lent) (l ++ counts_end (length (schedules_of lent)) all) text) said is)

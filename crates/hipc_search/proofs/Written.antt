@@ -98,10 +98,10 @@ closing_few s es =
 -- ---- the whole text
 
 module _ (s : Search) (before goal : List ℕ) (es : List Event) (names mid known : List (List ℕ))
-    (first comment found text : List ℕ) (few_names : length mid ≤ 64) (few_first : length s.from ≤ 32768)
+    (comment found text : List ℕ) (few_names : length mid ≤ 64) (few_first : length s.from ≤ 32768)
     (short : length before ≤ 524289) (precedes : Precedes s.plan before (record { events = s.from; names = names }))
     (allowed : list_all is_allowed goal ≡ true) (few : length es ≤ 10000)
-    (is_first : first ≡ before) (is_comment : comment ≡ first ++ comment_text (found_comment goal (length es)))
+    (is_comment : comment ≡ before ++ comment_text (found_comment goal (length es)))
     (wrote : Writes (task_names s.plan.templates) names comment found es mid)
     (closed : Writes (task_names s.plan.templates) mid found text (closing s es) known) where
   abbrev line : List ℕ
@@ -123,7 +123,7 @@ module _ (s : Search) (before goal : List ℕ) (es : List Event) (names mid know
   begins : text ≡ before ++ (line ++ both.line)
   begins =
       both.parts
-      ∙ ap (λ (t : List ℕ). t ++ both.line) (is_comment ∙ ap (λ (t : List ℕ). t ++ line) is_first)
+      ∙ ap (λ (t : List ℕ). t ++ both.line) is_comment
       ∙ append_assoc before line both.line
 
   few_more : length more ≤ 10064

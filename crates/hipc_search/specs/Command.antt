@@ -1,70 +1,13 @@
 -- Which search the words of a command line ask for.
-use Rattle.std.specs.Prelude.{ℕ, List, [], ◌∷◌, ◌++◌, Bool, Option, None, Some, codes, nat_eq, nat_le, String, if◌then◌else◌}
-use Rattle.std.specs.List.{starts_with}
+use Rattle.std.specs.Prelude.{ℕ, List, [], ◌∷◌, ◌++◌, Bool, false, not, ◌||◌, Option, None, Some, codes, nat_eq, nat_le, if◌then◌else◌}
+use Rattle.std.specs.List.{list_any, starts_with}
 use Rattle.std.specs.Option.{option_map, option_and_then}
 use Rattle.std.specs.Str.{bytes_eq}
-use Rattle.std.specs.Borrow.{Bor}
-use Rattle.std.specs.declared.alloc.Global.{Global}
 use Rattle.command_line.specs.Command.{texts}
 use Rattle.script_lines.specs.Word.{number}
-use Rattle.hipc_search.specs.declared.command.Options.{Options as GivenOptions}
 use Rattle.hipc_search.specs.declared.command.Asks.{Asks as GivenAsks}
 use Rattle.hipc_search.specs.declared.command.Asks.TheVariants as asked
 use Rattle.hipc_search.specs.declared.command.Command.{Command as GivenCommand}
-
--- what the options say: the tasks that may be killed, the phones that may be hung up, the templates of which tasks may
--- be made, the file of the events that come first, how many kills there may be, how many events behind the first, and
--- how many states
-pub record Options : Type 0 where
-  pub kill : Option (List ℕ)
-  pub hangup : Option (List ℕ)
-  pub spawn : Option (List ℕ)
-  pub from : Option (List ℕ)
-  pub kills : Option ℕ
-  pub events : Option ℕ
-  pub states : Option ℕ
-
-abbrev pub no_options : Options
-no_options =
-    record { kill = None; hangup = None; spawn = None; from = None; kills = None; events = None; states = None }
-
--- a value where there is none so far: an option comes once
-abbrev pub once : {A : Type 0} → (before value : Option A) → Option (Option A)
-once (Some before) value = None
-once None None = None
-once None (Some value) = Some (Some value)
-
-unfoldable pub with_kill : Options → List ℕ → Option Options
-with_kill o value = option_map (λ kill. record o { kill = kill }) (once o.kill (Some value))
-
-unfoldable pub with_hangup : Options → List ℕ → Option Options
-with_hangup o value = option_map (λ hangup. record o { hangup = hangup }) (once o.hangup (Some value))
-
-unfoldable pub with_spawn : Options → List ℕ → Option Options
-with_spawn o value = option_map (λ spawn. record o { spawn = spawn }) (once o.spawn (Some value))
-
-unfoldable pub with_from : Options → List ℕ → Option Options
-with_from o value = option_map (λ from. record o { from = from }) (once o.from (Some value))
-
-unfoldable pub with_kills : Options → List ℕ → Option Options
-with_kills o value = option_map (λ kills. record o { kills = kills }) (once o.kills (number value))
-
-unfoldable pub with_events : Options → List ℕ → Option Options
-with_events o value = option_map (λ events. record o { events = events }) (once o.events (number value))
-
-unfoldable pub with_states : Options → List ℕ → Option Options
-with_states o value = option_map (λ states. record o { states = states }) (once o.states (number value))
-
--- an option and its value more
-unfoldable pub with_option : Options → (option value : List ℕ) → Option Options
-with_option o option value =
-    if bytes_eq option (codes "--kill") then with_kill o value
-    else (if bytes_eq option (codes "--hangup") then with_hangup o value
-    else (if bytes_eq option (codes "--spawn") then with_spawn o value
-    else (if bytes_eq option (codes "--from") then with_from o value
-    else (if bytes_eq option (codes "--kills") then with_kills o value
-    else (if bytes_eq option (codes "--events") then with_events o value
-    else (if bytes_eq option (codes "--states") then with_states o value else None))))))
 
 abbrev pub is_then : List ℕ → Bool
 is_then word = bytes_eq word (codes "--then")
@@ -76,13 +19,46 @@ goals_behind (word ∷ []) = None
 goals_behind (word ∷ goal ∷ others) =
     if is_then word then option_map (λ goals. goal ∷ goals) (goals_behind others) else None
 
--- words that are options, each with its value behind it, and then goals, each behind `--then`
-abbrev pub options_of : Options → List (List ℕ) → Option (Options × List (List ℕ))
-options_of so_far [] = Some (so_far, [])
-options_of so_far (option ∷ []) = None
-options_of so_far (option ∷ value ∷ others) =
-    if is_then option then option_map (λ goals. (so_far, goals)) (goals_behind (option ∷ value ∷ others))
-    else option_and_then (λ more. options_of more others) (with_option so_far option value)
+-- ---- the options
+
+-- for the tasks that may be killed, the phones that may be hung up, the templates of which tasks may be made, the file
+-- of the events that come first, how many kills there may be, how many events behind the first, and how many states
+abbrev pub option_names : List (List ℕ)
+option_names =
+    codes "--kill"
+    ∷ codes "--hangup"
+    ∷ codes "--spawn"
+    ∷ codes "--from"
+    ∷ codes "--kills"
+    ∷ codes "--events"
+    ∷ codes "--states"
+    ∷ []
+
+-- a word is the name of an option
+unfoldable pub is_known : List ℕ → Bool
+is_known word = list_any (λ name. bytes_eq name word) option_names
+
+-- what stands behind the option of this name, of words that are options, each with its value behind it, and then goals
+abbrev pub value_of : (name : List ℕ) → List (List ℕ) → Option (List ℕ)
+value_of name [] = None
+value_of name (option ∷ []) = None
+value_of name (option ∷ value ∷ others) =
+    if is_then option then None else (if bytes_eq option name then Some value else value_of name others)
+
+-- an option is known, and comes once: among the words behind it that is what it has for a value, none
+abbrev pub comes_once : (option : List ℕ) → (again : Option (List ℕ)) → Bool
+comes_once option None = is_known option
+comes_once option (Some value) = false
+
+-- the goals behind words that are options, each of which is known, comes once and has its value behind it
+abbrev pub later_goals : List (List ℕ) → Option (List (List ℕ))
+later_goals [] = Some []
+later_goals (option ∷ []) = None
+later_goals (option ∷ value ∷ others) =
+    if is_then option then goals_behind (option ∷ value ∷ others)
+    else (if comes_once option (value_of option others) then later_goals others else None)
+
+-- ---- the command
 
 -- what is asked of the schedules: the first that meets the goals of these texts in turn, or each state at rest
 pub data Asks : Type 0 where
@@ -108,94 +84,82 @@ pub record Command : Type 0 where
   pub states : ℕ
 
 -- a number of at most so many
-abbrev pub up_to : ℕ → ℕ → Option ℕ
-up_to most n = if nat_le n most then Some n else None
+abbrev pub up_to : ℕ → Option ℕ → Option ℕ
+up_to most None = None
+up_to most (Some n) = if nat_le n most then Some n else None
 
--- the same of a number that was given, or else another
-abbrev pub given_or : (most other : ℕ) → Option ℕ → Option ℕ
+-- the number that the value of an option spells, of at most so many; another where the option does not come
+abbrev pub given_or : (most other : ℕ) → Option (List ℕ) → Option ℕ
 given_or most other None = Some other
-given_or most other (Some n) = up_to most n
+given_or most other (Some value) = up_to most (number value)
 
--- the same, or else none
-abbrev pub given : ℕ → Option ℕ → Option (Option ℕ)
+-- the same, or none where the option does not come
+abbrev pub given : ℕ → Option (List ℕ) → Option (Option ℕ)
 given most None = Some None
-given most (Some n) = option_map (λ n. Some n) (up_to most n)
+given most (Some value) = option_map (λ n. Some n) (up_to most (number value))
 
-abbrev pub command_by : List ℕ → Asks → Options → Option ℕ → (events states : ℕ) → Command
-command_by script asks o kills events states =
+-- with these numbers, and the values of the other options among the words
+abbrev pub command_by : List ℕ → Asks → List (List ℕ) → Option ℕ → (events states : ℕ) → Command
+command_by script asks words kills events states =
     record {
       script = script;
       asks = asks;
-      kill = o.kill;
-      hangup = o.hangup;
-      spawn = o.spawn;
-      from = o.from;
+      kill = value_of (codes "--kill") words;
+      hangup = value_of (codes "--hangup") words;
+      spawn = value_of (codes "--spawn") words;
+      from = value_of (codes "--from") words;
       kills = kills;
       events = events;
       states = states;
     }
 
 -- at most 65,536 kills, or any number; at most 10,000 events, or 64; at most 100,000,000 states, or 1,000,000
-unfoldable pub command_for : List ℕ → Asks → Options → Option Command
-command_for script asks o =
+unfoldable pub command_for : List ℕ → Asks → List (List ℕ) → Option Command
+command_for script asks words =
     option_and_then
     (λ kills. option_and_then
     (λ events. option_map
-    (λ states. command_by script asks o kills events states)
-    (given_or 100000000 1000000 o.states))
-    (given_or 10000 64 o.events))
-    (given 65536 o.kills)
+    (λ states. command_by script asks words kills events states)
+    (given_or 100000000 1000000 (value_of (codes "--states") words)))
+    (given_or 10000 64 (value_of (codes "--events") words)))
+    (given 65536 (value_of (codes "--kills") words))
 
 -- an option begins so, and nothing else does
 abbrev pub is_option : List ℕ → Bool
 is_option word = starts_with nat_eq word (codes "--")
 
--- the goal where the words begin with one, else `lost`; and the words that are left
-abbrev pub goal_and_others : List (List ℕ) → List ℕ × List (List ℕ)
-goal_and_others [] = (codes "lost", [])
-goal_and_others (word ∷ words) = if is_option word then (codes "lost", word ∷ words) else (word, words)
+-- a word that says what is asked: a goal, or `--survey`
+abbrev pub is_asked : List ℕ → Bool
+is_asked word = bytes_eq word (codes "--survey") || not (is_option word)
 
-abbrev pub as_goal : List ℕ × List (List ℕ) → Asks × List (List ℕ)
-as_goal words = (Goals words.0 [], words.1)
+-- the word that says what is asked, where the words begin with one, else `lost`; and the words that are left
+abbrev pub first_and_others : List (List ℕ) → List ℕ × List (List ℕ)
+first_and_others [] = (codes "lost", [])
+first_and_others (word ∷ words) = if is_asked word then (word, words) else (codes "lost", word ∷ words)
 
--- a survey where the words begin so, else a goal; and the words that are left
-abbrev pub asks_and_others : List (List ℕ) → Asks × List (List ℕ)
-asks_and_others [] = as_goal (goal_and_others [])
-asks_and_others (word ∷ words) =
-    if bytes_eq word (codes "--survey") then (Survey, words) else as_goal (goal_and_others (word ∷ words))
+-- a survey, behind which no goals come
+abbrev pub survey_with : (later : List (List ℕ)) → Option Asks
+survey_with [] = Some Survey
+survey_with (goal ∷ later) = None
 
--- with goals that come later; a survey has none
-abbrev pub with_later : Asks → List (List ℕ) → Option Asks
-with_later (Goals first _) later = Some (Goals first later)
-with_later Survey [] = Some Survey
-with_later Survey (goal ∷ later) = None
+-- what is asked by that word, and by the goals that come later
+abbrev pub asks_for : (first : List ℕ) (later : List (List ℕ)) → Option Asks
+asks_for first later = if bytes_eq first (codes "--survey") then survey_with later else Some (Goals first later)
 
-abbrev pub command_behind : List ℕ → Asks → Options × List (List ℕ) → Option Command
-command_behind script asks behind =
-    option_and_then (λ all. command_for script all behind.0) (with_later asks behind.1)
+-- for the name of a script, the word that says what is asked, options, and the goals behind them
+abbrev pub command_with : List ℕ → List ℕ × List (List ℕ) → List (List ℕ) → Option Command
+command_with script words later =
+    option_and_then (λ asks. command_for script asks words.1) (asks_for words.0 later)
 
--- what the words behind the name of a script ask
-abbrev pub command_with : List ℕ → Asks × List (List ℕ) → Option Command
-command_with script words = option_and_then (command_behind script words.0) (options_of no_options words.1)
+-- likewise, where the options have goals behind them
+abbrev pub command_behind : List ℕ → List ℕ × List (List ℕ) → Option Command
+command_behind script words = option_and_then (command_with script words) (later_goals words.1)
 
 -- the words are `SCRIPT`, `SCRIPT GOAL` or `SCRIPT --survey`, options, and then goals, each behind `--then`; or they are
 -- no command
 abbrev pub command_of : List (List ℕ) → Option Command
 command_of [] = None
-command_of (script ∷ words) = if is_option script then None else command_with script (asks_and_others words)
-
--- what the code has, which lends the words
-abbrev pub said_options : GivenOptions → Options
-said_options o =
-    record {
-      kill = option_map (λ w. w.now) o.kill;
-      hangup = option_map (λ w. w.now) o.hangup;
-      spawn = option_map (λ w. w.now) o.spawn;
-      from = option_map (λ w. w.now) o.from;
-      kills = o.kills;
-      events = o.events;
-      states = o.states;
-    }
+command_of (script ∷ words) = if is_option script then None else command_behind script (first_and_others words)
 
 -- of words, each second: what stands behind each `--then`
 abbrev pub goals_in : List (List ℕ) → List (List ℕ)
@@ -206,9 +170,6 @@ goals_in (word ∷ goal ∷ others) = goal ∷ goals_in others
 abbrev pub said_asks : GivenAsks → Asks
 said_asks (asked.Goals first later) = Goals first.now (goals_in (texts later.now))
 said_asks asked.Survey = Survey
-
-abbrev pub said_behind : GivenOptions × Bor (List (String Global)) → Options × List (List ℕ)
-said_behind behind = (said_options behind.0, goals_in (texts behind.1.now))
 
 abbrev pub said : GivenCommand → Command
 said c =

@@ -9,8 +9,8 @@ use Rattle.script_reader.specs.EventLine.{EventsAndNames, no_events, after_event
 use Rattle.script_reader.specs.Reading.{reading, schedule_of}
 use Rattle.search_goals.specs.GoalText.{Asked, LosesCall, IsRest, IsStuck, HoldAll, HasLine}
 use Rattle.search_goals.specs.Lines.{comment_text}
-use Rattle.search_goals.specs.Writing.{Adds, with_more, tasks_behind}
-use Rattle.schedule_search.specs.Search.{Search, first_tasks}
+use Rattle.search_goals.specs.Writing.{Adds, IsNamed, with_more, tasks_behind}
+use Rattle.schedule_search.specs.Search.{Search, IsSound, first_tasks}
 use Rattle.hipc_search.specs.Moves.{living_steps}
 
 -- `GOAL: N events`, with the first 1,024 bytes of the goal
@@ -50,7 +50,16 @@ pub record Precedes (plan : Plan) (before : List ℕ) (first : EventsAndNames) :
       → events_and_names plan (before ++ text) ≡ Ok (with_more first more known)
   pub all_named : length first.names ≡ tasks_behind (length plan.tasks) first.events
 
--- so they are of these events, whatever names the tasks have behind them
-abbrev pub ComesFirst : Plan → (before : List ℕ) → List Event → Type 0
-ComesFirst plan before from =
-    (names : List (List ℕ)) × Precedes plan before (record { events = from; names = names })
+-- what a search finds may be written behind these bytes: the search is sound, tasks and templates have names as lines
+-- have them, and the bytes are lines of the events that come first, which are few, behind which the tasks have these
+-- names
+pub record MayFollow (s : Search) (before : List ℕ) (names : List (List ℕ)) : Type 0 where
+  pub sound : IsSound s
+  pub named : IsNamed s.plan
+  pub few_first : length s.from ≤ 32768
+  pub short : length before ≤ 524289
+  pub first : Precedes s.plan before (record { events = s.from; names = names })
+
+-- likewise, whatever names the tasks have
+abbrev pub MayBeListed : Search → (before : List ℕ) → Type 0
+MayBeListed s before = (names : List (List ℕ)) × MayFollow s before names

@@ -61,6 +61,11 @@ pub record IsState (s : Search) (before : List ℕ) (place count : ℕ) (es : Li
   pub reads : events_and_names s.plan (heading place count (length es) ++ (before ++ lines))
       ≡ Ok (record { events = s.from ++ es; names = names })
 
+-- the text of such a state was put behind another
+abbrev pub AddsState : Search → (before : List ℕ) → (place count : ℕ) → List Event → (old new : List ℕ) → Type 0
+AddsState s before place count es old new =
+    (state : List ℕ) × (new ≡ old ++ state) × IsState s before place count es state
+
 -- the texts of states, one behind the other, of which the first has this place among so many
 abbrev pub AreStates : Search → (before : List ℕ) → (place count : ℕ) → List (List Event) → List ℕ → Type 0
 AreStates s before place count [] text = text ≡ []

@@ -1,13 +1,11 @@
 //! What is answered: a status with a text.
-ghost use Rattle.std.specs.Prelude.{◌≡◌, ◌≤◌, true, IfOk, length};
+ghost use Rattle.std.specs.Prelude.{◌≡◌, ◌≤◌, ◌++◌, true, IfOk, decimal};
 ghost use Rattle.std.specs.List.{list_all};
 ghost use Rattle.script_lines.specs.Text.{is_allowed};
-ghost use Rattle.search_goals.specs.Writing.{AreNamed};
 ghost use Rattle.command_line.specs.Due.{cannot_line};
-ghost use Rattle.schedule_search.specs.Search.{IsSound};
 ghost use Rattle.schedule_search.specs.Problem.{search_of};
-ghost use Rattle.hipc_search.specs.Line.{usage_line, fault_line, goal_place, none_line, none_within_start, states_end, none_within_line, not_known_line};
-ghost use Rattle.hipc_search.specs.Schedule.{Precedes};
+ghost use Rattle.hipc_search.specs.Line.{usage_line, fault_line, goal_place, none_within_line, not_known_line};
+ghost use Rattle.hipc_search.specs.Schedule.{MayFollow};
 ghost use Rattle.hipc_search.specs.Due.{Says, IsOfText, DueForSearch};
 ghost use Rattle.hipc_search.specs.declared.status.Status.TheVariants.{BadGoal, CannotRead, Usage};
 
@@ -91,27 +89,16 @@ pub(crate) fn goal_fault_answer(
     fault_answer(alloc, Status::BadGoal, place.as_str(), word, reason)
 }
 
-/// The line for a search that ended with no schedule.
-fn none_text(alloc: Global, states: u64) -> Result<Vec<u8>, NoMemory>
-    ensures { IfOk result (λ text. text.items ≡ none_line states) }
+/// A number, with these texts before and behind it.
+pub(crate) fn numbered(
+    alloc: Global,
+    before: &str,
+    number: u64,
+    behind: &str,
+) -> Result<Vec<u8>, NoMemory>
+    ensures { IfOk result (λ text. text.items ≡ before.now ++ decimal number ++ behind.now) }
 {
-    let text = format!(in alloc; "# none, of any length: {states} states\n")?;
-    Ok(text.into_bytes())
-}
-
-/// How many events were tried at most.
-fn within_text(alloc: Global, most: u32) -> Result<Vec<u8>, NoMemory>
-    ensures { IfOk result (λ text. text.items ≡ none_within_start most) }
-{
-    let text = format!(in alloc; "# none within {most} events: ")?;
-    Ok(text.into_bytes())
-}
-
-/// How many states were seen.
-fn states_text(alloc: Global, states: u64) -> Result<Vec<u8>, NoMemory>
-    ensures { IfOk result (λ text. text.items ≡ states_end states) }
-{
-    let text = format!(in alloc; "{states} states\n")?;
+    let text = format!(in alloc; "{before}{number}{behind}")?;
     Ok(text.into_bytes())
 }
 
@@ -119,8 +106,8 @@ fn states_text(alloc: Global, states: u64) -> Result<Vec<u8>, NoMemory>
 fn none_within_text(alloc: Global, most: u32, states: u64) -> Result<Vec<u8>, NoMemory>
     ensures { IfOk result (λ text. text.items ≡ none_within_line most states) }
 {
-    let mut text = within_text(alloc, most)?;
-    let end = states_text(alloc, states)?;
+    let mut text = numbered(alloc, "# none within ", u64::from(most), " events: ")?;
+    let end = numbered(alloc, "", states, " states\n")?;
     text.extend_from_slice(end.as_slice())?;
     Ok(text)
 }
@@ -129,8 +116,8 @@ fn none_within_text(alloc: Global, most: u32, states: u64) -> Result<Vec<u8>, No
 pub(crate) fn not_known_text(alloc: Global, room: u32) -> Result<Vec<u8>, NoMemory>
     ensures { IfOk result (λ text. text.items ≡ not_known_line room) }
 {
-    let text = format!(in alloc; "# not known: more than {room} states\n")?;
-    Ok(text.into_bytes())
+    let more = u64::from(room);
+    numbered(alloc, "# not known: more than ", more, " states\n")
 }
 
 /// Searches, and answers the outcome; behind the events that come first the tasks have these names.
@@ -142,13 +129,8 @@ pub(crate) fn search_answer(
     before: &[u8],
     goal: &[u8],
 ) -> Result<Answer, NoMemory>
-    requires sound { IsSound (search_of problem.now) }
-    requires named { AreNamed problem.now.script.now.templates }
+    requires may { MayFollow (search_of problem.now) before.now names.old }
     requires few { command.now.events ≤ 10000 }
-    requires few_first { length problem.now.from.now ≤ 32768 }
-    requires short { length before.now ≤ 524289 }
-    requires first { Precedes problem.now.script.now before.now
-        (record { events = problem.now.from.now; names = names.old }) }
     requires allowed { list_all is_allowed goal.now ≡ true }
     ensures { IfOk result (λ answer. DueForSearch (search_of problem.now) command.now.events
         command.now.states before.now goal.now answer.status answer.text.items) }
@@ -170,7 +152,7 @@ pub(crate) fn search_answer(
             })
         }
         Outcome::NoneAtAll(states) => {
-            let text = none_text(alloc, states)?;
+            let text = numbered(alloc, "# none, of any length: ", states, " states\n")?;
             Ok(Answer {
                 status: Status::NoneAtAll,
                 text,

@@ -2,8 +2,8 @@
 ghost use Rattle.std.specs.Prelude.{◌≡◌, ◌≤◌, ◌<◌, ◌∷◌, IfSome, IfNone, is_some, length};
 ghost use Rattle.std.specs.Option.{option_map};
 ghost use Rattle.command_line.specs.Command.{texts};
-ghost use Rattle.hipc_search.specs.Command.{no_options, with_kill, with_hangup, with_spawn, with_from, with_kills, with_events, with_states, with_option, goals_behind, options_of};
-ghost use Rattle.hipc_search.specs.Command.{up_to, given_or, given, command_for, is_option, goal_and_others, as_goal, asks_and_others, with_later, command_of, goals_in, said_options, said_asks, said_behind, said};
+ghost use Rattle.hipc_search.specs.Command.{goals_behind, is_known, value_of, comes_once, later_goals, up_to, given_or, given, command_for};
+ghost use Rattle.hipc_search.specs.Command.{is_option, is_asked, first_and_others, asks_for, command_of, goals_in, said_asks, said};
 
 use script_reader::number;
 
@@ -13,17 +13,10 @@ const MOST_EVENTS: u32 = 10_000;
 
 const MOST_STATES: u32 = 100_000_000;
 
-/// What the options say, each of which comes once at most.
-#[derive(Clone, Copy)]
-pub(crate) struct Options<'a> {
-    kill: Option<&'a str>,
-    hangup: Option<&'a str>,
-    spawn: Option<&'a str>,
-    from: Option<&'a str>,
-    kills: Option<u64>,
-    events: Option<u64>,
-    states: Option<u64>,
-}
+/// The names of the options; each option comes once at most.
+const OPTION_NAMES: [&str; 7] = [
+    "--kill", "--hangup", "--spawn", "--from", "--kills", "--events", "--states",
+];
 
 /// What is asked of the schedules of a script.
 #[derive(Clone, Copy)]
@@ -55,143 +48,6 @@ pub(crate) struct Command<'a> {
     pub events: u32,
     /// How many states may be gone on from, at most 100,000,000.
     pub states: u32,
-}
-
-/// No options.
-fn no_options<'a>() -> Options<'a>
-    ensures { said_options result ≡ no_options }
-{
-    Options {
-        kill: None,
-        hangup: None,
-        spawn: None,
-        from: None,
-        kills: None,
-        events: None,
-        states: None,
-    }
-}
-
-/// With the list of kills, where there is none so far; likewise below.
-#[tactic(auto, unfolding(crate::specs::Command::with_kill))]
-fn with_kill<'a>(options: Options<'a>, value: &'a str) -> Option<Options<'a>>
-    ensures { option_map said_options result ≡ with_kill (said_options options.entry) value.now }
-{
-    match options.kill {
-        Some(_) => None,
-        None => Some(Options {
-            kill: Some(value),
-            ..options
-        }),
-    }
-}
-
-#[tactic(auto, unfolding(crate::specs::Command::with_hangup))]
-fn with_hangup<'a>(options: Options<'a>, value: &'a str) -> Option<Options<'a>>
-    ensures { option_map said_options result ≡ with_hangup (said_options options.entry) value.now }
-{
-    match options.hangup {
-        Some(_) => None,
-        None => Some(Options {
-            hangup: Some(value),
-            ..options
-        }),
-    }
-}
-
-#[tactic(auto, unfolding(crate::specs::Command::with_spawn))]
-fn with_spawn<'a>(options: Options<'a>, value: &'a str) -> Option<Options<'a>>
-    ensures { option_map said_options result ≡ with_spawn (said_options options.entry) value.now }
-{
-    match options.spawn {
-        Some(_) => None,
-        None => Some(Options {
-            spawn: Some(value),
-            ..options
-        }),
-    }
-}
-
-#[tactic(auto, unfolding(crate::specs::Command::with_from))]
-fn with_from<'a>(options: Options<'a>, value: &'a str) -> Option<Options<'a>>
-    ensures { option_map said_options result ≡ with_from (said_options options.entry) value.now }
-{
-    match options.from {
-        Some(_) => None,
-        None => Some(Options {
-            from: Some(value),
-            ..options
-        }),
-    }
-}
-
-#[tactic(auto, unfolding(crate::specs::Command::with_kills))]
-fn with_kills<'a>(options: Options<'a>, value: &str) -> Option<Options<'a>>
-    ensures { option_map said_options result ≡ with_kills (said_options options.entry) value.now }
-{
-    match (options.kills, number(value.as_bytes())) {
-        (None, Some(kills)) => Some(Options {
-            kills: Some(kills),
-            ..options
-        }),
-        _ => None,
-    }
-}
-
-#[tactic(auto, unfolding(crate::specs::Command::with_events))]
-fn with_events<'a>(options: Options<'a>, value: &str) -> Option<Options<'a>>
-    ensures { option_map said_options result ≡ with_events (said_options options.entry) value.now }
-{
-    match (options.events, number(value.as_bytes())) {
-        (None, Some(events)) => Some(Options {
-            events: Some(events),
-            ..options
-        }),
-        _ => None,
-    }
-}
-
-#[tactic(auto, unfolding(crate::specs::Command::with_states))]
-fn with_states<'a>(options: Options<'a>, value: &str) -> Option<Options<'a>>
-    ensures { option_map said_options result ≡ with_states (said_options options.entry) value.now }
-{
-    match (options.states, number(value.as_bytes())) {
-        (None, Some(states)) => Some(Options {
-            states: Some(states),
-            ..options
-        }),
-        _ => None,
-    }
-}
-
-/// With an option and its value, where that is one.
-#[tactic(auto, unfolding(crate::specs::Command::with_option))]
-fn with_option<'a>(options: Options<'a>, option: &str, value: &'a str) -> Option<Options<'a>>
-    ensures { option_map said_options result
-        ≡ with_option (said_options options.entry) option.now value.now }
-{
-    if option == "--kill" {
-        return with_kill(options, value);
-    }
-    if option == "--hangup" {
-        return with_hangup(options, value);
-    }
-    if option == "--spawn" {
-        return with_spawn(options, value);
-    }
-    if option == "--from" {
-        return with_from(options, value);
-    }
-    if option == "--kills" {
-        return with_kills(options, value);
-    }
-    if option == "--events" {
-        return with_events(options, value);
-    }
-    if option == "--states" {
-        return with_states(options, value);
-    }
-    None
 }
 
 /// An option and its value, and the words behind them.
@@ -235,109 +91,123 @@ fn are_goals(words: &[String]) -> bool
     }
 }
 
-/// These options, where all words that are left are goals.
-fn last_options<'a>(
-    options: Options<'a>,
-    words: &'a [String],
-) -> Option<(Options<'a>, &'a [String])>
-    ensures { option_map said_behind result
-        ≡ option_map (λ goals. (said_options options.entry, goals)) (goals_behind (texts words.now)) }
+/// The words, where they are goals.
+fn last_goals(words: &[String]) -> Option<&[String]>
+    ensures { option_map (λ goals. goals_in (texts goals.now)) result
+        ≡ goals_behind (texts words.now) }
 {
-    if are_goals(words) {
-        Some((options, words))
-    } else {
-        None
-    }
+    if are_goals(words) { Some(words) } else { None }
 }
 
-/// These options and those that the words are, each with its value behind it, and the words of the
-/// goals behind them. There are no more calls than options.
-fn options_behind<'a>(
-    options: Options<'a>,
-    words: &'a [String],
-) -> Option<(Options<'a>, &'a [String])>
-    ensures { option_map said_behind result
-        ≡ options_of (said_options options.entry) (texts words.now) }
+/// Whether a word is the name of an option.
+fn is_known(word: &str) -> bool
+    ensures { result ≡ is_known word.now }
+{
+    OPTION_NAMES.contains(&word)
+}
+
+/// The value of the option of this name; `None` where it does not come. There are no more calls than
+/// options.
+fn value_of<'a>(words: &'a [String], name: &str) -> Option<&'a str>
+    ensures { option_map (λ value. value.now) result ≡ value_of name.now (texts words.now) }
 {
     match next_pair(words) {
         Some(pair) => {
             if pair.option == "--then" {
-                return last_options(options, words);
+                return None;
             }
-            match with_option(options, pair.option, pair.value) {
-                Some(more) => options_behind(more, pair.others),
-                None => None,
+            if pair.option == name {
+                return Some(pair.value);
             }
+            value_of(pair.others, name)
         }
-        None => last_options(options, words),
+        None => None,
     }
 }
 
-/// The same with goals that come later; a survey has none.
-fn with_later<'a>(asks: Asks<'a>, later: &'a [String]) -> Option<Asks<'a>>
-    ensures { option_map said_asks result
-        ≡ with_later (said_asks asks.entry) (goals_in (texts later.now)) }
+/// Whether an option is known, and comes no more in the words behind it.
+fn comes_once(option: &str, others: &[String]) -> bool
+    ensures { result ≡ comes_once option.now (value_of option.now (texts others.now)) }
 {
-    match (asks, next_pair(later)) {
-        (Asks::Goals { first, .. }, _) => Some(Asks::Goals { first, later }),
-        (Asks::Survey, None) => Some(Asks::Survey),
-        (Asks::Survey, Some(_)) => None,
+    match value_of(others, option) {
+        None => is_known(option),
+        Some(_) => false,
+    }
+}
+
+/// The words of the goals behind options, each of which is known, comes once and has its value behind
+/// it. There are no more calls than options.
+fn later_goals(words: &[String]) -> Option<&[String]>
+    ensures { option_map (λ goals. goals_in (texts goals.now)) result
+        ≡ later_goals (texts words.now) }
+{
+    match next_pair(words) {
+        Some(pair) => {
+            if pair.option == "--then" {
+                return last_goals(words);
+            }
+            if comes_once(pair.option, pair.others) {
+                later_goals(pair.others)
+            } else {
+                None
+            }
+        }
+        None => last_goals(words),
     }
 }
 
 /// A number of at most so many.
-fn up_to(most: u32, number: u64) -> Option<u32>
+fn up_to(most: u32, number: Option<u64>) -> Option<u32>
     ensures value { result ≡ up_to most number }
     ensures within { IfSome result (λ n. n ≤ most) }
 {
-    if number <= u64::from(most) {
-        Some(number as u32)
-    } else {
-        None
+    match number {
+        Some(number) if number <= u64::from(most) => Some(number as u32),
+        _ => None,
     }
 }
 
-/// The same of a number that was given, or else another.
-fn given_or(most: u32, other: u32, number: Option<u64>) -> Option<u32>
-    ensures value { result ≡ given_or most other number }
+/// The number behind an option, of at most so many, or else another.
+fn given_or(words: &[String], name: &str, most: u32, other: u32) -> Option<u32>
+    ensures value { result ≡ given_or most other (value_of name.now (texts words.now)) }
     ensures within { other ≤ most → IfSome result (λ n. n ≤ most) }
 {
-    match number {
+    match value_of(words, name) {
         None => Some(other),
-        Some(number) => up_to(most, number),
+        Some(value) => up_to(most, number(value.as_bytes())),
     }
 }
 
 /// The same, or else none.
-fn given(most: u32, number: Option<u64>) -> Option<Option<u32>>
-    ensures { result ≡ given most number }
+fn given(words: &[String], name: &str, most: u32) -> Option<Option<u32>>
+    ensures { result ≡ given most (value_of name.now (texts words.now)) }
 {
-    match number {
+    match value_of(words, name) {
         None => Some(None),
-        Some(number) => match up_to(most, number) {
+        Some(value) => match up_to(most, number(value.as_bytes())) {
             Some(number) => Some(Some(number)),
             None => None,
         },
     }
 }
 
-/// The command of a script, what is asked, and options.
+/// The command of a script, what is asked, and the words of options.
 #[tactic(auto, unfolding(crate::specs::Command::command_for))]
-fn command_for<'a>(script: &'a str, asks: Asks<'a>, options: Options<'a>) -> Option<Command<'a>>
+fn command_for<'a>(script: &'a str, asks: Asks<'a>, words: &'a [String]) -> Option<Command<'a>>
     ensures command { option_map said result
-        ≡ command_for script.now (said_asks asks.entry) (said_options options.entry) }
+        ≡ command_for script.now (said_asks asks.entry) (texts words.now) }
     ensures few { IfSome result (λ command. command.events ≤ 10000) }
 {
-    let kills = given(MOST_KILLS, options.kills)?;
-    let events = given_or(MOST_EVENTS, 64, options.events)?;
-    let states = given_or(MOST_STATES, 1_000_000, options.states)?;
+    let kills = given(words, "--kills", MOST_KILLS)?;
+    let events = given_or(words, "--events", MOST_EVENTS, 64)?;
+    let states = given_or(words, "--states", MOST_STATES, 1_000_000)?;
     Some(Command {
         script,
         asks,
-        kill: options.kill,
-        hangup: options.hangup,
-        spawn: options.spawn,
-        from: options.from,
+        kill: value_of(words, "--kill"),
+        hangup: value_of(words, "--hangup"),
+        spawn: value_of(words, "--spawn"),
+        from: value_of(words, "--from"),
         kills,
         events,
         states,
@@ -354,50 +224,41 @@ fn is_option(word: &str) -> bool
     }
 }
 
-/// The goal where the words begin with one, else `lost`; and the words that are left.
-fn goal_and_others(words: &[String]) -> (&str, &[String])
-    ensures goal { result.0.now ≡ (goal_and_others (texts words.now)).0 }
-    ensures others { texts result.1.now ≡ (goal_and_others (texts words.now)).1 }
+/// Whether a word says what is asked: it is a goal, or `--survey`.
+fn is_asked(word: &str) -> bool
+    ensures { result ≡ is_asked word.now }
+{
+    word == "--survey" || !is_option(word)
+}
+
+/// The word that says what is asked, where the words begin with one, else `lost`; and the words that
+/// are left.
+fn first_and_others(words: &[String]) -> (&str, &[String])
+    ensures { (result.0.now, texts result.1.now) ≡ first_and_others (texts words.now) }
 {
     match words {
         [] => ("lost", words),
         [word, others @ ..] => {
-            if is_option(word.as_str()) {
-                ("lost", words)
-            } else {
+            if is_asked(word.as_str()) {
                 (word.as_str(), others)
+            } else {
+                ("lost", words)
             }
         }
     }
 }
 
-/// A goal, and the words that are left.
-fn as_goal(words: &[String]) -> (Asks<'_>, &[String])
-    ensures asks { said_asks result.0 ≡ (as_goal (goal_and_others (texts words.now))).0 }
-    ensures others { texts result.1.now ≡ (as_goal (goal_and_others (texts words.now))).1 }
+/// What is asked by that word, and by the goals that come later; a survey has none.
+fn asks_for<'a>(first: &'a str, later: &'a [String]) -> Option<Asks<'a>>
+    ensures { option_map said_asks result ≡ asks_for first.now (goals_in (texts later.now)) }
 {
-    let (goal, others) = goal_and_others(words);
-    let asks = Asks::Goals {
-        first: goal,
-        later: &[],
-    };
-    (asks, others)
-}
-
-/// A survey where the words begin with `--survey`, else a goal; and the words that are left.
-fn asks_and_others(words: &[String]) -> (Asks<'_>, &[String])
-    ensures asks { said_asks result.0 ≡ (asks_and_others (texts words.now)).0 }
-    ensures others { texts result.1.now ≡ (asks_and_others (texts words.now)).1 }
-{
-    match words {
-        [] => as_goal(words),
-        [word, others @ ..] => {
-            if word.as_str() == "--survey" {
-                (Asks::Survey, others)
-            } else {
-                as_goal(words)
-            }
+    if first == "--survey" {
+        match next_pair(later) {
+            None => Some(Asks::Survey),
+            Some(_) => None,
         }
+    } else {
+        Some(Asks::Goals { first, later })
     }
 }
 
@@ -410,11 +271,12 @@ pub(crate) fn command_of(words: &[String]) -> Option<Command<'_>>
     let [script, behind @ ..] = words else {
         return None;
     };
-    if is_option(script.as_str()) {
+    let script = script.as_str();
+    if is_option(script) {
         return None;
     }
-    let (asks, others) = asks_and_others(behind);
-    let (options, later) = options_behind(no_options(), others)?;
-    let asks = with_later(asks, later)?;
-    command_for(script.as_str(), asks, options)
+    let (first, options) = first_and_others(behind);
+    let later = later_goals(options)?;
+    let asks = asks_for(first, later)?;
+    command_for(script, asks, options)
 }

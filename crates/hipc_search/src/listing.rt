@@ -1,15 +1,14 @@
 //! The text of the states at rest that a survey lists.
 ghost use Rattle.std.specs.Prelude.{◌≡◌, ◌≤◌, ◌++◌, ℕ, List, Some, IfOk, OnOk, codes, drop, length, slice_get};
 ghost use Rattle.ipc_ids.specs.declared.message.Event.{Event};
-ghost use Rattle.search_goals.specs.Writing.{IsNamed};
 ghost use Rattle.task_system.specs.Run.{run};
 ghost use Rattle.trace_print.specs.Text.{text_of_entry};
-ghost use Rattle.schedule_search.specs.Search.{IsSound, Made};
+ghost use Rattle.schedule_search.specs.Search.{Made};
 ghost use Rattle.schedule_search.specs.Problem.{search_of, CanDo};
 ghost use Rattle.schedule_search.specs.Survey.{schedules_of};
-ghost use Rattle.hipc_search.specs.Schedule.{ComesFirst};
+ghost use Rattle.hipc_search.specs.Schedule.{MayBeListed};
 ghost use Rattle.hipc_search.specs.Told.{entry_of, told_text};
-ghost use Rattle.hipc_search.specs.Survey.{state_name, heading, outcome_lines, IsState, AreStates, IsListing};
+ghost use Rattle.hipc_search.specs.Survey.{state_name, heading, counts_end, outcome_lines, AddsState, AreStates, IsListing};
 
 use crate::known::names_behind;
 use crate::schedule::push_comment;
@@ -131,33 +130,28 @@ fn push_heading(
     push_comment(alloc, text, name.as_slice(), events)
 }
 
-/// The text of a state to which these events lead. Its tasks have the names that are known behind the
-/// bytes that come first, and those of the tasks that its own events make.
-fn state_text(
+/// Adds the text of a state to which these events lead. Its tasks have the names that are known behind
+/// the bytes that come first, and those of the tasks that its own events make.
+fn push_state(
     alloc: Global,
+    text: &mut Vec<u8>,
     problem: &Problem<'_>,
     before: &[u8],
     events: &[Event],
     place: usize,
     count: usize,
-) -> Result<Vec<u8>, NoMemory>
-    requires sound { IsSound (search_of problem.now) }
-    requires named { IsNamed problem.now.script.now }
-    requires few_first { length problem.now.from.now ≤ 32768 }
-    requires short { length before.now ≤ 524289 }
-    requires first { ComesFirst problem.now.script.now before.now problem.now.from.now }
+) -> Result<(), NoMemory>
+    requires may { MayBeListed (search_of problem.now) before.now }
     requires made { Made (search_of problem.now) events.now }
     requires few { length events.now ≤ 10000 }
-    ensures { IfOk result (λ text. IsState (search_of problem.now) before.now place count events.now
-        text.items) }
+    ensures { OnOk result (AddsState (search_of problem.now) before.now place count events.now
+        text.old.items text.new.items) }
 {
-    let mut text = Vec::new(alloc);
-    push_heading(alloc, &mut text, place, count, events.len())?;
+    push_heading(alloc, text, place, count, events.len())?;
     text.extend_from_slice(before)?;
     let mut names = names_behind(alloc, problem.script, before)?;
-    push_events(alloc, &mut text, problem.script, &mut names, events)?;
-    push_outcomes_behind(alloc, &mut text, problem, &names, events)?;
-    Ok(text)
+    push_events(alloc, text, problem.script, &mut names, events)?;
+    push_outcomes_behind(alloc, text, problem, &names, events)
 }
 
 /// The texts of the states to which schedules lead, one behind the other.
@@ -167,11 +161,7 @@ fn states_text(
     before: &[u8],
     schedules: &[Vec<Event>],
 ) -> Result<Vec<u8>, NoMemory>
-    requires sound { IsSound (search_of problem.now) }
-    requires named { IsNamed problem.now.script.now }
-    requires few_first { length problem.now.from.now ≤ 32768 }
-    requires short { length before.now ≤ 524289 }
-    requires first { ComesFirst problem.now.script.now before.now problem.now.from.now }
+    requires may { MayBeListed (search_of problem.now) before.now }
     requires listed { (k : ℕ) (es : List Event) → slice_get (schedules_of schedules.now) k ≡ Some es
         → Made (search_of problem.now) es × (length es ≤ 10000) }
     ensures { IfOk result (λ text. AreStates (search_of problem.now) before.now 1
@@ -180,31 +170,46 @@ fn states_text(
     let mut text = Vec::new(alloc);
     let count = schedules.len();
     for (place, events) in schedules.iter().enumerate() {
-        let state = state_text(alloc, problem, before, events.as_slice(), place + 1, count)?;
-        text.extend_from_slice(state.as_slice())?;
+        push_state(
+            alloc,
+            &mut text,
+            problem,
+            before,
+            events.as_slice(),
+            place + 1,
+            count,
+        )?;
     }
     Ok(text)
 }
 
-/// The texts of the states, and a last line.
+/// How many states are listed, of how many.
+fn counts_end(alloc: Global, listed: usize, states: u64) -> Result<Vec<u8>, NoMemory>
+    ensures { IfOk result (λ text. text.items ≡ counts_end listed states) }
+{
+    let text = format!(in alloc; "{listed} of {states} states\n")?;
+    Ok(text.into_bytes())
+}
+
+/// The texts of the states, and a last line that begins so and says how many of all they are.
 pub(crate) fn listing(
     alloc: Global,
     problem: &Problem<'_>,
     before: &[u8],
     schedules: &[Vec<Event>],
-    last: &[u8],
+    start: &[u8],
+    states: u64,
 ) -> Result<Vec<u8>, NoMemory>
-    requires sound { IsSound (search_of problem.now) }
-    requires named { IsNamed problem.now.script.now }
-    requires few_first { length problem.now.from.now ≤ 32768 }
-    requires short { length before.now ≤ 524289 }
-    requires first { ComesFirst problem.now.script.now before.now problem.now.from.now }
+    requires may { MayBeListed (search_of problem.now) before.now }
     requires listed { (k : ℕ) (es : List Event) → slice_get (schedules_of schedules.now) k ≡ Some es
         → Made (search_of problem.now) es × (length es ≤ 10000) }
     ensures { IfOk result (λ text. IsListing (search_of problem.now) before.now
-        (schedules_of schedules.now) last.now text.items) }
+        (schedules_of schedules.now)
+        (start.now ++ counts_end (length (schedules_of schedules.now)) states) text.items) }
 {
+    let end = counts_end(alloc, schedules.len(), states)?;
     let mut text = states_text(alloc, problem, before, schedules)?;
-    text.extend_from_slice(last)?;
+    text.extend_from_slice(start)?;
+    text.extend_from_slice(end.as_slice())?;
     Ok(text)
 }

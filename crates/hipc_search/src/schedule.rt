@@ -5,11 +5,11 @@ ghost use Rattle.command_line.specs.Command.{texts};
 ghost use Rattle.script_lines.specs.Text.{is_allowed};
 ghost use Rattle.search_goals.specs.GoalText.{said as said_goal};
 ghost use Rattle.search_goals.specs.Lines.{comment_text};
-ghost use Rattle.search_goals.specs.Writing.{AreNamed, tasks_behind};
-ghost use Rattle.schedule_search.specs.Search.{IsSound, may_try, first_tasks};
+ghost use Rattle.search_goals.specs.Writing.{tasks_behind};
+ghost use Rattle.schedule_search.specs.Search.{may_try, first_tasks};
 ghost use Rattle.schedule_search.specs.Problem.{search_of};
 ghost use Rattle.hipc_search.specs.Command.{goals_in, goals_text};
-ghost use Rattle.hipc_search.specs.Schedule.{found_comment, asks_for_end, closing, IsSchedule, Precedes};
+ghost use Rattle.hipc_search.specs.Schedule.{found_comment, asks_for_end, closing, IsSchedule, MayFollow};
 
 use crate::command::next_pair;
 use crate::moves::push_living;
@@ -95,6 +95,29 @@ pub(crate) fn goals_text(alloc: Global, first: &str, later: &[String]) -> Result
     Ok(text)
 }
 
+/// Adds the comment of the events that were found, their lines, and the steps behind them, to the bytes
+/// of the events that come first, behind which the tasks have these names.
+fn push_found(
+    alloc: Global,
+    text: &mut Vec<u8>,
+    problem: &Problem<'_>,
+    goal: &[u8],
+    names: &mut TaskNames,
+    events: &[Event],
+) -> Result<(), NoMemory>
+    requires may { MayFollow (search_of problem.now) text.old.items names.old }
+    requires allowed { list_all is_allowed goal.now ≡ true }
+    requires tried { may_try (search_of problem.now) events.now ≡ true }
+    requires few { length events.now ≤ 10000 }
+    ensures { OnOk result (IsSchedule (search_of problem.now) text.old.items goal.now events.now
+        text.new.items) }
+{
+    push_comment(alloc, text, goal, events.len())?;
+    push_events(alloc, text, problem.script, names, events)?;
+    let steps = closing(alloc, problem, events, names.len() as u64)?;
+    push_events(alloc, text, problem.script, names, steps.as_slice())
+}
+
 /// The schedule of the events that were found, behind the bytes of those that come first, where the
 /// tasks have these names.
 pub(crate) fn found_text(
@@ -105,12 +128,7 @@ pub(crate) fn found_text(
     names: &mut TaskNames,
     events: &[Event],
 ) -> Result<Vec<u8>, NoMemory>
-    requires sound { IsSound (search_of problem.now) }
-    requires named { AreNamed problem.now.script.now.templates }
-    requires few_first { length problem.now.from.now ≤ 32768 }
-    requires short { length before.now ≤ 524289 }
-    requires first { Precedes problem.now.script.now before.now
-        (record { events = problem.now.from.now; names = names.old }) }
+    requires may { MayFollow (search_of problem.now) before.now names.old }
     requires allowed { list_all is_allowed goal.now ≡ true }
     requires tried { may_try (search_of problem.now) events.now ≡ true }
     requires few { length events.now ≤ 10000 }
@@ -118,9 +136,6 @@ pub(crate) fn found_text(
         text.items) }
 {
     let mut text = Vec::from_slice(alloc, before)?;
-    push_comment(alloc, &mut text, goal, events.len())?;
-    push_events(alloc, &mut text, problem.script, names, events)?;
-    let steps = closing(alloc, problem, events, names.len() as u64)?;
-    push_events(alloc, &mut text, problem.script, names, steps.as_slice())?;
+    push_found(alloc, &mut text, problem, goal, names, events)?;
     Ok(text)
 }

@@ -6,7 +6,7 @@ ghost use Rattle.hipc_search.specs.Status.{number_of};
 use std::process::ExitCode;
 
 /// How a search ended. All but the last two say that the text that is due was written whole.
-#[derive(Clone, Copy, Debug, PartialEq, Eq, Drop)]
+#[derive(Clone, Copy)]
 pub enum Status {
     /// A schedule leads to what is looked for, or schedules lead to the states at rest; they were
     /// written.

@@ -6,6 +6,9 @@ use Rattle.schedule_search.specs.Search.{may_try}
 use Rattle.hipc_search.specs.Schedule.{IsSchedule}
 use Rattle.hipc_search.proofs.answer.search_answer.Goals as goal
 
+pub search_schedules-requires-clause-sound : goal.search_schedules-requires-clause-sound
+search_schedules-requires-clause-sound c = c.requires.may.sound
+
 pub found_text-requires-clause-tried : goal.found_text-requires-clause-tried
 found_text-requires-clause-tried c =
     let right = rw c.in-Found.is at c.in_ok-outcome.ensures in

@@ -26,8 +26,8 @@ returns-in-Err-Bad c =
     (rw fault.field-0-is at fault.ensures.said)))
     (rw c.list_place.ensures at c.fault_answer.ensures)
 
-pub asks_answer-requires-clause-sound : goal.asks_answer-requires-clause-sound
-asks_answer-requires-clause-sound c =
+pub asks_answer-requires-clause-may : goal.asks_answer-requires-clause-may
+asks_answer-requires-clause-may c =
     let lists = c.in-Ok.lists in
     let moves : List Event = c.as_slice-4.result.now in
     let earlier : List Goal = c.as_slice-6.result.now in
@@ -42,11 +42,18 @@ asks_answer-requires-clause-sound c =
     (let long = ap (λ (b : List MostMade). length b) c.as_slice-5.ensures.value in
     let most = c.in-Ok.ensures.few_bounds in
     omega (arith, long, most)) in
-    search_sound c.args.script.now c.args.from.now moves c.args.command.now.kills
-    (record { earlier = said_all earlier; last = said_goal c.args.goals.now.last }) tasks lists.killed.items
-    lists.hangups.items c.as_slice-5.result.now c.in-Ok.ensures.sound c.requires.may c.requires.few some
-    c.in-Ok.ensures.few_hangups few is
-    (ap (λ (goals : List Goal). all_precede (said_all goals)) c.as_slice-6.ensures.value ∙ c.requires.precede)
+    record {
+      sound =
+          search_sound c.args.script.now c.args.from.now moves c.args.command.now.kills
+          (record { earlier = said_all earlier; last = said_goal c.args.goals.now.last }) tasks lists.killed.items
+          lists.hangups.items c.as_slice-5.result.now c.in-Ok.ensures.sound c.requires.may c.requires.few some
+          c.in-Ok.ensures.few_hangups few is
+          (ap (λ (goals : List Goal). all_precede (said_all goals)) c.as_slice-6.ensures.value ∙ c.requires.precede);
+      named = c.requires.named;
+      few_first = c.requires.few;
+      short = c.requires.short;
+      first = c.requires.first;
+    }
 
 pub returns : goal.returns
 returns c =

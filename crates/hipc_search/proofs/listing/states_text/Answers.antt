@@ -1,4 +1,4 @@
-use Rattle.std.proofs.Common.{ℕ, ◌≡◌, ◌+◌, ◌++◌, List, length, Some, slice_get, sym, ap, subst, ◌∙◌, arith}
+use Rattle.std.proofs.Common.{ℕ, ◌≡◌, ◌+◌, List, length, Some, slice_get, sym, ap, subst, ◌∙◌, arith}
 use Rattle.std.specs.Global.{Vec}
 use Rattle.std.proofs.lemmas.List.{length-map}
 use Rattle.std.proofs.lemmas.Option.{slice_get-get_or}
@@ -16,16 +16,16 @@ loop-place-init c =
     begins (search_of c.args.problem.now) c.args.before.now (length (schedules_of c.args.schedules.now))
     (schedules_of c.args.schedules.now) c.new-text.result.items c.new-text.ensures.items
 
-pub state_text-requires-clause-made : goal.state_text-requires-clause-made
-state_text-requires-clause-made c =
+pub push_state-requires-clause-made : goal.push_state-requires-clause-made
+push_state-requires-clause-made c =
     let v : Vec Event = c.index-schedules-place.result in
     let at : slice_get c.args.schedules.now c.loop-place.place ≡ Some v =
     slice_get-get_or c.args.schedules.now c.loop-place.place v c.loop-place-test.true ∙ ap Some (sym c.index-schedules-place.is) in
     let listed = c.requires.listed c.loop-place.place v.items (at_made (λ (w : Vec Event). w.items) c.args.schedules.now c.loop-place.place v at) in
     subst (λ (es : List Event). Made (search_of c.args.problem.now) es) (sym c.as_slice.ensures.value) listed.0
 
-pub state_text-requires-clause-few : goal.state_text-requires-clause-few
-state_text-requires-clause-few c =
+pub push_state-requires-clause-few : goal.push_state-requires-clause-few
+push_state-requires-clause-few c =
     let v : Vec Event = c.index-schedules-place.result in
     let at : slice_get c.args.schedules.now c.loop-place.place ≡ Some v =
     slice_get-get_or c.args.schedules.now c.loop-place.place v c.loop-place-test.true ∙ ap Some (sym c.index-schedules-place.is) in
@@ -40,15 +40,14 @@ loop-place-preserved c =
     let v : Vec Event = c.index-schedules-place.result in
     let count : length c.args.schedules.now ≡ length (schedules_of c.args.schedules.now) =
     sym (length-map c.args.schedules.now (λ (w : Vec Event). w.items)) in
-    let is : IsState s before (c.loop-place.place + 1) (length (schedules_of c.args.schedules.now)) v.items c.in_ok-state.state.items =
-    subst (λ (n : ℕ). IsState s before (c.loop-place.place + 1) n v.items c.in_ok-state.state.items) count
-    (subst (λ (es : List Event). IsState s before (c.loop-place.place + 1) (length c.args.schedules.now) es c.in_ok-state.state.items)
-    c.as_slice.ensures.value c.in_ok-state.ensures) in
+    let added = c.in_ok-push_state.ensures in
+    let is : IsState s before (c.loop-place.place + 1) (length (schedules_of c.args.schedules.now)) v.items added.0 =
+    subst (λ (n : ℕ). IsState s before (c.loop-place.place + 1) n v.items added.0) count
+    (subst (λ (es : List Event). IsState s before (c.loop-place.place + 1) (length c.args.schedules.now) es added.0)
+    c.as_slice.ensures.value added.2) in
     state_more s before (length (schedules_of c.args.schedules.now)) (schedules_of c.args.schedules.now) c.args.schedules.now
-    c.loop-place.place v c.loop-place.text.items c.in_ok-state.state.items c.extend_from_slice.new.self.items
-    c.loop-place-test.true c.index-schedules-place.is is
-    (c.in_ok-extend_from_slice.ensures.items ∙ ap (λ (t : List ℕ). c.loop-place.text.items ++ t) c.as_slice-in-loop-place.ensures.value)
-    c.loop-place.invariant
+    c.loop-place.place v c.loop-place.text.items added.0 c.push_state.new.text.items
+    c.loop-place-test.true c.index-schedules-place.is is added.1 c.loop-place.invariant
 
 pub returns : goal.returns
 returns c =

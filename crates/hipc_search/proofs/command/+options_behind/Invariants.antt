@@ -1,5 +1,0 @@
-use Rattle.std.proofs.Common.{length}
-use Rattle.hipc_search.proofs.command.+options_behind.Given as goal
-
-abbrev pub decreases-options_behind : goal.decreases-options_behind
-decreases-options_behind l = length l.words.now
