@@ -5,7 +5,8 @@ use Rattle.std.specs.declared.alloc.Global.{Global}
 use Rattle.std.specs.Option.{option_map, option_and_then}
 use Rattle.std.proofs.lemmas.List.{length-map, length-drop, take_all}
 use Rattle.command_line.specs.Command.{texts}
-use Rattle.hipc_search.specs.Command.{Asks, Survey, Command, is_then, goals_behind, value_of, later_goals, goals_in, survey_with, given, given_or, command_by, command_for, is_option, first_and_others, asks_for, command_with, command_behind, command_of}
+use Rattle.hipc_search.specs.Command.{Asks, Survey, Command, is_then, goals_behind, value_of, later_goals, goals_in, survey_with}
+use Rattle.hipc_search.specs.Command.{given, given_or, command_by, command_for, is_option, first_and_others, asks_for, command_with, command_behind, command_of}
 
 -- ---- words at the front
 

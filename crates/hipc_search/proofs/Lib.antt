@@ -11,3 +11,4 @@ mod States
 mod Loading
 mod Named
 mod Knowing
+mod Spawning

@@ -1,5 +1,6 @@
 -- The texts of the states that a survey lists.
-use Rattle.std.proofs.Common.{◌≡◌, ℕ, ◌+◌, ◌^◌, ◌≤◌, ◌<◌, true, List, [], ◌∷◌, ◌++◌, length, drop, get_or, Option, None, Some, Ok, slice_get, refl, sym, ap, subst, ◌∙◌, append_assoc, append-nil, length-append, arith, decimal}
+use Rattle.std.proofs.Common.{◌≡◌, ℕ, ◌+◌, ◌^◌, ◌≤◌, ◌<◌, true, List, [], ◌∷◌, ◌++◌, length, drop, get_or}
+use Rattle.std.proofs.Common.{Option, None, Some, Ok, slice_get, refl, sym, ap, subst, ◌∙◌, append_assoc, append-nil, length-append, arith, decimal}
 use Rattle.std.specs.Prelude.{codes}
 use Rattle.std.specs.Global.{Vec}
 use Rattle.std.specs.List.{list_all}

@@ -45,7 +45,7 @@ value_of name (option ∷ []) = None
 value_of name (option ∷ value ∷ others) =
     if is_then option then None else (if bytes_eq option name then Some value else value_of name others)
 
--- an option is known, and comes once: among the words behind it that is what it has for a value, none
+-- an option is known, and comes once; `again` is its value among the words behind it, where it comes there too
 abbrev pub comes_once : (option : List ℕ) → (again : Option (List ℕ)) → Bool
 comes_once option None = is_known option
 comes_once option (Some value) = false

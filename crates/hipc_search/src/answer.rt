@@ -116,8 +116,8 @@ fn none_within_text(alloc: Global, most: u32, states: u64) -> Result<Vec<u8>, No
 pub(crate) fn not_known_text(alloc: Global, room: u32) -> Result<Vec<u8>, NoMemory>
     ensures { IfOk result (λ text. text.items ≡ not_known_line room) }
 {
-    let more = u64::from(room);
-    numbered(alloc, "# not known: more than ", more, " states\n")
+    let room = u64::from(room);
+    numbered(alloc, "# not known: more than ", room, " states\n")
 }
 
 /// Searches, and answers the outcome; behind the events that come first the tasks have these names.

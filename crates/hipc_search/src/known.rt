@@ -17,17 +17,10 @@ use search_goals::TaskNames;
 use std::alloc::Global;
 
 /// Whether a line with this first word makes a task.
-#[tactic(auto, unfolding(script_reader::specs::Schedule::event_verb_of))]
 fn is_spawn(word: &[u8]) -> bool
     ensures { result ≡ is_spawn (event_verb_of word.now) }
 {
-    match word {
-        [b's', b't', b'e', b'p'] => false,
-        [b'k', b'i', b'l', b'l'] => false,
-        [b'h', b'a', b'n', b'g', b'u', b'p'] => false,
-        [b's', b'p', b'a', b'w', b'n'] => true,
-        _ => false,
-    }
+    word == b"spawn".as_slice()
 }
 
 /// Adds a name that may be that of the next task.

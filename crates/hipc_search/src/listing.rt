@@ -34,9 +34,9 @@ fn push_line(alloc: Global, text: &mut Vec<u8>, entry: &Entry) -> Result<(), NoM
     ensures { OnOk result (text.new.items
         ≡ text.old.items ++ (codes ":" ++ drop 1 (text_of_entry entry.now))) }
 {
+    text.push(b':')?;
     let mut line = Vec::new(alloc);
     entry_text(entry, &mut line)?;
-    text.push(b':')?;
     text.extend_from_slice(behind_first(line.as_slice()))?;
     Ok(())
 }
