@@ -29,7 +29,7 @@ module _ (word : List ℕ) where
   -- the verb, by what the table is asked in turn
   abbrev verb_by : (step kill hangup spawn : Bool) → Option EventVerb
   verb_by step kill hangup spawn =
-      option_map (λ entry. entry.1)
+      option_map (λ (entry : List ℕ × EventVerb). entry.1)
       (cond step (Some (codes "step", Step))
       (cond kill (Some (codes "kill", Kill))
       (cond hangup (Some (codes "hangup", Hangup)) (cond spawn (Some (codes "spawn", Spawn)) None))))
