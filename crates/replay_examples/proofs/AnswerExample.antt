@@ -1,10 +1,10 @@
 -- The answer to the bytes of the first lesson: its script and its schedule are read, and the text of the run is written.
-use Rattle.std.proofs.Common.{◌≡◌, ℕ, List, ◌++◌, Result, codes, ap, ◌∙◌}
+use Rattle.std.proofs.Common.{◌≡◌, ℕ, List, Result, codes, ap, ◌∙◌}
 use Rattle.ipc_ids.specs.declared.message.Event.{Event}
 use Rattle.script_lines.specs.declared.fault.Reason.{Reason}
 use Rattle.script_lines.specs.Plan.{Plan}
 use Rattle.script_reader.proofs.ReadingExamples.{plan, script_is_read, schedule_is_read}
-use Rattle.replay_examples.proofs.RunCall.{first_call_text}
+use Rattle.replay_examples.proofs.RunCall.{text, first_call_text}
 use Rattle.command_line.specs.declared.status.Status.TheVariants.{Done}
 use Rattle.command_line.specs.Answer.{answer_of, answer_for_script, answer_for_events}
 
@@ -13,21 +13,6 @@ script = codes "task a raw\ncall 0 512 7\nreceive\ntask b raw\nreceive\nanswer r
 
 abbrev schedule : List ℕ
 schedule = codes "step a\nstep b x 2\nstep a\n"
-
-abbrev text : List ℕ
-text =
-    codes "t1 call 0 512 7 0 0 0 0\n"
-    ++ codes "  call 1 accepted t1.0 method 512 to t2\n"
-    ++ codes "  = call 1\n"
-    ++ codes "t2 receive\n"
-    ++ codes "  call 1 received t2\n"
-    ++ codes "  = received 1 512 7 0 0 0 0 from t1.0\n"
-    ++ codes "t2 answer 1 EOK 8 0 0 0 0\n"
-    ++ codes "  call 1 answered EOK 8 0 0 0 0 by t2\n"
-    ++ codes "  = EOK\n"
-    ++ codes "t1 receive\n"
-    ++ codes "  call 1 delivered t1\n"
-    ++ codes "  = answer 1 EOK 8 0 0 0 0\n"
 
 first_call_is_answered : answer_of script schedule ≡ (Done, text)
 first_call_is_answered =

@@ -9,12 +9,12 @@
 --     wire a 0 b
 --
 -- under the schedule step a, step b x 2, step a.
-use Rattle.std.proofs.Common.{◌≡◌, List, [], ◌∷◌, ◌++◌, true, Some, None, replicate, codes, ap, ◌∙◌, refl}
+use Rattle.std.proofs.Common.{◌≡◌, ℕ, List, [], ◌∷◌, ◌++◌, true, Some, None, replicate, codes, ap, ◌∙◌, refl}
 use Rattle.ipc_ids.specs.declared.message.PhoneState.TheVariants.{Free, Connected}
 use Rattle.ipc_ids.specs.declared.message.Request.TheVariants as ask
 use Rattle.ipc_ids.specs.declared.message.Outcome.TheVariants as got
+use Rattle.ipc_ids.specs.declared.message.Event.{Event}
 use Rattle.ipc_ids.specs.declared.message.Event.TheVariants.{Step}
-use Rattle.ipc_ids.specs.declared.entry.Entry.{Entry}
 use Rattle.ipc_ids.specs.declared.entry.Entry.TheVariants as entry
 use Rattle.ipc_ids.specs.declared.op.Value.TheVariants.{Number, Register}
 use Rattle.ipc_ids.specs.declared.op.Op.TheVariants as op
@@ -27,9 +27,7 @@ use Rattle.script_lines.specs.Plan.{Plan}
 use Rattle.task_system.specs.Any.{after}
 use Rattle.task_system.specs.Run.{run, start, program_of, RunState}
 use Rattle.replay_examples.proofs.KnownMaps.{empty_known, get_known, entries_known, insert_known, remove_known}
-use Rattle.replay_examples.proofs.RunWords.{task, call, phone, msg, reply, raw, wire, sent, no_areas, state, Turns, of_none, of_next, of_step, from_start}
-use Rattle.switchboard.specs.Serving.{Served}
-use Rattle.kernel_core.specs.Kernel.{serve}
+use Rattle.replay_examples.proofs.RunWords.{task, call, phone, msg, reply, raw, wire, sent, no_areas, state, of_none, of_next, of_step, from_start, TaskStep, asks, told_of, Steps}
 use Rattle.trace_print.specs.Text.{text_of, call_text, way_text, answerer_text}
 use Rattle.std.specs.Fmt.{digits}
 
@@ -74,13 +72,6 @@ starts : start plan ≡ state_0
 starts = rw (empty_known, empty_known)
 
 -- 1. step a
-abbrev told_1 : List Entry
-told_1 =
-    entry.Head (task 1) (ask.Call 0 (msg 512 7 0 0 0 0))
-    ∷ entry.Accepted (call 1) (phone 1 0) 512 (Some (task 2))
-    ∷ entry.Outcome (got.Accepted (call 1))
-    ∷ []
-
 abbrev call_1_sent : Call
 call_1_sent = sent 1 (phone 1 0) (msg 512 7 0 0 0 0) (Incoming (task 2)) 1
 
@@ -93,23 +84,16 @@ state_1 =
     ((1, call_1_sent) ∷ []) 2 2 (no_areas 2) 1
     (a_1 ∷ b_0 ∷ []) None
 
-abbrev served_1 : Served
-served_1 = record { state = state_1.kernel; outcome = (got.Accepted (call 1)); entries = entry.Accepted (call 1) (phone 1 0) 512 (Some (task 2)) ∷ [] }
+abbrev step_1 : TaskStep
+step_1 =
+    asks 1 (ask.Call 0 (msg 512 7 0 0 0 0))
+    (entry.Accepted (call 1) (phone 1 0) 512 (Some (task 2)) ∷ [])
+    (got.Accepted (call 1)) []
 
-serves_1 : serve state_0.kernel (task 1) (ask.Call 0 (msg 512 7 0 0 0 0)) ≡ served_1
-serves_1 = rw (entries_known, insert_known)
-
-event_1 : Turns state_0 (Step (task 1)) state_1 told_1
-event_1 = of_step state_0 (task 1) a_0 (ask.Call 0 (msg 512 7 0 0 0 0)) served_1 ([]) refl refl serves_1 refl
+event_1 : Steps state_0 step_1 state_1
+event_1 = of_step state_0 step_1 state_1 a_0 refl refl (rw (entries_known, insert_known)) refl refl
 
 -- 2. step b
-abbrev told_2 : List Entry
-told_2 =
-    entry.Head (task 2) ask.Receive
-    ∷ entry.Received (call 1) (task 2)
-    ∷ entry.Outcome (got.Received (call 1) (msg 512 7 0 0 0 0) (phone 1 0))
-    ∷ []
-
 abbrev call_1_received : Call
 call_1_received = record call_1_sent { place = Dispatched (task 2); stamp = 2 }
 
@@ -122,23 +106,16 @@ state_2 =
     ((1, call_1_received) ∷ []) 2 3 (no_areas 2) 2
     (a_1 ∷ b_1 ∷ []) None
 
-abbrev served_2 : Served
-served_2 = record { state = state_2.kernel; outcome = (got.Received (call 1) (msg 512 7 0 0 0 0) (phone 1 0)); entries = entry.Received (call 1) (task 2) ∷ [] }
+abbrev step_2 : TaskStep
+step_2 =
+    asks 2 ask.Receive
+    (entry.Received (call 1) (task 2) ∷ [])
+    (got.Received (call 1) (msg 512 7 0 0 0 0) (phone 1 0)) []
 
-serves_2 : serve state_1.kernel (task 2) ask.Receive ≡ served_2
-serves_2 = rw (entries_known, entries_known, insert_known)
-
-event_2 : Turns state_1 (Step (task 2)) state_2 told_2
-event_2 = of_step state_1 (task 2) b_0 ask.Receive served_2 ([]) refl refl serves_2 refl
+event_2 : Steps state_1 step_2 state_2
+event_2 = of_step state_1 step_2 state_2 b_0 refl refl (rw (entries_known, entries_known, insert_known)) refl refl
 
 -- 3. step b
-abbrev told_3 : List Entry
-told_3 =
-    entry.Head (task 2) (ask.Answer 1 (reply eok 8 0 0 0 0))
-    ∷ entry.Answered (call 1) (reply eok 8 0 0 0 0) (Some (task 2))
-    ∷ entry.Outcome got.Done
-    ∷ []
-
 abbrev call_1_answered : Call
 call_1_answered = record call_1_received { reply = reply eok 8 0 0 0 0; place = Answers (task 1); stamp = 3 }
 
@@ -151,23 +128,16 @@ state_3 =
     ((1, call_1_answered) ∷ []) 2 4 (no_areas 2) 3
     (a_1 ∷ b_2 ∷ []) None
 
-abbrev served_3 : Served
-served_3 = record { state = state_3.kernel; outcome = got.Done; entries = entry.Answered (call 1) (reply eok 8 0 0 0 0) (Some (task 2)) ∷ [] }
+abbrev step_3 : TaskStep
+step_3 =
+    asks 2 (ask.Answer 1 (reply eok 8 0 0 0 0))
+    (entry.Answered (call 1) (reply eok 8 0 0 0 0) (Some (task 2)) ∷ [])
+    got.Done []
 
-serves_3 : serve state_2.kernel (task 2) (ask.Answer 1 (reply eok 8 0 0 0 0)) ≡ served_3
-serves_3 = rw (get_known, insert_known)
-
-event_3 : Turns state_2 (Step (task 2)) state_3 told_3
-event_3 = of_step state_2 (task 2) b_1 (ask.Answer 1 (reply eok 8 0 0 0 0)) served_3 ([]) refl refl serves_3 refl
+event_3 : Steps state_2 step_3 state_3
+event_3 = of_step state_2 step_3 state_3 b_1 refl refl (rw (get_known, insert_known)) refl refl
 
 -- 4. step a
-abbrev told_4 : List Entry
-told_4 =
-    entry.Head (task 1) ask.Receive
-    ∷ entry.Delivered (call 1) (task 1)
-    ∷ entry.Outcome (got.Answered (call 1) (reply eok 8 0 0 0 0))
-    ∷ []
-
 abbrev a_2 : AnyProgram
 a_2 = after a_1 (got.Answered (call 1) (reply eok 8 0 0 0 0))
 
@@ -177,23 +147,26 @@ state_4 =
     ([]) 2 4 (no_areas 2) 4
     (a_2 ∷ b_2 ∷ []) None
 
-abbrev served_4 : Served
-served_4 = record { state = state_4.kernel; outcome = (got.Answered (call 1) (reply eok 8 0 0 0 0)); entries = entry.Delivered (call 1) (task 1) ∷ [] }
+abbrev step_4 : TaskStep
+step_4 = asks 1 ask.Receive (entry.Delivered (call 1) (task 1) ∷ []) (got.Answered (call 1) (reply eok 8 0 0 0 0)) []
 
-serves_4 : serve state_3.kernel (task 1) ask.Receive ≡ served_4
-serves_4 = rw (entries_known, entries_known, entries_known, remove_known)
+event_4 : Steps state_3 step_4 state_4
+event_4 = of_step state_3 step_4 state_4 a_1 refl refl (rw (entries_known, entries_known, entries_known, remove_known)) refl refl
 
-event_4 : Turns state_3 (Step (task 1)) state_4 told_4
-event_4 = of_step state_3 (task 1) a_1 ask.Receive served_4 ([]) refl refl serves_4 refl
+abbrev schedule : List Event
+schedule =
+    Step (task 1) ∷ Step (task 2) ∷ Step (task 2) ∷ Step (task 1) ∷ []
 
 -- the entries of the run
-pub first_call : run plan (Step (task 1) ∷ Step (task 2) ∷ Step (task 2) ∷ Step (task 1) ∷ [])
-    ≡ told_1 ++ told_2 ++ told_3 ++ told_4 ++ []
-first_call = from_start plan (Step (task 1) ∷ Step (task 2) ∷ Step (task 2) ∷ Step (task 1) ∷ []) starts (of_next event_1 (of_next event_2 (of_next event_3 (of_next event_4 (of_none)))))
+pub first_call : run plan schedule
+    ≡ told_of step_1 ++ told_of step_2 ++ told_of step_3 ++ told_of step_4 ++ []
+first_call = from_start plan schedule starts (
+    of_next event_1 (of_next event_2 (of_next event_3 (of_next event_4 (of_none)))))
 
 -- and their text
-told_text : text_of (told_1 ++ told_2 ++ told_3 ++ told_4 ++ [])
-    ≡ codes "t1 call 0 512 7 0 0 0 0\n"
+abbrev pub text : List ℕ
+text =
+    codes "t1 call 0 512 7 0 0 0 0\n"
     ++ codes "  call 1 accepted t1.0 method 512 to t2\n"
     ++ codes "  = call 1\n"
     ++ codes "t2 receive\n"
@@ -205,20 +178,10 @@ told_text : text_of (told_1 ++ told_2 ++ told_3 ++ told_4 ++ [])
     ++ codes "t1 receive\n"
     ++ codes "  call 1 delivered t1\n"
     ++ codes "  = answer 1 EOK 8 0 0 0 0\n"
+
+told_text : text_of (told_of step_1 ++ told_of step_2 ++ told_of step_3 ++ told_of step_4 ++ []) ≡ text
 unfolding digits call_text way_text answerer_text
 told_text = refl
 
-pub first_call_text : text_of (run plan (Step (task 1) ∷ Step (task 2) ∷ Step (task 2) ∷ Step (task 1) ∷ []))
-    ≡ codes "t1 call 0 512 7 0 0 0 0\n"
-    ++ codes "  call 1 accepted t1.0 method 512 to t2\n"
-    ++ codes "  = call 1\n"
-    ++ codes "t2 receive\n"
-    ++ codes "  call 1 received t2\n"
-    ++ codes "  = received 1 512 7 0 0 0 0 from t1.0\n"
-    ++ codes "t2 answer 1 EOK 8 0 0 0 0\n"
-    ++ codes "  call 1 answered EOK 8 0 0 0 0 by t2\n"
-    ++ codes "  = EOK\n"
-    ++ codes "t1 receive\n"
-    ++ codes "  call 1 delivered t1\n"
-    ++ codes "  = answer 1 EOK 8 0 0 0 0\n"
+pub first_call_text : text_of (run plan schedule) ≡ text
 first_call_text = ap text_of first_call ∙ told_text

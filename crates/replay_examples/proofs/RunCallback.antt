@@ -17,8 +17,8 @@ use Rattle.std.proofs.Common.{◌≡◌, List, [], ◌∷◌, ◌++◌, true, So
 use Rattle.ipc_ids.specs.declared.message.PhoneState.TheVariants.{Free, Connecting, Connected}
 use Rattle.ipc_ids.specs.declared.message.Request.TheVariants as ask
 use Rattle.ipc_ids.specs.declared.message.Outcome.TheVariants as got
+use Rattle.ipc_ids.specs.declared.message.Event.{Event}
 use Rattle.ipc_ids.specs.declared.message.Event.TheVariants.{Step}
-use Rattle.ipc_ids.specs.declared.entry.Entry.{Entry}
 use Rattle.ipc_ids.specs.declared.entry.Entry.TheVariants as entry
 use Rattle.ipc_ids.specs.declared.op.Value.TheVariants.{Number, Register}
 use Rattle.ipc_ids.specs.declared.op.Op.TheVariants as op
@@ -31,9 +31,7 @@ use Rattle.script_lines.specs.Plan.{Plan}
 use Rattle.task_system.specs.Any.{after}
 use Rattle.task_system.specs.Run.{run, start, program_of, RunState}
 use Rattle.replay_examples.proofs.KnownMaps.{empty_known, get_known, entries_known, insert_known, remove_known}
-use Rattle.replay_examples.proofs.RunWords.{task, call, phone, msg, reply, raw, wire, sent, no_areas, state, Turns, of_none, of_next, of_step, from_start}
-use Rattle.switchboard.specs.Serving.{Served}
-use Rattle.kernel_core.specs.Kernel.{serve}
+use Rattle.replay_examples.proofs.RunWords.{task, call, phone, msg, reply, raw, wire, sent, no_areas, state, of_none, of_next, of_step, from_start, TaskStep, asks, told_of, Steps}
 
 abbrev client_plan : TaskPlan
 client_plan =
@@ -76,13 +74,6 @@ starts : start plan ≡ state_0
 starts = rw (empty_known, empty_known)
 
 -- 1. step client
-abbrev told_1 : List Entry
-told_1 =
-    entry.Head (task 1) (ask.Call 0 (msg 1 0 0 0 0 0))
-    ∷ entry.Accepted (call 1) (phone 1 0) 1 (Some (task 2))
-    ∷ entry.Outcome (got.Accepted (call 1))
-    ∷ []
-
 abbrev call_1_sent : Call
 call_1_sent = sent 1 (phone 1 0) (msg 1 0 0 0 0 0) (Incoming (task 2)) 1
 
@@ -95,24 +86,16 @@ state_1 =
     ((1, call_1_sent) ∷ []) 2 2 (no_areas 2) 1
     (client_1 ∷ server_0 ∷ []) None
 
-abbrev served_1 : Served
-served_1 = record { state = state_1.kernel; outcome = (got.Accepted (call 1)); entries = entry.Accepted (call 1) (phone 1 0) 1 (Some (task 2)) ∷ [] }
+abbrev step_1 : TaskStep
+step_1 =
+    asks 1 (ask.Call 0 (msg 1 0 0 0 0 0))
+    (entry.Accepted (call 1) (phone 1 0) 1 (Some (task 2)) ∷ [])
+    (got.Accepted (call 1)) []
 
-serves_1 : serve state_0.kernel (task 1) (ask.Call 0 (msg 1 0 0 0 0 0)) ≡ served_1
-serves_1 = rw (entries_known, insert_known)
-
-event_1 : Turns state_0 (Step (task 1)) state_1 told_1
-event_1 = of_step state_0 (task 1) client_0 (ask.Call 0 (msg 1 0 0 0 0 0)) served_1 ([]) refl refl serves_1 refl
+event_1 : Steps state_0 step_1 state_1
+event_1 = of_step state_0 step_1 state_1 client_0 refl refl (rw (entries_known, insert_known)) refl refl
 
 -- 2. step server
-abbrev told_2 : List Entry
-told_2 =
-    entry.Head (task 2) ask.Receive
-    ∷ entry.Received (call 1) (task 2)
-    ∷ entry.PhoneIs (phone 2 0) Connecting
-    ∷ entry.Outcome (got.Received (call 1) (msg 1 0 0 0 0 0) (phone 1 0))
-    ∷ []
-
 abbrev call_1_received : Call
 call_1_received = record call_1_sent { place = Dispatched (task 2); stamp = 2; reserved = Some (phone 2 0) }
 
@@ -125,24 +108,16 @@ state_2 =
     ((1, call_1_received) ∷ []) 2 3 (no_areas 2) 2
     (client_1 ∷ server_1 ∷ []) None
 
-abbrev served_2 : Served
-served_2 = record { state = state_2.kernel; outcome = (got.Received (call 1) (msg 1 0 0 0 0 0) (phone 1 0)); entries = entry.Received (call 1) (task 2) ∷ entry.PhoneIs (phone 2 0) Connecting ∷ [] }
+abbrev step_2 : TaskStep
+step_2 =
+    asks 2 ask.Receive
+    (entry.Received (call 1) (task 2) ∷ entry.PhoneIs (phone 2 0) Connecting ∷ [])
+    (got.Received (call 1) (msg 1 0 0 0 0 0) (phone 1 0)) []
 
-serves_2 : serve state_1.kernel (task 2) ask.Receive ≡ served_2
-serves_2 = rw (entries_known, entries_known, insert_known)
-
-event_2 : Turns state_1 (Step (task 2)) state_2 told_2
-event_2 = of_step state_1 (task 2) server_0 ask.Receive served_2 ([]) refl refl serves_2 refl
+event_2 : Steps state_1 step_2 state_2
+event_2 = of_step state_1 step_2 state_2 server_0 refl refl (rw (entries_known, entries_known, insert_known)) refl refl
 
 -- 3. step server
-abbrev told_3 : List Entry
-told_3 =
-    entry.Head (task 2) (ask.Answer 1 (reply eok 0 0 0 0 0))
-    ∷ entry.Answered (call 1) (reply eok 0 0 0 0 0) (Some (task 2))
-    ∷ entry.PhoneIs (phone 2 0) (Connected (task 1))
-    ∷ entry.Outcome got.Done
-    ∷ []
-
 abbrev call_1_answered : Call
 call_1_answered = record call_1_received { reply = reply eok 0 0 0 0 0; place = Answers (task 1); stamp = 3 }
 
@@ -155,23 +130,18 @@ state_3 =
     ((1, call_1_answered) ∷ []) 2 4 (no_areas 2) 3
     (client_1 ∷ server_2 ∷ []) None
 
-abbrev served_3 : Served
-served_3 = record { state = state_3.kernel; outcome = got.Done; entries = entry.Answered (call 1) (reply eok 0 0 0 0 0) (Some (task 2)) ∷ entry.PhoneIs (phone 2 0) (Connected (task 1)) ∷ [] }
+abbrev step_3 : TaskStep
+step_3 =
+    asks 2 (ask.Answer 1 (reply eok 0 0 0 0 0))
+    (entry.Answered (call 1) (reply eok 0 0 0 0 0) (Some (task 2))
+    ∷ entry.PhoneIs (phone 2 0) (Connected (task 1))
+    ∷ [])
+    got.Done []
 
-serves_3 : serve state_2.kernel (task 2) (ask.Answer 1 (reply eok 0 0 0 0 0)) ≡ served_3
-serves_3 = rw (get_known, insert_known)
-
-event_3 : Turns state_2 (Step (task 2)) state_3 told_3
-event_3 = of_step state_2 (task 2) server_1 (ask.Answer 1 (reply eok 0 0 0 0 0)) served_3 ([]) refl refl serves_3 refl
+event_3 : Steps state_2 step_3 state_3
+event_3 = of_step state_2 step_3 state_3 server_1 refl refl (rw (get_known, insert_known)) refl refl
 
 -- 4. step client
-abbrev told_4 : List Entry
-told_4 =
-    entry.Head (task 1) ask.Receive
-    ∷ entry.Delivered (call 1) (task 1)
-    ∷ entry.Outcome (got.Answered (call 1) (reply eok 0 0 0 0 0))
-    ∷ []
-
 abbrev client_2 : AnyProgram
 client_2 = after client_1 (got.Answered (call 1) (reply eok 0 0 0 0 0))
 
@@ -181,23 +151,13 @@ state_4 =
     ([]) 2 4 (no_areas 2) 4
     (client_2 ∷ server_2 ∷ []) None
 
-abbrev served_4 : Served
-served_4 = record { state = state_4.kernel; outcome = (got.Answered (call 1) (reply eok 0 0 0 0 0)); entries = entry.Delivered (call 1) (task 1) ∷ [] }
+abbrev step_4 : TaskStep
+step_4 = asks 1 ask.Receive (entry.Delivered (call 1) (task 1) ∷ []) (got.Answered (call 1) (reply eok 0 0 0 0 0)) []
 
-serves_4 : serve state_3.kernel (task 1) ask.Receive ≡ served_4
-serves_4 = rw (entries_known, entries_known, entries_known, remove_known)
-
-event_4 : Turns state_3 (Step (task 1)) state_4 told_4
-event_4 = of_step state_3 (task 1) client_1 ask.Receive served_4 ([]) refl refl serves_4 refl
+event_4 : Steps state_3 step_4 state_4
+event_4 = of_step state_3 step_4 state_4 client_1 refl refl (rw (entries_known, entries_known, entries_known, remove_known)) refl refl
 
 -- 5. step server
-abbrev told_5 : List Entry
-told_5 =
-    entry.Head (task 2) (ask.Call 0 (msg 512 7 0 0 0 0))
-    ∷ entry.Accepted (call 2) (phone 2 0) 512 (Some (task 1))
-    ∷ entry.Outcome (got.Accepted (call 2))
-    ∷ []
-
 abbrev call_2_sent : Call
 call_2_sent = sent 2 (phone 2 0) (msg 512 7 0 0 0 0) (Incoming (task 1)) 4
 
@@ -210,23 +170,16 @@ state_5 =
     ((2, call_2_sent) ∷ []) 3 5 (no_areas 2) 5
     (client_2 ∷ server_3 ∷ []) None
 
-abbrev served_5 : Served
-served_5 = record { state = state_5.kernel; outcome = (got.Accepted (call 2)); entries = entry.Accepted (call 2) (phone 2 0) 512 (Some (task 1)) ∷ [] }
+abbrev step_5 : TaskStep
+step_5 =
+    asks 2 (ask.Call 0 (msg 512 7 0 0 0 0))
+    (entry.Accepted (call 2) (phone 2 0) 512 (Some (task 1)) ∷ [])
+    (got.Accepted (call 2)) []
 
-serves_5 : serve state_4.kernel (task 2) (ask.Call 0 (msg 512 7 0 0 0 0)) ≡ served_5
-serves_5 = rw (entries_known, insert_known)
-
-event_5 : Turns state_4 (Step (task 2)) state_5 told_5
-event_5 = of_step state_4 (task 2) server_2 (ask.Call 0 (msg 512 7 0 0 0 0)) served_5 ([]) refl refl serves_5 refl
+event_5 : Steps state_4 step_5 state_5
+event_5 = of_step state_4 step_5 state_5 server_2 refl refl (rw (entries_known, insert_known)) refl refl
 
 -- 6. step client
-abbrev told_6 : List Entry
-told_6 =
-    entry.Head (task 1) ask.Receive
-    ∷ entry.Received (call 2) (task 1)
-    ∷ entry.Outcome (got.Received (call 2) (msg 512 7 0 0 0 0) (phone 2 0))
-    ∷ []
-
 abbrev call_2_received : Call
 call_2_received = record call_2_sent { place = Dispatched (task 1); stamp = 5 }
 
@@ -239,23 +192,16 @@ state_6 =
     ((2, call_2_received) ∷ []) 3 6 (no_areas 2) 6
     (client_3 ∷ server_3 ∷ []) None
 
-abbrev served_6 : Served
-served_6 = record { state = state_6.kernel; outcome = (got.Received (call 2) (msg 512 7 0 0 0 0) (phone 2 0)); entries = entry.Received (call 2) (task 1) ∷ [] }
+abbrev step_6 : TaskStep
+step_6 =
+    asks 1 ask.Receive
+    (entry.Received (call 2) (task 1) ∷ [])
+    (got.Received (call 2) (msg 512 7 0 0 0 0) (phone 2 0)) []
 
-serves_6 : serve state_5.kernel (task 1) ask.Receive ≡ served_6
-serves_6 = rw (entries_known, entries_known, insert_known)
-
-event_6 : Turns state_5 (Step (task 1)) state_6 told_6
-event_6 = of_step state_5 (task 1) client_2 ask.Receive served_6 ([]) refl refl serves_6 refl
+event_6 : Steps state_5 step_6 state_6
+event_6 = of_step state_5 step_6 state_6 client_2 refl refl (rw (entries_known, entries_known, insert_known)) refl refl
 
 -- 7. step client
-abbrev told_7 : List Entry
-told_7 =
-    entry.Head (task 1) (ask.Answer 2 (reply eok 8 0 0 0 0))
-    ∷ entry.Answered (call 2) (reply eok 8 0 0 0 0) (Some (task 1))
-    ∷ entry.Outcome got.Done
-    ∷ []
-
 abbrev call_2_answered : Call
 call_2_answered = record call_2_received { reply = reply eok 8 0 0 0 0; place = Answers (task 2); stamp = 6 }
 
@@ -268,23 +214,16 @@ state_7 =
     ((2, call_2_answered) ∷ []) 3 7 (no_areas 2) 7
     (client_4 ∷ server_3 ∷ []) None
 
-abbrev served_7 : Served
-served_7 = record { state = state_7.kernel; outcome = got.Done; entries = entry.Answered (call 2) (reply eok 8 0 0 0 0) (Some (task 1)) ∷ [] }
+abbrev step_7 : TaskStep
+step_7 =
+    asks 1 (ask.Answer 2 (reply eok 8 0 0 0 0))
+    (entry.Answered (call 2) (reply eok 8 0 0 0 0) (Some (task 1)) ∷ [])
+    got.Done []
 
-serves_7 : serve state_6.kernel (task 1) (ask.Answer 2 (reply eok 8 0 0 0 0)) ≡ served_7
-serves_7 = rw (get_known, insert_known)
-
-event_7 : Turns state_6 (Step (task 1)) state_7 told_7
-event_7 = of_step state_6 (task 1) client_3 (ask.Answer 2 (reply eok 8 0 0 0 0)) served_7 ([]) refl refl serves_7 refl
+event_7 : Steps state_6 step_7 state_7
+event_7 = of_step state_6 step_7 state_7 client_3 refl refl (rw (get_known, insert_known)) refl refl
 
 -- 8. step server
-abbrev told_8 : List Entry
-told_8 =
-    entry.Head (task 2) ask.Receive
-    ∷ entry.Delivered (call 2) (task 2)
-    ∷ entry.Outcome (got.Answered (call 2) (reply eok 8 0 0 0 0))
-    ∷ []
-
 abbrev server_4 : AnyProgram
 server_4 = after server_3 (got.Answered (call 2) (reply eok 8 0 0 0 0))
 
@@ -294,16 +233,21 @@ state_8 =
     ([]) 3 7 (no_areas 2) 8
     (client_4 ∷ server_4 ∷ []) None
 
-abbrev served_8 : Served
-served_8 = record { state = state_8.kernel; outcome = (got.Answered (call 2) (reply eok 8 0 0 0 0)); entries = entry.Delivered (call 2) (task 2) ∷ [] }
+abbrev step_8 : TaskStep
+step_8 = asks 2 ask.Receive (entry.Delivered (call 2) (task 2) ∷ []) (got.Answered (call 2) (reply eok 8 0 0 0 0)) []
 
-serves_8 : serve state_7.kernel (task 2) ask.Receive ≡ served_8
-serves_8 = rw (entries_known, entries_known, entries_known, remove_known)
+event_8 : Steps state_7 step_8 state_8
+event_8 = of_step state_7 step_8 state_8 server_3 refl refl (rw (entries_known, entries_known, entries_known, remove_known)) refl refl
 
-event_8 : Turns state_7 (Step (task 2)) state_8 told_8
-event_8 = of_step state_7 (task 2) server_3 ask.Receive served_8 ([]) refl refl serves_8 refl
+abbrev schedule : List Event
+schedule =
+    Step (task 1) ∷ Step (task 2) ∷ Step (task 2) ∷ Step (task 1) ∷ Step (task 2) ∷ Step (task 1) ∷ Step (task 1)
+    ∷ Step (task 2) ∷ []
 
 -- the entries of the run
-pub callback : run plan (Step (task 1) ∷ Step (task 2) ∷ Step (task 2) ∷ Step (task 1) ∷ Step (task 2) ∷ Step (task 1) ∷ Step (task 1) ∷ Step (task 2) ∷ [])
-    ≡ told_1 ++ told_2 ++ told_3 ++ told_4 ++ told_5 ++ told_6 ++ told_7 ++ told_8 ++ []
-callback = from_start plan (Step (task 1) ∷ Step (task 2) ∷ Step (task 2) ∷ Step (task 1) ∷ Step (task 2) ∷ Step (task 1) ∷ Step (task 1) ∷ Step (task 2) ∷ []) starts (of_next event_1 (of_next event_2 (of_next event_3 (of_next event_4 (of_next event_5 (of_next event_6 (of_next event_7 (of_next event_8 (of_none)))))))))
+pub callback : run plan schedule
+    ≡ told_of step_1 ++ told_of step_2 ++ told_of step_3 ++ told_of step_4 ++ told_of step_5 ++ told_of step_6
+    ++ told_of step_7 ++ told_of step_8 ++ []
+callback = from_start plan schedule starts (
+    of_next event_1 (of_next event_2 (of_next event_3 (of_next event_4 (of_next event_5 (of_next event_6 (
+    of_next event_7 (of_next event_8 (of_none)))))))))

@@ -18,6 +18,7 @@ use Rattle.std.proofs.Common.{◌≡◌, List, [], ◌∷◌, ◌++◌, true, fa
 use Rattle.ipc_ids.specs.declared.message.PhoneState.TheVariants.{Free, Connected, HungUp, Slammed}
 use Rattle.ipc_ids.specs.declared.message.Request.TheVariants as ask
 use Rattle.ipc_ids.specs.declared.message.Outcome.TheVariants as got
+use Rattle.ipc_ids.specs.declared.message.Event.{Event}
 use Rattle.ipc_ids.specs.declared.message.Event.TheVariants.{Step, Kill}
 use Rattle.ipc_ids.specs.declared.entry.Entry.{Entry}
 use Rattle.ipc_ids.specs.declared.entry.Entry.TheVariants as entry
@@ -32,11 +33,10 @@ use Rattle.script_lines.specs.Plan.{Plan}
 use Rattle.task_system.specs.Any.{after}
 use Rattle.task_system.specs.Run.{run, start, program_of, RunState}
 use Rattle.replay_examples.proofs.KnownMaps.{empty_known, entries_known, insert_known, remove_known}
-use Rattle.replay_examples.proofs.RunWords.{task, call, phone, msg, reply, raw, wire, sent, no_areas, state, Turns, of_none, of_next, of_step, of_kill, of_parts, kernel, from_start}
+use Rattle.replay_examples.proofs.RunWords.{task, call, phone, msg, reply, raw, wire, sent, no_areas, state, Turns, of_none, of_next, of_step, of_kill, of_parts, kernel, from_start, TaskStep, asks, told_of, Steps}
 use Rattle.cleanup.specs.Kill.{hang_up_own_phones, slam_phones_to, settle_incoming, settle_dispatched, drop_answers, forget_calls_elsewhere, drop_areas}
 use Rattle.switchboard.specs.State.{mark_ended, Transition}
-use Rattle.switchboard.specs.Serving.{Served}
-use Rattle.kernel_core.specs.Kernel.{serve, kill_event}
+use Rattle.kernel_core.specs.Kernel.{kill_event}
 
 abbrev a_plan : TaskPlan
 a_plan =
@@ -86,14 +86,6 @@ starts : start plan ≡ state_0
 starts = rw (empty_known, empty_known)
 
 -- 1. step a
-abbrev told_1 : List Entry
-told_1 =
-    entry.Head (task 1) (ask.Hangup 0)
-    ∷ entry.Accepted (call 1) (phone 1 0) 0 (Some (task 2))
-    ∷ entry.PhoneIs (phone 1 0) HungUp
-    ∷ entry.Outcome got.Done
-    ∷ []
-
 abbrev call_1_sent : Call
 call_1_sent = record (sent 1 (phone 1 0) (msg 0 0 0 0 0 0) (Incoming (task 2)) 1) { discard = true }
 
@@ -106,22 +98,16 @@ state_1 =
     ((1, call_1_sent) ∷ []) 2 2 (no_areas 3) 1
     (a_1 ∷ b_0 ∷ c_0 ∷ []) None
 
-abbrev served_1 : Served
-served_1 = record { state = state_1.kernel; outcome = got.Done; entries = entry.Accepted (call 1) (phone 1 0) 0 (Some (task 2)) ∷ entry.PhoneIs (phone 1 0) HungUp ∷ [] }
+abbrev step_1 : TaskStep
+step_1 =
+    asks 1 (ask.Hangup 0)
+    (entry.Accepted (call 1) (phone 1 0) 0 (Some (task 2)) ∷ entry.PhoneIs (phone 1 0) HungUp ∷ [])
+    got.Done []
 
-serves_1 : serve state_0.kernel (task 1) (ask.Hangup 0) ≡ served_1
-serves_1 = rw insert_known
-
-event_1 : Turns state_0 (Step (task 1)) state_1 told_1
-event_1 = of_step state_0 (task 1) a_0 (ask.Hangup 0) served_1 ([]) refl refl serves_1 refl
+event_1 : Steps state_0 step_1 state_1
+event_1 = of_step state_0 step_1 state_1 a_0 refl refl (rw insert_known) refl refl
 
 -- 2. kill c
-abbrev told_2 : List Entry
-told_2 =
-    entry.Kill (task 3)
-    ∷ entry.PhoneIs (phone 1 1) Slammed
-    ∷ []
-
 abbrev state_2 : RunState
 state_2 =
     state (true ∷ true ∷ false ∷ []) ((HungUp ∷ Slammed ∷ replicate 2 Free) ∷ (replicate 2 Free) ∷ (replicate 2 Free) ∷ [])
@@ -129,7 +115,15 @@ state_2 =
     (a_1 ∷ b_0 ∷ c_0 ∷ []) None
 
 abbrev done_2 : Transition
-done_2 = record { state = state_2.kernel; entries = entry.PhoneIs (phone 1 1) Slammed ∷ [] }
+done_2 = record {
+  state = state_2.kernel;
+  entries =
+      entry.PhoneIs (phone 1 1) Slammed
+      ∷ [];
+}
+
+abbrev told_2 : List Entry
+told_2 = entry.Kill (task 3) ∷ done_2.entries
 
 abbrev part_2_1 : Transition
 part_2_1 = record {
@@ -150,46 +144,31 @@ to_part_2_2 : slam_phones_to (task 3) part_2_1.state ≡ part_2_2
 to_part_2_2 = refl
 
 abbrev part_2_3 : Transition
-part_2_3 = record {
-  state = kernel (true ∷ true ∷ false ∷ []) ((HungUp ∷ Slammed ∷ replicate 2 Free) ∷ (replicate 2 Free) ∷ (replicate 2 Free) ∷ []) ((1, call_1_sent) ∷ []) 2 2 (no_areas 3) 1;
-  entries = [];
-}
+part_2_3 = record part_2_2 { entries = [] }
 
 to_part_2_3 : settle_incoming (task 3) part_2_2.state ≡ part_2_3
 to_part_2_3 = rw entries_known
 
 abbrev part_2_4 : Transition
-part_2_4 = record {
-  state = kernel (true ∷ true ∷ false ∷ []) ((HungUp ∷ Slammed ∷ replicate 2 Free) ∷ (replicate 2 Free) ∷ (replicate 2 Free) ∷ []) ((1, call_1_sent) ∷ []) 2 2 (no_areas 3) 1;
-  entries = [];
-}
+part_2_4 = record part_2_3 { entries = [] }
 
 to_part_2_4 : settle_dispatched (task 3) part_2_3.state ≡ part_2_4
 to_part_2_4 = rw entries_known
 
 abbrev part_2_5 : Transition
-part_2_5 = record {
-  state = kernel (true ∷ true ∷ false ∷ []) ((HungUp ∷ Slammed ∷ replicate 2 Free) ∷ (replicate 2 Free) ∷ (replicate 2 Free) ∷ []) ((1, call_1_sent) ∷ []) 2 2 (no_areas 3) 1;
-  entries = [];
-}
+part_2_5 = record part_2_4 { entries = [] }
 
 to_part_2_5 : drop_answers (task 3) part_2_4.state ≡ part_2_5
 to_part_2_5 = rw entries_known
 
 abbrev part_2_6 : Transition
-part_2_6 = record {
-  state = kernel (true ∷ true ∷ false ∷ []) ((HungUp ∷ Slammed ∷ replicate 2 Free) ∷ (replicate 2 Free) ∷ (replicate 2 Free) ∷ []) ((1, call_1_sent) ∷ []) 2 2 (no_areas 3) 1;
-  entries = [];
-}
+part_2_6 = record part_2_5 { entries = [] }
 
 to_part_2_6 : forget_calls_elsewhere (task 3) part_2_5.state ≡ part_2_6
 to_part_2_6 = rw entries_known
 
 abbrev part_2_7 : Transition
-part_2_7 = record {
-  state = kernel (true ∷ true ∷ false ∷ []) ((HungUp ∷ Slammed ∷ replicate 2 Free) ∷ (replicate 2 Free) ∷ (replicate 2 Free) ∷ []) ((1, call_1_sent) ∷ []) 2 2 (no_areas 3) 1;
-  entries = [];
-}
+part_2_7 = record part_2_6 { entries = [] }
 
 to_part_2_7 : drop_areas (task 3) part_2_6.state ≡ part_2_7
 to_part_2_7 = refl
@@ -201,14 +180,6 @@ event_2 : Turns state_1 (Kill (task 3)) state_2 told_2
 event_2 = of_kill state_1 (task 3) done_2 refl kills_2
 
 -- 3. step a
-abbrev told_3 : List Entry
-told_3 =
-    entry.Head (task 1) (ask.Call 0 (msg 512 0 0 0 0 0))
-    ∷ entry.Accepted (call 2) (phone 1 0) 512 None
-    ∷ entry.Answered (call 2) (reply ehangup 0 0 0 0 0) None
-    ∷ entry.Outcome (got.Accepted (call 2))
-    ∷ []
-
 abbrev call_2_sent : Call
 call_2_sent = record (sent 2 (phone 1 0) (msg 512 0 0 0 0 0) (Answers (task 1)) 2) { reply = reply ehangup 0 0 0 0 0 }
 
@@ -221,24 +192,16 @@ state_3 =
     ((1, call_1_sent) ∷ (2, call_2_sent) ∷ []) 3 3 (no_areas 3) 3
     (a_2 ∷ b_0 ∷ c_0 ∷ []) None
 
-abbrev served_3 : Served
-served_3 = record { state = state_3.kernel; outcome = (got.Accepted (call 2)); entries = entry.Accepted (call 2) (phone 1 0) 512 None ∷ entry.Answered (call 2) (reply ehangup 0 0 0 0 0) None ∷ [] }
+abbrev step_3 : TaskStep
+step_3 =
+    asks 1 (ask.Call 0 (msg 512 0 0 0 0 0))
+    (entry.Accepted (call 2) (phone 1 0) 512 None ∷ entry.Answered (call 2) (reply ehangup 0 0 0 0 0) None ∷ [])
+    (got.Accepted (call 2)) []
 
-serves_3 : serve state_2.kernel (task 1) (ask.Call 0 (msg 512 0 0 0 0 0)) ≡ served_3
-serves_3 = rw (entries_known, insert_known)
-
-event_3 : Turns state_2 (Step (task 1)) state_3 told_3
-event_3 = of_step state_2 (task 1) a_1 (ask.Call 0 (msg 512 0 0 0 0 0)) served_3 ([]) refl refl serves_3 refl
+event_3 : Steps state_2 step_3 state_3
+event_3 = of_step state_2 step_3 state_3 a_1 refl refl (rw (entries_known, insert_known)) refl refl
 
 -- 4. step a
-abbrev told_4 : List Entry
-told_4 =
-    entry.Head (task 1) (ask.Call 1 (msg 512 0 0 0 0 0))
-    ∷ entry.Accepted (call 3) (phone 1 1) 512 None
-    ∷ entry.Answered (call 3) (reply enoent 0 0 0 0 0) None
-    ∷ entry.Outcome (got.Accepted (call 3))
-    ∷ []
-
 abbrev call_3_sent : Call
 call_3_sent = record (sent 3 (phone 1 1) (msg 512 0 0 0 0 0) (Answers (task 1)) 3) { reply = reply enoent 0 0 0 0 0 }
 
@@ -251,22 +214,16 @@ state_4 =
     ((1, call_1_sent) ∷ (2, call_2_sent) ∷ (3, call_3_sent) ∷ []) 4 4 (no_areas 3) 4
     (a_3 ∷ b_0 ∷ c_0 ∷ []) None
 
-abbrev served_4 : Served
-served_4 = record { state = state_4.kernel; outcome = (got.Accepted (call 3)); entries = entry.Accepted (call 3) (phone 1 1) 512 None ∷ entry.Answered (call 3) (reply enoent 0 0 0 0 0) None ∷ [] }
+abbrev step_4 : TaskStep
+step_4 =
+    asks 1 (ask.Call 1 (msg 512 0 0 0 0 0))
+    (entry.Accepted (call 3) (phone 1 1) 512 None ∷ entry.Answered (call 3) (reply enoent 0 0 0 0 0) None ∷ [])
+    (got.Accepted (call 3)) []
 
-serves_4 : serve state_3.kernel (task 1) (ask.Call 1 (msg 512 0 0 0 0 0)) ≡ served_4
-serves_4 = rw (entries_known, insert_known)
-
-event_4 : Turns state_3 (Step (task 1)) state_4 told_4
-event_4 = of_step state_3 (task 1) a_2 (ask.Call 1 (msg 512 0 0 0 0 0)) served_4 ([]) refl refl serves_4 refl
+event_4 : Steps state_3 step_4 state_4
+event_4 = of_step state_3 step_4 state_4 a_2 refl refl (rw (entries_known, insert_known)) refl refl
 
 -- 5. step a
-abbrev told_5 : List Entry
-told_5 =
-    entry.Head (task 1) (ask.Call 2 (msg 512 0 0 0 0 0))
-    ∷ entry.Outcome (got.Refused enoent)
-    ∷ []
-
 abbrev a_4 : AnyProgram
 a_4 = after a_3 (got.Refused enoent)
 
@@ -276,22 +233,13 @@ state_5 =
     ((1, call_1_sent) ∷ (2, call_2_sent) ∷ (3, call_3_sent) ∷ []) 4 4 (no_areas 3) 5
     (a_4 ∷ b_0 ∷ c_0 ∷ []) None
 
-abbrev served_5 : Served
-served_5 = record { state = state_5.kernel; outcome = (got.Refused enoent); entries = [] }
+abbrev step_5 : TaskStep
+step_5 = asks 1 (ask.Call 2 (msg 512 0 0 0 0 0)) [] (got.Refused enoent) []
 
-serves_5 : serve state_4.kernel (task 1) (ask.Call 2 (msg 512 0 0 0 0 0)) ≡ served_5
-serves_5 = refl
-
-event_5 : Turns state_4 (Step (task 1)) state_5 told_5
-event_5 = of_step state_4 (task 1) a_3 (ask.Call 2 (msg 512 0 0 0 0 0)) served_5 ([]) refl refl serves_5 refl
+event_5 : Steps state_4 step_5 state_5
+event_5 = of_step state_4 step_5 state_5 a_3 refl refl refl refl refl
 
 -- 6. step a
-abbrev told_6 : List Entry
-told_6 =
-    entry.Head (task 1) (ask.Call 9 (msg 512 0 0 0 0 0))
-    ∷ entry.Outcome (got.Refused enoent)
-    ∷ []
-
 abbrev a_5 : AnyProgram
 a_5 = after a_4 (got.Refused enoent)
 
@@ -301,23 +249,13 @@ state_6 =
     ((1, call_1_sent) ∷ (2, call_2_sent) ∷ (3, call_3_sent) ∷ []) 4 4 (no_areas 3) 6
     (a_5 ∷ b_0 ∷ c_0 ∷ []) None
 
-abbrev served_6 : Served
-served_6 = record { state = state_6.kernel; outcome = (got.Refused enoent); entries = [] }
+abbrev step_6 : TaskStep
+step_6 = asks 1 (ask.Call 9 (msg 512 0 0 0 0 0)) [] (got.Refused enoent) []
 
-serves_6 : serve state_5.kernel (task 1) (ask.Call 9 (msg 512 0 0 0 0 0)) ≡ served_6
-serves_6 = refl
-
-event_6 : Turns state_5 (Step (task 1)) state_6 told_6
-event_6 = of_step state_5 (task 1) a_4 (ask.Call 9 (msg 512 0 0 0 0 0)) served_6 ([]) refl refl serves_6 refl
+event_6 : Steps state_5 step_6 state_6
+event_6 = of_step state_5 step_6 state_6 a_4 refl refl refl refl refl
 
 -- 7. step a
-abbrev told_7 : List Entry
-told_7 =
-    entry.Head (task 1) ask.Receive
-    ∷ entry.Delivered (call 2) (task 1)
-    ∷ entry.Outcome (got.Answered (call 2) (reply ehangup 0 0 0 0 0))
-    ∷ []
-
 abbrev a_6 : AnyProgram
 a_6 = after a_5 (got.Answered (call 2) (reply ehangup 0 0 0 0 0))
 
@@ -327,23 +265,16 @@ state_7 =
     ((1, call_1_sent) ∷ (3, call_3_sent) ∷ []) 4 4 (no_areas 3) 7
     (a_6 ∷ b_0 ∷ c_0 ∷ []) None
 
-abbrev served_7 : Served
-served_7 = record { state = state_7.kernel; outcome = (got.Answered (call 2) (reply ehangup 0 0 0 0 0)); entries = entry.Delivered (call 2) (task 1) ∷ [] }
+abbrev step_7 : TaskStep
+step_7 =
+    asks 1 ask.Receive
+    (entry.Delivered (call 2) (task 1) ∷ [])
+    (got.Answered (call 2) (reply ehangup 0 0 0 0 0)) []
 
-serves_7 : serve state_6.kernel (task 1) ask.Receive ≡ served_7
-serves_7 = rw (entries_known, entries_known, entries_known, remove_known)
-
-event_7 : Turns state_6 (Step (task 1)) state_7 told_7
-event_7 = of_step state_6 (task 1) a_5 ask.Receive served_7 ([]) refl refl serves_7 refl
+event_7 : Steps state_6 step_7 state_7
+event_7 = of_step state_6 step_7 state_7 a_5 refl refl (rw (entries_known, entries_known, entries_known, remove_known)) refl refl
 
 -- 8. step a
-abbrev told_8 : List Entry
-told_8 =
-    entry.Head (task 1) ask.Receive
-    ∷ entry.Delivered (call 3) (task 1)
-    ∷ entry.Outcome (got.Answered (call 3) (reply enoent 0 0 0 0 0))
-    ∷ []
-
 abbrev a_7 : AnyProgram
 a_7 = after a_6 (got.Answered (call 3) (reply enoent 0 0 0 0 0))
 
@@ -353,16 +284,24 @@ state_8 =
     ((1, call_1_sent) ∷ []) 4 4 (no_areas 3) 8
     (a_7 ∷ b_0 ∷ c_0 ∷ []) None
 
-abbrev served_8 : Served
-served_8 = record { state = state_8.kernel; outcome = (got.Answered (call 3) (reply enoent 0 0 0 0 0)); entries = entry.Delivered (call 3) (task 1) ∷ [] }
+abbrev step_8 : TaskStep
+step_8 =
+    asks 1 ask.Receive
+    (entry.Delivered (call 3) (task 1) ∷ [])
+    (got.Answered (call 3) (reply enoent 0 0 0 0 0)) []
 
-serves_8 : serve state_7.kernel (task 1) ask.Receive ≡ served_8
-serves_8 = rw (entries_known, entries_known, entries_known, remove_known)
+event_8 : Steps state_7 step_8 state_8
+event_8 = of_step state_7 step_8 state_8 a_6 refl refl (rw (entries_known, entries_known, entries_known, remove_known)) refl refl
 
-event_8 : Turns state_7 (Step (task 1)) state_8 told_8
-event_8 = of_step state_7 (task 1) a_6 ask.Receive served_8 ([]) refl refl serves_8 refl
+abbrev schedule : List Event
+schedule =
+    Step (task 1) ∷ Kill (task 3) ∷ Step (task 1) ∷ Step (task 1) ∷ Step (task 1) ∷ Step (task 1) ∷ Step (task 1)
+    ∷ Step (task 1) ∷ []
 
 -- the entries of the run
-pub row6 : run plan (Step (task 1) ∷ Kill (task 3) ∷ Step (task 1) ∷ Step (task 1) ∷ Step (task 1) ∷ Step (task 1) ∷ Step (task 1) ∷ Step (task 1) ∷ [])
-    ≡ told_1 ++ told_2 ++ told_3 ++ told_4 ++ told_5 ++ told_6 ++ told_7 ++ told_8 ++ []
-row6 = from_start plan (Step (task 1) ∷ Kill (task 3) ∷ Step (task 1) ∷ Step (task 1) ∷ Step (task 1) ∷ Step (task 1) ∷ Step (task 1) ∷ Step (task 1) ∷ []) starts (of_next event_1 (of_next event_2 (of_next event_3 (of_next event_4 (of_next event_5 (of_next event_6 (of_next event_7 (of_next event_8 (of_none)))))))))
+pub row6 : run plan schedule
+    ≡ told_of step_1 ++ told_2 ++ told_of step_3 ++ told_of step_4 ++ told_of step_5 ++ told_of step_6 ++ told_of step_7
+    ++ told_of step_8 ++ []
+row6 = from_start plan schedule starts (
+    of_next event_1 (of_next event_2 (of_next event_3 (of_next event_4 (of_next event_5 (of_next event_6 (
+    of_next event_7 (of_next event_8 (of_none)))))))))

@@ -20,8 +20,8 @@ use Rattle.ipc_ids.specs.declared.message.Why.TheVariants as why
 use Rattle.ipc_ids.specs.declared.message.PhoneState.TheVariants.{Free, Connecting, Connected}
 use Rattle.ipc_ids.specs.declared.message.Request.TheVariants as ask
 use Rattle.ipc_ids.specs.declared.message.Outcome.TheVariants as got
+use Rattle.ipc_ids.specs.declared.message.Event.{Event}
 use Rattle.ipc_ids.specs.declared.message.Event.TheVariants.{Step}
-use Rattle.ipc_ids.specs.declared.entry.Entry.{Entry}
 use Rattle.ipc_ids.specs.declared.entry.Entry.TheVariants as entry
 use Rattle.ipc_ids.specs.declared.op.Value.TheVariants.{Number, Register}
 use Rattle.ipc_ids.specs.declared.op.Op.TheVariants as op
@@ -34,9 +34,7 @@ use Rattle.script_lines.specs.Plan.{Plan}
 use Rattle.task_system.specs.Any.{after}
 use Rattle.task_system.specs.Run.{run, start, program_of, RunState}
 use Rattle.replay_examples.proofs.KnownMaps.{empty_known, get_known, entries_known, insert_known, remove_known}
-use Rattle.replay_examples.proofs.RunWords.{task, call, fibril, exchange, phone, msg, reply, async, fibril_of, connection_of, wire, sent, no_areas, state, Turns, of_none, of_next, of_step, from_start}
-use Rattle.switchboard.specs.Serving.{Served}
-use Rattle.kernel_core.specs.Kernel.{serve}
+use Rattle.replay_examples.proofs.RunWords.{task, call, fibril, exchange, phone, msg, reply, async, fibril_of, connection_of, wire, sent, no_areas, state, of_none, of_next, of_step, from_start, TaskStep, asks, told_of, Steps}
 
 abbrev server_plan : TaskPlan
 server_plan =
@@ -82,12 +80,6 @@ starts : start plan ≡ state_0
 starts = rw (empty_known, empty_known)
 
 -- 1. step client
-abbrev told_1 : List Entry
-told_1 =
-    entry.Head (task 2) ask.Nothing
-    ∷ entry.Outcome got.Done
-    ∷ []
-
 abbrev client_1 : AnyProgram
 client_1 = after client_0 got.Done
 
@@ -97,26 +89,13 @@ state_1 =
     ([]) 1 1 (no_areas 2) 1
     (server_0 ∷ client_1 ∷ []) None
 
-abbrev served_1 : Served
-served_1 = record { state = state_1.kernel; outcome = got.Done; entries = [] }
+abbrev step_1 : TaskStep
+step_1 = asks 2 ask.Nothing [] got.Done []
 
-serves_1 : serve state_0.kernel (task 2) ask.Nothing ≡ served_1
-serves_1 = refl
-
-event_1 : Turns state_0 (Step (task 2)) state_1 told_1
-event_1 = of_step state_0 (task 2) client_0 ask.Nothing served_1 ([]) refl refl serves_1 refl
+event_1 : Steps state_0 step_1 state_1
+event_1 = of_step state_0 step_1 state_1 client_0 refl refl refl refl refl
 
 -- 2. step client
-abbrev told_2 : List Entry
-told_2 =
-    entry.Head (task 2) (ask.Call 0 (msg 2 0 0 0 0 0))
-    ∷ entry.Accepted (call 1) (phone 2 0) 2 (Some (task 1))
-    ∷ entry.PhoneIs (phone 2 1) Connecting
-    ∷ entry.Outcome (got.Accepted (call 1))
-    ∷ entry.Sent (task 2) (fibril 1) (call 1) None
-    ∷ entry.Blocks (task 2) (fibril 1) (why.Answer (call 1))
-    ∷ []
-
 abbrev call_1_sent : Call
 call_1_sent = record (sent 1 (phone 2 0) (msg 2 0 0 0 0 0) (Incoming (task 1)) 1) { reserved = Some (phone 2 1); msg = msg 2 0 0 0 0 129 }
 
@@ -129,24 +108,17 @@ state_2 =
     ((1, call_1_sent) ∷ []) 2 2 (no_areas 2) 2
     (server_0 ∷ client_2 ∷ []) None
 
-abbrev served_2 : Served
-served_2 = record { state = state_2.kernel; outcome = (got.Accepted (call 1)); entries = entry.Accepted (call 1) (phone 2 0) 2 (Some (task 1)) ∷ entry.PhoneIs (phone 2 1) Connecting ∷ [] }
+abbrev step_2 : TaskStep
+step_2 =
+    asks 2 (ask.Call 0 (msg 2 0 0 0 0 0))
+    (entry.Accepted (call 1) (phone 2 0) 2 (Some (task 1)) ∷ entry.PhoneIs (phone 2 1) Connecting ∷ [])
+    (got.Accepted (call 1))
+    (entry.Sent (task 2) (fibril 1) (call 1) None ∷ entry.Blocks (task 2) (fibril 1) (why.Answer (call 1)) ∷ [])
 
-serves_2 : serve state_1.kernel (task 2) (ask.Call 0 (msg 2 0 0 0 0 0)) ≡ served_2
-serves_2 = rw (entries_known, insert_known)
-
-event_2 : Turns state_1 (Step (task 2)) state_2 told_2
-event_2 = of_step state_1 (task 2) client_1 (ask.Call 0 (msg 2 0 0 0 0 0)) served_2 (entry.Sent (task 2) (fibril 1) (call 1) None ∷ entry.Blocks (task 2) (fibril 1) (why.Answer (call 1)) ∷ []) refl refl serves_2 refl
+event_2 : Steps state_1 step_2 state_2
+event_2 = of_step state_1 step_2 state_2 client_1 refl refl (rw (entries_known, insert_known)) refl refl
 
 -- 3. step server
-abbrev told_3 : List Entry
-told_3 =
-    entry.Head (task 1) ask.Receive
-    ∷ entry.Received (call 1) (task 1)
-    ∷ entry.Outcome (got.Received (call 1) (msg 2 0 0 0 0 129) (phone 2 0))
-    ∷ entry.Starts (task 1) (fibril 1) (phone 2 1)
-    ∷ []
-
 abbrev call_1_received : Call
 call_1_received = record call_1_sent { place = Dispatched (task 1); stamp = 2 }
 
@@ -159,24 +131,16 @@ state_3 =
     ((1, call_1_received) ∷ []) 2 3 (no_areas 2) 3
     (server_1 ∷ client_2 ∷ []) None
 
-abbrev served_3 : Served
-served_3 = record { state = state_3.kernel; outcome = (got.Received (call 1) (msg 2 0 0 0 0 129) (phone 2 0)); entries = entry.Received (call 1) (task 1) ∷ [] }
+abbrev step_3 : TaskStep
+step_3 =
+    asks 1 ask.Receive
+    (entry.Received (call 1) (task 1) ∷ [])
+    (got.Received (call 1) (msg 2 0 0 0 0 129) (phone 2 0)) (entry.Starts (task 1) (fibril 1) (phone 2 1) ∷ [])
 
-serves_3 : serve state_2.kernel (task 1) ask.Receive ≡ served_3
-serves_3 = rw (entries_known, entries_known, insert_known)
-
-event_3 : Turns state_2 (Step (task 1)) state_3 told_3
-event_3 = of_step state_2 (task 1) server_0 ask.Receive served_3 (entry.Starts (task 1) (fibril 1) (phone 2 1) ∷ []) refl refl serves_3 refl
+event_3 : Steps state_2 step_3 state_3
+event_3 = of_step state_2 step_3 state_3 server_0 refl refl (rw (entries_known, entries_known, insert_known)) refl refl
 
 -- 4. step server
-abbrev told_4 : List Entry
-told_4 =
-    entry.Head (task 1) (ask.Answer 1 (reply eok 0 0 0 0 0))
-    ∷ entry.Answered (call 1) (reply eok 0 0 0 0 0) (Some (task 1))
-    ∷ entry.PhoneIs (phone 2 1) (Connected (task 1))
-    ∷ entry.Outcome got.Done
-    ∷ []
-
 abbrev call_1_answered : Call
 call_1_answered = record call_1_received { reply = reply eok 0 0 0 0 0; place = Answers (task 2); stamp = 3 }
 
@@ -189,25 +153,18 @@ state_4 =
     ((1, call_1_answered) ∷ []) 2 4 (no_areas 2) 4
     (server_2 ∷ client_2 ∷ []) None
 
-abbrev served_4 : Served
-served_4 = record { state = state_4.kernel; outcome = got.Done; entries = entry.Answered (call 1) (reply eok 0 0 0 0 0) (Some (task 1)) ∷ entry.PhoneIs (phone 2 1) (Connected (task 1)) ∷ [] }
+abbrev step_4 : TaskStep
+step_4 =
+    asks 1 (ask.Answer 1 (reply eok 0 0 0 0 0))
+    (entry.Answered (call 1) (reply eok 0 0 0 0 0) (Some (task 1))
+    ∷ entry.PhoneIs (phone 2 1) (Connected (task 1))
+    ∷ [])
+    got.Done []
 
-serves_4 : serve state_3.kernel (task 1) (ask.Answer 1 (reply eok 0 0 0 0 0)) ≡ served_4
-serves_4 = rw (get_known, insert_known)
-
-event_4 : Turns state_3 (Step (task 1)) state_4 told_4
-event_4 = of_step state_3 (task 1) server_1 (ask.Answer 1 (reply eok 0 0 0 0 0)) served_4 ([]) refl refl serves_4 refl
+event_4 : Steps state_3 step_4 state_4
+event_4 = of_step state_3 step_4 state_4 server_1 refl refl (rw (get_known, insert_known)) refl refl
 
 -- 5. step client
-abbrev told_5 : List Entry
-told_5 =
-    entry.Head (task 2) ask.Receive
-    ∷ entry.Delivered (call 1) (task 2)
-    ∷ entry.Outcome (got.Answered (call 1) (reply eok 0 0 0 0 1))
-    ∷ entry.Gets (task 2) (fibril 1) (call 1) None (reply eok 0 0 0 0 1)
-    ∷ entry.Begins (task 2) (fibril 1) (exchange 1) Parallel 0 1
-    ∷ []
-
 abbrev client_3 : AnyProgram
 client_3 = after client_2 (got.Answered (call 1) (reply eok 0 0 0 0 1))
 
@@ -217,26 +174,19 @@ state_5 =
     ([]) 2 4 (no_areas 2) 5
     (server_2 ∷ client_3 ∷ []) None
 
-abbrev served_5 : Served
-served_5 = record { state = state_5.kernel; outcome = (got.Answered (call 1) (reply eok 0 0 0 0 1)); entries = entry.Delivered (call 1) (task 2) ∷ [] }
+abbrev step_5 : TaskStep
+step_5 =
+    asks 2 ask.Receive
+    (entry.Delivered (call 1) (task 2) ∷ [])
+    (got.Answered (call 1) (reply eok 0 0 0 0 1))
+    (entry.Gets (task 2) (fibril 1) (call 1) None (reply eok 0 0 0 0 1)
+    ∷ entry.Begins (task 2) (fibril 1) (exchange 1) Parallel 0 1
+    ∷ [])
 
-serves_5 : serve state_4.kernel (task 2) ask.Receive ≡ served_5
-serves_5 = rw (entries_known, entries_known, entries_known, remove_known)
-
-event_5 : Turns state_4 (Step (task 2)) state_5 told_5
-event_5 = of_step state_4 (task 2) client_2 ask.Receive served_5 (entry.Gets (task 2) (fibril 1) (call 1) None (reply eok 0 0 0 0 1) ∷ entry.Begins (task 2) (fibril 1) (exchange 1) Parallel 0 1 ∷ []) refl refl serves_5 refl
+event_5 : Steps state_4 step_5 state_5
+event_5 = of_step state_4 step_5 state_5 client_2 refl refl (rw (entries_known, entries_known, entries_known, remove_known)) refl refl
 
 -- 6. step client
-abbrev told_6 : List Entry
-told_6 =
-    entry.Head (task 2) (ask.Call 0 (msg 2 0 0 0 0 0))
-    ∷ entry.Accepted (call 2) (phone 2 0) 2 (Some (task 1))
-    ∷ entry.PhoneIs (phone 2 2) Connecting
-    ∷ entry.Outcome (got.Accepted (call 2))
-    ∷ entry.Sent (task 2) (fibril 1) (call 2) None
-    ∷ entry.Blocks (task 2) (fibril 1) (why.Answer (call 2))
-    ∷ []
-
 abbrev call_2_sent : Call
 call_2_sent = record (sent 2 (phone 2 0) (msg 2 0 0 0 0 0) (Incoming (task 1)) 4) { reserved = Some (phone 2 2); msg = msg 2 0 0 0 0 130 }
 
@@ -249,23 +199,17 @@ state_6 =
     ((2, call_2_sent) ∷ []) 3 5 (no_areas 2) 6
     (server_2 ∷ client_4 ∷ []) None
 
-abbrev served_6 : Served
-served_6 = record { state = state_6.kernel; outcome = (got.Accepted (call 2)); entries = entry.Accepted (call 2) (phone 2 0) 2 (Some (task 1)) ∷ entry.PhoneIs (phone 2 2) Connecting ∷ [] }
+abbrev step_6 : TaskStep
+step_6 =
+    asks 2 (ask.Call 0 (msg 2 0 0 0 0 0))
+    (entry.Accepted (call 2) (phone 2 0) 2 (Some (task 1)) ∷ entry.PhoneIs (phone 2 2) Connecting ∷ [])
+    (got.Accepted (call 2))
+    (entry.Sent (task 2) (fibril 1) (call 2) None ∷ entry.Blocks (task 2) (fibril 1) (why.Answer (call 2)) ∷ [])
 
-serves_6 : serve state_5.kernel (task 2) (ask.Call 0 (msg 2 0 0 0 0 0)) ≡ served_6
-serves_6 = rw (entries_known, insert_known)
-
-event_6 : Turns state_5 (Step (task 2)) state_6 told_6
-event_6 = of_step state_5 (task 2) client_3 (ask.Call 0 (msg 2 0 0 0 0 0)) served_6 (entry.Sent (task 2) (fibril 1) (call 2) None ∷ entry.Blocks (task 2) (fibril 1) (why.Answer (call 2)) ∷ []) refl refl serves_6 refl
+event_6 : Steps state_5 step_6 state_6
+event_6 = of_step state_5 step_6 state_6 client_3 refl refl (rw (entries_known, insert_known)) refl refl
 
 -- 7. step server
-abbrev told_7 : List Entry
-told_7 =
-    entry.Head (task 1) ask.Nothing
-    ∷ entry.Outcome got.Done
-    ∷ entry.Blocks (task 1) (fibril 1) why.Message
-    ∷ []
-
 abbrev server_3 : AnyProgram
 server_3 = after server_2 got.Done
 
@@ -275,24 +219,13 @@ state_7 =
     ((2, call_2_sent) ∷ []) 3 5 (no_areas 2) 7
     (server_3 ∷ client_4 ∷ []) None
 
-abbrev served_7 : Served
-served_7 = record { state = state_7.kernel; outcome = got.Done; entries = [] }
+abbrev step_7 : TaskStep
+step_7 = asks 1 ask.Nothing [] got.Done (entry.Blocks (task 1) (fibril 1) why.Message ∷ [])
 
-serves_7 : serve state_6.kernel (task 1) ask.Nothing ≡ served_7
-serves_7 = refl
-
-event_7 : Turns state_6 (Step (task 1)) state_7 told_7
-event_7 = of_step state_6 (task 1) server_2 ask.Nothing served_7 (entry.Blocks (task 1) (fibril 1) why.Message ∷ []) refl refl serves_7 refl
+event_7 : Steps state_6 step_7 state_7
+event_7 = of_step state_6 step_7 state_7 server_2 refl refl refl refl refl
 
 -- 8. step server
-abbrev told_8 : List Entry
-told_8 =
-    entry.Head (task 1) ask.Receive
-    ∷ entry.Received (call 2) (task 1)
-    ∷ entry.Outcome (got.Received (call 2) (msg 2 0 0 0 0 130) (phone 2 0))
-    ∷ entry.Starts (task 1) (fibril 2) (phone 2 2)
-    ∷ []
-
 abbrev call_2_received : Call
 call_2_received = record call_2_sent { place = Dispatched (task 1); stamp = 5 }
 
@@ -305,24 +238,16 @@ state_8 =
     ((2, call_2_received) ∷ []) 3 6 (no_areas 2) 8
     (server_4 ∷ client_4 ∷ []) None
 
-abbrev served_8 : Served
-served_8 = record { state = state_8.kernel; outcome = (got.Received (call 2) (msg 2 0 0 0 0 130) (phone 2 0)); entries = entry.Received (call 2) (task 1) ∷ [] }
+abbrev step_8 : TaskStep
+step_8 =
+    asks 1 ask.Receive
+    (entry.Received (call 2) (task 1) ∷ [])
+    (got.Received (call 2) (msg 2 0 0 0 0 130) (phone 2 0)) (entry.Starts (task 1) (fibril 2) (phone 2 2) ∷ [])
 
-serves_8 : serve state_7.kernel (task 1) ask.Receive ≡ served_8
-serves_8 = rw (entries_known, entries_known, insert_known)
-
-event_8 : Turns state_7 (Step (task 1)) state_8 told_8
-event_8 = of_step state_7 (task 1) server_3 ask.Receive served_8 (entry.Starts (task 1) (fibril 2) (phone 2 2) ∷ []) refl refl serves_8 refl
+event_8 : Steps state_7 step_8 state_8
+event_8 = of_step state_7 step_8 state_8 server_3 refl refl (rw (entries_known, entries_known, insert_known)) refl refl
 
 -- 9. step server
-abbrev told_9 : List Entry
-told_9 =
-    entry.Head (task 1) (ask.Answer 2 (reply eok 0 0 0 0 0))
-    ∷ entry.Answered (call 2) (reply eok 0 0 0 0 0) (Some (task 1))
-    ∷ entry.PhoneIs (phone 2 2) (Connected (task 1))
-    ∷ entry.Outcome got.Done
-    ∷ []
-
 abbrev call_2_answered : Call
 call_2_answered = record call_2_received { reply = reply eok 0 0 0 0 0; place = Answers (task 2); stamp = 6 }
 
@@ -335,25 +260,18 @@ state_9 =
     ((2, call_2_answered) ∷ []) 3 7 (no_areas 2) 9
     (server_5 ∷ client_4 ∷ []) None
 
-abbrev served_9 : Served
-served_9 = record { state = state_9.kernel; outcome = got.Done; entries = entry.Answered (call 2) (reply eok 0 0 0 0 0) (Some (task 1)) ∷ entry.PhoneIs (phone 2 2) (Connected (task 1)) ∷ [] }
+abbrev step_9 : TaskStep
+step_9 =
+    asks 1 (ask.Answer 2 (reply eok 0 0 0 0 0))
+    (entry.Answered (call 2) (reply eok 0 0 0 0 0) (Some (task 1))
+    ∷ entry.PhoneIs (phone 2 2) (Connected (task 1))
+    ∷ [])
+    got.Done []
 
-serves_9 : serve state_8.kernel (task 1) (ask.Answer 2 (reply eok 0 0 0 0 0)) ≡ served_9
-serves_9 = rw (get_known, insert_known)
-
-event_9 : Turns state_8 (Step (task 1)) state_9 told_9
-event_9 = of_step state_8 (task 1) server_4 (ask.Answer 2 (reply eok 0 0 0 0 0)) served_9 ([]) refl refl serves_9 refl
+event_9 : Steps state_8 step_9 state_9
+event_9 = of_step state_8 step_9 state_9 server_4 refl refl (rw (get_known, insert_known)) refl refl
 
 -- 10. step client
-abbrev told_10 : List Entry
-told_10 =
-    entry.Head (task 2) ask.Receive
-    ∷ entry.Delivered (call 2) (task 2)
-    ∷ entry.Outcome (got.Answered (call 2) (reply eok 0 0 0 0 2))
-    ∷ entry.Gets (task 2) (fibril 1) (call 2) None (reply eok 0 0 0 0 2)
-    ∷ entry.Begins (task 2) (fibril 1) (exchange 2) Parallel 0 2
-    ∷ []
-
 abbrev client_5 : AnyProgram
 client_5 = after client_4 (got.Answered (call 2) (reply eok 0 0 0 0 2))
 
@@ -363,23 +281,19 @@ state_10 =
     ([]) 3 7 (no_areas 2) 10
     (server_5 ∷ client_5 ∷ []) None
 
-abbrev served_10 : Served
-served_10 = record { state = state_10.kernel; outcome = (got.Answered (call 2) (reply eok 0 0 0 0 2)); entries = entry.Delivered (call 2) (task 2) ∷ [] }
+abbrev step_10 : TaskStep
+step_10 =
+    asks 2 ask.Receive
+    (entry.Delivered (call 2) (task 2) ∷ [])
+    (got.Answered (call 2) (reply eok 0 0 0 0 2))
+    (entry.Gets (task 2) (fibril 1) (call 2) None (reply eok 0 0 0 0 2)
+    ∷ entry.Begins (task 2) (fibril 1) (exchange 2) Parallel 0 2
+    ∷ [])
 
-serves_10 : serve state_9.kernel (task 2) ask.Receive ≡ served_10
-serves_10 = rw (entries_known, entries_known, entries_known, remove_known)
-
-event_10 : Turns state_9 (Step (task 2)) state_10 told_10
-event_10 = of_step state_9 (task 2) client_4 ask.Receive served_10 (entry.Gets (task 2) (fibril 1) (call 2) None (reply eok 0 0 0 0 2) ∷ entry.Begins (task 2) (fibril 1) (exchange 2) Parallel 0 2 ∷ []) refl refl serves_10 refl
+event_10 : Steps state_9 step_10 state_10
+event_10 = of_step state_9 step_10 state_10 client_4 refl refl (rw (entries_known, entries_known, entries_known, remove_known)) refl refl
 
 -- 11. step client
-abbrev told_11 : List Entry
-told_11 =
-    entry.Head (task 2) ask.Nothing
-    ∷ entry.Outcome got.Done
-    ∷ entry.ExchangeEnds (task 2) (fibril 1) (exchange 1)
-    ∷ []
-
 abbrev client_6 : AnyProgram
 client_6 = after client_5 got.Done
 
@@ -389,23 +303,13 @@ state_11 =
     ([]) 3 7 (no_areas 2) 11
     (server_5 ∷ client_6 ∷ []) None
 
-abbrev served_11 : Served
-served_11 = record { state = state_11.kernel; outcome = got.Done; entries = [] }
+abbrev step_11 : TaskStep
+step_11 = asks 2 ask.Nothing [] got.Done (entry.ExchangeEnds (task 2) (fibril 1) (exchange 1) ∷ [])
 
-serves_11 : serve state_10.kernel (task 2) ask.Nothing ≡ served_11
-serves_11 = refl
-
-event_11 : Turns state_10 (Step (task 2)) state_11 told_11
-event_11 = of_step state_10 (task 2) client_5 ask.Nothing served_11 (entry.ExchangeEnds (task 2) (fibril 1) (exchange 1) ∷ []) refl refl serves_11 refl
+event_11 : Steps state_10 step_11 state_11
+event_11 = of_step state_10 step_11 state_11 client_5 refl refl refl refl refl
 
 -- 12. step client
-abbrev told_12 : List Entry
-told_12 =
-    entry.Head (task 2) ask.Nothing
-    ∷ entry.Outcome got.Done
-    ∷ entry.Begins (task 2) (fibril 1) (exchange 1) Parallel 0 1
-    ∷ []
-
 abbrev client_7 : AnyProgram
 client_7 = after client_6 got.Done
 
@@ -415,16 +319,23 @@ state_12 =
     ([]) 3 7 (no_areas 2) 12
     (server_5 ∷ client_7 ∷ []) None
 
-abbrev served_12 : Served
-served_12 = record { state = state_12.kernel; outcome = got.Done; entries = [] }
+abbrev step_12 : TaskStep
+step_12 = asks 2 ask.Nothing [] got.Done (entry.Begins (task 2) (fibril 1) (exchange 1) Parallel 0 1 ∷ [])
 
-serves_12 : serve state_11.kernel (task 2) ask.Nothing ≡ served_12
-serves_12 = refl
+event_12 : Steps state_11 step_12 state_12
+event_12 = of_step state_11 step_12 state_12 client_6 refl refl refl refl refl
 
-event_12 : Turns state_11 (Step (task 2)) state_12 told_12
-event_12 = of_step state_11 (task 2) client_6 ask.Nothing served_12 (entry.Begins (task 2) (fibril 1) (exchange 1) Parallel 0 1 ∷ []) refl refl serves_12 refl
+abbrev schedule : List Event
+schedule =
+    Step (task 2) ∷ Step (task 2) ∷ Step (task 1) ∷ Step (task 1) ∷ Step (task 2) ∷ Step (task 2) ∷ Step (task 1)
+    ∷ Step (task 1) ∷ Step (task 1) ∷ Step (task 2) ∷ Step (task 2) ∷ Step (task 2) ∷ []
 
 -- the entries of the run
-pub parallel : run plan (Step (task 2) ∷ Step (task 2) ∷ Step (task 1) ∷ Step (task 1) ∷ Step (task 2) ∷ Step (task 2) ∷ Step (task 1) ∷ Step (task 1) ∷ Step (task 1) ∷ Step (task 2) ∷ Step (task 2) ∷ Step (task 2) ∷ [])
-    ≡ told_1 ++ told_2 ++ told_3 ++ told_4 ++ told_5 ++ told_6 ++ told_7 ++ told_8 ++ told_9 ++ told_10 ++ told_11 ++ told_12 ++ []
-parallel = from_start plan (Step (task 2) ∷ Step (task 2) ∷ Step (task 1) ∷ Step (task 1) ∷ Step (task 2) ∷ Step (task 2) ∷ Step (task 1) ∷ Step (task 1) ∷ Step (task 1) ∷ Step (task 2) ∷ Step (task 2) ∷ Step (task 2) ∷ []) starts (of_next event_1 (of_next event_2 (of_next event_3 (of_next event_4 (of_next event_5 (of_next event_6 (of_next event_7 (of_next event_8 (of_next event_9 (of_next event_10 (of_next event_11 (of_next event_12 (of_none)))))))))))))
+pub parallel : run plan schedule
+    ≡ told_of step_1 ++ told_of step_2 ++ told_of step_3 ++ told_of step_4 ++ told_of step_5 ++ told_of step_6
+    ++ told_of step_7 ++ told_of step_8 ++ told_of step_9 ++ told_of step_10 ++ told_of step_11 ++ told_of step_12
+    ++ []
+parallel = from_start plan schedule starts (
+    of_next event_1 (of_next event_2 (of_next event_3 (of_next event_4 (of_next event_5 (of_next event_6 (
+    of_next event_7 (of_next event_8 (of_next event_9 (of_next event_10 (of_next event_11 (
+    of_next event_12 (of_none)))))))))))))

@@ -26,8 +26,8 @@ use Rattle.ipc_ids.specs.declared.message.Mode.TheVariants.{Plain}
 use Rattle.ipc_ids.specs.declared.message.PhoneState.TheVariants.{Free, Connected, HungUp}
 use Rattle.ipc_ids.specs.declared.message.Request.TheVariants as ask
 use Rattle.ipc_ids.specs.declared.message.Outcome.TheVariants as got
+use Rattle.ipc_ids.specs.declared.message.Event.{Event}
 use Rattle.ipc_ids.specs.declared.message.Event.TheVariants.{Step}
-use Rattle.ipc_ids.specs.declared.entry.Entry.{Entry}
 use Rattle.ipc_ids.specs.declared.entry.Entry.TheVariants as entry
 use Rattle.ipc_ids.specs.declared.op.Value.TheVariants.{Number, Register}
 use Rattle.ipc_ids.specs.declared.op.Op.TheVariants as op
@@ -40,9 +40,7 @@ use Rattle.script_lines.specs.Plan.{Plan}
 use Rattle.task_system.specs.Any.{after}
 use Rattle.task_system.specs.Run.{run, start, program_of, RunState}
 use Rattle.replay_examples.proofs.KnownMaps.{empty_known, get_known, entries_known, insert_known, remove_known}
-use Rattle.replay_examples.proofs.RunWords.{task, call, phone, msg, reply, raw, wire, sent, no_areas, state, Turns, of_none, of_next, of_step, from_start}
-use Rattle.switchboard.specs.Serving.{Served}
-use Rattle.kernel_core.specs.Kernel.{serve}
+use Rattle.replay_examples.proofs.RunWords.{task, call, phone, msg, reply, raw, wire, sent, no_areas, state, of_none, of_next, of_step, from_start, TaskStep, asks, told_of, Steps}
 
 abbrev client_plan : TaskPlan
 client_plan =
@@ -99,13 +97,6 @@ starts : start plan ≡ state_0
 starts = rw (empty_known, empty_known)
 
 -- 1. step client
-abbrev told_1 : List Entry
-told_1 =
-    entry.Head (task 1) (ask.Call 0 (msg 512 0 0 0 0 0))
-    ∷ entry.Accepted (call 1) (phone 1 0) 512 (Some (task 2))
-    ∷ entry.Outcome (got.Accepted (call 1))
-    ∷ []
-
 abbrev call_1_sent : Call
 call_1_sent = sent 1 (phone 1 0) (msg 512 0 0 0 0 0) (Incoming (task 2)) 1
 
@@ -118,23 +109,16 @@ state_1 =
     ((1, call_1_sent) ∷ []) 2 2 (no_areas 3) 1
     (client_1 ∷ desk_0 ∷ expert_0 ∷ []) None
 
-abbrev served_1 : Served
-served_1 = record { state = state_1.kernel; outcome = (got.Accepted (call 1)); entries = entry.Accepted (call 1) (phone 1 0) 512 (Some (task 2)) ∷ [] }
+abbrev step_1 : TaskStep
+step_1 =
+    asks 1 (ask.Call 0 (msg 512 0 0 0 0 0))
+    (entry.Accepted (call 1) (phone 1 0) 512 (Some (task 2)) ∷ [])
+    (got.Accepted (call 1)) []
 
-serves_1 : serve state_0.kernel (task 1) (ask.Call 0 (msg 512 0 0 0 0 0)) ≡ served_1
-serves_1 = rw (entries_known, insert_known)
-
-event_1 : Turns state_0 (Step (task 1)) state_1 told_1
-event_1 = of_step state_0 (task 1) client_0 (ask.Call 0 (msg 512 0 0 0 0 0)) served_1 ([]) refl refl serves_1 refl
+event_1 : Steps state_0 step_1 state_1
+event_1 = of_step state_0 step_1 state_1 client_0 refl refl (rw (entries_known, insert_known)) refl refl
 
 -- 2. step client
-abbrev told_2 : List Entry
-told_2 =
-    entry.Head (task 1) (ask.Call 0 (msg 513 0 0 0 0 0))
-    ∷ entry.Accepted (call 2) (phone 1 0) 513 (Some (task 2))
-    ∷ entry.Outcome (got.Accepted (call 2))
-    ∷ []
-
 abbrev call_2_sent : Call
 call_2_sent = sent 2 (phone 1 0) (msg 513 0 0 0 0 0) (Incoming (task 2)) 2
 
@@ -147,24 +131,16 @@ state_2 =
     ((1, call_1_sent) ∷ (2, call_2_sent) ∷ []) 3 3 (no_areas 3) 2
     (client_2 ∷ desk_0 ∷ expert_0 ∷ []) None
 
-abbrev served_2 : Served
-served_2 = record { state = state_2.kernel; outcome = (got.Accepted (call 2)); entries = entry.Accepted (call 2) (phone 1 0) 513 (Some (task 2)) ∷ [] }
+abbrev step_2 : TaskStep
+step_2 =
+    asks 1 (ask.Call 0 (msg 513 0 0 0 0 0))
+    (entry.Accepted (call 2) (phone 1 0) 513 (Some (task 2)) ∷ [])
+    (got.Accepted (call 2)) []
 
-serves_2 : serve state_1.kernel (task 1) (ask.Call 0 (msg 513 0 0 0 0 0)) ≡ served_2
-serves_2 = rw (entries_known, insert_known)
-
-event_2 : Turns state_1 (Step (task 1)) state_2 told_2
-event_2 = of_step state_1 (task 1) client_1 (ask.Call 0 (msg 513 0 0 0 0 0)) served_2 ([]) refl refl serves_2 refl
+event_2 : Steps state_1 step_2 state_2
+event_2 = of_step state_1 step_2 state_2 client_1 refl refl (rw (entries_known, insert_known)) refl refl
 
 -- 3. step client
-abbrev told_3 : List Entry
-told_3 =
-    entry.Head (task 1) (ask.Hangup 0)
-    ∷ entry.Accepted (call 3) (phone 1 0) 0 (Some (task 2))
-    ∷ entry.PhoneIs (phone 1 0) HungUp
-    ∷ entry.Outcome got.Done
-    ∷ []
-
 abbrev call_3_sent : Call
 call_3_sent = record (sent 3 (phone 1 0) (msg 0 0 0 0 0 0) (Incoming (task 2)) 3) { discard = true }
 
@@ -177,23 +153,16 @@ state_3 =
     ((1, call_1_sent) ∷ (2, call_2_sent) ∷ (3, call_3_sent) ∷ []) 4 4 (no_areas 3) 3
     (client_3 ∷ desk_0 ∷ expert_0 ∷ []) None
 
-abbrev served_3 : Served
-served_3 = record { state = state_3.kernel; outcome = got.Done; entries = entry.Accepted (call 3) (phone 1 0) 0 (Some (task 2)) ∷ entry.PhoneIs (phone 1 0) HungUp ∷ [] }
+abbrev step_3 : TaskStep
+step_3 =
+    asks 1 (ask.Hangup 0)
+    (entry.Accepted (call 3) (phone 1 0) 0 (Some (task 2)) ∷ entry.PhoneIs (phone 1 0) HungUp ∷ [])
+    got.Done []
 
-serves_3 : serve state_2.kernel (task 1) (ask.Hangup 0) ≡ served_3
-serves_3 = rw insert_known
-
-event_3 : Turns state_2 (Step (task 1)) state_3 told_3
-event_3 = of_step state_2 (task 1) client_2 (ask.Hangup 0) served_3 ([]) refl refl serves_3 refl
+event_3 : Steps state_2 step_3 state_3
+event_3 = of_step state_2 step_3 state_3 client_2 refl refl (rw insert_known) refl refl
 
 -- 4. step desk
-abbrev told_4 : List Entry
-told_4 =
-    entry.Head (task 2) ask.Receive
-    ∷ entry.Received (call 1) (task 2)
-    ∷ entry.Outcome (got.Received (call 1) (msg 512 0 0 0 0 0) (phone 1 0))
-    ∷ []
-
 abbrev call_1_received : Call
 call_1_received = record call_1_sent { place = Dispatched (task 2); stamp = 4 }
 
@@ -206,23 +175,16 @@ state_4 =
     ((1, call_1_received) ∷ (2, call_2_sent) ∷ (3, call_3_sent) ∷ []) 4 5 (no_areas 3) 4
     (client_3 ∷ desk_1 ∷ expert_0 ∷ []) None
 
-abbrev served_4 : Served
-served_4 = record { state = state_4.kernel; outcome = (got.Received (call 1) (msg 512 0 0 0 0 0) (phone 1 0)); entries = entry.Received (call 1) (task 2) ∷ [] }
+abbrev step_4 : TaskStep
+step_4 =
+    asks 2 ask.Receive
+    (entry.Received (call 1) (task 2) ∷ [])
+    (got.Received (call 1) (msg 512 0 0 0 0 0) (phone 1 0)) []
 
-serves_4 : serve state_3.kernel (task 2) ask.Receive ≡ served_4
-serves_4 = rw (entries_known, entries_known, insert_known)
-
-event_4 : Turns state_3 (Step (task 2)) state_4 told_4
-event_4 = of_step state_3 (task 2) desk_0 ask.Receive served_4 ([]) refl refl serves_4 refl
+event_4 : Steps state_3 step_4 state_4
+event_4 = of_step state_3 step_4 state_4 desk_0 refl refl (rw (entries_known, entries_known, insert_known)) refl refl
 
 -- 5. step desk
-abbrev told_5 : List Entry
-told_5 =
-    entry.Head (task 2) (ask.Forward 1 0 Plain None)
-    ∷ entry.Answered (call 1) (reply eforward 0 0 0 0 0) None
-    ∷ entry.Outcome (got.Refused enoent)
-    ∷ []
-
 abbrev call_1_answered : Call
 call_1_answered = record call_1_received { reply = reply eforward 0 0 0 0 0; place = Answers (task 1); stamp = 5 }
 
@@ -235,23 +197,16 @@ state_5 =
     ((1, call_1_answered) ∷ (2, call_2_sent) ∷ (3, call_3_sent) ∷ []) 4 6 (no_areas 3) 5
     (client_3 ∷ desk_2 ∷ expert_0 ∷ []) None
 
-abbrev served_5 : Served
-served_5 = record { state = state_5.kernel; outcome = (got.Refused enoent); entries = entry.Answered (call 1) (reply eforward 0 0 0 0 0) None ∷ [] }
+abbrev step_5 : TaskStep
+step_5 =
+    asks 2 (ask.Forward 1 0 Plain None)
+    (entry.Answered (call 1) (reply eforward 0 0 0 0 0) None ∷ [])
+    (got.Refused enoent) []
 
-serves_5 : serve state_4.kernel (task 2) (ask.Forward 1 0 Plain None) ≡ served_5
-serves_5 = rw (get_known, insert_known)
-
-event_5 : Turns state_4 (Step (task 2)) state_5 told_5
-event_5 = of_step state_4 (task 2) desk_1 (ask.Forward 1 0 Plain None) served_5 ([]) refl refl serves_5 refl
+event_5 : Steps state_4 step_5 state_5
+event_5 = of_step state_4 step_5 state_5 desk_1 refl refl (rw (get_known, insert_known)) refl refl
 
 -- 6. step desk
-abbrev told_6 : List Entry
-told_6 =
-    entry.Head (task 2) ask.Receive
-    ∷ entry.Received (call 2) (task 2)
-    ∷ entry.Outcome (got.Received (call 2) (msg 513 0 0 0 0 0) (phone 1 0))
-    ∷ []
-
 abbrev call_2_received : Call
 call_2_received = record call_2_sent { place = Dispatched (task 2); stamp = 6 }
 
@@ -264,23 +219,16 @@ state_6 =
     ((1, call_1_answered) ∷ (2, call_2_received) ∷ (3, call_3_sent) ∷ []) 4 7 (no_areas 3) 6
     (client_3 ∷ desk_3 ∷ expert_0 ∷ []) None
 
-abbrev served_6 : Served
-served_6 = record { state = state_6.kernel; outcome = (got.Received (call 2) (msg 513 0 0 0 0 0) (phone 1 0)); entries = entry.Received (call 2) (task 2) ∷ [] }
+abbrev step_6 : TaskStep
+step_6 =
+    asks 2 ask.Receive
+    (entry.Received (call 2) (task 2) ∷ [])
+    (got.Received (call 2) (msg 513 0 0 0 0 0) (phone 1 0)) []
 
-serves_6 : serve state_5.kernel (task 2) ask.Receive ≡ served_6
-serves_6 = rw (entries_known, entries_known, insert_known)
-
-event_6 : Turns state_5 (Step (task 2)) state_6 told_6
-event_6 = of_step state_5 (task 2) desk_2 ask.Receive served_6 ([]) refl refl serves_6 refl
+event_6 : Steps state_5 step_6 state_6
+event_6 = of_step state_5 step_6 state_6 desk_2 refl refl (rw (entries_known, entries_known, insert_known)) refl refl
 
 -- 7. step desk
-abbrev told_7 : List Entry
-told_7 =
-    entry.Head (task 2) (ask.Forward 2 1 Plain (Some (msg 511 0 0 0 0 0)))
-    ∷ entry.Answered (call 2) (reply eforward 0 0 0 0 0) None
-    ∷ entry.Outcome (got.Refused eperm)
-    ∷ []
-
 abbrev call_2_answered : Call
 call_2_answered = record call_2_received { reply = reply eforward 0 0 0 0 0; place = Answers (task 1); stamp = 7 }
 
@@ -293,23 +241,16 @@ state_7 =
     ((1, call_1_answered) ∷ (2, call_2_answered) ∷ (3, call_3_sent) ∷ []) 4 8 (no_areas 3) 7
     (client_3 ∷ desk_4 ∷ expert_0 ∷ []) None
 
-abbrev served_7 : Served
-served_7 = record { state = state_7.kernel; outcome = (got.Refused eperm); entries = entry.Answered (call 2) (reply eforward 0 0 0 0 0) None ∷ [] }
+abbrev step_7 : TaskStep
+step_7 =
+    asks 2 (ask.Forward 2 1 Plain (Some (msg 511 0 0 0 0 0)))
+    (entry.Answered (call 2) (reply eforward 0 0 0 0 0) None ∷ [])
+    (got.Refused eperm) []
 
-serves_7 : serve state_6.kernel (task 2) (ask.Forward 2 1 Plain (Some (msg 511 0 0 0 0 0))) ≡ served_7
-serves_7 = rw (get_known, insert_known)
-
-event_7 : Turns state_6 (Step (task 2)) state_7 told_7
-event_7 = of_step state_6 (task 2) desk_3 (ask.Forward 2 1 Plain (Some (msg 511 0 0 0 0 0))) served_7 ([]) refl refl serves_7 refl
+event_7 : Steps state_6 step_7 state_7
+event_7 = of_step state_6 step_7 state_7 desk_3 refl refl (rw (get_known, insert_known)) refl refl
 
 -- 8. step desk
-abbrev told_8 : List Entry
-told_8 =
-    entry.Head (task 2) ask.Receive
-    ∷ entry.Received (call 3) (task 2)
-    ∷ entry.Outcome (got.Received (call 3) (msg 0 0 0 0 0 0) (phone 1 0))
-    ∷ []
-
 abbrev call_3_received : Call
 call_3_received = record call_3_sent { place = Dispatched (task 2); stamp = 8 }
 
@@ -322,23 +263,16 @@ state_8 =
     ((1, call_1_answered) ∷ (2, call_2_answered) ∷ (3, call_3_received) ∷ []) 4 9 (no_areas 3) 8
     (client_3 ∷ desk_5 ∷ expert_0 ∷ []) None
 
-abbrev served_8 : Served
-served_8 = record { state = state_8.kernel; outcome = (got.Received (call 3) (msg 0 0 0 0 0 0) (phone 1 0)); entries = entry.Received (call 3) (task 2) ∷ [] }
+abbrev step_8 : TaskStep
+step_8 =
+    asks 2 ask.Receive
+    (entry.Received (call 3) (task 2) ∷ [])
+    (got.Received (call 3) (msg 0 0 0 0 0 0) (phone 1 0)) []
 
-serves_8 : serve state_7.kernel (task 2) ask.Receive ≡ served_8
-serves_8 = rw (entries_known, entries_known, insert_known)
-
-event_8 : Turns state_7 (Step (task 2)) state_8 told_8
-event_8 = of_step state_7 (task 2) desk_4 ask.Receive served_8 ([]) refl refl serves_8 refl
+event_8 : Steps state_7 step_8 state_8
+event_8 = of_step state_7 step_8 state_8 desk_4 refl refl (rw (entries_known, entries_known, insert_known)) refl refl
 
 -- 9. step desk
-abbrev told_9 : List Entry
-told_9 =
-    entry.Head (task 2) (ask.Forward 3 1 Plain None)
-    ∷ entry.Answered (call 3) (reply eforward 0 0 0 0 0) None
-    ∷ entry.Outcome (got.Refused eperm)
-    ∷ []
-
 abbrev call_3_answered : Call
 call_3_answered = record call_3_received { reply = reply eforward 0 0 0 0 0; place = Answers (task 1); stamp = 9 }
 
@@ -351,22 +285,16 @@ state_9 =
     ((1, call_1_answered) ∷ (2, call_2_answered) ∷ (3, call_3_answered) ∷ []) 4 10 (no_areas 3) 9
     (client_3 ∷ desk_6 ∷ expert_0 ∷ []) None
 
-abbrev served_9 : Served
-served_9 = record { state = state_9.kernel; outcome = (got.Refused eperm); entries = entry.Answered (call 3) (reply eforward 0 0 0 0 0) None ∷ [] }
+abbrev step_9 : TaskStep
+step_9 =
+    asks 2 (ask.Forward 3 1 Plain None)
+    (entry.Answered (call 3) (reply eforward 0 0 0 0 0) None ∷ [])
+    (got.Refused eperm) []
 
-serves_9 : serve state_8.kernel (task 2) (ask.Forward 3 1 Plain None) ≡ served_9
-serves_9 = rw (get_known, insert_known)
-
-event_9 : Turns state_8 (Step (task 2)) state_9 told_9
-event_9 = of_step state_8 (task 2) desk_5 (ask.Forward 3 1 Plain None) served_9 ([]) refl refl serves_9 refl
+event_9 : Steps state_8 step_9 state_9
+event_9 = of_step state_8 step_9 state_9 desk_5 refl refl (rw (get_known, insert_known)) refl refl
 
 -- 10. step desk
-abbrev told_10 : List Entry
-told_10 =
-    entry.Head (task 2) (ask.Forward 3 1 Plain None)
-    ∷ entry.Outcome (got.Refused enoent)
-    ∷ []
-
 abbrev desk_7 : AnyProgram
 desk_7 = after desk_6 (got.Refused enoent)
 
@@ -376,23 +304,13 @@ state_10 =
     ((1, call_1_answered) ∷ (2, call_2_answered) ∷ (3, call_3_answered) ∷ []) 4 10 (no_areas 3) 10
     (client_3 ∷ desk_7 ∷ expert_0 ∷ []) None
 
-abbrev served_10 : Served
-served_10 = record { state = state_10.kernel; outcome = (got.Refused enoent); entries = [] }
+abbrev step_10 : TaskStep
+step_10 = asks 2 (ask.Forward 3 1 Plain None) [] (got.Refused enoent) []
 
-serves_10 : serve state_9.kernel (task 2) (ask.Forward 3 1 Plain None) ≡ served_10
-serves_10 = rw get_known
-
-event_10 : Turns state_9 (Step (task 2)) state_10 told_10
-event_10 = of_step state_9 (task 2) desk_6 (ask.Forward 3 1 Plain None) served_10 ([]) refl refl serves_10 refl
+event_10 : Steps state_9 step_10 state_10
+event_10 = of_step state_9 step_10 state_10 desk_6 refl refl (rw get_known) refl refl
 
 -- 11. step client
-abbrev told_11 : List Entry
-told_11 =
-    entry.Head (task 1) ask.Receive
-    ∷ entry.Delivered (call 1) (task 1)
-    ∷ entry.Outcome (got.Answered (call 1) (reply eforward 0 0 0 0 0))
-    ∷ []
-
 abbrev client_4 : AnyProgram
 client_4 = after client_3 (got.Answered (call 1) (reply eforward 0 0 0 0 0))
 
@@ -402,23 +320,16 @@ state_11 =
     ((2, call_2_answered) ∷ (3, call_3_answered) ∷ []) 4 10 (no_areas 3) 11
     (client_4 ∷ desk_7 ∷ expert_0 ∷ []) None
 
-abbrev served_11 : Served
-served_11 = record { state = state_11.kernel; outcome = (got.Answered (call 1) (reply eforward 0 0 0 0 0)); entries = entry.Delivered (call 1) (task 1) ∷ [] }
+abbrev step_11 : TaskStep
+step_11 =
+    asks 1 ask.Receive
+    (entry.Delivered (call 1) (task 1) ∷ [])
+    (got.Answered (call 1) (reply eforward 0 0 0 0 0)) []
 
-serves_11 : serve state_10.kernel (task 1) ask.Receive ≡ served_11
-serves_11 = rw (entries_known, entries_known, entries_known, remove_known)
-
-event_11 : Turns state_10 (Step (task 1)) state_11 told_11
-event_11 = of_step state_10 (task 1) client_3 ask.Receive served_11 ([]) refl refl serves_11 refl
+event_11 : Steps state_10 step_11 state_11
+event_11 = of_step state_10 step_11 state_11 client_3 refl refl (rw (entries_known, entries_known, entries_known, remove_known)) refl refl
 
 -- 12. step client
-abbrev told_12 : List Entry
-told_12 =
-    entry.Head (task 1) ask.Receive
-    ∷ entry.Delivered (call 2) (task 1)
-    ∷ entry.Outcome (got.Answered (call 2) (reply eforward 0 0 0 0 0))
-    ∷ []
-
 abbrev client_5 : AnyProgram
 client_5 = after client_4 (got.Answered (call 2) (reply eforward 0 0 0 0 0))
 
@@ -428,23 +339,16 @@ state_12 =
     ((3, call_3_answered) ∷ []) 4 10 (no_areas 3) 12
     (client_5 ∷ desk_7 ∷ expert_0 ∷ []) None
 
-abbrev served_12 : Served
-served_12 = record { state = state_12.kernel; outcome = (got.Answered (call 2) (reply eforward 0 0 0 0 0)); entries = entry.Delivered (call 2) (task 1) ∷ [] }
+abbrev step_12 : TaskStep
+step_12 =
+    asks 1 ask.Receive
+    (entry.Delivered (call 2) (task 1) ∷ [])
+    (got.Answered (call 2) (reply eforward 0 0 0 0 0)) []
 
-serves_12 : serve state_11.kernel (task 1) ask.Receive ≡ served_12
-serves_12 = rw (entries_known, entries_known, entries_known, remove_known)
-
-event_12 : Turns state_11 (Step (task 1)) state_12 told_12
-event_12 = of_step state_11 (task 1) client_4 ask.Receive served_12 ([]) refl refl serves_12 refl
+event_12 : Steps state_11 step_12 state_12
+event_12 = of_step state_11 step_12 state_12 client_4 refl refl (rw (entries_known, entries_known, entries_known, remove_known)) refl refl
 
 -- 13. step client
-abbrev told_13 : List Entry
-told_13 =
-    entry.Head (task 1) ask.Receive
-    ∷ entry.Dropped (call 3) (task 1)
-    ∷ entry.Outcome got.Empty
-    ∷ []
-
 abbrev client_6 : AnyProgram
 client_6 = after client_5 got.Empty
 
@@ -454,22 +358,13 @@ state_13 =
     ([]) 4 10 (no_areas 3) 13
     (client_6 ∷ desk_7 ∷ expert_0 ∷ []) None
 
-abbrev served_13 : Served
-served_13 = record { state = state_13.kernel; outcome = got.Empty; entries = entry.Dropped (call 3) (task 1) ∷ [] }
+abbrev step_13 : TaskStep
+step_13 = asks 1 ask.Receive (entry.Dropped (call 3) (task 1) ∷ []) got.Empty []
 
-serves_13 : serve state_12.kernel (task 1) ask.Receive ≡ served_13
-serves_13 = rw (entries_known, entries_known, remove_known, entries_known)
-
-event_13 : Turns state_12 (Step (task 1)) state_13 told_13
-event_13 = of_step state_12 (task 1) client_5 ask.Receive served_13 ([]) refl refl serves_13 refl
+event_13 : Steps state_12 step_13 state_13
+event_13 = of_step state_12 step_13 state_13 client_5 refl refl (rw (entries_known, entries_known, remove_known, entries_known)) refl refl
 
 -- 14. step expert
-abbrev told_14 : List Entry
-told_14 =
-    entry.Head (task 3) ask.Receive
-    ∷ entry.Outcome got.Empty
-    ∷ []
-
 abbrev expert_1 : AnyProgram
 expert_1 = after expert_0 got.Empty
 
@@ -479,16 +374,24 @@ state_14 =
     ([]) 4 10 (no_areas 3) 14
     (client_6 ∷ desk_7 ∷ expert_1 ∷ []) None
 
-abbrev served_14 : Served
-served_14 = record { state = state_14.kernel; outcome = got.Empty; entries = [] }
+abbrev step_14 : TaskStep
+step_14 = asks 3 ask.Receive [] got.Empty []
 
-serves_14 : serve state_13.kernel (task 3) ask.Receive ≡ served_14
-serves_14 = rw (entries_known, entries_known)
+event_14 : Steps state_13 step_14 state_14
+event_14 = of_step state_13 step_14 state_14 expert_0 refl refl (rw (entries_known, entries_known)) refl refl
 
-event_14 : Turns state_13 (Step (task 3)) state_14 told_14
-event_14 = of_step state_13 (task 3) expert_0 ask.Receive served_14 ([]) refl refl serves_14 refl
+abbrev schedule : List Event
+schedule =
+    Step (task 1) ∷ Step (task 1) ∷ Step (task 1) ∷ Step (task 2) ∷ Step (task 2) ∷ Step (task 2) ∷ Step (task 2)
+    ∷ Step (task 2) ∷ Step (task 2) ∷ Step (task 2) ∷ Step (task 1) ∷ Step (task 1) ∷ Step (task 1) ∷ Step (task 3)
+    ∷ []
 
 -- the entries of the run
-pub refused_forward : run plan (Step (task 1) ∷ Step (task 1) ∷ Step (task 1) ∷ Step (task 2) ∷ Step (task 2) ∷ Step (task 2) ∷ Step (task 2) ∷ Step (task 2) ∷ Step (task 2) ∷ Step (task 2) ∷ Step (task 1) ∷ Step (task 1) ∷ Step (task 1) ∷ Step (task 3) ∷ [])
-    ≡ told_1 ++ told_2 ++ told_3 ++ told_4 ++ told_5 ++ told_6 ++ told_7 ++ told_8 ++ told_9 ++ told_10 ++ told_11 ++ told_12 ++ told_13 ++ told_14 ++ []
-refused_forward = from_start plan (Step (task 1) ∷ Step (task 1) ∷ Step (task 1) ∷ Step (task 2) ∷ Step (task 2) ∷ Step (task 2) ∷ Step (task 2) ∷ Step (task 2) ∷ Step (task 2) ∷ Step (task 2) ∷ Step (task 1) ∷ Step (task 1) ∷ Step (task 1) ∷ Step (task 3) ∷ []) starts (of_next event_1 (of_next event_2 (of_next event_3 (of_next event_4 (of_next event_5 (of_next event_6 (of_next event_7 (of_next event_8 (of_next event_9 (of_next event_10 (of_next event_11 (of_next event_12 (of_next event_13 (of_next event_14 (of_none)))))))))))))))
+pub refused_forward : run plan schedule
+    ≡ told_of step_1 ++ told_of step_2 ++ told_of step_3 ++ told_of step_4 ++ told_of step_5 ++ told_of step_6
+    ++ told_of step_7 ++ told_of step_8 ++ told_of step_9 ++ told_of step_10 ++ told_of step_11 ++ told_of step_12
+    ++ told_of step_13 ++ told_of step_14 ++ []
+refused_forward = from_start plan schedule starts (
+    of_next event_1 (of_next event_2 (of_next event_3 (of_next event_4 (of_next event_5 (of_next event_6 (
+    of_next event_7 (of_next event_8 (of_next event_9 (of_next event_10 (of_next event_11 (
+    of_next event_12 (of_next event_13 (of_next event_14 (of_none)))))))))))))))

@@ -21,8 +21,8 @@ use Rattle.ipc_ids.specs.declared.message.Mode.TheVariants.{Plain}
 use Rattle.ipc_ids.specs.declared.message.PhoneState.TheVariants.{Free, Connecting, Connected}
 use Rattle.ipc_ids.specs.declared.message.Request.TheVariants as ask
 use Rattle.ipc_ids.specs.declared.message.Outcome.TheVariants as got
+use Rattle.ipc_ids.specs.declared.message.Event.{Event}
 use Rattle.ipc_ids.specs.declared.message.Event.TheVariants.{Step}
-use Rattle.ipc_ids.specs.declared.entry.Entry.{Entry}
 use Rattle.ipc_ids.specs.declared.entry.Entry.TheVariants as entry
 use Rattle.ipc_ids.specs.declared.op.Value.TheVariants.{Number, Register}
 use Rattle.ipc_ids.specs.declared.op.Op.TheVariants as op
@@ -35,9 +35,7 @@ use Rattle.script_lines.specs.Plan.{Plan}
 use Rattle.task_system.specs.Any.{after}
 use Rattle.task_system.specs.Run.{run, start, program_of, RunState}
 use Rattle.replay_examples.proofs.KnownMaps.{empty_known, get_known, entries_known, insert_known, remove_known}
-use Rattle.replay_examples.proofs.RunWords.{task, call, phone, msg, reply, raw, naming_service, sent, no_areas, state, Turns, of_none, of_next, of_step, from_start}
-use Rattle.switchboard.specs.Serving.{Served}
-use Rattle.kernel_core.specs.Kernel.{serve}
+use Rattle.replay_examples.proofs.RunWords.{task, call, phone, msg, reply, raw, naming_service, sent, no_areas, state, of_none, of_next, of_step, from_start, TaskStep, asks, told_of, Steps}
 
 abbrev ns_plan : TaskPlan
 ns_plan = naming_service
@@ -88,13 +86,6 @@ starts : start plan ≡ state_0
 starts = rw (empty_known, empty_known)
 
 -- 1. step server
-abbrev told_1 : List Entry
-told_1 =
-    entry.Head (task 2) (ask.Call 0 (msg 1 7 0 0 0 0))
-    ∷ entry.Accepted (call 1) (phone 2 0) 1 (Some (task 1))
-    ∷ entry.Outcome (got.Accepted (call 1))
-    ∷ []
-
 abbrev call_1_sent : Call
 call_1_sent = sent 1 (phone 2 0) (msg 1 7 0 0 0 0) (Incoming (task 1)) 1
 
@@ -107,24 +98,16 @@ state_1 =
     ((1, call_1_sent) ∷ []) 2 2 (no_areas 3) 1
     (ns_0 ∷ server_1 ∷ client_0 ∷ []) (Some (task 1))
 
-abbrev served_1 : Served
-served_1 = record { state = state_1.kernel; outcome = (got.Accepted (call 1)); entries = entry.Accepted (call 1) (phone 2 0) 1 (Some (task 1)) ∷ [] }
+abbrev step_1 : TaskStep
+step_1 =
+    asks 2 (ask.Call 0 (msg 1 7 0 0 0 0))
+    (entry.Accepted (call 1) (phone 2 0) 1 (Some (task 1)) ∷ [])
+    (got.Accepted (call 1)) []
 
-serves_1 : serve state_0.kernel (task 2) (ask.Call 0 (msg 1 7 0 0 0 0)) ≡ served_1
-serves_1 = rw (entries_known, insert_known)
-
-event_1 : Turns state_0 (Step (task 2)) state_1 told_1
-event_1 = of_step state_0 (task 2) server_0 (ask.Call 0 (msg 1 7 0 0 0 0)) served_1 ([]) refl refl serves_1 refl
+event_1 : Steps state_0 step_1 state_1
+event_1 = of_step state_0 step_1 state_1 server_0 refl refl (rw (entries_known, insert_known)) refl refl
 
 -- 2. step ns
-abbrev told_2 : List Entry
-told_2 =
-    entry.Head (task 1) ask.Receive
-    ∷ entry.Received (call 1) (task 1)
-    ∷ entry.PhoneIs (phone 1 0) Connecting
-    ∷ entry.Outcome (got.Received (call 1) (msg 1 7 0 0 0 0) (phone 2 0))
-    ∷ []
-
 abbrev call_1_received : Call
 call_1_received = record call_1_sent { place = Dispatched (task 1); stamp = 2; reserved = Some (phone 1 0) }
 
@@ -137,24 +120,16 @@ state_2 =
     ((1, call_1_received) ∷ []) 2 3 (no_areas 3) 2
     (ns_1 ∷ server_1 ∷ client_0 ∷ []) (Some (task 1))
 
-abbrev served_2 : Served
-served_2 = record { state = state_2.kernel; outcome = (got.Received (call 1) (msg 1 7 0 0 0 0) (phone 2 0)); entries = entry.Received (call 1) (task 1) ∷ entry.PhoneIs (phone 1 0) Connecting ∷ [] }
+abbrev step_2 : TaskStep
+step_2 =
+    asks 1 ask.Receive
+    (entry.Received (call 1) (task 1) ∷ entry.PhoneIs (phone 1 0) Connecting ∷ [])
+    (got.Received (call 1) (msg 1 7 0 0 0 0) (phone 2 0)) []
 
-serves_2 : serve state_1.kernel (task 1) ask.Receive ≡ served_2
-serves_2 = rw (entries_known, entries_known, insert_known)
-
-event_2 : Turns state_1 (Step (task 1)) state_2 told_2
-event_2 = of_step state_1 (task 1) ns_0 ask.Receive served_2 ([]) refl refl serves_2 refl
+event_2 : Steps state_1 step_2 state_2
+event_2 = of_step state_1 step_2 state_2 ns_0 refl refl (rw (entries_known, entries_known, insert_known)) refl refl
 
 -- 3. step ns
-abbrev told_3 : List Entry
-told_3 =
-    entry.Head (task 1) (ask.Answer 1 (reply eok 0 0 0 0 0))
-    ∷ entry.Answered (call 1) (reply eok 0 0 0 0 0) (Some (task 1))
-    ∷ entry.PhoneIs (phone 1 0) (Connected (task 2))
-    ∷ entry.Outcome got.Done
-    ∷ []
-
 abbrev call_1_answered : Call
 call_1_answered = record call_1_received { reply = reply eok 0 0 0 0 0; place = Answers (task 2); stamp = 3 }
 
@@ -167,23 +142,18 @@ state_3 =
     ((1, call_1_answered) ∷ []) 2 4 (no_areas 3) 3
     (ns_2 ∷ server_1 ∷ client_0 ∷ []) (Some (task 1))
 
-abbrev served_3 : Served
-served_3 = record { state = state_3.kernel; outcome = got.Done; entries = entry.Answered (call 1) (reply eok 0 0 0 0 0) (Some (task 1)) ∷ entry.PhoneIs (phone 1 0) (Connected (task 2)) ∷ [] }
+abbrev step_3 : TaskStep
+step_3 =
+    asks 1 (ask.Answer 1 (reply eok 0 0 0 0 0))
+    (entry.Answered (call 1) (reply eok 0 0 0 0 0) (Some (task 1))
+    ∷ entry.PhoneIs (phone 1 0) (Connected (task 2))
+    ∷ [])
+    got.Done []
 
-serves_3 : serve state_2.kernel (task 1) (ask.Answer 1 (reply eok 0 0 0 0 0)) ≡ served_3
-serves_3 = rw (get_known, insert_known)
-
-event_3 : Turns state_2 (Step (task 1)) state_3 told_3
-event_3 = of_step state_2 (task 1) ns_1 (ask.Answer 1 (reply eok 0 0 0 0 0)) served_3 ([]) refl refl serves_3 refl
+event_3 : Steps state_2 step_3 state_3
+event_3 = of_step state_2 step_3 state_3 ns_1 refl refl (rw (get_known, insert_known)) refl refl
 
 -- 4. step server
-abbrev told_4 : List Entry
-told_4 =
-    entry.Head (task 2) ask.Receive
-    ∷ entry.Delivered (call 1) (task 2)
-    ∷ entry.Outcome (got.Answered (call 1) (reply eok 0 0 0 0 0))
-    ∷ []
-
 abbrev server_2 : AnyProgram
 server_2 = after server_1 (got.Answered (call 1) (reply eok 0 0 0 0 0))
 
@@ -193,24 +163,13 @@ state_4 =
     ([]) 2 4 (no_areas 3) 4
     (ns_2 ∷ server_2 ∷ client_0 ∷ []) (Some (task 1))
 
-abbrev served_4 : Served
-served_4 = record { state = state_4.kernel; outcome = (got.Answered (call 1) (reply eok 0 0 0 0 0)); entries = entry.Delivered (call 1) (task 2) ∷ [] }
+abbrev step_4 : TaskStep
+step_4 = asks 2 ask.Receive (entry.Delivered (call 1) (task 2) ∷ []) (got.Answered (call 1) (reply eok 0 0 0 0 0)) []
 
-serves_4 : serve state_3.kernel (task 2) ask.Receive ≡ served_4
-serves_4 = rw (entries_known, entries_known, entries_known, remove_known)
-
-event_4 : Turns state_3 (Step (task 2)) state_4 told_4
-event_4 = of_step state_3 (task 2) server_1 ask.Receive served_4 ([]) refl refl serves_4 refl
+event_4 : Steps state_3 step_4 state_4
+event_4 = of_step state_3 step_4 state_4 server_1 refl refl (rw (entries_known, entries_known, entries_known, remove_known)) refl refl
 
 -- 5. step client
-abbrev told_5 : List Entry
-told_5 =
-    entry.Head (task 3) (ask.Call 0 (msg 2 7 0 0 0 0))
-    ∷ entry.Accepted (call 2) (phone 3 0) 2 (Some (task 1))
-    ∷ entry.PhoneIs (phone 3 1) Connecting
-    ∷ entry.Outcome (got.Accepted (call 2))
-    ∷ []
-
 abbrev call_2_sent : Call
 call_2_sent = record (sent 2 (phone 3 0) (msg 2 7 0 0 0 0) (Incoming (task 1)) 4) { reserved = Some (phone 3 1); msg = msg 2 7 0 0 0 193 }
 
@@ -223,23 +182,16 @@ state_5 =
     ((2, call_2_sent) ∷ []) 3 5 (no_areas 3) 5
     (ns_2 ∷ server_2 ∷ client_1 ∷ []) (Some (task 1))
 
-abbrev served_5 : Served
-served_5 = record { state = state_5.kernel; outcome = (got.Accepted (call 2)); entries = entry.Accepted (call 2) (phone 3 0) 2 (Some (task 1)) ∷ entry.PhoneIs (phone 3 1) Connecting ∷ [] }
+abbrev step_5 : TaskStep
+step_5 =
+    asks 3 (ask.Call 0 (msg 2 7 0 0 0 0))
+    (entry.Accepted (call 2) (phone 3 0) 2 (Some (task 1)) ∷ entry.PhoneIs (phone 3 1) Connecting ∷ [])
+    (got.Accepted (call 2)) []
 
-serves_5 : serve state_4.kernel (task 3) (ask.Call 0 (msg 2 7 0 0 0 0)) ≡ served_5
-serves_5 = rw (entries_known, insert_known)
-
-event_5 : Turns state_4 (Step (task 3)) state_5 told_5
-event_5 = of_step state_4 (task 3) client_0 (ask.Call 0 (msg 2 7 0 0 0 0)) served_5 ([]) refl refl serves_5 refl
+event_5 : Steps state_4 step_5 state_5
+event_5 = of_step state_4 step_5 state_5 client_0 refl refl (rw (entries_known, insert_known)) refl refl
 
 -- 6. step ns
-abbrev told_6 : List Entry
-told_6 =
-    entry.Head (task 1) ask.Receive
-    ∷ entry.Received (call 2) (task 1)
-    ∷ entry.Outcome (got.Received (call 2) (msg 2 7 0 0 0 193) (phone 3 0))
-    ∷ []
-
 abbrev call_2_received : Call
 call_2_received = record call_2_sent { place = Dispatched (task 1); stamp = 5 }
 
@@ -252,23 +204,16 @@ state_6 =
     ((2, call_2_received) ∷ []) 3 6 (no_areas 3) 6
     (ns_3 ∷ server_2 ∷ client_1 ∷ []) (Some (task 1))
 
-abbrev served_6 : Served
-served_6 = record { state = state_6.kernel; outcome = (got.Received (call 2) (msg 2 7 0 0 0 193) (phone 3 0)); entries = entry.Received (call 2) (task 1) ∷ [] }
+abbrev step_6 : TaskStep
+step_6 =
+    asks 1 ask.Receive
+    (entry.Received (call 2) (task 1) ∷ [])
+    (got.Received (call 2) (msg 2 7 0 0 0 193) (phone 3 0)) []
 
-serves_6 : serve state_5.kernel (task 1) ask.Receive ≡ served_6
-serves_6 = rw (entries_known, entries_known, insert_known)
-
-event_6 : Turns state_5 (Step (task 1)) state_6 told_6
-event_6 = of_step state_5 (task 1) ns_2 ask.Receive served_6 ([]) refl refl serves_6 refl
+event_6 : Steps state_5 step_6 state_6
+event_6 = of_step state_5 step_6 state_6 ns_2 refl refl (rw (entries_known, entries_known, insert_known)) refl refl
 
 -- 7. step ns
-abbrev told_7 : List Entry
-told_7 =
-    entry.Head (task 1) (ask.Forward 2 0 Plain (Some (msg 2 0 0 0 0 0)))
-    ∷ entry.Forwarded (call 2) (task 1) (task 2) (phone 3 0)
-    ∷ entry.Outcome got.Done
-    ∷ []
-
 abbrev call_2_forwarded : Call
 call_2_forwarded = record call_2_received { place = Incoming (task 2); stamp = 6; msg = msg 2 0 0 0 0 193 }
 
@@ -281,23 +226,16 @@ state_7 =
     ((2, call_2_forwarded) ∷ []) 3 7 (no_areas 3) 7
     (ns_4 ∷ server_2 ∷ client_1 ∷ []) (Some (task 1))
 
-abbrev served_7 : Served
-served_7 = record { state = state_7.kernel; outcome = got.Done; entries = entry.Forwarded (call 2) (task 1) (task 2) (phone 3 0) ∷ [] }
+abbrev step_7 : TaskStep
+step_7 =
+    asks 1 (ask.Forward 2 0 Plain (Some (msg 2 0 0 0 0 0)))
+    (entry.Forwarded (call 2) (task 1) (task 2) (phone 3 0) ∷ [])
+    got.Done []
 
-serves_7 : serve state_6.kernel (task 1) (ask.Forward 2 0 Plain (Some (msg 2 0 0 0 0 0))) ≡ served_7
-serves_7 = rw (get_known, insert_known)
-
-event_7 : Turns state_6 (Step (task 1)) state_7 told_7
-event_7 = of_step state_6 (task 1) ns_3 (ask.Forward 2 0 Plain (Some (msg 2 0 0 0 0 0))) served_7 ([]) refl refl serves_7 refl
+event_7 : Steps state_6 step_7 state_7
+event_7 = of_step state_6 step_7 state_7 ns_3 refl refl (rw (get_known, insert_known)) refl refl
 
 -- 8. step server
-abbrev told_8 : List Entry
-told_8 =
-    entry.Head (task 2) ask.Receive
-    ∷ entry.Received (call 2) (task 2)
-    ∷ entry.Outcome (got.Received (call 2) (msg 2 0 0 0 0 193) (phone 3 0))
-    ∷ []
-
 abbrev call_2_received_2 : Call
 call_2_received_2 = record call_2_forwarded { place = Dispatched (task 2); stamp = 7 }
 
@@ -310,24 +248,16 @@ state_8 =
     ((2, call_2_received_2) ∷ []) 3 8 (no_areas 3) 8
     (ns_4 ∷ server_3 ∷ client_1 ∷ []) (Some (task 1))
 
-abbrev served_8 : Served
-served_8 = record { state = state_8.kernel; outcome = (got.Received (call 2) (msg 2 0 0 0 0 193) (phone 3 0)); entries = entry.Received (call 2) (task 2) ∷ [] }
+abbrev step_8 : TaskStep
+step_8 =
+    asks 2 ask.Receive
+    (entry.Received (call 2) (task 2) ∷ [])
+    (got.Received (call 2) (msg 2 0 0 0 0 193) (phone 3 0)) []
 
-serves_8 : serve state_7.kernel (task 2) ask.Receive ≡ served_8
-serves_8 = rw (entries_known, entries_known, insert_known)
-
-event_8 : Turns state_7 (Step (task 2)) state_8 told_8
-event_8 = of_step state_7 (task 2) server_2 ask.Receive served_8 ([]) refl refl serves_8 refl
+event_8 : Steps state_7 step_8 state_8
+event_8 = of_step state_7 step_8 state_8 server_2 refl refl (rw (entries_known, entries_known, insert_known)) refl refl
 
 -- 9. step server
-abbrev told_9 : List Entry
-told_9 =
-    entry.Head (task 2) (ask.Answer 2 (reply eok 0 0 0 0 0))
-    ∷ entry.Answered (call 2) (reply eok 0 0 0 0 0) (Some (task 2))
-    ∷ entry.PhoneIs (phone 3 1) (Connected (task 2))
-    ∷ entry.Outcome got.Done
-    ∷ []
-
 abbrev call_2_answered : Call
 call_2_answered = record call_2_received_2 { reply = reply eok 0 0 0 0 0; place = Answers (task 3); stamp = 8 }
 
@@ -340,23 +270,18 @@ state_9 =
     ((2, call_2_answered) ∷ []) 3 9 (no_areas 3) 9
     (ns_4 ∷ server_4 ∷ client_1 ∷ []) (Some (task 1))
 
-abbrev served_9 : Served
-served_9 = record { state = state_9.kernel; outcome = got.Done; entries = entry.Answered (call 2) (reply eok 0 0 0 0 0) (Some (task 2)) ∷ entry.PhoneIs (phone 3 1) (Connected (task 2)) ∷ [] }
+abbrev step_9 : TaskStep
+step_9 =
+    asks 2 (ask.Answer 2 (reply eok 0 0 0 0 0))
+    (entry.Answered (call 2) (reply eok 0 0 0 0 0) (Some (task 2))
+    ∷ entry.PhoneIs (phone 3 1) (Connected (task 2))
+    ∷ [])
+    got.Done []
 
-serves_9 : serve state_8.kernel (task 2) (ask.Answer 2 (reply eok 0 0 0 0 0)) ≡ served_9
-serves_9 = rw (get_known, insert_known)
-
-event_9 : Turns state_8 (Step (task 2)) state_9 told_9
-event_9 = of_step state_8 (task 2) server_3 (ask.Answer 2 (reply eok 0 0 0 0 0)) served_9 ([]) refl refl serves_9 refl
+event_9 : Steps state_8 step_9 state_9
+event_9 = of_step state_8 step_9 state_9 server_3 refl refl (rw (get_known, insert_known)) refl refl
 
 -- 10. step client
-abbrev told_10 : List Entry
-told_10 =
-    entry.Head (task 3) ask.Receive
-    ∷ entry.Delivered (call 2) (task 3)
-    ∷ entry.Outcome (got.Answered (call 2) (reply eok 0 0 0 0 1))
-    ∷ []
-
 abbrev client_2 : AnyProgram
 client_2 = after client_1 (got.Answered (call 2) (reply eok 0 0 0 0 1))
 
@@ -366,23 +291,13 @@ state_10 =
     ([]) 3 9 (no_areas 3) 10
     (ns_4 ∷ server_4 ∷ client_2 ∷ []) (Some (task 1))
 
-abbrev served_10 : Served
-served_10 = record { state = state_10.kernel; outcome = (got.Answered (call 2) (reply eok 0 0 0 0 1)); entries = entry.Delivered (call 2) (task 3) ∷ [] }
+abbrev step_10 : TaskStep
+step_10 = asks 3 ask.Receive (entry.Delivered (call 2) (task 3) ∷ []) (got.Answered (call 2) (reply eok 0 0 0 0 1)) []
 
-serves_10 : serve state_9.kernel (task 3) ask.Receive ≡ served_10
-serves_10 = rw (entries_known, entries_known, entries_known, remove_known)
-
-event_10 : Turns state_9 (Step (task 3)) state_10 told_10
-event_10 = of_step state_9 (task 3) client_1 ask.Receive served_10 ([]) refl refl serves_10 refl
+event_10 : Steps state_9 step_10 state_10
+event_10 = of_step state_9 step_10 state_10 client_1 refl refl (rw (entries_known, entries_known, entries_known, remove_known)) refl refl
 
 -- 11. step client
-abbrev told_11 : List Entry
-told_11 =
-    entry.Head (task 3) (ask.Call 1 (msg 512 5 0 0 0 0))
-    ∷ entry.Accepted (call 3) (phone 3 1) 512 (Some (task 2))
-    ∷ entry.Outcome (got.Accepted (call 3))
-    ∷ []
-
 abbrev call_3_sent : Call
 call_3_sent = sent 3 (phone 3 1) (msg 512 5 0 0 0 0) (Incoming (task 2)) 9
 
@@ -395,23 +310,16 @@ state_11 =
     ((3, call_3_sent) ∷ []) 4 10 (no_areas 3) 11
     (ns_4 ∷ server_4 ∷ client_3 ∷ []) (Some (task 1))
 
-abbrev served_11 : Served
-served_11 = record { state = state_11.kernel; outcome = (got.Accepted (call 3)); entries = entry.Accepted (call 3) (phone 3 1) 512 (Some (task 2)) ∷ [] }
+abbrev step_11 : TaskStep
+step_11 =
+    asks 3 (ask.Call 1 (msg 512 5 0 0 0 0))
+    (entry.Accepted (call 3) (phone 3 1) 512 (Some (task 2)) ∷ [])
+    (got.Accepted (call 3)) []
 
-serves_11 : serve state_10.kernel (task 3) (ask.Call 1 (msg 512 5 0 0 0 0)) ≡ served_11
-serves_11 = rw (entries_known, insert_known)
-
-event_11 : Turns state_10 (Step (task 3)) state_11 told_11
-event_11 = of_step state_10 (task 3) client_2 (ask.Call 1 (msg 512 5 0 0 0 0)) served_11 ([]) refl refl serves_11 refl
+event_11 : Steps state_10 step_11 state_11
+event_11 = of_step state_10 step_11 state_11 client_2 refl refl (rw (entries_known, insert_known)) refl refl
 
 -- 12. step server
-abbrev told_12 : List Entry
-told_12 =
-    entry.Head (task 2) ask.Receive
-    ∷ entry.Received (call 3) (task 2)
-    ∷ entry.Outcome (got.Received (call 3) (msg 512 5 0 0 0 0) (phone 3 1))
-    ∷ []
-
 abbrev call_3_received : Call
 call_3_received = record call_3_sent { place = Dispatched (task 2); stamp = 10 }
 
@@ -424,23 +332,16 @@ state_12 =
     ((3, call_3_received) ∷ []) 4 11 (no_areas 3) 12
     (ns_4 ∷ server_5 ∷ client_3 ∷ []) (Some (task 1))
 
-abbrev served_12 : Served
-served_12 = record { state = state_12.kernel; outcome = (got.Received (call 3) (msg 512 5 0 0 0 0) (phone 3 1)); entries = entry.Received (call 3) (task 2) ∷ [] }
+abbrev step_12 : TaskStep
+step_12 =
+    asks 2 ask.Receive
+    (entry.Received (call 3) (task 2) ∷ [])
+    (got.Received (call 3) (msg 512 5 0 0 0 0) (phone 3 1)) []
 
-serves_12 : serve state_11.kernel (task 2) ask.Receive ≡ served_12
-serves_12 = rw (entries_known, entries_known, insert_known)
-
-event_12 : Turns state_11 (Step (task 2)) state_12 told_12
-event_12 = of_step state_11 (task 2) server_4 ask.Receive served_12 ([]) refl refl serves_12 refl
+event_12 : Steps state_11 step_12 state_12
+event_12 = of_step state_11 step_12 state_12 server_4 refl refl (rw (entries_known, entries_known, insert_known)) refl refl
 
 -- 13. step server
-abbrev told_13 : List Entry
-told_13 =
-    entry.Head (task 2) (ask.Answer 3 (reply eok 8 0 0 0 0))
-    ∷ entry.Answered (call 3) (reply eok 8 0 0 0 0) (Some (task 2))
-    ∷ entry.Outcome got.Done
-    ∷ []
-
 abbrev call_3_answered : Call
 call_3_answered = record call_3_received { reply = reply eok 8 0 0 0 0; place = Answers (task 3); stamp = 11 }
 
@@ -453,23 +354,16 @@ state_13 =
     ((3, call_3_answered) ∷ []) 4 12 (no_areas 3) 13
     (ns_4 ∷ server_6 ∷ client_3 ∷ []) (Some (task 1))
 
-abbrev served_13 : Served
-served_13 = record { state = state_13.kernel; outcome = got.Done; entries = entry.Answered (call 3) (reply eok 8 0 0 0 0) (Some (task 2)) ∷ [] }
+abbrev step_13 : TaskStep
+step_13 =
+    asks 2 (ask.Answer 3 (reply eok 8 0 0 0 0))
+    (entry.Answered (call 3) (reply eok 8 0 0 0 0) (Some (task 2)) ∷ [])
+    got.Done []
 
-serves_13 : serve state_12.kernel (task 2) (ask.Answer 3 (reply eok 8 0 0 0 0)) ≡ served_13
-serves_13 = rw (get_known, insert_known)
-
-event_13 : Turns state_12 (Step (task 2)) state_13 told_13
-event_13 = of_step state_12 (task 2) server_5 (ask.Answer 3 (reply eok 8 0 0 0 0)) served_13 ([]) refl refl serves_13 refl
+event_13 : Steps state_12 step_13 state_13
+event_13 = of_step state_12 step_13 state_13 server_5 refl refl (rw (get_known, insert_known)) refl refl
 
 -- 14. step client
-abbrev told_14 : List Entry
-told_14 =
-    entry.Head (task 3) ask.Receive
-    ∷ entry.Delivered (call 3) (task 3)
-    ∷ entry.Outcome (got.Answered (call 3) (reply eok 8 0 0 0 0))
-    ∷ []
-
 abbrev client_4 : AnyProgram
 client_4 = after client_3 (got.Answered (call 3) (reply eok 8 0 0 0 0))
 
@@ -479,16 +373,24 @@ state_14 =
     ([]) 4 12 (no_areas 3) 14
     (ns_4 ∷ server_6 ∷ client_4 ∷ []) (Some (task 1))
 
-abbrev served_14 : Served
-served_14 = record { state = state_14.kernel; outcome = (got.Answered (call 3) (reply eok 8 0 0 0 0)); entries = entry.Delivered (call 3) (task 3) ∷ [] }
+abbrev step_14 : TaskStep
+step_14 = asks 3 ask.Receive (entry.Delivered (call 3) (task 3) ∷ []) (got.Answered (call 3) (reply eok 8 0 0 0 0)) []
 
-serves_14 : serve state_13.kernel (task 3) ask.Receive ≡ served_14
-serves_14 = rw (entries_known, entries_known, entries_known, remove_known)
+event_14 : Steps state_13 step_14 state_14
+event_14 = of_step state_13 step_14 state_14 client_3 refl refl (rw (entries_known, entries_known, entries_known, remove_known)) refl refl
 
-event_14 : Turns state_13 (Step (task 3)) state_14 told_14
-event_14 = of_step state_13 (task 3) client_3 ask.Receive served_14 ([]) refl refl serves_14 refl
+abbrev schedule : List Event
+schedule =
+    Step (task 2) ∷ Step (task 1) ∷ Step (task 1) ∷ Step (task 2) ∷ Step (task 3) ∷ Step (task 1) ∷ Step (task 1)
+    ∷ Step (task 2) ∷ Step (task 2) ∷ Step (task 3) ∷ Step (task 3) ∷ Step (task 2) ∷ Step (task 2) ∷ Step (task 3)
+    ∷ []
 
 -- the entries of the run
-pub service : run plan (Step (task 2) ∷ Step (task 1) ∷ Step (task 1) ∷ Step (task 2) ∷ Step (task 3) ∷ Step (task 1) ∷ Step (task 1) ∷ Step (task 2) ∷ Step (task 2) ∷ Step (task 3) ∷ Step (task 3) ∷ Step (task 2) ∷ Step (task 2) ∷ Step (task 3) ∷ [])
-    ≡ told_1 ++ told_2 ++ told_3 ++ told_4 ++ told_5 ++ told_6 ++ told_7 ++ told_8 ++ told_9 ++ told_10 ++ told_11 ++ told_12 ++ told_13 ++ told_14 ++ []
-service = from_start plan (Step (task 2) ∷ Step (task 1) ∷ Step (task 1) ∷ Step (task 2) ∷ Step (task 3) ∷ Step (task 1) ∷ Step (task 1) ∷ Step (task 2) ∷ Step (task 2) ∷ Step (task 3) ∷ Step (task 3) ∷ Step (task 2) ∷ Step (task 2) ∷ Step (task 3) ∷ []) starts (of_next event_1 (of_next event_2 (of_next event_3 (of_next event_4 (of_next event_5 (of_next event_6 (of_next event_7 (of_next event_8 (of_next event_9 (of_next event_10 (of_next event_11 (of_next event_12 (of_next event_13 (of_next event_14 (of_none)))))))))))))))
+pub service : run plan schedule
+    ≡ told_of step_1 ++ told_of step_2 ++ told_of step_3 ++ told_of step_4 ++ told_of step_5 ++ told_of step_6
+    ++ told_of step_7 ++ told_of step_8 ++ told_of step_9 ++ told_of step_10 ++ told_of step_11 ++ told_of step_12
+    ++ told_of step_13 ++ told_of step_14 ++ []
+service = from_start plan schedule starts (
+    of_next event_1 (of_next event_2 (of_next event_3 (of_next event_4 (of_next event_5 (of_next event_6 (
+    of_next event_7 (of_next event_8 (of_next event_9 (of_next event_10 (of_next event_11 (
+    of_next event_12 (of_next event_13 (of_next event_14 (of_none)))))))))))))))

@@ -1,6 +1,5 @@
 -- Short words for runs that are written out: tasks, calls, messages, entries and states, and how a run is put
--- together
--- of its events.
+-- together of its events.
 use Rattle.std.proofs.Common.{◌≡◌, refl, ℕ, Bool, true, false, List, [], ◌∷◌, ◌++◌, Option, Some, None, replicate, slice_set, ◌-◌, ap, ◌∙◌}
 use Rattle.ipc_ids.specs.declared.numbers.TaskNo.{TaskNo}
 use Rattle.ipc_ids.specs.declared.numbers.CallNo.{CallNo}
@@ -14,6 +13,7 @@ use Rattle.ipc_ids.specs.declared.message.Reply.{Reply}
 use Rattle.ipc_ids.specs.declared.message.PhoneState.{PhoneState}
 use Rattle.ipc_ids.specs.declared.message.Event.{Event}
 use Rattle.ipc_ids.specs.declared.entry.Entry.{Entry}
+use Rattle.ipc_ids.specs.declared.entry.Entry.TheVariants as entry
 use Rattle.ipc_ids.specs.declared.op.Op.{Op}
 use Rattle.ipc_ids.specs.declared.op.Body.{Body}
 use Rattle.ipc_ids.specs.Codes.{eok}
@@ -28,6 +28,7 @@ use Rattle.script_lines.specs.declared.plan.Wire.{Wire}
 use Rattle.script_lines.specs.declared.plan.Kind.TheVariants.{Naming, Raw, Async}
 use Rattle.script_lines.specs.Plan.{Plan}
 use Rattle.ipc_ids.specs.declared.message.Request.{Request}
+use Rattle.ipc_ids.specs.declared.message.Outcome.{Outcome}
 use Rattle.ipc_ids.specs.declared.message.Event.TheVariants.{Step, Kill}
 use Rattle.cleanup.specs.Kill.{hang_up_own_phones, slam_phones_to, settle_incoming, settle_dispatched, drop_answers, forget_calls_elsewhere, drop_areas}
 use Rattle.switchboard.specs.Serving.{Served}
@@ -143,28 +144,56 @@ of_next {now} {next} {e} {events} {told} first others =
 pub from_start : (plan : Plan) (events : List Event) {first : RunState} {told : List Entry} → start plan ≡ first → Runs first events told → run plan events ≡ told
 from_start plan events a b = ap (λ (s : RunState). run_from s events) a ∙ b.is
 
-abbrev stepped : RunState → TaskNo → AnyProgram → Request → Served → List Entry → RunTransition
-stepped now t program asked served own =
+-- a step of a task: what its program asks, what the kernel tells of that, how it ends, and what the program tells then
+pub record TaskStep : Type 0 where
+  pub task : TaskNo
+  pub asked : Request
+  pub told : List Entry
+  pub outcome : Outcome
+  pub own : List Entry
+
+abbrev pub asks : ℕ → Request → List Entry → Outcome → List Entry → TaskStep
+asks t asked told outcome own = record { task = task t; asked = asked; told = told; outcome = outcome; own = own }
+
+-- the entries of a step
+abbrev pub told_of : TaskStep → List Entry
+told_of s = (entry.Head s.task s.asked ∷ s.told ++ entry.Outcome s.outcome ∷ []) ++ s.own
+
+-- a step makes this of a state
+abbrev pub Steps : RunState → TaskStep → RunState → Type 0
+Steps now s next = Turns now (Step s.task) next (told_of s)
+
+-- what the kernel makes of a step that leads to this state
+abbrev pub served : TaskStep → RunState → Served
+served s next = record { state = next.kernel; outcome = s.outcome; entries = s.told }
+
+-- a state with this kernel, in which the program has gone on by the outcome of its step
+abbrev pub gone_on : RunState → TaskStep → AnyProgram → KernelState → RunState
+gone_on now s program kernel =
     record {
-      state = record {
-        kernel = served.state;
-        programs = slice_set now.programs (t.0 - 1) (after program served.outcome);
-        templates = now.templates;
-        names = now.names;
-      };
-      entries = served_entries t asked served ++ own;
+      kernel = kernel;
+      programs = slice_set now.programs (s.task.0 - 1) (after program s.outcome);
+      templates = now.templates;
+      names = now.names;
     }
 
--- a step of task t: what its program asks, what the kernel makes of that, and what the program tells of the outcome
-pub of_step : (now : RunState) (t : TaskNo) (program : AnyProgram) (asked : Request) (served : Served) (own : List Entry)
-    → program_at now t ≡ Some program → wanted program ≡ asked → serve now.kernel t asked ≡ served → entries program served.outcome ≡ own
-    → Turns now (Step t)
-    (record { kernel = served.state; programs = slice_set now.programs (t.0 - 1) (after program served.outcome); templates = now.templates; names = now.names })
-    (served_entries t asked served ++ own)
-of_step now t program asked served own at asks serves tells =
-    let outcome : serve now.kernel t (wanted program) ≡ served = ap (serve now.kernel t) asks ∙ serves in
-    let more : entries program (serve now.kernel t (wanted program)).outcome ≡ own = ap (λ (s : Served). entries program s.outcome) outcome ∙ tells in
-    record { is = ap (step_by now t) at ∙ (λ i. stepped now t program (asks i) (outcome i) (more i)) }
+-- a step is made of four looks: which program it is, what that asks, what the kernel makes of it, and what the program
+-- tells
+pub of_step : (now : RunState) (s : TaskStep) (next : RunState) (program : AnyProgram)
+    → program_at now s.task ≡ Some program → wanted program ≡ s.asked → serve now.kernel s.task s.asked ≡ served s next
+    → entries program s.outcome ≡ s.own → gone_on now s program next.kernel ≡ next
+    → Steps now s next
+of_step now s next program at asks serves tells goes =
+    let outcome : serve now.kernel s.task (wanted program) ≡ served s next = ap (serve now.kernel s.task) asks ∙ serves in
+    let more : entries program (serve now.kernel s.task (wanted program)).outcome ≡ s.own = ap (λ (x : Served). entries program x.outcome) outcome ∙ tells in
+    record {
+      is = ap (step_by now s.task) at
+          ∙ (λ i. record {
+            state = gone_on now (record s { outcome = (outcome i).outcome }) program (outcome i).state;
+            entries = served_entries s.task (asks i) (outcome i) ++ more i;
+          })
+          ∙ (λ i. record { state = goes i; entries = told_of s });
+    }
 
 -- a kill of task t, which is alive
 pub of_kill : (now : RunState) (t : TaskNo) (done : Transition) → is_alive now.kernel t ≡ true → kill_event now.kernel t ≡ done
